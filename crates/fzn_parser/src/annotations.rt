@@ -1,0 +1,160 @@
+//! Annotations. A number says how many more brackets may open.
+
+ghost use Rattle.std.specs.Prelude.{◌<◌, ◌≤◌, length, OnOk};
+ghost use Rattle.fzn_lexer.specs.declared.token.Symbol.TheVariants.{CloseBracket, CloseParen};
+ghost use Rattle.fzn_parser.specs.Reading.{Gives};
+ghost use Rattle.fzn_parser.specs.Readers as spec;
+
+use crate::cursor::{MOST, Stop, Tokens};
+use crate::lists::{Part, many};
+use crate::tree::{Ann, AnnArg, AnnTerm};
+use crate::values::literal;
+use fzn_lexer::{FaultKind, Symbol};
+use fzn_list::Items;
+use std::alloc::Global;
+
+/// How deep the brackets and parentheses of one annotation nest.
+const DEEPEST: usize = 64;
+
+#[cycle(ann)]
+#[tactic(auto, unfolding(crate::specs::Readers::ann, crate::specs::Readers::levels))]
+fn ann(alloc: Global, tokens: &mut Tokens<'_>, levels: usize) -> Result<Ann, Stop>
+    ensures gives { Gives (spec.ann levels tokens.old) result tokens.new }
+    ensures shorter { OnOk result (length tokens.new < length tokens.old) }
+    ensures never_longer { length tokens.new ≤ length tokens.old }
+{
+    let name = tokens.name(alloc)?;
+    if !tokens.sees(Symbol::OpenParen) {
+        return Ok(Ann { name, args: None });
+    }
+    if levels == 0 {
+        return Err(tokens.refuse(FaultKind::TooDeep));
+    }
+    tokens.symbol(Symbol::OpenParen)?;
+    let args = ann_args(alloc, tokens, levels - 1)?;
+    Ok(Ann {
+        name,
+        args: Some(args),
+    })
+}
+
+/// The arguments, up to the closing parenthesis.
+#[cycle(ann)]
+fn ann_args(
+    alloc: Global,
+    tokens: &mut Tokens<'_>,
+    levels: usize,
+) -> Result<Items<AnnArg<Ann>>, Stop>
+    ensures gives { Gives (spec.ann_args levels tokens.old) result tokens.new }
+    ensures never_longer { length tokens.new ≤ length tokens.old }
+{
+    let mut args = Items::new(alloc);
+    if tokens.sees(Symbol::CloseParen) {
+        tokens.symbol(Symbol::CloseParen)?;
+        return Ok(args);
+    }
+    let first = ann_arg(alloc, tokens, levels)?;
+    args.push(first)?;
+    'more_args: while tokens.sees(Symbol::Comma) {
+        tokens.symbol(Symbol::Comma)?;
+        let arg = ann_arg(alloc, tokens, levels)?;
+        args.push(arg)?;
+    }
+    tokens.symbol(Symbol::CloseParen)?;
+    Ok(args)
+}
+
+#[cycle(ann)]
+#[tactic(auto, unfolding(crate::specs::Readers::ann_arg, crate::specs::Readers::levels, crate::specs::Readers::ann_term, crate::specs::Readers::ann))]
+fn ann_arg(alloc: Global, tokens: &mut Tokens<'_>, levels: usize) -> Result<AnnArg<Ann>, Stop>
+    ensures gives { Gives (spec.ann_arg levels tokens.old) result tokens.new }
+    ensures never_longer { length tokens.new ≤ length tokens.old }
+{
+    if !tokens.sees(Symbol::OpenBracket) {
+        return Ok(AnnArg::One(ann_term(alloc, tokens, levels)?));
+    }
+    if levels == 0 {
+        return Err(tokens.refuse(FaultKind::TooDeep));
+    }
+    tokens.symbol(Symbol::OpenBracket)?;
+    Ok(AnnArg::List(ann_terms(alloc, tokens, levels - 1)?))
+}
+
+/// The terms, up to the closing bracket.
+#[cycle(ann)]
+fn ann_terms(
+    alloc: Global,
+    tokens: &mut Tokens<'_>,
+    levels: usize,
+) -> Result<Items<AnnTerm<Ann>>, Stop>
+    ensures gives { Gives (spec.ann_terms levels tokens.old) result tokens.new }
+    ensures never_longer { length tokens.new ≤ length tokens.old }
+{
+    let mut terms = Items::new(alloc);
+    if tokens.sees(Symbol::CloseBracket) {
+        tokens.symbol(Symbol::CloseBracket)?;
+        return Ok(terms);
+    }
+    let first = ann_entry(alloc, tokens, levels, 0)?;
+    terms.push(first)?;
+    'more_terms: while tokens.sees(Symbol::Comma) {
+        tokens.symbol(Symbol::Comma)?;
+        let term = ann_entry(alloc, tokens, levels, terms.len())?;
+        terms.push(term)?;
+    }
+    tokens.symbol(Symbol::CloseBracket)?;
+    Ok(terms)
+}
+
+/// The term that stands in brackets behind so many others.
+#[cycle(ann)]
+#[tactic(auto, unfolding(crate::specs::Readers::ann_term))]
+fn ann_entry(
+    alloc: Global,
+    tokens: &mut Tokens<'_>,
+    levels: usize,
+    number: usize,
+) -> Result<AnnTerm<Ann>, Stop>
+    ensures gives { Gives (spec.each_term (spec.ann levels) number tokens.old) result tokens.new }
+    ensures never_longer { length tokens.new ≤ length tokens.old }
+{
+    if number < MOST {
+        ann_term(alloc, tokens, levels)
+    } else {
+        Err(tokens.refuse_more(tokens.sees_term()))
+    }
+}
+
+#[cycle(ann)]
+#[tactic(auto, unfolding(crate::specs::Readers::ann_term))]
+fn ann_term(alloc: Global, tokens: &mut Tokens<'_>, levels: usize) -> Result<AnnTerm<Ann>, Stop>
+    ensures gives { Gives (spec.ann_term levels tokens.old) result tokens.new }
+    ensures never_longer { length tokens.new ≤ length tokens.old }
+{
+    if tokens.sees_text() {
+        let (text, place) = tokens.text(alloc)?;
+        return Ok(AnnTerm::Text(text, place));
+    }
+    if tokens.sees_name() {
+        return Ok(AnnTerm::Ann(ann(alloc, tokens, levels)?));
+    }
+    Ok(AnnTerm::Literal(literal(alloc, tokens)?))
+}
+
+/// An annotation behind its two colons.
+impl Part for Ann {
+    ghost reader = { spec.colons_ann };
+
+    fn read(alloc: Global, tokens: &mut Tokens<'_>, _number: usize) -> Result<Ann, Stop> {
+        tokens.symbol(Symbol::Colons)?;
+        ann(alloc, tokens, DEEPEST)
+    }
+}
+
+#[tactic(auto, unfolding(crate::specs::Readers::anns))]
+pub fn anns(alloc: Global, tokens: &mut Tokens<'_>) -> Result<Items<Ann>, Stop>
+    ensures gives { Gives (spec.anns tokens.old) result tokens.new }
+    ensures never_longer { length tokens.new ≤ length tokens.old }
+{
+    many(alloc, tokens, Symbol::Colons)
+}

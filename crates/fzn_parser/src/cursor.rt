@@ -1,0 +1,355 @@
+//! The tokens that are left, and why the next one is refused.
+
+ghost use Rattle.std.specs.Prelude.{◌≡◌, ◌<◌, ◌≤◌, length, OnOk};
+ghost use Rattle.fzn_parser.specs.declared.cursor.Stop.TheVariants.{Memory, Refused};
+ghost use Rattle.fzn_parser.specs.Readers.{literal_signs};
+
+use crate::tree::{Int, Name};
+use fzn_lexer::{FaultKind, Kind, Place, Symbol, Token};
+use fzn_list::Text;
+use std::alloc::{AllocError, AllocFailed, Global};
+use std::marker::Model;
+
+/// A fault at the token with which this many are left.
+#[derive(Clone, Copy, Debug, PartialEq, Eq)]
+pub struct Refusal {
+    pub kind: FaultKind,
+    pub left: usize,
+}
+
+/// Why reading stopped.
+#[derive(Debug, Drop)]
+pub enum Stop {
+    Memory,
+    Refused(Refusal),
+}
+
+impl From<AllocError> for Stop {
+    ghost from_gives = { λ _ e. e ≡ Memory };
+
+    fn from(_e: AllocError) -> Stop {
+        Stop::Memory
+    }
+}
+
+impl<T: Drop> From<AllocFailed<T>> for Stop {
+    ghost from_gives = { λ _ e. e ≡ Memory };
+
+    fn from(_e: AllocFailed<T>) -> Stop {
+        Stop::Memory
+    }
+}
+
+/// The limit on variables, on constraints and on the entries of one array.
+pub const MOST: usize = 100_000;
+
+/// Whether a literal may begin with this symbol.
+fn begins_literal(symbol: Symbol) -> bool
+    ensures { result ≡ literal_signs symbol }
+{
+    matches!(symbol, Symbol::True | Symbol::False | Symbol::OpenBrace)
+}
+
+/// The tokens that are left.
+#[derive(Drop)]
+pub struct Tokens<'a> {
+    rest: &'a [Token],
+}
+
+impl<'a> Model for Tokens<'a> {
+    ghost use Rattle.std.specs.Prelude.{List};
+    ghost use Rattle.fzn_lexer.specs.declared.token.Token.{Token};
+
+    ghost Value = { List Token };
+
+    ghost view = { λ t. t.rest.now };
+}
+
+impl<'a> Tokens<'a> {
+    ghost use Rattle.fzn_lexer.specs.declared.fault.FaultKind.TheVariants.{Syntax};
+    ghost use Rattle.fzn_parser.specs.Reading.{Gives, next_is, over_limit};
+    ghost use Rattle.fzn_parser.specs.Readers as read;
+
+    pub fn new(rest: &'a [Token]) -> Tokens<'a>
+        ensures { result ≡ rest.now }
+    {
+        Tokens { rest }
+    }
+
+    pub fn left(&self) -> usize
+        ensures { result ≡ length self.now }
+    {
+        self.rest.len()
+    }
+
+    pub fn refuse(&self, kind: FaultKind) -> Stop
+        ensures { result ≡ Stop.Refused (record { kind = kind; left = length self.now }) }
+    {
+        Stop::Refused(Refusal {
+            kind,
+            left: self.rest.len(),
+        })
+    }
+
+    pub fn sees(&self, symbol: Symbol) -> bool
+        ensures { result ≡ next_is (read.is symbol) self.now }
+    {
+        match self.rest {
+            [] => false,
+            [token, ..] => token.kind.is(symbol),
+        }
+    }
+
+    pub fn sees_name(&self) -> bool
+        ensures { result ≡ next_is read.is_name self.now }
+    {
+        match self.rest {
+            [] => false,
+            [token, ..] => matches!(token.kind, Kind::Name(_)),
+        }
+    }
+
+    #[tactic(auto, unfolding(crate::specs::Readers::symbol))]
+    pub fn symbol(&mut self, symbol: Symbol) -> Result<(), Stop>
+        ensures gives { Gives (read.symbol symbol self.old) result self.new }
+        ensures shorter { OnOk result (length self.new < length self.old) }
+        ensures never_longer { length self.new ≤ length self.old }
+    {
+        let [token, rest @ ..] = self.rest else {
+            return Err(self.refuse(FaultKind::Syntax));
+        };
+        if !token.kind.is(symbol) {
+            return Err(self.refuse(FaultKind::Syntax));
+        }
+        self.rest = rest;
+        Ok(())
+    }
+
+    #[tactic(auto, unfolding(crate::specs::Readers::symbol_place))]
+    pub fn symbol_place(&mut self, symbol: Symbol) -> Result<Place, Stop>
+        ensures gives { Gives (read.symbol_place symbol self.old) result self.new }
+        ensures shorter { OnOk result (length self.new < length self.old) }
+        ensures never_longer { length self.new ≤ length self.old }
+    {
+        let [token, rest @ ..] = self.rest else {
+            return Err(self.refuse(FaultKind::Syntax));
+        };
+        if !token.kind.is(symbol) {
+            return Err(self.refuse(FaultKind::Syntax));
+        }
+        self.rest = rest;
+        Ok(token.span.place)
+    }
+
+    #[tactic(auto, unfolding(crate::specs::Readers::name))]
+    pub fn name(&mut self, alloc: Global) -> Result<Name, Stop>
+        ensures gives { Gives (read.name self.old) result self.new }
+        ensures shorter { OnOk result (length self.new < length self.old) }
+        ensures never_longer { length self.new ≤ length self.old }
+    {
+        let [token, rest @ ..] = self.rest else {
+            return Err(self.refuse(FaultKind::Syntax));
+        };
+        let Kind::Name(text) = &token.kind else {
+            return Err(self.refuse(FaultKind::Syntax));
+        };
+        let text = text.copy(alloc)?;
+        self.rest = rest;
+        Ok(Name {
+            text,
+            place: token.span.place,
+        })
+    }
+
+    pub fn sees_text(&self) -> bool
+        ensures { result ≡ next_is read.is_text self.now }
+    {
+        match self.rest {
+            [] => false,
+            [token, ..] => matches!(token.kind, Kind::Text(_)),
+        }
+    }
+
+    pub fn sees_int(&self) -> bool
+        ensures { result ≡ next_is read.is_int self.now }
+    {
+        match self.rest {
+            [] => false,
+            [token, ..] => matches!(token.kind, Kind::Int(_)),
+        }
+    }
+
+    /// Whether the next token begins a literal.
+    pub fn sees_literal(&self) -> bool
+        ensures { result ≡ next_is read.begins_literal self.now }
+    {
+        match self.rest {
+            [] => false,
+            [token, ..] => match token.kind {
+                Kind::Symbol(symbol) => begins_literal(symbol),
+                Kind::Int(_) => true,
+                Kind::Name(_) | Kind::Text(_) => false,
+            },
+        }
+    }
+
+    /// Whether the next token begins a literal or is a name.
+    pub fn sees_basic(&self) -> bool
+        ensures { result ≡ next_is read.begins_basic self.now }
+    {
+        match self.rest {
+            [] => false,
+            [token, ..] => match token.kind {
+                Kind::Symbol(symbol) => begins_literal(symbol),
+                Kind::Name(_) | Kind::Int(_) => true,
+                Kind::Text(_) => false,
+            },
+        }
+    }
+
+    /// Whether the next token begins a term of an annotation.
+    pub fn sees_term(&self) -> bool
+        ensures { result ≡ next_is read.begins_term self.now }
+    {
+        match self.rest {
+            [] => false,
+            [token, ..] => match token.kind {
+                Kind::Symbol(symbol) => begins_literal(symbol),
+                Kind::Name(_) | Kind::Int(_) | Kind::Text(_) => true,
+            },
+        }
+    }
+
+    /// Whether the next token begins a parameter or an array of variables.
+    pub fn sees_declaration(&self) -> bool
+        ensures { result ≡ next_is read.begins_declaration self.now }
+    {
+        match self.rest {
+            [] => false,
+            [token, ..] => {
+                token.kind.is(Symbol::Array)
+                    || token.kind.is(Symbol::Bool)
+                    || token.kind.is(Symbol::Int)
+                    || token.kind.is(Symbol::Set)
+            }
+        }
+    }
+
+    /// Whether the next token begins a declaration of a variable.
+    pub fn sees_var(&self) -> bool
+        ensures { result ≡ next_is read.begins_var self.now }
+    {
+        match self.rest {
+            [] => false,
+            [token, ..] => token.kind.is(Symbol::Var) || token.kind.is(Symbol::Array),
+        }
+    }
+
+    /// Why one more is refused, where there are as many as there may be.
+    pub fn refuse_more(&self, begins_one: bool) -> Stop
+        ensures { Gives (over_limit {A = Unit {0}} begins_one self.now) (Err result) self.now }
+    {
+        if begins_one {
+            self.refuse(FaultKind::TooMany)
+        } else {
+            self.refuse(FaultKind::Syntax)
+        }
+    }
+
+    #[tactic(auto, unfolding(crate::specs::Readers::text))]
+    pub fn text(&mut self, alloc: Global) -> Result<(Text, Place), Stop>
+        ensures gives { Gives (read.text self.old) result self.new }
+        ensures shorter { OnOk result (length self.new < length self.old) }
+        ensures never_longer { length self.new ≤ length self.old }
+    {
+        let [token, rest @ ..] = self.rest else {
+            return Err(self.refuse(FaultKind::Syntax));
+        };
+        let Kind::Text(text) = &token.kind else {
+            return Err(self.refuse(FaultKind::Syntax));
+        };
+        let text = text.copy(alloc)?;
+        self.rest = rest;
+        Ok((text, token.span.place))
+    }
+
+    #[tactic(auto, unfolding(crate::specs::Readers::int))]
+    pub fn int(&mut self) -> Result<Int, Stop>
+        ensures gives { Gives (read.int self.old) result self.new }
+        ensures shorter { OnOk result (length self.new < length self.old) }
+        ensures never_longer { length self.new ≤ length self.old }
+    {
+        let [token, rest @ ..] = self.rest else {
+            return Err(self.refuse(FaultKind::Syntax));
+        };
+        let Kind::Int(value) = token.kind else {
+            return Err(self.refuse(FaultKind::Syntax));
+        };
+        self.rest = rest;
+        Ok(Int {
+            value,
+            place: token.span.place,
+        })
+    }
+
+    /// A number, where its place is not wanted.
+    #[tactic(auto, unfolding(crate::specs::Readers::number))]
+    pub fn number(&mut self) -> Result<i64, Stop>
+        ensures gives { Gives (read.number self.old) result self.new }
+        ensures shorter { OnOk result (length self.new < length self.old) }
+        ensures never_longer { length self.new ≤ length self.old }
+    {
+        let [token, rest @ ..] = self.rest else {
+            return Err(self.refuse(FaultKind::Syntax));
+        };
+        let Kind::Int(value) = token.kind else {
+            return Err(self.refuse(FaultKind::Syntax));
+        };
+        self.rest = rest;
+        Ok(value)
+    }
+
+    /// The number 1.
+    #[tactic(auto, unfolding(crate::specs::Readers::one))]
+    pub fn one(&mut self) -> Result<(), Stop>
+        ensures gives { Gives (read.one self.old) result self.new }
+        ensures shorter { OnOk result (length self.new < length self.old) }
+        ensures never_longer { length self.new ≤ length self.old }
+    {
+        let [token, rest @ ..] = self.rest else {
+            return Err(self.refuse(FaultKind::Syntax));
+        };
+        let Kind::Int(value) = token.kind else {
+            return Err(self.refuse(FaultKind::Syntax));
+        };
+        if value != 1 {
+            return Err(self.refuse(FaultKind::Syntax));
+        }
+        self.rest = rest;
+        Ok(())
+    }
+
+    /// The number of an array's entries.
+    #[tactic(auto, unfolding(crate::specs::Readers::size))]
+    pub fn size(&mut self) -> Result<usize, Stop>
+        ensures gives { Gives (read.size self.old) result self.new }
+        ensures shorter { OnOk result (length self.new < length self.old) }
+        ensures never_longer { length self.new ≤ length self.old }
+    {
+        let [token, rest @ ..] = self.rest else {
+            return Err(self.refuse(FaultKind::Syntax));
+        };
+        let Kind::Int(value) = token.kind else {
+            return Err(self.refuse(FaultKind::Syntax));
+        };
+        if value < 0 {
+            return Err(self.refuse(FaultKind::Syntax));
+        }
+        let size = value as usize;
+        if size > MOST {
+            return Err(self.refuse(FaultKind::TooMany));
+        }
+        self.rest = rest;
+        Ok(size)
+    }
+}

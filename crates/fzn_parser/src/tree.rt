@@ -1,0 +1,187 @@
+//! What a file says, by the cases of the grammar. A part has the place of its first token where a fault may stand there.
+
+use fzn_lexer::Place;
+use fzn_list::{Items, Text};
+
+#[derive(Debug, Drop)]
+pub struct Name {
+    pub text: Text,
+    pub place: Place,
+}
+
+#[derive(Clone, Copy, Debug)]
+pub struct Int {
+    pub value: i64,
+    pub place: Place,
+}
+
+/// All numbers from the first to the second, none if the second is below the first.
+#[derive(Clone, Copy, Debug)]
+pub struct Range {
+    pub low: Int,
+    pub high: i64,
+}
+
+/// `true`, `false`, a number or a set of numbers.
+#[derive(Debug, Drop)]
+pub enum Literal {
+    Bool(bool, Place),
+    Int(Int),
+    Range(Range),
+    /// From the place of its brace.
+    Set(Place, Items<i64>),
+}
+
+#[derive(Debug, Drop)]
+pub enum Basic {
+    Literal(Literal),
+    Name(Name),
+}
+
+/// Entries in brackets, from the place of the first bracket.
+#[derive(Debug, Drop)]
+pub struct Array {
+    pub place: Place,
+    pub entries: Items<Basic>,
+}
+
+/// An argument of a constraint.
+#[derive(Debug, Drop)]
+pub enum Arg {
+    Basic(Basic),
+    Array(Array),
+}
+
+/// A name, and what stands in parentheses where they are written.
+#[derive(Drop)]
+pub struct Ann {
+    pub name: Name,
+    pub args: Option<Items<AnnArg<Ann>>>,
+}
+
+#[derive(Drop)]
+pub enum AnnArg<A> {
+    One(AnnTerm<A>),
+    List(Items<AnnTerm<A>>),
+}
+
+#[derive(Drop)]
+pub enum AnnTerm<A> {
+    Literal(Literal),
+    Text(Text, Place),
+    Ann(A),
+}
+
+/// The values of a type, as a range or one by one.
+#[derive(Debug, Drop)]
+pub enum Values {
+    Range(Range),
+    Listed(Items<i64>),
+}
+
+/// A type as it is written.
+#[derive(Debug, Drop)]
+pub enum Base {
+    Bool,
+    Int(Place),
+    Values(Values),
+    /// Sets, from the place of `set`, of these values or of any number.
+    Set(Place, Option<Values>),
+}
+
+/// The index set of an array in a predicate: any, or from 1 to this number.
+#[derive(Clone, Copy, Debug)]
+pub enum Indices {
+    Any,
+    Size(usize),
+}
+
+#[derive(Debug, Drop)]
+pub struct PredicateParam {
+    pub array: Option<Indices>,
+    pub is_var: bool,
+    pub base: Base,
+    pub name: Name,
+}
+
+#[derive(Debug, Drop)]
+pub struct Predicate {
+    pub name: Name,
+    pub params: Items<PredicateParam>,
+}
+
+#[derive(Clone, Copy, Debug)]
+pub enum ParamBase {
+    Bool,
+    Int,
+    /// From the place of `set`.
+    Set(Place),
+}
+
+#[derive(Debug, Drop)]
+pub enum ParamValue {
+    Literal(Literal),
+    /// From the place of its bracket.
+    Array(Place, Items<Literal>),
+}
+
+/// A parameter, an array of entries from 1 where a size is given.
+#[derive(Debug, Drop)]
+pub struct Param {
+    pub size: Option<usize>,
+    pub base: ParamBase,
+    pub name: Name,
+    pub value: ParamValue,
+}
+
+#[derive(Drop)]
+pub struct SingleVar {
+    pub base: Base,
+    pub name: Name,
+    pub anns: Items<Ann>,
+    pub value: Option<Basic>,
+}
+
+#[derive(Drop)]
+pub struct ArrayVar {
+    pub size: usize,
+    pub base: Base,
+    pub name: Name,
+    pub anns: Items<Ann>,
+    pub array: Array,
+}
+
+#[derive(Drop)]
+pub enum Var {
+    Single(SingleVar),
+    Array(ArrayVar),
+}
+
+#[derive(Drop)]
+pub struct Con {
+    pub name: Name,
+    pub args: Items<Arg>,
+    pub anns: Items<Ann>,
+}
+
+#[derive(Debug, Drop)]
+pub enum Goal {
+    Satisfy,
+    Minimize(Basic),
+    Maximize(Basic),
+}
+
+#[derive(Drop)]
+pub struct Solve {
+    pub anns: Items<Ann>,
+    pub goal: Goal,
+}
+
+#[derive(Drop)]
+pub struct Tree {
+    pub predicates: Items<Predicate>,
+    pub params: Items<Param>,
+    pub vars: Items<Var>,
+    pub cons: Items<Con>,
+    pub solve: Solve,
+}
