@@ -1,0 +1,4 @@
+pub mod Meaning
+pub mod Solutions
+pub mod Term
+pub mod WellFormed

@@ -1,0 +1,32 @@
+// Terms, and terms with a coefficient.
+ghost use Rattle.std.specs.Prelude.{◌≡◌, length};
+ghost use Rattle.fzn_meaning.specs.Term.{term_value, IsTerm};
+
+use fzn_domain::VarId;
+
+/// A constant or a variable.
+#[derive(Clone, Copy, Debug, PartialEq, Eq)]
+pub enum Term {
+    Constant(i64),
+    Variable(VarId),
+}
+
+impl Term {
+    /// The value of the term where the variables have these values.
+    pub fn value(self, values: &[i64]) -> i64
+        requires { IsTerm (length values.now) self }
+        ensures { result ≡ term_value values.now self }
+    {
+        match self {
+            Term::Constant(k) => k,
+            Term::Variable(var) => values[var.0 - 1],
+        }
+    }
+}
+
+/// A term with the number that it is multiplied with.
+#[derive(Clone, Copy, Debug, PartialEq, Eq)]
+pub struct Place {
+    pub coefficient: i64,
+    pub term: Term,
+}

@@ -1,0 +1,5 @@
+pub mod Form
+pub mod Inside
+pub mod Linear
+pub mod Rules
+pub mod State

@@ -1,0 +1,59 @@
+-- The least and the greatest sum, each place by itself.
+use Rattle.std.specs.Prelude.{◌≡◌, ◌⊎◌, ℤ, pos, ◌*ℤ◌, ◌≤ℤ◌, ◌<ℤ◌, int_lt, if◌then◌else◌, List}
+use Rattle.fzn_domain.specs.IntSet.{IntSet, least, greatest}
+use Rattle.fzn_domain.specs.Narrow.{set_of}
+use Rattle.fzn_meaning.specs.declared.term.Term.{Term}
+use Rattle.fzn_meaning.specs.declared.term.Term.TheVariants.{Constant, Variable}
+use Rattle.fzn_meaning.specs.declared.term.Place.{Place}
+use Rattle.fzn_meaning.specs.Term.{total_by}
+use Rattle.fzn_rules.specs.declared.linear.Comparison.{Comparison}
+use Rattle.fzn_rules.specs.declared.linear.Comparison.TheVariants.{AtMost, Equal, NotEqual}
+
+-- the least and the greatest value of a term; a constant has its own one value
+abbrev pub least_value : List IntSet → Term → ℤ
+least_value sets (Constant k) = k
+least_value sets (Variable var) = least (set_of sets var)
+
+abbrev pub greatest_value : List IntSet → Term → ℤ
+greatest_value sets (Constant k) = k
+greatest_value sets (Variable var) = greatest (set_of sets var)
+
+-- the value at which a place gives least, and the one at which it gives most
+abbrev pub low_end : List IntSet → Place → ℤ
+low_end sets place = if int_lt place.coefficient (pos 0) then greatest_value sets place.term else least_value sets place.term
+
+abbrev pub high_end : List IntSet → Place → ℤ
+high_end sets place = if int_lt place.coefficient (pos 0) then least_value sets place.term else greatest_value sets place.term
+
+unfoldable pub low_product : List IntSet → Place → ℤ
+low_product sets place = place.coefficient *ℤ low_end sets place
+
+unfoldable pub high_product : List IntSet → Place → ℤ
+high_product sets place = place.coefficient *ℤ high_end sets place
+
+abbrev pub least_sum : List IntSet → List Place → ℤ
+least_sum sets places = total_by (low_product sets) places
+
+abbrev pub greatest_sum : List IntSet → List Place → ℤ
+greatest_sum sets places = total_by (high_product sets) places
+
+abbrev pub IsFixedTo : List IntSet → Term → ℤ → Type 0
+IsFixedTo sets term value = (least_value sets term ≡ value) × (greatest_value sets term ≡ value)
+
+-- a sum stands so to the bound
+abbrev pub Compares : Comparison → ℤ → ℤ → Type 0
+Compares AtMost sum bound = sum ≤ℤ bound
+Compares Equal sum bound = sum ≡ bound
+Compares NotEqual sum bound = sum ≡ bound → ⊥
+
+-- no sum from low to high compares so with the bound
+abbrev pub NoneCompares : Comparison → ℤ → ℤ → ℤ → Type 0
+NoneCompares AtMost low high bound = bound <ℤ low
+NoneCompares Equal low high bound = (bound <ℤ low) ⊎ (high <ℤ bound)
+NoneCompares NotEqual low high bound = (low ≡ bound) × (high ≡ bound)
+
+-- every sum from low to high compares so with the bound
+abbrev pub AllCompare : Comparison → ℤ → ℤ → ℤ → Type 0
+AllCompare AtMost low high bound = high ≤ℤ bound
+AllCompare Equal low high bound = (low ≡ bound) × (high ≡ bound)
+AllCompare NotEqual low high bound = (bound <ℤ low) ⊎ (high <ℤ bound)

@@ -1,0 +1,14 @@
+//! The rules of a certificate: each shows that no choice of one value from each set meets a constraint.
+//!
+//! In: a constraint, a set for each variable and a rule with its hints. Out: whether the rule is met. Proved against `specs/Rules.antt`
+//! (when a rule is met) and against the meaning of constraints: where a rule is met, no choice of values meets the constraint.
+#![tactic(auto)]
+
+pub use refutes::refutes;
+pub use rule::Rule;
+pub use state::{Possible, State};
+
+mod linear;
+mod refutes;
+mod rule;
+mod state;

@@ -1,0 +1,24 @@
+// Whether a rule is met.
+ghost use Rattle.std.specs.Prelude.{◌≡◌, ◌↔◌, IsTrue, false, length, List, ℤ};
+ghost use Rattle.fzn_domain.specs.Narrow.{is_some_empty, IsWithin};
+ghost use Rattle.fzn_meaning.specs.Meaning.{IsWellFormed, HasBooleanValues, Meets};
+ghost use Rattle.fzn_rules.specs.Rules.{IsMet};
+
+use crate::linear::is_lin_met;
+use crate::rule::Rule;
+use crate::state::State;
+use fzn_meaning::Constraint;
+
+/// Whether the rule is met for the constraint on the present sets. A yes means that no choice of one value from each set meets the
+/// constraint.
+pub fn refutes(constraint: &Constraint, state: &State, rule: &Rule) -> bool
+    requires constraint { IsWellFormed (length state.now.sets) constraint.now }
+    requires nonempty { is_some_empty state.now.sets ≡ false }
+    ensures met { IsTrue result ↔ IsMet constraint.now state.now.sets rule.now }
+    ensures sound { IsTrue result → (values : List ℤ) → IsWithin state.now.sets values → HasBooleanValues values constraint.now → Meets constraint.now values → ⊥ }
+{
+    match rule {
+        Rule::Lin => is_lin_met(constraint, state),
+        _ => false,
+    }
+}

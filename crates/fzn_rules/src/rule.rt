@@ -1,0 +1,27 @@
+// The rules with their hints.
+use fzn_list::Items;
+
+/// A test that refutes a constraint on sets of values.
+#[derive(Debug, Drop)]
+pub enum Rule {
+    /// The least and the greatest sum leave no way to meet the constraint.
+    Lin,
+    /// The sets leave no row, entry or value that the constraint asks for.
+    Rows,
+    /// The bounds of a product exclude each value of the result.
+    Box,
+    /// The one choice for the inputs leaves no value for the result.
+    Fixed,
+    /// No choice for the inputs leaves a value for the result.
+    Enum,
+    /// More places than values from the first number to the second.
+    Hall(i64, i64),
+    /// The tasks that run at this time use more than the capacity.
+    Load(i64),
+    /// The tasks use more than the capacity from the first time up to the second.
+    Energy(i64, i64),
+    /// These places lead only to one another.
+    Cut(Items<i64>),
+    /// One of the two says that they belong together, and the other that they do not.
+    Pair(i64, i64),
+}
