@@ -4,6 +4,7 @@
 //! (when a rule is met) and against the meaning of constraints: where a rule is met, no choice of values meets the constraint.
 #![tactic(auto)]
 
+pub use linear::Comparison;
 pub use refutes::refutes;
 pub use rule::Rule;
 pub use state::{Possible, State};

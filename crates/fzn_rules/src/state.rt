@@ -32,10 +32,15 @@ pub enum Possible {
 }
 
 impl Model for State {
+    ghost use Rattle.std.specs.Coded.{codes, coded_ℤ};
+    ghost use Rattle.std.specs.Ordering.{int_cmp};
+    ghost use Rattle.std.specs.FinSet as set;
     ghost use Rattle.fzn_rules.specs.State.{Sets};
     ghost use Rattle.fzn_rules.specs.Inside.{sets_of, IsState};
 
     ghost Value = { Sets };
+
+    ghost coded = { Prim.hlevel (codes, set.code {R = int_cmp} coded_ℤ) };
 
     ghost view = { sets_of };
 
