@@ -1,0 +1,87 @@
+-- Which steps are accepted, given the model and what came before, and what is wrong with the others.
+use Rattle.std.specs.Prelude.{ℕ, ◌-◌, ◌≤◌, ◌≡◌, ◌⊎◌, true, List, [], ◌∷◌, ℤ, length, slice_get, IfSome, MatchOption, Option}
+use Rattle.std.specs.List.{All, fold}
+use Rattle.fzn_domain.specs.declared.literal.Lit.{Lit}
+use Rattle.fzn_domain.specs.IntSet.{IntSet}
+use Rattle.fzn_domain.specs.Narrow.{IsClauseOver, denied, is_some_empty, chain_outcome, accepted, not_unit, no_conflict}
+use Rattle.fzn_meaning.specs.declared.model.Model.{Model}
+use Rattle.fzn_meaning.specs.Solutions.{declared_sets, IsSolution, PassesCuts, cut_of}
+use Rattle.fzn_rules.specs.declared.rule.Rule.{Rule}
+use Rattle.fzn_rules.specs.Rules.{IsMet}
+use Rattle.fzn_cert.specs.declared.step.Step.{Step}
+use Rattle.fzn_cert.specs.declared.step.Step.TheVariants.{Infer, Resolve, Solution, Delete}
+use Rattle.fzn_cert.specs.declared.refusal.Refusal.{Refusal}
+use Rattle.fzn_cert.specs.declared.refusal.Refusal.TheVariants.{NoSuchConstraint, RuleFails, NoSuchClause, NotUnit, NoConflict, NotASolution, CutByEarlier, NoSuchVariable}
+use Rattle.fzn_cert.specs.Past.{Past, start, IsHeld, clauses_held, after_clause, after_solution, after_deletion}
+
+-- every variable of the clause is one of the model's
+abbrev pub HasVariables : Model → List Lit → Type 0
+HasVariables model clause = IsClauseOver (length model.vars) clause
+
+-- the declared sets without the values that make the clause true
+abbrev pub denying : Model → List Lit → List IntSet
+denying model clause = denied (declared_sets model.vars) clause
+
+-- one of these sets is empty, so every assignment makes the clause true
+abbrev pub IsTrivial : Model → List Lit → Type 0
+IsTrivial model clause = is_some_empty (denying model clause) ≡ true
+
+-- constraints are numbered from 1
+abbrev pub IsConstraintNumber : Model → ℕ → Type 0
+IsConstraintNumber model c = (1 ≤ c) × (c ≤ length model.constraints)
+
+-- the rule is met for the numbered constraint where the clause is denied
+abbrev pub IsRuleMet : Model → ℕ → Rule → List Lit → Type 0
+IsRuleMet model c rule clause = IfSome (slice_get model.constraints (c - 1)) (λ constraint. IsMet constraint (denying model clause) rule)
+
+-- A step from a constraint, one from clauses, a solution, a deletion.
+abbrev pub IsAccepted : Model → Past → Step → Type 0
+IsAccepted model past (Infer c rule clause) =
+    HasVariables model clause × IsConstraintNumber model c × (IsTrivial model clause ⊎ IsRuleMet model c rule clause)
+IsAccepted model past (Resolve clause ids) =
+    HasVariables model clause × All (IsHeld past) ids
+    × (IsTrivial model clause ⊎ (chain_outcome (denying model clause) (clauses_held past ids) ≡ accepted))
+IsAccepted model past (Solution values) = IsSolution model values × PassesCuts model past.solutions values
+IsAccepted model past (Delete ids) = All (IsHeld past) ids
+
+-- What is wrong with a step that is not accepted. The tests come in the order in which the parts stand.
+abbrev pub HasFault : Model → Past → Step → Refusal → Type 0
+HasFault model past (Infer c rule clause) NoSuchVariable = ¬ HasVariables model clause
+HasFault model past (Infer c rule clause) NoSuchConstraint = HasVariables model clause × ¬ IsConstraintNumber model c
+HasFault model past (Infer c rule clause) RuleFails =
+    HasVariables model clause × IsConstraintNumber model c × ¬ IsTrivial model clause × ¬ IsRuleMet model c rule clause
+HasFault model past (Resolve clause ids) NoSuchVariable = ¬ HasVariables model clause
+HasFault model past (Resolve clause ids) NoSuchClause = HasVariables model clause × ¬ All (IsHeld past) ids
+HasFault model past (Resolve clause ids) NotUnit =
+    HasVariables model clause × All (IsHeld past) ids × ¬ IsTrivial model clause
+    × (chain_outcome (denying model clause) (clauses_held past ids) ≡ not_unit)
+HasFault model past (Resolve clause ids) NoConflict =
+    HasVariables model clause × All (IsHeld past) ids × ¬ IsTrivial model clause
+    × (chain_outcome (denying model clause) (clauses_held past ids) ≡ no_conflict)
+HasFault model past (Solution values) NotASolution = ¬ IsSolution model values
+HasFault model past (Solution values) CutByEarlier = IsSolution model values × ¬ PassesCuts model past.solutions values
+HasFault model past (Delete ids) NoSuchClause = ¬ All (IsHeld past) ids
+HasFault model past _ _ = ⊥
+
+-- no fault says that the step is accepted
+abbrev pub IsJudged : Model → Past → Step → Option Refusal → Type 0
+IsJudged model past step fault = MatchOption fault (IsAccepted model past step) (HasFault model past step)
+
+-- what an accepted step leaves
+abbrev pub after : Model → Past → Step → Past
+after model past (Infer c rule clause) = after_clause past clause
+after model past (Resolve clause ids) = after_clause past clause
+after model past (Solution values) = after_solution past (cut_of model values) values
+after model past (Delete ids) = after_deletion past ids
+
+-- what a list of steps leaves
+abbrev pub past_of : Model → List Step → Past
+past_of model steps = fold (after model) start steps
+
+-- each step is accepted after those before it, where this is what came before them all
+abbrev pub AllAcceptedAfter : Model → Past → List Step → Type 0
+AllAcceptedAfter model past [] = Unit {0}
+AllAcceptedAfter model past (step ∷ later) = IsAccepted model past step × AllAcceptedAfter model (after model past step) later
+
+abbrev pub AllAccepted : Model → List Step → Type 0
+AllAccepted model steps = AllAcceptedAfter model start steps
