@@ -17,7 +17,10 @@ pub enum Constraint {
         negative: Items<Term>,
     },
     /// The sum over the places is at most the bound.
-    IntLinLe { sum: Items<Place>, bound: i64 },
+    IntLinLe {
+        sum: Items<Place>,
+        bound: i64,
+    },
 }
 
 /// Whether the values meet the constraint.

@@ -8,6 +8,7 @@
 pub use constraint::{Constraint, holds};
 pub use model::{Goal, IndexRange, Kind, Model, OutputItem, Var, better, is_solution};
 pub use solution_cut::cut;
+pub use sum::plus_product;
 pub use term::{Place, Term};
 
 mod constraint;
@@ -15,3 +16,5 @@ mod model;
 mod solution_cut;
 mod sum;
 mod term;
+#[cfg(test)]
+mod tests;
