@@ -8,7 +8,7 @@ ghost use Rattle.fzn_parser.specs.Readers as spec;
 use crate::annotations::anns;
 use crate::cursor::{MOST, Stop, Tokens};
 use crate::lists::{Part, listed};
-use crate::tree::{ArrayVar, Basic, Literal, Param, ParamBase, ParamValue, SingleVar, Var};
+use crate::tree::{ArrayVar, Basic, Literal, Param, ParamBase, ParamValue, SingleVar, Size, Var};
 use crate::types::{array_of, base};
 use crate::values::{array, basic, literal};
 use fzn_lexer::Symbol;
@@ -22,12 +22,10 @@ fn param_base(tokens: &mut Tokens<'_>) -> Result<ParamBase, Stop>
     ensures never_longer { length tokens.new ≤ length tokens.old }
 {
     if tokens.sees(Symbol::Bool) {
-        tokens.symbol(Symbol::Bool)?;
-        return Ok(ParamBase::Bool);
+        return Ok(ParamBase::Bool(tokens.symbol_place(Symbol::Bool)?));
     }
     if tokens.sees(Symbol::Int) {
-        tokens.symbol(Symbol::Int)?;
-        return Ok(ParamBase::Int);
+        return Ok(ParamBase::Int(tokens.symbol_place(Symbol::Int)?));
     }
     let place = tokens.symbol_place(Symbol::Set)?;
     tokens.symbol(Symbol::Of)?;
@@ -64,7 +62,7 @@ fn param_value(alloc: Global, tokens: &mut Tokens<'_>) -> Result<ParamValue, Sto
 
 /// The parameter of this size, from its type on.
 #[tactic(auto, unfolding(crate::specs::Readers::param_rest))]
-fn param_rest(alloc: Global, tokens: &mut Tokens<'_>, size: Option<usize>) -> Result<Param, Stop>
+fn param_rest(alloc: Global, tokens: &mut Tokens<'_>, size: Option<Size>) -> Result<Param, Stop>
     ensures gives { Gives (made (spec.param_of size) (spec.param_rest tokens.old)) result tokens.new }
     ensures shorter { OnOk result (length tokens.new < length tokens.old) }
     ensures never_longer { length tokens.new ≤ length tokens.old }
@@ -105,13 +103,14 @@ fn single_var(alloc: Global, tokens: &mut Tokens<'_>) -> Result<SingleVar, Stop>
     ensures shorter { OnOk result (length tokens.new < length tokens.old) }
     ensures never_longer { length tokens.new ≤ length tokens.old }
 {
-    tokens.symbol(Symbol::Var)?;
+    let place = tokens.symbol_place(Symbol::Var)?;
     let base = base(alloc, tokens)?;
     tokens.symbol(Symbol::Colon)?;
     let name = tokens.name(alloc)?;
     let anns = anns(alloc, tokens)?;
     let value = given(alloc, tokens)?;
     Ok(SingleVar {
+        place,
         base,
         name,
         anns,
@@ -121,7 +120,7 @@ fn single_var(alloc: Global, tokens: &mut Tokens<'_>) -> Result<SingleVar, Stop>
 
 /// The array of variables of this size, from `var` on.
 #[tactic(auto, unfolding(crate::specs::Readers::array_rest))]
-fn array_rest(alloc: Global, tokens: &mut Tokens<'_>, size: usize) -> Result<ArrayVar, Stop>
+fn array_rest(alloc: Global, tokens: &mut Tokens<'_>, size: Size) -> Result<ArrayVar, Stop>
     ensures gives { Gives (made (spec.array_var_of size) (spec.array_rest tokens.old)) result tokens.new }
     ensures shorter { OnOk result (length tokens.new < length tokens.old) }
     ensures never_longer { length tokens.new ≤ length tokens.old }

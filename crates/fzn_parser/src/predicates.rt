@@ -53,11 +53,15 @@ impl Part for Predicate {
 
     #[tactic(auto, unfolding(crate::specs::Readers::predicate))]
     fn read(alloc: Global, tokens: &mut Tokens<'_>, _number: usize) -> Result<Predicate, Stop> {
-        tokens.symbol(Symbol::Predicate)?;
+        let place = tokens.symbol_place(Symbol::Predicate)?;
         let name = tokens.name(alloc)?;
         tokens.symbol(Symbol::OpenParen)?;
         let params: Items<PredicateParam> = listed(alloc, tokens, Symbol::CloseParen)?;
         tokens.symbol(Symbol::Semicolon)?;
-        Ok(Predicate { name, params })
+        Ok(Predicate {
+            place,
+            name,
+            params,
+        })
     }
 }

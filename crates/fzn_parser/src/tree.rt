@@ -106,15 +106,24 @@ pub struct PredicateParam {
 
 #[derive(Debug, Drop)]
 pub struct Predicate {
+    /// Of `predicate`.
+    pub place: Place,
     pub name: Name,
     pub params: Items<PredicateParam>,
 }
 
+/// The size of an array whose indices begin at 1, from the place of `array`.
+#[derive(Clone, Copy, Debug)]
+pub struct Size {
+    pub place: Place,
+    pub count: usize,
+}
+
+/// The type of a parameter's values, from the place of its first word.
 #[derive(Clone, Copy, Debug)]
 pub enum ParamBase {
-    Bool,
-    Int,
-    /// From the place of `set`.
+    Bool(Place),
+    Int(Place),
     Set(Place),
 }
 
@@ -128,7 +137,7 @@ pub enum ParamValue {
 /// A parameter, an array of entries from 1 where a size is given.
 #[derive(Debug, Drop)]
 pub struct Param {
-    pub size: Option<usize>,
+    pub size: Option<Size>,
     pub base: ParamBase,
     pub name: Name,
     pub value: ParamValue,
@@ -136,6 +145,8 @@ pub struct Param {
 
 #[derive(Drop)]
 pub struct SingleVar {
+    /// Of `var`.
+    pub place: Place,
     pub base: Base,
     pub name: Name,
     pub anns: Items<Ann>,
@@ -144,7 +155,7 @@ pub struct SingleVar {
 
 #[derive(Drop)]
 pub struct ArrayVar {
-    pub size: usize,
+    pub size: Size,
     pub base: Base,
     pub name: Name,
     pub anns: Items<Ann>,

@@ -1,5 +1,5 @@
 -- Constraints as a sum with a test, which a Boolean term may switch.
-use Rattle.std.specs.Prelude.{◌≡◌, ◌⊎◌, ℤ, pos, negsuc, ◌-ℤ◌, List, ◌++◌, map, length, Option, Some, None, MatchOption, IsSomeAnd}
+use Rattle.std.specs.Prelude.{◌⊎◌, ℤ, pos, negsuc, ◌-ℤ◌, List, ◌++◌, map, length, Option, Some, None, MatchOption, IsSomeAnd}
 use Rattle.fzn_domain.specs.IntSet.{IntSet}
 use Rattle.fzn_meaning.specs.declared.term.Term.{Term}
 use Rattle.fzn_meaning.specs.declared.term.Place.{Place}

@@ -1,5 +1,5 @@
 -- What the fields of a state stand for.
-use Rattle.std.specs.Prelude.{◌≡◌, ◌-◌, List, [], ◌∷◌, length, slice_set}
+use Rattle.std.specs.Prelude.{◌-◌, List, [], ◌∷◌, length, slice_set}
 use Rattle.std.specs.List.{All}
 use Rattle.fzn_domain.specs.IntSet.{IntSet}
 use Rattle.fzn_domain.specs.Narrow.{IsVariable}

@@ -5,11 +5,13 @@
 #![tactic(auto)]
 
 pub use linear::Comparison;
-pub use refutes::refutes;
+pub use refutation::refutes;
 pub use rule::Rule;
 pub use state::{Possible, State};
 
 mod linear;
-mod refutes;
+mod refutation;
 mod rule;
 mod state;
+#[cfg(test)]
+mod tests;

@@ -1,7 +1,6 @@
 // A set for each variable, narrowed for a while.
-ghost use Rattle.std.specs.Prelude.{◌≡◌, ◌<◌, ◌↔◌, true, IsTrue, IfOk, OnOk, OnErr, List, length};
-ghost use Rattle.std.specs.List.{All};
-ghost use Rattle.fzn_domain.specs.IntSet.{size, is_possible};
+ghost use Rattle.std.specs.Prelude.{◌≡◌, ◌-◌, ◌<◌, ◌↔◌, IsTrue, IfOk, OnOk, OnErr, length, slice_set};
+ghost use Rattle.fzn_domain.specs.IntSet.{size};
 ghost use Rattle.fzn_domain.specs.Narrow.{IsVariable, IsClauseOver, set_of, is_some_empty, possible_in};
 ghost use Rattle.fzn_rules.specs.State.{Sets, start, narrowed_by, restored, IsPossibleIn};
 
@@ -107,7 +106,7 @@ impl State {
         ensures { self.new ≡ restored self.old }
     {
         while let Some(saved) = self.saved.pop() {
-            self.domains[saved.var.0 - 1] = saved.domain;
+            put_back(&mut self.domains, saved);
         }
     }
 
@@ -127,4 +126,11 @@ impl State {
         }
         found
     }
+}
+
+fn put_back(domains: &mut Vec<Domain>, saved: Saved)
+    requires { IsVariable (length domains.old.items) saved.var }
+    ensures { domains.new.items ≡ slice_set domains.old.items (saved.var.0 - 1) saved.domain }
+{
+    domains[saved.var.0 - 1] = saved.domain;
 }

@@ -17,6 +17,15 @@ pub fn refutes(constraint: &Constraint, state: &State, rule: &Rule) -> bool
     ensures met { IsTrue result ↔ IsMet constraint.now state.now.sets rule.now }
     ensures sound { IsTrue result → (values : List ℤ) → IsWithin state.now.sets values → HasBooleanValues values constraint.now → Meets constraint.now values → ⊥ }
 {
+    is_met(constraint, state, rule)
+}
+
+#[tactic(auto, unfolding(crate::specs::Rules::IsMet))]
+fn is_met(constraint: &Constraint, state: &State, rule: &Rule) -> bool
+    requires constraint { IsWellFormed (length state.now.sets) constraint.now }
+    requires nonempty { is_some_empty state.now.sets ≡ false }
+    ensures { IsTrue result ↔ IsMet constraint.now state.now.sets rule.now }
+{
     match rule {
         Rule::Lin => is_lin_met(constraint, state),
         _ => false,
