@@ -1,2 +1,12 @@
 pub mod Accepted
+pub mod Input
+pub mod Lines
+pub mod Output
 pub mod Past
+pub mod Reader
+pub mod Reading
+pub mod Sound
+pub mod Spelling
+pub mod Stream
+pub mod Verdict
+pub mod Writer

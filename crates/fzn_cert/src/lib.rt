@@ -5,8 +5,33 @@
 //! `specs/Verdict.antt` what that makes of a whole certificate: solver and checker cite these.
 #![tactic(auto)]
 
+pub use fault::{CertFault, FaultKind};
+pub use header::Header;
+pub use law::one_line;
+pub use limits::{LAST_STEP, LINE_LIMIT};
 pub use refusal::Refusal;
 pub use step::{Step, Version};
+pub use stream::StepReader;
+pub use writer::{Stage, StepWriter};
 
+mod ending;
+mod fault;
+mod header;
+mod input;
+mod law;
+mod limits;
+mod line;
+mod lines;
+mod literal;
+mod number;
+mod output;
+mod parse;
+mod reader;
 mod refusal;
+mod rule;
 mod step;
+mod stream;
+#[cfg(test)]
+mod tests;
+mod words;
+mod writer;

@@ -20,7 +20,9 @@ pub enum Step {
     /// A solution, a value for each variable, which gives its cut.
     Solution(Items<i64>),
     /// The clauses of these steps are cited no more.
-    Delete { ids: Items<u64> },
+    Delete {
+        ids: Items<u64>,
+    },
 }
 
 /// Which steps a certificate may have: version one has no `Delete`.

@@ -9,3 +9,5 @@ pub use text::Text;
 
 mod items;
 mod text;
+#[cfg(test)]
+mod tests;

@@ -1,0 +1,16 @@
+-- The ghost members of the propagator of any kind: those of its kind.
+use Rattle.std.specs.Prelude.{ℕ, List, length}
+use Rattle.fzn_domain.specs.IntSet.{IntSet}
+use Rattle.fzn_meaning.specs.declared.constraint.Constraint.{Constraint}
+use Rattle.fzn_arith.specs.declared.kinds.ArithPropagator.{ArithPropagator}
+use Rattle.fzn_arith.specs.declared.kinds.ArithPropagator.TheVariants.{AtMost}
+use Rattle.fzn_arith.specs.Kinds.{IsAtMost, IsSum}
+
+abbrev pub kind_number : ArithPropagator → ℕ
+kind_number (AtMost p) = p.number
+
+abbrev pub KindIsFor : ArithPropagator → Constraint → Type 0
+KindIsFor (AtMost p) = IsAtMost p.places p.bound
+
+abbrev pub KindFits : ArithPropagator → List IntSet → Type 0
+KindFits (AtMost p) declared = IsSum (length declared) p.places

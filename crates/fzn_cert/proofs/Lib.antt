@@ -1,0 +1,15 @@
+pub mod CallerLemmas
+pub mod HeaderLaws
+pub mod LineLaws
+pub mod LoopLaws
+pub mod NumberLaws
+pub mod ReadLaws
+pub mod RefusalLaws
+pub mod RiseLaws
+pub mod SoundLaws
+pub mod SpaceLaws
+pub mod SplitLaws
+pub mod StepLaws
+pub mod VerdictLaws
+pub mod WordLaws
+pub mod WriteLaws

@@ -1,0 +1,48 @@
+-- What a contract sees of a certificate's writer, and what a call that fails leaves.
+use Rattle.std.specs.Prelude.{ℕ, List, Option}
+use Rattle.std.specs.Io.KnownBytes.{Keeps}
+use Rattle.std.specs.Borrow.{GName}
+use Rattle.fzn_cert.specs.declared.fault.FaultKind.{FaultKind}
+use Rattle.fzn_cert.specs.declared.fault.FaultKind.TheVariants.{Memory, Write, StepTooLong}
+use Rattle.fzn_cert.specs.declared.step.Step.{Step}
+use Rattle.fzn_cert.specs.declared.step.Version.{Version}
+use Rattle.fzn_cert.specs.declared.writer.Stage.{Stage}
+use Rattle.fzn_cert.specs.declared.writer.StepWriter.{StepWriter}
+use Rattle.fzn_cert.specs.Spelling.{HasRoom}
+use Rattle.fzn_cert.specs.Output.{AppendsFront}
+
+-- what the writer below holds
+abbrev pub contents_of : {W : Type 0} → (W → Option (List ℕ)) → StepWriter W → Option (List ℕ)
+contents_of contents writer = contents writer.out.now
+
+-- by this name a caller knows the writer below
+abbrev pub out_name : {W : Type 0} → StepWriter W → GName
+out_name writer = writer.out.ghost_name
+
+abbrev pub version_of : {W : Type 0} → StepWriter W → Version
+version_of writer = writer.version
+
+-- how many steps were written
+abbrev pub step_count : {W : Type 0} → StepWriter W → ℕ
+step_count writer = writer.steps
+
+abbrev pub stage_of : {W : Type 0} → StepWriter W → Stage
+stage_of writer = writer.stage
+
+-- a fault leaves a beginning of the text after a failed write, and else nothing of it
+abbrev pub Leaves : List ℕ → Option (List ℕ) → Option (List ℕ) → FaultKind → Type 0
+Leaves text old new Write = AppendsFront old new text
+Leaves text old new _ = Keeps old new
+
+-- a fault of the first two lines, of the last line or of a flush
+abbrev pub IsLineFault : FaultKind → Type 0
+IsLineFault Memory = Unit {0}
+IsLineFault Write = Unit {0}
+IsLineFault _ = ⊥
+
+-- a fault of a step, after this many steps
+abbrev pub IsStepFault : ℕ → Step → FaultKind → Type 0
+IsStepFault steps step Memory = Unit {0}
+IsStepFault steps step Write = Unit {0}
+IsStepFault steps step StepTooLong = ¬ HasRoom steps step
+IsStepFault steps step _ = ⊥

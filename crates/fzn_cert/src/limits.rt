@@ -1,0 +1,7 @@
+// How long a line may be, and how many steps there may be.
+
+/// The most bytes of a line before its line feed.
+pub const LINE_LIMIT: usize = 4_194_304;
+
+/// The number of the last step.
+pub const LAST_STEP: u64 = 999_999_999_999_999_999;

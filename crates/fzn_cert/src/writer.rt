@@ -1,0 +1,239 @@
+// The writer of a certificate.
+ghost use Rattle.std.specs.Prelude.{◌≡◌, ℕ, ◌+◌, ◌<◌, ◌^◌, Bool, string_bytes, OnOk, OnErr, IfOk, IfErr, Err};
+ghost use Rattle.std.specs.Io.KnownBytes.{Appends, Keeps};
+ghost use Rattle.fzn_cert.specs.declared.step.Version.TheVariants.{One};
+ghost use Rattle.fzn_cert.specs.declared.writer.Stage.TheVariants.{Fresh, Open, Shut};
+ghost use Rattle.fzn_cert.specs.Spelling.{step_line, IsSpelled, HasRoom, version_text, header_text, end_line};
+ghost use Rattle.fzn_cert.specs.Output.{AppendsFront};
+ghost use Rattle.fzn_cert.specs.Writer.{contents_of, out_name, version_of, step_count, stage_of, Leaves, IsLineFault, IsStepFault};
+
+use crate::fault::FaultKind;
+use crate::limits::{LAST_STEP, LINE_LIMIT};
+use crate::line::push_step;
+use crate::output::{WriteFailed, put};
+use crate::step::{Step, Version};
+use std::alloc::Global;
+use std::io::Write;
+
+/// Which lines a writer may write next.
+#[derive(Clone, Copy, Debug, PartialEq, Eq)]
+pub enum Stage {
+    /// The first two.
+    Fresh,
+    /// Steps, and the last line.
+    Open,
+    /// None, after a fault and after the last line.
+    Shut,
+}
+
+/// Writes the lines of a certificate, one after the other. After a fault, and after the last line, each call answers `Failed`.
+#[derive(Drop)]
+pub struct StepWriter<'w, W: Write> {
+    out: &'w mut W,
+    version: Version,
+    steps: u64,
+    stage: Stage,
+}
+
+impl<'w, W: Write> StepWriter<'w, W> {
+    /// Writes nothing: `begin` writes the first two lines. So what stands after its fault is known too.
+    pub fn over(out: &'w mut W) -> StepWriter<'w, W>
+        ensures same { contents_of W.contents result ≡ W.contents out.old }
+        ensures same_writer { out_name result ≡ out.entry.ghost_name }
+        ensures fresh { stage_of result ≡ Fresh }
+    {
+        StepWriter {
+            out,
+            version: Version::One,
+            steps: 0,
+            stage: Stage::Fresh,
+        }
+    }
+
+    /// Writes the first two lines of version 1.
+    pub fn new(
+        alloc: Global,
+        out: &'w mut W,
+        variables: u64,
+        constraints: u64,
+    ) -> Result<StepWriter<'w, W>, FaultKind>
+        requires variables { variables < 10 ^ 18 }
+        requires constraints { constraints < 10 ^ 18 }
+        ensures ok { IfOk result (λ writer. Appends (W.contents out.old) (contents_of W.contents writer) (header_text One variables constraints)) }
+        ensures begun { IfOk result (λ writer. (stage_of writer ≡ Open) × (version_of writer ≡ One) × (step_count writer ≡ 0)) }
+        ensures same_writer { IfOk result (λ writer. out_name writer ≡ out.entry.ghost_name) }
+        ensures fault { IfErr result IsLineFault }
+    {
+        StepWriter::with_version(alloc, out, Version::One, variables, constraints)
+    }
+
+    /// Writes the first two lines.
+    pub fn with_version(
+        alloc: Global,
+        out: &'w mut W,
+        version: Version,
+        variables: u64,
+        constraints: u64,
+    ) -> Result<StepWriter<'w, W>, FaultKind>
+        requires variables { variables < 10 ^ 18 }
+        requires constraints { constraints < 10 ^ 18 }
+        ensures ok { IfOk result (λ writer. Appends (W.contents out.old) (contents_of W.contents writer) (header_text version variables constraints)) }
+        ensures begun { IfOk result (λ writer. (stage_of writer ≡ Open) × (version_of writer ≡ version) × (step_count writer ≡ 0)) }
+        ensures same_writer { IfOk result (λ writer. out_name writer ≡ out.entry.ghost_name) }
+        ensures fault { IfErr result IsLineFault }
+    {
+        let mut writer = StepWriter::over(out);
+        writer.begin(alloc, version, variables, constraints)?;
+        Ok(writer)
+    }
+
+    /// Writes the first two lines.
+    pub fn begin(
+        &mut self,
+        alloc: Global,
+        version: Version,
+        variables: u64,
+        constraints: u64,
+    ) -> Result<(), FaultKind>
+        requires variables { variables < 10 ^ 18 }
+        requires constraints { constraints < 10 ^ 18 }
+        ensures ok { OnOk result (Appends (contents_of W.contents self.old) (contents_of W.contents self.new) (header_text version variables constraints)) }
+        ensures begun { OnOk result ((stage_of self.new ≡ Open) × (version_of self.new ≡ version) × (step_count self.new ≡ 0)) }
+        ensures same_writer { out_name self.new ≡ out_name self.old }
+        ensures err { IfErr result (Leaves (header_text version variables constraints) (contents_of W.contents self.old) (contents_of W.contents self.new)) }
+        ensures fault { stage_of self.old ≡ Fresh → IfErr result IsLineFault }
+        ensures failed { ¬ (stage_of self.old ≡ Fresh) → result ≡ Err FaultKind.Failed }
+        ensures shut { OnErr result (stage_of self.new ≡ Shut) }
+    {
+        let stage = self.stage;
+        self.stage = Stage::Shut;
+        match stage {
+            Stage::Fresh => {}
+            _ => return Err(FaultKind::Failed),
+        }
+        let text = header_of(alloc, version, variables, constraints)?;
+        if put(self.out, text.as_bytes()).is_err() {
+            return Err(FaultKind::Write);
+        }
+        self.version = version;
+        self.steps = 0;
+        self.stage = Stage::Open;
+        Ok(())
+    }
+
+    /// Writes the line of a step.
+    pub fn write(&mut self, alloc: Global, step: &Step) -> Result<(), FaultKind>
+        requires { IsSpelled (version_of self.old) step.now }
+        ensures ok { OnOk result (Appends (contents_of W.contents self.old) (contents_of W.contents self.new) (step_line step.now)) }
+        ensures counted { OnOk result ((stage_of self.new ≡ Open) × (step_count self.new ≡ step_count self.old + 1) × HasRoom (step_count self.old) step.now) }
+        ensures same_writer { (out_name self.new ≡ out_name self.old) × (version_of self.new ≡ version_of self.old) }
+        ensures err { IfErr result (Leaves (step_line step.now) (contents_of W.contents self.old) (contents_of W.contents self.new)) }
+        ensures fault { stage_of self.old ≡ Open → IfErr result (IsStepFault (step_count self.old) step.now) }
+        ensures failed { ¬ (stage_of self.old ≡ Open) → result ≡ Err FaultKind.Failed }
+        ensures shut { OnErr result (stage_of self.new ≡ Shut) }
+    {
+        self.take_open()?;
+        if self.steps >= LAST_STEP {
+            return Err(FaultKind::StepTooLong);
+        }
+        let mut line = String::new(alloc);
+        push_step(&mut line, step)?;
+        if line.len() > LINE_LIMIT {
+            return Err(FaultKind::StepTooLong);
+        }
+        line.push_str("\n")?;
+        if put(self.out, line.as_bytes()).is_err() {
+            return Err(FaultKind::Write);
+        }
+        self.steps += 1;
+        self.stage = Stage::Open;
+        Ok(())
+    }
+
+    /// Flushes the writer below.
+    pub fn flush(&mut self) -> Result<(), FaultKind>
+        ensures kept { Keeps (contents_of W.contents self.old) (contents_of W.contents self.new) }
+        ensures ok { OnOk result ((stage_of self.new ≡ Open) × (step_count self.new ≡ step_count self.old)) }
+        ensures same_writer { (out_name self.new ≡ out_name self.old) × (version_of self.new ≡ version_of self.old) }
+        ensures fault { stage_of self.old ≡ Open → IfErr result (λ fault. fault ≡ FaultKind.Write) }
+        ensures failed { ¬ (stage_of self.old ≡ Open) → result ≡ Err FaultKind.Failed }
+        ensures shut { OnErr result (stage_of self.new ≡ Shut) }
+    {
+        self.take_open()?;
+        if self.out.flush().is_err() {
+            return Err(FaultKind::Write);
+        }
+        self.stage = Stage::Open;
+        Ok(())
+    }
+
+    /// Writes the last line, and flushes the writer below.
+    #[tactic(auto, using(crate::proofs::WriteLaws::AppendsFront_whole))]
+    pub fn finish(&mut self, closed: bool) -> Result<(), FaultKind>
+        ensures ok { OnOk result (Appends (contents_of W.contents self.old) (contents_of W.contents self.new) (end_line closed)) }
+        ensures same_writer { out_name self.new ≡ out_name self.old }
+        ensures err { IfErr result (Leaves (end_line closed) (contents_of W.contents self.old) (contents_of W.contents self.new)) }
+        ensures fault { stage_of self.old ≡ Open → IfErr result (λ fault. fault ≡ FaultKind.Write) }
+        ensures failed { ¬ (stage_of self.old ≡ Open) → result ≡ Err FaultKind.Failed }
+        ensures shut { stage_of self.new ≡ Shut }
+    {
+        self.take_open()?;
+        if put_end(self.out, closed).is_err() {
+            return Err(FaultKind::Write);
+        }
+        if self.out.flush().is_err() {
+            return Err(FaultKind::Write);
+        }
+        Ok(())
+    }
+
+    // Shuts the writer, so that only a call that goes well opens it again.
+    fn take_open(&mut self) -> Result<(), FaultKind>
+        ensures ok { OnOk result (stage_of self.old ≡ Open) }
+        ensures err { IfErr result (λ fault. fault ≡ FaultKind.Failed × ¬ (stage_of self.old ≡ Open)) }
+        ensures same { contents_of W.contents self.new ≡ contents_of W.contents self.old }
+        ensures same_writer { (out_name self.new ≡ out_name self.old) × (version_of self.new ≡ version_of self.old) }
+        ensures same_steps { step_count self.new ≡ step_count self.old }
+        ensures shut { stage_of self.new ≡ Shut }
+    {
+        let stage = self.stage;
+        self.stage = Stage::Shut;
+        match stage {
+            Stage::Open => Ok(()),
+            _ => Err(FaultKind::Failed),
+        }
+    }
+}
+
+fn header_of(
+    alloc: Global,
+    version: Version,
+    variables: u64,
+    constraints: u64,
+) -> Result<String, FaultKind>
+    ensures ok { IfOk result (λ text. string_bytes text ≡ header_text version variables constraints) }
+    ensures err { IfErr result (λ fault. fault ≡ FaultKind.Memory) }
+{
+    let first = version_text(version);
+    Ok(format!(in alloc; "{first}\nvars {variables} cons {constraints}\n")?)
+}
+
+fn put_end<W: Write>(out: &mut W, closed: bool) -> Result<(), WriteFailed>
+    ensures ok { OnOk result (Appends (W.contents out.old) (W.contents out.new) (end_line closed)) }
+    ensures err { OnErr result (AppendsFront (W.contents out.old) (W.contents out.new) (end_line closed)) }
+{
+    if closed {
+        put(out, b"e closed\n")
+    } else {
+        put(out, b"e open\n")
+    }
+}
+
+fn version_text(version: Version) -> &'static str
+    ensures { result.now ≡ version_text version }
+{
+    match version {
+        Version::One => "fzc 1",
+        Version::Two => "fzc 2",
+    }
+}

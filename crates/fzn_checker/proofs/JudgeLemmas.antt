@@ -1,0 +1,62 @@
+-- A rule on the numbered constraint, and sets as many as variables.
+use Rattle.std.proofs.Common.{◌≡◌, ℕ, ◌-◌, ◌<◌, ◌≤◌, List, Bool, true, false, ◌||◌, length, get_or, refl, sym, ap, subst, ◌∙◌, inl, inr, arith, IfSome}
+use Rattle.std.proofs.lemmas.List.{length-map, get_or_default}
+use Rattle.std.proofs.lemmas.Option.{slice_get_cases}
+use Rattle.fzn_domain.specs.declared.literal.Lit.{Lit}
+use Rattle.fzn_domain.specs.IntSet.{IntSet}
+use Rattle.fzn_domain.specs.Narrow.{denied, is_some_empty}
+use Rattle.fzn_domain.proofs.NarrowLemmas.{length-denied}
+use Rattle.fzn_meaning.specs.declared.constraint.Constraint.{Constraint}
+use Rattle.fzn_meaning.specs.declared.model.Model.{Model}
+use Rattle.fzn_meaning.specs.Meaning.{IsWellFormed as IsWellFormedConstraint}
+use Rattle.fzn_meaning.specs.Solutions.{declared_sets}
+use Rattle.fzn_meaning.specs.WellFormed.{IsWellFormed}
+use Rattle.fzn_rules.specs.declared.rule.Rule.{Rule}
+use Rattle.fzn_rules.specs.Rules.{IsMet}
+use Rattle.fzn_rules.specs.State.{Sets, start}
+use Rattle.fzn_cert.specs.Accepted.{denying, IsTrivial, IsRuleMet}
+
+-- the sets of a state that began with the declared ones, after a clause was denied
+pub denied_from : (model : Model) (old : Sets) (new : List IntSet) (clause : List Lit) → old ≡ start (declared_sets model.vars) → new ≡ denied old.sets clause → new ≡ denying model clause
+denied_from model old new clause old_is new_is = new_is ∙ ap (λ (s : Sets). denied s.sets clause) old_is
+
+pub count-declared : (model : Model) → length (declared_sets model.vars) ≡ length model.vars
+count-declared model = length-map model.vars (λ var. var.domain)
+
+pub count-state : (model : Model) (state : Sets) → state ≡ start (declared_sets model.vars) → length state.sets ≡ length model.vars
+count-state model state is = ap (λ (s : Sets). length s.sets) is ∙ count-declared model
+
+pub count-denied : (model : Model) (new : List IntSet) (clause : List Lit) → new ≡ denying model clause → length new ≡ length model.vars
+count-denied model new clause is = ap length is ∙ length-denied clause (declared_sets model.vars) ∙ count-declared model
+
+-- the numbered constraint is well formed
+pub constraint_fits : (model : Model) (new : List IntSet) (clause : List Lit) (k : ℕ) (constraint : Constraint) → IsWellFormed model → new ≡ denying model clause → k < length model.constraints → constraint ≡ get_or model.constraints k constraint → IsWellFormedConstraint (length new) constraint
+constraint_fits model new clause k constraint wf is below at =
+    subst (λ n. IsWellFormedConstraint n constraint) (sym (count-denied model new clause is))
+    (subst (IsWellFormedConstraint (length model.vars)) (sym at) (wf.constraints k constraint below))
+
+-- the rule is met on what is left exactly where it is met for the number
+pub rule_met : (model : Model) (new : List IntSet) (c : ℕ) (rule : Rule) (clause : List Lit) (constraint : Constraint) → new ≡ denying model clause → c - 1 < length model.constraints → constraint ≡ get_or model.constraints (c - 1) constraint → IsMet constraint new rule → IsRuleMet model c rule clause
+rule_met model new c rule clause constraint is below at met = elim (slice_get_cases model.constraints (c - 1)).1 [
+  | inl (found, within, got, here) ↦
+      let same : constraint ≡ found = at ∙ get_or_default model.constraints (c - 1) constraint found within ∙ here in
+      subst (λ o. IfSome o (λ k. IsMet k (denying model clause) rule)) (sym got)
+      (subst (λ k. IsMet k (denying model clause) rule) same (subst (λ s. IsMet constraint s rule) is met))
+  | inr past_end ↦ absurd (omega (arith, past_end.0, below))
+]
+
+pub rule_not_met : (model : Model) (new : List IntSet) (c : ℕ) (rule : Rule) (clause : List Lit) (constraint : Constraint) → new ≡ denying model clause → c - 1 < length model.constraints → constraint ≡ get_or model.constraints (c - 1) constraint → (IsMet constraint new rule → ⊥) → IsRuleMet model c rule clause → ⊥
+rule_not_met model new c rule clause constraint is below at not_met met = elim (slice_get_cases model.constraints (c - 1)).1 [
+  | inl (found, within, got, here) ↦
+      let same : constraint ≡ found = at ∙ get_or_default model.constraints (c - 1) constraint found within ∙ here in
+      not_met (subst (λ s. IsMet constraint s rule) (sym is)
+      (subst (λ k. IsMet k (denying model clause) rule) (sym same) (subst (λ o. IfSome o (λ k. IsMet k (denying model clause) rule)) got met)))
+  | inr past_end ↦ absurd (omega (arith, past_end.0, below))
+]
+
+-- no set was empty, and none became so
+pub not_trivial : (model : Model) (old : Sets) (new : List IntSet) (clause : List Lit) (has_empty emptied : Bool) → old ≡ start (declared_sets model.vars) → new ≡ denying model clause → is_some_empty new ≡ (is_some_empty old.sets || emptied) → has_empty ≡ is_some_empty (declared_sets model.vars) → has_empty ≡ false → emptied ≡ false → IsTrivial model clause → ⊥
+not_trivial model old new clause has_empty emptied old_is new_is told empty none none_new trivial =
+    let was : is_some_empty old.sets ≡ false = ap (λ (s : Sets). is_some_empty s.sets) old_is ∙ sym empty ∙ none in
+    let now : is_some_empty new ≡ true = ap is_some_empty new_is ∙ trivial in
+    grind arith

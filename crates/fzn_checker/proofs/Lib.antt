@@ -1,0 +1,6 @@
+mod ChainLemmas
+mod FaultLaws
+mod JudgeLemmas
+mod OrderLemmas
+mod StandingLaws
+mod TestLemmas

@@ -1,0 +1,38 @@
+use Rattle.std.proofs.Common.{◌≡◌, ◌-◌, ◌<◌, get_or, length, ap, sym, subst, ◌∙◌, refl, inr, arith}
+use Rattle.fzn_domain.specs.Narrow.{IsClauseOver}
+use Rattle.fzn_meaning.specs.declared.constraint.Constraint.{Constraint}
+use Rattle.fzn_cert.specs.Accepted.{denying}
+use Rattle.fzn_checker.proofs.JudgeLemmas.{denied_from, constraint_fits, rule_met, rule_not_met, not_trivial}
+use Rattle.fzn_checker.proofs.judge.judge_infer.Goals as goal
+
+pub refutes-requires-clause-constraint : goal.refutes-requires-clause-constraint
+refutes-requires-clause-constraint c =
+    constraint_fits c.args.model.now c.deny.new.state.sets c.args.clause.now (c.args.constraint - 1) c.index-as_slice-constraint.result c.requires.model
+    (denied_from c.args.model.now c.args.state.now c.deny.new.state.sets c.args.clause.now c.requires.state c.in_ok-emptied.ensures.sets)
+    (omega (arith, c.if-constraint-eq0.false, c.if-constraint-len.false, c.len-else-constraint-eq0.ensures))
+    (rw c.as_slice.ensures at c.index-as_slice-constraint.is)
+
+pub returns-then-refutes-clause-judged : goal.returns-then-refutes-clause-judged
+returns-then-refutes-clause-judged c =
+    λ past. (
+      subst (λ n. IsClauseOver n c.args.clause.now) c.len.ensures (c.if-not-has_variables.ensures.0 refl),
+      (omega (arith, c.if-constraint-eq0.false), omega (arith, c.if-constraint-len.false, c.len-else-constraint-eq0.ensures)),
+      inr (rule_met c.args.model.now c.deny.new.state.sets c.args.constraint c.args.rule.now c.args.clause.now c.index-as_slice-constraint.result
+          (denied_from c.args.model.now c.args.state.now c.deny.new.state.sets c.args.clause.now c.requires.state c.in_ok-emptied.ensures.sets)
+          (omega (arith, c.if-constraint-eq0.false, c.if-constraint-len.false, c.len-else-constraint-eq0.ensures))
+          (rw c.as_slice.ensures at c.index-as_slice-constraint.is)
+          (c.if-refutes.ensures.met.0 refl)),
+    )
+
+pub returns-else-refutes-clause-judged : goal.returns-else-refutes-clause-judged
+returns-else-refutes-clause-judged c =
+    let now = denied_from c.args.model.now c.args.state.now c.deny.new.state.sets c.args.clause.now c.requires.state c.in_ok-emptied.ensures.sets in
+    λ past. (
+      subst (λ n. IsClauseOver n c.args.clause.now) c.len.ensures (c.if-not-has_variables.ensures.0 refl),
+      (omega (arith, c.if-constraint-eq0.false), omega (arith, c.if-constraint-len.false, c.len-else-constraint-eq0.ensures)),
+      not_trivial c.args.model.now c.args.state.now c.deny.new.state.sets c.args.clause.now c.args.has_empty c.in_ok-emptied.emptied c.requires.state now c.in_ok-emptied.ensures.emptied c.requires.empty c.if-has_empty.false c.if-emptied.false,
+      rule_not_met c.args.model.now c.deny.new.state.sets c.args.constraint c.args.rule.now c.args.clause.now c.index-as_slice-constraint.result now
+          (omega (arith, c.if-constraint-eq0.false, c.if-constraint-len.false, c.len-else-constraint-eq0.ensures))
+          (rw c.as_slice.ensures at c.index-as_slice-constraint.is)
+          (λ met. let e = c.if-refutes.ensures.met.1 met in cc),
+    )

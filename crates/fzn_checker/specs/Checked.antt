@@ -1,0 +1,59 @@
+-- How far the check of a certificate came, and what its faults say.
+use Rattle.std.specs.Prelude.{◌≡◌, ℕ, ◌+◌, ◌<◌, Bool, true, false, List, ℤ, length, Option, Some, None, IfSome, MatchOption}
+use Rattle.fzn_meaning.specs.declared.model.Model.{Model}
+use Rattle.fzn_cert.specs.declared.fault.FaultKind.{FaultKind}
+use Rattle.fzn_cert.specs.declared.fault.FaultKind.TheVariants as faults
+use Rattle.fzn_cert.specs.declared.header.Header.{Header}
+use Rattle.fzn_cert.specs.declared.limits.TheConstants.{LAST_STEP}
+use Rattle.fzn_cert.specs.declared.refusal.Refusal.{Refusal}
+use Rattle.fzn_cert.specs.declared.step.Step.{Step}
+use Rattle.fzn_cert.specs.Past.{Past, start}
+use Rattle.fzn_cert.specs.Accepted.{IsAccepted, HasFault, after}
+use Rattle.fzn_cert.specs.Reader.{Progress, IsReading}
+use Rattle.fzn_cert.specs.Verdict.{Outcome, accepted, refused, MayEnd, VerdictOn, VerdictFrom}
+use Rattle.fzn_checker.specs.declared.fault.CheckFault.{CheckFault}
+use Rattle.fzn_checker.specs.declared.fault.CheckFault.TheVariants.{File, Refused, Memory, Read, WriteOutput}
+use Rattle.fzn_checker.specs.Judged.{HasBounds}
+
+-- A refusal is such an outcome. Want of memory and a failed read may come at any time.
+abbrev pub IsFaultWhere : (Outcome → Type 0) → CheckFault → Type 0
+IsFaultWhere Holds (Refused line refusal) = Holds (refused line refusal)
+IsFaultWhere Holds Memory = Unit {0}
+IsFaultWhere Holds Read = Unit {0}
+IsFaultWhere Holds WriteOutput = ⊥
+IsFaultWhere Holds (File fault) = ⊥
+
+-- the first two lines tell the model's counts
+abbrev pub HasCounts : Model → Header → Type 0
+HasCounts model header = (header.variables ≡ length model.vars) × (header.constraints ≡ length model.constraints)
+
+-- what the lines that are still to be read come to
+abbrev pub Standing : Model → Past → Progress → Outcome → Type 0
+Standing model past now outcome =
+    MatchOption now.header (VerdictOn model now.left outcome) (λ header. VerdictFrom model header.version past now.steps now.left outcome)
+
+-- between two lines: nothing was read, or the first two lines and the lines of steps
+pub record IsMidway (model : Model) (past : Past) (now : Progress) : Type 0 where
+  pub reading : IsReading now
+  pub counts : IfSome now.header (HasCounts model)
+  pub fresh : now.header ≡ None → (past ≡ start) × (now.steps ≡ 0)
+
+-- the next line is that of a step: what comes after it decides where it is accepted
+pub record Offers (model : Model) (past : Past) (old new : Progress) (step : Step) : Type 0 where
+  pub bounds : HasBounds step
+  pub counted : new.steps ≡ old.steps + 1
+  pub below : old.steps < LAST_STEP
+  pub midway : IsMidway model (after model past step) new
+  pub goes_on : IsAccepted model past step → (outcome : Outcome) → Standing model (after model past step) new outcome → Standing model past old outcome
+  pub refuses : (refusal : Refusal) → HasFault model past step refusal → Standing model past old (refused (old.steps + 3) refusal)
+
+-- the next line is an ending that is right, and nothing follows it
+abbrev pub Accepts : Model → Past → Progress → Progress → Type 0
+Accepts model past old new = (closed : Bool) × (new.closing ≡ Some closed) × MayEnd past closed × Standing model past old (accepted past.solutions closed)
+
+-- the faults that a reader may answer
+abbrev pub IsReadFault : FaultKind → Type 0
+IsReadFault faults.Write = ⊥
+IsReadFault faults.StepTooLong = ⊥
+IsReadFault faults.Failed = ⊥
+IsReadFault _ = Unit {0}

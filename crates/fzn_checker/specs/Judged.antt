@@ -1,0 +1,39 @@
+-- What a step must have to be judged, and how a chain's outcome is told.
+use Rattle.std.specs.Prelude.{◌≡◌, Bool, ℤ, pos, negsuc, ◌≤ℤ◌, List, Option, Some, None}
+use Rattle.std.specs.List.{All}
+use Rattle.fzn_domain.specs.declared.literal.Lit.{Lit}
+use Rattle.fzn_domain.specs.Narrow.{ChainOutcome, accepted, not_unit, no_conflict, is_some_empty}
+use Rattle.fzn_meaning.specs.declared.model.Model.{Model}
+use Rattle.fzn_meaning.specs.Solutions.{declared_sets}
+use Rattle.fzn_meaning.specs.WellFormed.{IsWellFormed}
+use Rattle.fzn_rules.specs.State.{Sets, start}
+use Rattle.fzn_cert.specs.declared.step.Step.{Step}
+use Rattle.fzn_cert.specs.declared.step.Step.TheVariants.{Infer, Resolve, Solution, Delete}
+use Rattle.fzn_cert.specs.declared.refusal.Refusal.{Refusal}
+use Rattle.fzn_cert.specs.declared.refusal.Refusal.TheVariants.{NotUnit, NoConflict}
+use Rattle.fzn_cert.specs.Past.{Past}
+use Rattle.fzn_cert.specs.Sound.{IsSound}
+
+-- What a step is judged on: a model, what sound steps left, the declared sets, and whether one of them is empty.
+pub record IsReady (model : Model) (past : Past) (state : Sets) (has_empty : Bool) : Type 0 where
+  pub well_formed : IsWellFormed model
+  pub sound : IsSound model past
+  pub fresh : state ≡ start (declared_sets model.vars)
+  pub empty : has_empty ≡ is_some_empty (declared_sets model.vars)
+
+-- the number of a literal in a certificate: at most one past the limits of a value
+abbrev pub IsBound : Lit → Type 0
+IsBound lit = (negsuc 1000000000 ≤ℤ lit.value) × (lit.value ≤ℤ pos 1000000001)
+
+-- the numbers of the step's literals are in their range
+abbrev pub HasBounds : Step → Type 0
+HasBounds (Infer c rule clause) = All IsBound clause
+HasBounds (Resolve clause ids) = All IsBound clause
+HasBounds (Solution values) = Unit {0}
+HasBounds (Delete ids) = Unit {0}
+
+-- what is wrong with a chain of this outcome
+abbrev pub chain_fault : ChainOutcome → Option Refusal
+chain_fault accepted = None
+chain_fault not_unit = Some NotUnit
+chain_fault no_conflict = Some NoConflict

@@ -1,0 +1,5 @@
+pub mod Answered
+pub mod Checked
+pub mod Faults
+pub mod FileFaults
+pub mod Judged

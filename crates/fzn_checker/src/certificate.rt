@@ -1,0 +1,86 @@
+// A certificate checked from its bytes.
+ghost use Rattle.std.specs.Prelude.{◌≡◌, true, IfOk, IfErr, length};
+ghost use Rattle.fzn_meaning.specs.Solutions.{declared_sets, IsProper, IsExhausted};
+ghost use Rattle.fzn_meaning.specs.WellFormed.{IsWellFormed};
+ghost use Rattle.fzn_cert.specs.Verdict.{accepted, VerdictOn};
+ghost use Rattle.fzn_checker.specs.Checked.{IsFaultWhere};
+
+use crate::fault::CheckFault;
+use crate::history::History;
+use crate::next::next_step;
+use crate::steps::take_step;
+use fzn_cert::StepReader;
+use fzn_domain::{Domain, Memory};
+use fzn_list::Items;
+use fzn_meaning::{Model, Var};
+use fzn_rules::State;
+use std::alloc::Global;
+use std::io::Read;
+
+/// What an accepted certificate shows.
+#[derive(Drop)]
+pub struct Accepted {
+    /// The values of its solutions, in order.
+    pub solutions: Vec<Items<i64>>,
+    /// Whether there are no others to be found.
+    pub closed: bool,
+}
+
+/// How many solutions an accepted certificate has, and whether there are no others to be found.
+#[derive(Clone, Copy, Debug, PartialEq, Eq)]
+pub struct Verdict {
+    pub solutions: usize,
+    pub closed: bool,
+}
+
+impl Accepted {
+    pub fn verdict(&self) -> Verdict
+        ensures { result ≡ record { solutions = length self.now.solutions.items; closed = self.now.closed } }
+    {
+        Verdict {
+            solutions: self.solutions.len(),
+            closed: self.closed,
+        }
+    }
+}
+
+/// Checks the bytes of a certificate, line by line. Whoever wrote it: what is accepted is a proper list of solutions, and an exhausted
+/// one where it is closed.
+pub fn check_certificate<C: Read + Drop>(
+    alloc: Global,
+    model: &Model,
+    cert: C,
+) -> Result<Accepted, CheckFault>
+    requires { IsWellFormed model.now }
+    ensures ok { IfOk result (λ answer. VerdictOn model.now (C.remaining cert) (accepted answer.solutions.items answer.closed)) }
+    ensures err { IfErr result (IsFaultWhere (VerdictOn model.now (C.remaining cert))) }
+    ensures proper { IfOk result (λ answer. IsProper model.now answer.solutions.items) }
+    ensures exhausted { IfOk result (λ answer. answer.closed ≡ true → IsExhausted model.now answer.solutions.items) }
+{
+    let mut reader = StepReader::new(alloc, cert);
+    let mut state = State::new(alloc, domains_of(alloc, model.vars.as_slice())?);
+    let has_empty = state.has_empty();
+    let mut history = History::new(alloc);
+    let mut line = 3;
+    while let Some(step) = next_step(alloc, model, &history, line, &mut reader)? {
+        if let Some(refusal) = take_step(alloc, model, &mut history, &mut state, has_empty, step)? {
+            return Err(CheckFault::Refused { line, refusal });
+        }
+        line += 1;
+    }
+    Ok(Accepted {
+        solutions: history.into_solutions(),
+        closed: reader.closed().unwrap_or(false),
+    })
+}
+
+/// The declared sets, each copied.
+fn domains_of(alloc: Global, vars: &[Var]) -> Result<Vec<Domain>, Memory>
+    ensures { IfOk result (λ domains. domains.items ≡ declared_sets vars.now) }
+{
+    let mut domains = Vec::new(alloc);
+    for var in vars {
+        domains.push(var.domain.copy()?)?;
+    }
+    Ok(domains)
+}

@@ -1,0 +1,59 @@
+// Why there is no verdict.
+ghost use Rattle.std.specs.Prelude.{◌≡◌};
+ghost use Rattle.fzn_checker.specs.declared.fault.CheckFault.TheVariants.{Memory};
+ghost use Rattle.fzn_checker.specs.FileFaults.{fault_from};
+
+use fzn_cert::Refusal;
+use fzn_lexer::Fault;
+use fzn_reading::ModelFault;
+use std::alloc::AllocError;
+use thiserror::Error;
+
+/// Why a certificate has no answer.
+#[derive(Clone, Copy, Debug, PartialEq, Eq, Error)]
+pub enum CheckFault {
+    /// The first fault of the file.
+    #[error("{}", ModelFault::File(*.0))]
+    File(Fault),
+    /// The first faulty line of the certificate, and what is wrong with it.
+    #[error("certificate line {line}: {refusal}")]
+    Refused { line: u64, refusal: Refusal },
+    #[error("fault 19 Memory")]
+    Memory,
+    #[error("fault 20 Read")]
+    Read,
+    #[error("fault 21 WriteOutput")]
+    WriteOutput,
+}
+
+impl CheckFault {
+    /// The exit status of a program that answers it.
+    pub fn status(self) -> u8 {
+        match self {
+            CheckFault::Refused { .. } => 1,
+            CheckFault::File(_) => 2,
+            CheckFault::Read | CheckFault::WriteOutput => 4,
+            CheckFault::Memory => 5,
+        }
+    }
+}
+
+impl From<AllocError> for CheckFault {
+    ghost from_gives = { λ _ fault. fault ≡ Memory };
+
+    fn from(_error: AllocError) -> CheckFault {
+        CheckFault::Memory
+    }
+}
+
+impl From<ModelFault> for CheckFault {
+    ghost from_gives = { λ of fault. fault ≡ fault_from of };
+
+    fn from(fault: ModelFault) -> CheckFault {
+        match fault {
+            ModelFault::File(fault) => CheckFault::File(fault),
+            ModelFault::Memory => CheckFault::Memory,
+            ModelFault::Read => CheckFault::Read,
+        }
+    }
+}

@@ -1,0 +1,175 @@
+// What is wrong with a step, if anything.
+ghost use Rattle.std.specs.Prelude.{◌≡◌, ◌↔◌, IsTrue, IfOk};
+ghost use Rattle.std.specs.List.{All};
+ghost use Rattle.fzn_domain.specs.Narrow.{IsClauseOver, is_some_empty};
+ghost use Rattle.fzn_meaning.specs.declared.model.Model.{Model};
+ghost use Rattle.fzn_meaning.specs.Solutions.{declared_sets};
+ghost use Rattle.fzn_meaning.specs.WellFormed.{IsWellFormed};
+ghost use Rattle.fzn_rules.specs.State.{start};
+ghost use Rattle.fzn_cert.specs.declared.step.Step.TheVariants.{Infer, Resolve, Solution, Delete};
+ghost use Rattle.fzn_cert.specs.Past.{Past};
+ghost use Rattle.fzn_cert.specs.Accepted.{IsJudged};
+ghost use Rattle.fzn_cert.specs.Sound.{IsSound};
+ghost use Rattle.fzn_checker.specs.Judged.{IsReady, IsBound, HasBounds};
+
+use crate::chain::{are_held, deny, follow};
+use crate::history::History;
+use crate::solution::passes_cuts;
+use fzn_cert::{Refusal, Step};
+use fzn_domain::{Lit, Memory};
+use fzn_meaning::{Model, is_solution};
+use fzn_rules::{Rule, State, refutes};
+
+/// What is wrong with a step after those before it, and none where it is accepted. The state has the declared sets before and after;
+/// `has_empty` tells whether one of them is empty.
+pub fn fault_of(
+    model: &Model,
+    history: &History,
+    state: &mut State,
+    has_empty: bool,
+    step: &Step,
+) -> Result<Option<Refusal>, Memory>
+    requires ready { IsReady model.now history.now state.old has_empty }
+    requires bounds { HasBounds step.now }
+    ensures judged { IfOk result (IsJudged model.now history.now step.now) }
+    ensures same { state.new ≡ state.old }
+{
+    let judged = judge_on(model, history, state, has_empty, step);
+    state.restore();
+    judged
+}
+
+// Leaves the sets narrowed.
+fn judge_on(
+    model: &Model,
+    history: &History,
+    state: &mut State,
+    has_empty: bool,
+    step: &Step,
+) -> Result<Option<Refusal>, Memory>
+    requires ready { IsReady model.now history.now state.old has_empty }
+    requires bounds { HasBounds step.now }
+    ensures judged { IfOk result (IsJudged model.now history.now step.now) }
+    ensures declared { state.new.declared ≡ state.old.declared }
+{
+    match step {
+        Step::Infer {
+            constraint,
+            rule,
+            clause,
+        } => judge_infer(
+            model,
+            state,
+            has_empty,
+            *constraint,
+            rule,
+            clause.as_slice(),
+        ),
+        Step::Resolve { clause, ids } => judge_resolve(
+            model,
+            history,
+            state,
+            has_empty,
+            clause.as_slice(),
+            ids.as_slice(),
+        ),
+        Step::Solution(values) => Ok(judge_solution(model, history, values.as_slice())),
+        Step::Delete { ids } => Ok(judge_delete(history, ids.as_slice())),
+    }
+}
+
+fn judge_infer(
+    model: &Model,
+    state: &mut State,
+    has_empty: bool,
+    constraint: u64,
+    rule: &Rule,
+    clause: &[Lit],
+) -> Result<Option<Refusal>, Memory>
+    requires model { IsWellFormed model.now }
+    requires state { state.old ≡ start (declared_sets model.now.vars) }
+    requires empty { has_empty ≡ is_some_empty (declared_sets model.now.vars) }
+    requires bounds { All IsBound clause.now }
+    ensures judged { IfOk result (λ fault. (past : Past) → IsJudged model.now past (Infer constraint rule.now clause.now) fault) }
+    ensures declared { state.new.declared ≡ state.old.declared }
+{
+    if !has_variables(model.vars.len(), clause) {
+        return Ok(Some(Refusal::NoSuchVariable));
+    }
+    if constraint == 0 || constraint > model.constraints.len() as u64 {
+        return Ok(Some(Refusal::NoSuchConstraint));
+    }
+    let emptied = deny(state, clause)?;
+    if has_empty || emptied {
+        return Ok(None);
+    }
+    if refutes(
+        &model.constraints.as_slice()[(constraint - 1) as usize],
+        state,
+        rule,
+    ) {
+        Ok(None)
+    } else {
+        Ok(Some(Refusal::RuleFails))
+    }
+}
+
+fn judge_resolve(
+    model: &Model,
+    history: &History,
+    state: &mut State,
+    has_empty: bool,
+    clause: &[Lit],
+    ids: &[u64],
+) -> Result<Option<Refusal>, Memory>
+    requires history { IsSound model.now history.now }
+    requires state { state.old ≡ start (declared_sets model.now.vars) }
+    requires empty { has_empty ≡ is_some_empty (declared_sets model.now.vars) }
+    requires bounds { All IsBound clause.now }
+    ensures judged { IfOk result (IsJudged model.now history.now (Resolve clause.now ids.now)) }
+    ensures declared { state.new.declared ≡ state.old.declared }
+{
+    if !has_variables(model.vars.len(), clause) {
+        return Ok(Some(Refusal::NoSuchVariable));
+    }
+    if !are_held(history, ids) {
+        return Ok(Some(Refusal::NoSuchClause));
+    }
+    let emptied = deny(state, clause)?;
+    if has_empty || emptied {
+        return Ok(None);
+    }
+    follow(history, state, ids)
+}
+
+fn judge_solution(model: &Model, history: &History, values: &[i64]) -> Option<Refusal>
+    requires model { IsWellFormed model.now }
+    requires history { IsSound model.now history.now }
+    ensures { IsJudged model.now history.now (Solution values.now) result }
+{
+    if !is_solution(model, values) {
+        return Some(Refusal::NotASolution);
+    }
+    if !passes_cuts(model, history.solutions(), values) {
+        return Some(Refusal::CutByEarlier);
+    }
+    None
+}
+
+fn judge_delete(history: &History, ids: &[u64]) -> Option<Refusal>
+    ensures { (model : Model) → IsJudged model history.now (Delete ids.now) result }
+{
+    if are_held(history, ids) {
+        None
+    } else {
+        Some(Refusal::NoSuchClause)
+    }
+}
+
+fn has_variables(count: usize, clause: &[Lit]) -> bool
+    ensures { IsTrue result ↔ IsClauseOver count clause.now }
+{
+    clause
+        .iter()
+        .all(|lit| 1 <= lit.var.0 && lit.var.0 <= count)
+}

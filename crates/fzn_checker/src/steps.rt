@@ -1,0 +1,54 @@
+// The steps of a certificate, taken one after another.
+ghost use Rattle.std.specs.Prelude.{◌≡◌, None, IfOk, OnOk};
+ghost use Rattle.fzn_meaning.specs.WellFormed.{IsWellFormed};
+ghost use Rattle.fzn_cert.specs.Accepted.{IsAccepted, IsJudged, after};
+ghost use Rattle.fzn_cert.specs.Sound.{IsSound};
+ghost use Rattle.fzn_checker.specs.Judged.{IsReady, HasBounds};
+
+use crate::history::History;
+use crate::judge::fault_of;
+use fzn_cert::{Refusal, Step};
+use fzn_domain::Memory;
+use fzn_meaning::{Model, cut};
+use fzn_rules::State;
+use std::alloc::Global;
+
+/// Takes the next step: where it is accepted it goes into the history, and else what is wrong with it is answered.
+pub fn take_step(
+    alloc: Global,
+    model: &Model,
+    history: &mut History,
+    state: &mut State,
+    has_empty: bool,
+    step: Step,
+) -> Result<Option<Refusal>, Memory>
+    requires ready { IsReady model.now history.old state.old has_empty }
+    requires bounds { HasBounds step }
+    ensures judged { IfOk result (IsJudged model.now history.old step) }
+    ensures after { IfOk result (λ fault. fault ≡ None → history.new ≡ after model.now history.old step) }
+    ensures sound { IfOk result (λ fault. fault ≡ None → IsSound model.now history.new) }
+    ensures same { state.new ≡ state.old }
+{
+    if let Some(fault) = fault_of(model, history, state, has_empty, &step)? {
+        return Ok(Some(fault));
+    }
+    accept(alloc, model, history, step)?;
+    Ok(None)
+}
+
+/// Adds an accepted step to the history.
+fn accept(alloc: Global, model: &Model, history: &mut History, step: Step) -> Result<(), Memory>
+    requires model { IsWellFormed model.now }
+    requires accepted { IsAccepted model.now history.old step }
+    ensures { OnOk result (history.new ≡ after model.now history.old step) }
+{
+    match step {
+        Step::Infer { clause, .. } => history.add_clause(clause),
+        Step::Resolve { clause, .. } => history.add_clause(clause),
+        Step::Solution(values) => {
+            let cut = cut(alloc, model, values.as_slice())?;
+            history.add_solution(cut, values)
+        }
+        Step::Delete { ids } => history.delete(ids.as_slice()),
+    }
+}

@@ -1,0 +1,3 @@
+pub mod CallerLemmas
+mod RoundLemmas
+mod StateLemmas

@@ -1,0 +1,54 @@
+-- Unit propagation keeps a trail reasoned, with the same decisions.
+use Rattle.std.proofs.Common.{◌≡◌, List, [], ◌∷◌, length, sym, ap, subst, ◌∙◌, All}
+use Rattle.std.proofs.lemmas.List.Elements.{All-get_or}
+use Rattle.fzn_domain.specs.declared.literal.Lit.{Lit}
+use Rattle.fzn_domain.specs.IntSet.{IntSet}
+use Rattle.fzn_domain.specs.Narrow.{IsClauseOver}
+use Rattle.fzn_trail.specs.declared.trail.Reason.TheVariants.{Clause}
+use Rattle.fzn_trail.specs.Levels.{Levels, asserted}
+use Rattle.fzn_trail.specs.Unit.{IsUnit}
+use Rattle.fzn_clauses.specs.Propagation.{Forced, Propagates, IsPropagated}
+use Rattle.fzn_conflict.specs.Reasoned.{clause_at, IsForced, opens, IsReasoned}
+use Rattle.fzn_conflict.proofs.NarrowerLemmas.{IsVariable-unit}
+use Rattle.fzn_conflict.proofs.CallerLemmas.{IsReasoned-forced, IsReasoned-marked, opens-forced}
+
+pub IsForced-from_unit : (sets : List IntSet) (clause : List Lit) (lit : Lit) → IsUnit sets clause lit → IsForced sets clause lit
+IsForced-from_unit sets clause lit unit = (unit.only, unit.not_yet_true)
+
+-- what propagation keeps
+pub record KeepsDecisions (old new : Levels) : Type 0 where
+  pub declared : new.declared ≡ old.declared
+  pub saved : new.saved ≡ old.saved
+  pub same_opens : opens new.declared new.entries ≡ opens old.declared old.entries
+
+pub record StaysReasoned (held : List (List Lit)) (old new : Levels) : Type 0 where
+  pub reasoned : IsReasoned held new
+  pub keeps : KeepsDecisions old new
+
+along : (held : List (List Lit)) (forced : List Forced) (old new : Levels) → All (IsClauseOver (length old.declared)) held → IsReasoned held old → Propagates held old forced new → StaysReasoned held old new
+along held [] old new over reasoned is = record {
+  reasoned = subst (λ (t : Levels). IsReasoned held t) (sym is) (IsReasoned-marked held old new.mark reasoned);
+  keeps = record {
+    declared = ap (λ (t : Levels). t.declared) is;
+    saved = ap (λ (t : Levels). t.saved) is;
+    same_opens = ap (λ (t : Levels). opens t.declared t.entries) is;
+  };
+}
+along held (forced ∷ rest) old new over reasoned is =
+    let unit = is.0.unit in
+    let over_here : IsClauseOver (length old.declared) (clause_at held forced.id) = All-get_or (IsClauseOver (length old.declared)) held forced.id.0 [] is.0.is_held over in
+    let var = IsVariable-unit old.sets (clause_at held forced.id) forced.lit (length old.declared) over_here unit.only in
+    let next : IsReasoned held (asserted forced.lit (Clause forced.id) old) =
+    IsReasoned-forced held old forced.lit forced.id reasoned var is.0.is_held (IsForced-from_unit old.sets (clause_at held forced.id) forced.lit unit) in
+    let later = along held rest (asserted forced.lit (Clause forced.id) old) new over next is.1 in
+    record {
+      reasoned = later.reasoned;
+      keeps = record {
+        declared = later.keeps.declared;
+        saved = later.keeps.saved;
+        same_opens = later.keeps.same_opens ∙ opens-forced held old forced.lit forced.id reasoned;
+      };
+    }
+
+pub IsReasoned-propagated : (held : List (List Lit)) (old new : Levels) → All (IsClauseOver (length old.declared)) held → IsReasoned held old → IsPropagated held old new → StaysReasoned held old new
+IsReasoned-propagated held old new over reasoned propagated = along held propagated.0 old new over reasoned propagated.1

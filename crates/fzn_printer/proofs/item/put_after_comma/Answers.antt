@@ -1,0 +1,8 @@
+use Rattle.fzn_output.proofs.CallerLemmas.{Appends-then, front-left, front-then, front-each, front-each-at, Puts-last, Puts-stopped}
+use Rattle.fzn_printer.proofs.item.put_after_comma.Goals as goal
+
+pub returns-in_err-put : goal.returns-in_err-put
+returns-in_err-put g c = Puts-stopped _ _ _ _ c.from_residual.ensures.0 (front-left _ _ _ _ c.in_err-put.ensures)
+
+pub returns : goal.returns
+returns g c = Puts-last _ _ _ _ _ _ c.in_ok-put.ensures c.put_entry.ensures

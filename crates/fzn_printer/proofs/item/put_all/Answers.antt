@@ -1,0 +1,5 @@
+use Rattle.fzn_output.proofs.CallerLemmas.{Appends-then, front-left, front-then, front-each, front-each-at, Puts-last, Puts-stopped}
+use Rattle.fzn_printer.proofs.item.put_all.Goals as goal
+
+pub returns : goal.returns
+returns g c = Puts-last _ _ _ _ _ _ c.in_ok-put_entry.ensures c.put_further.ensures

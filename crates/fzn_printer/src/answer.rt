@@ -1,0 +1,81 @@
+// A whole answer.
+ghost use Rattle.std.specs.Prelude.{◌≡◌, length};
+ghost use Rattle.std.specs.List.{All, flat_map};
+ghost use Rattle.fzn_output.specs.Output.{Puts};
+ghost use Rattle.fzn_meaning.specs.WellFormed.{IsOutputItem, IsWellFormed};
+ghost use Rattle.fzn_meaning.specs.Solutions.{IsAssignment};
+ghost use Rattle.fzn_printer.specs.Shown.{shown};
+ghost use Rattle.fzn_printer.specs.Answer.{answer_text, first_shown};
+
+use crate::item::put_solution;
+use crate::printer::ending_line;
+use fzn_list::Items;
+use fzn_meaning::{Goal, Model};
+use fzn_output::{WriteFailed, put};
+use std::io::Write;
+
+/// Prints the solutions that are to be seen, and how the answer ends, and flushes the writer. In an optimisation the last solution
+/// alone is printed, but for a wish to see all.
+#[tactic(auto, using(fzn_output::proofs::CallerLemmas::puts))]
+pub fn put_answer<W: Write>(
+    out: &mut W,
+    model: &Model,
+    found: &[Items<i64>],
+    closed: bool,
+    show_all: bool,
+) -> Result<(), WriteFailed>
+    requires model { IsWellFormed model.now }
+    requires found { All (IsAssignment model.now) found.now }
+    ensures { Puts (W.contents out.old) (W.contents out.new) result (answer_text model.now found.now closed show_all) }
+{
+    let first = first_shown(model.goal, show_all, found.len());
+    put_solutions(out, model, &found[first..])?;
+    put_last(out, ending_line(closed, !found.is_empty()))
+}
+
+/// Writes the bytes, and flushes the writer.
+fn put_last<W: Write>(out: &mut W, bytes: &[u8]) -> Result<(), WriteFailed>
+    ensures { Puts (W.contents out.old) (W.contents out.new) result bytes.now }
+{
+    put(out, bytes)?;
+    match out.flush() {
+        Ok(()) => Ok(()),
+        Err(_) => Err(WriteFailed),
+    }
+}
+
+fn put_solutions<W: Write>(
+    out: &mut W,
+    model: &Model,
+    found: &[Items<i64>],
+) -> Result<(), WriteFailed>
+    requires model { IsWellFormed model.now }
+    requires found { All (IsAssignment model.now) found.now }
+    ensures { Puts (W.contents out.old) (W.contents out.new) result (flat_map (shown model.now) found.now) }
+{
+    for values in found {
+        put_assignment(out, model, values)?;
+    }
+    Ok(())
+}
+
+fn put_assignment<W: Write>(
+    out: &mut W,
+    model: &Model,
+    values: &Items<i64>,
+) -> Result<(), WriteFailed>
+    requires model { IsWellFormed model.now }
+    requires assignment { IsAssignment model.now values.now }
+    ensures { Puts (W.contents out.old) (W.contents out.new) result (shown model.now values.now) }
+{
+    put_solution(out, model, values.as_slice())
+}
+
+fn first_shown(goal: Goal, show_all: bool, count: usize) -> usize
+    ensures { result ≡ first_shown goal show_all count }
+{
+    match goal {
+        Goal::Minimize(_) | Goal::Maximize(_) if !show_all => count.saturating_sub(1),
+        _ => 0,
+    }
+}

@@ -1,0 +1,15 @@
+//! Answers as text.
+//!
+//! In: solutions one by one, and how the answer ended. Out: their lines on a writer. Proved against `specs/Shown.antt`: the text of a
+//! solution, and the line that ends an answer.
+#![tactic(auto)]
+
+pub use answer::put_answer;
+pub use printer::{Ending, PrintFault, Printer};
+
+mod answer;
+mod item;
+mod printer;
+#[cfg(test)]
+mod tests;
+mod value;

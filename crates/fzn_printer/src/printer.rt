@@ -1,0 +1,146 @@
+// Solutions and the end of an answer on a writer.
+ghost use Rattle.std.specs.Prelude.{◌≡◌, ◌≢◌, true, false, length, IfErr, OnOk, OnErr, Err};
+ghost use Rattle.std.specs.Io.KnownBytes.{Appends, Keeps};
+ghost use Rattle.fzn_output.specs.Output.{AppendsFront};
+ghost use Rattle.fzn_meaning.specs.Solutions.{IsAssignment};
+ghost use Rattle.fzn_meaning.specs.WellFormed.{IsWellFormed};
+ghost use Rattle.fzn_printer.specs.Shown.{shown, ending_text, is_closed};
+ghost use Rattle.fzn_printer.specs.Printer.{output, is_open, has_printed};
+
+use crate::item::put_solution;
+use fzn_meaning::Model;
+use fzn_output::put;
+use std::io::Write;
+use thiserror::Error;
+
+/// Why an answer ends.
+#[derive(Clone, Copy, Debug, PartialEq, Eq)]
+pub enum Ending {
+    /// Every solution that was asked for was found.
+    Complete,
+    /// There is no solution.
+    Unsatisfiable,
+    /// A decision was wanted, and the node limit was reached.
+    NodeLimit,
+    /// As many solutions as were asked for were found.
+    SolutionLimit,
+}
+
+impl Ending {
+    fn is_closed(self) -> bool
+        ensures { result ≡ is_closed self }
+    {
+        match self {
+            Ending::Complete | Ending::Unsatisfiable => true,
+            Ending::NodeLimit | Ending::SolutionLimit => false,
+        }
+    }
+}
+
+/// Why nothing more is printed.
+#[derive(Clone, Copy, Debug, PartialEq, Eq, Error)]
+pub enum PrintFault {
+    /// A write or a flush failed, or a write took no byte.
+    #[error("fault 21 WriteOutput")]
+    Write,
+    /// A call after a fault, or after the end was printed.
+    #[error("failed before")]
+    Failed,
+}
+
+/// Prints an answer, solution by solution. It takes no memory.
+#[derive(Drop)]
+pub struct Printer<W: Write> {
+    out: W,
+    printed: bool,
+    open: bool,
+}
+
+impl<W: Write + Drop> Printer<W> {
+    pub fn new(out: W) -> Printer<W>
+        ensures out { output result ≡ out }
+        ensures fresh { (is_open result ≡ true) × (has_printed result ≡ false) }
+    {
+        Printer {
+            out,
+            printed: false,
+            open: true,
+        }
+    }
+
+    /// Prints the lines of the marked declarations, and ten dashes.
+    pub fn solution(&mut self, model: &Model, values: &[i64]) -> Result<(), PrintFault>
+        requires model { IsWellFormed model.now }
+        requires assignment { IsAssignment model.now values.now }
+        ensures written { OnOk result (Appends (W.contents (output self.old)) (W.contents (output self.new)) (shown model.now values.now)) }
+        ensures ok { OnOk result ((is_open self.new ≡ true) × (has_printed self.new ≡ true)) }
+
+        // After a failed write a beginning of the text stands, and any later call answers `Failed`.
+        ensures front { OnErr result (AppendsFront (W.contents (output self.old)) (W.contents (output self.new)) (shown model.now values.now)) }
+        ensures err { OnErr result (is_open self.new ≡ false) }
+        ensures failed { is_open self.old ≡ false → (result ≡ Err PrintFault.Failed) × Keeps (W.contents (output self.old)) (W.contents (output self.new)) }
+        ensures failed_only { is_open self.old ≡ true → result ≢ Err PrintFault.Failed }
+    {
+        if !self.open {
+            return Err(PrintFault::Failed);
+        }
+        self.open = false;
+        if put_solution(&mut self.out, model, values).is_err() {
+            return Err(PrintFault::Write);
+        }
+        self.printed = true;
+        self.open = true;
+        Ok(())
+    }
+
+    /// Flushes the writer below.
+    pub fn flush(&mut self) -> Result<(), PrintFault>
+        ensures kept { Keeps (W.contents (output self.old)) (W.contents (output self.new)) }
+        ensures ok { OnOk result ((is_open self.new ≡ true) × (has_printed self.new ≡ has_printed self.old)) }
+        ensures err { OnErr result (is_open self.new ≡ false) }
+        ensures failed { is_open self.old ≡ false → result ≡ Err PrintFault.Failed }
+        ensures failed_only { is_open self.old ≡ true → result ≢ Err PrintFault.Failed }
+    {
+        if !self.open {
+            return Err(PrintFault::Failed);
+        }
+        if self.out.flush().is_err() {
+            self.open = false;
+            return Err(PrintFault::Write);
+        }
+        Ok(())
+    }
+
+    /// Prints the line that ends the answer, if it has one, and flushes the writer below. Any later call answers `Failed`.
+    pub fn close(&mut self, ending: Ending) -> Result<(), PrintFault>
+        ensures written { OnOk result (Appends (W.contents (output self.old)) (W.contents (output self.new)) (ending_text (is_closed ending) (has_printed self.old))) }
+        ensures front { OnErr result (AppendsFront (W.contents (output self.old)) (W.contents (output self.new)) (ending_text (is_closed ending) (has_printed self.old))) }
+        ensures shut { is_open self.new ≡ false }
+        ensures failed { is_open self.old ≡ false → (result ≡ Err PrintFault.Failed) × Keeps (W.contents (output self.old)) (W.contents (output self.new)) }
+        ensures failed_only { is_open self.old ≡ true → result ≢ Err PrintFault.Failed }
+    {
+        if !self.open {
+            return Err(PrintFault::Failed);
+        }
+        self.open = false;
+        let line = ending_line(ending.is_closed(), self.printed);
+        if put(&mut self.out, line).is_err() {
+            return Err(PrintFault::Write);
+        }
+        if self.out.flush().is_err() {
+            return Err(PrintFault::Write);
+        }
+        Ok(())
+    }
+}
+
+pub fn ending_line(closed: bool, printed: bool) -> &'static [u8]
+    ensures { result.now ≡ ending_text closed printed }
+{
+    match (closed, printed) {
+        (true, true) => b"==========\n",
+        (true, false) => b"=====UNSATISFIABLE=====\n",
+        (false, true) => b"",
+        (false, false) => b"=====UNKNOWN=====\n",
+    }
+}

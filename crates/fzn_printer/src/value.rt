@@ -1,0 +1,41 @@
+// Numbers, values and names.
+ghost use Rattle.std.specs.Prelude.{◌≡◌};
+ghost use Rattle.std.specs.Fmt.{decimal, signed_decimal};
+ghost use Rattle.fzn_output.specs.Output.{Puts};
+ghost use Rattle.fzn_printer.specs.Shown.{value_text, range_text};
+
+use fzn_meaning::{IndexRange, Kind};
+use fzn_output::{WriteFailed, put};
+use itoa::Buffer;
+use std::io::Write;
+
+pub fn put_count<W: Write>(out: &mut W, count: usize) -> Result<(), WriteFailed>
+    ensures { Puts (W.contents out.old) (W.contents out.new) result (decimal count) }
+{
+    put(out, Buffer::new().format(count).as_bytes())
+}
+
+pub fn put_integer<W: Write>(out: &mut W, value: &i64) -> Result<(), WriteFailed>
+    ensures { Puts (W.contents out.old) (W.contents out.new) result (signed_decimal value.now) }
+{
+    put(out, Buffer::new().format(*value).as_bytes())
+}
+
+pub fn put_value<W: Write>(out: &mut W, kind: Kind, value: &i64) -> Result<(), WriteFailed>
+    ensures { Puts (W.contents out.old) (W.contents out.new) result (value_text kind value.now) }
+{
+    match kind {
+        Kind::Integer => put_integer(out, value),
+        Kind::Boolean if *value == 0 => put(out, b"false"),
+        Kind::Boolean => put(out, b"true"),
+    }
+}
+
+#[tactic(auto, using(fzn_output::proofs::CallerLemmas::puts))]
+pub fn put_range<W: Write>(out: &mut W, range: &IndexRange) -> Result<(), WriteFailed>
+    ensures { Puts (W.contents out.old) (W.contents out.new) result (range_text range.now) }
+{
+    put_integer(out, &range.low)?;
+    put(out, b"..")?;
+    put_integer(out, &range.high)
+}

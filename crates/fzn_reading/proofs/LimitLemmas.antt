@@ -1,0 +1,171 @@
+-- What the tokens of a file spell is within the limits.
+use Rattle.std.proofs.Common.{◌≡◌, ℕ, suc, ◌+◌, ◌<◌, ◌≤◌, Bool, true, false, List, [], ◌∷◌, ◌++◌, length, Option, Some, None, ◌⊎◌, inl, inr, sym, subst, refl, Ok, arith, nat_lt}
+use Rattle.std.proofs.lemmas.Int.{ints}
+use Rattle.std.proofs.lemmas.List.Elements.{All-cons, All-nil}
+use Rattle.std.specs.Prelude.{ℤ, pos, ◌≤ℤ◌}
+use Rattle.std.specs.List.{All}
+use Rattle.fzn_domain.specs.Limits.{IsInLimits}
+use Rattle.fzn_lexer.specs.declared.token.Kind.TheVariants as k
+use Rattle.fzn_lexer.specs.declared.token.Symbol.{Symbol}
+use Rattle.fzn_lexer.specs.declared.token.Symbol.TheVariants as s
+use Rattle.fzn_lexer.specs.declared.token.Token.{Token}
+use Rattle.fzn_lexer.specs.Lexemes.{IsSmall, IsInRange}
+use Rattle.fzn_lexer.specs.Tokens.{Lexes, Stand}
+use Rattle.fzn_meaning.specs.Meaning.{longest}
+use Rattle.fzn_parser.specs.declared.tree.Arg.{Arg}
+use Rattle.fzn_parser.specs.declared.tree.Arg.TheVariants as args
+use Rattle.fzn_parser.specs.declared.tree.Base.{Base}
+use Rattle.fzn_parser.specs.declared.tree.Base.TheVariants as bases
+use Rattle.fzn_parser.specs.declared.tree.Basic.{Basic}
+use Rattle.fzn_parser.specs.declared.tree.Basic.TheVariants as basics
+use Rattle.fzn_parser.specs.declared.tree.Con.{Con}
+use Rattle.fzn_parser.specs.declared.tree.Literal.TheVariants as l
+use Rattle.fzn_parser.specs.declared.tree.SingleVar.{SingleVar}
+use Rattle.fzn_parser.specs.declared.tree.Tree.{Tree}
+use Rattle.fzn_parser.specs.declared.tree.Values.TheVariants as values_are
+use Rattle.fzn_parser.specs.declared.tree.Var.{Var}
+use Rattle.fzn_parser.specs.declared.tree.Var.TheVariants as vars
+use Rattle.fzn_parser.specs.Grammar as G
+use Rattle.fzn_parser.specs.Parse.{IsTree}
+use Rattle.fzn_parser.specs.Piece.{Piece, AreSpelled, AreWithin, sign, each, each_by, one_more, marked}
+use Rattle.fzn_typing.specs.Limits.{IsBaseWithin, IsVarWithin, IsBasicWithin, IsArgWithin, IsConWithin, IsWithinLimits}
+use Rattle.fzn_typing.specs.Models.{vars_of}
+
+-- ---- pieces
+
+-- the numbers are within their limits, and no piece passes a limit
+abbrev AreFine : List Piece → Type 0
+AreFine [] = Unit {0}
+AreFine (p ∷ ps) = (IsSmall p.kind × (p.past ≡ None)) × AreFine ps
+
+-- what the tokens of a file spell
+fine_from : (bytes : List ℕ) (from upto : ℕ) (front : List Token) (last : Token) (ps : List Piece) → Stand bytes from front upto → IsSmall last.kind → AreSpelled (front ++ last ∷ []) ps → AreWithin ps → AreFine ps
+fine_from bytes from upto front last [] stand small spelled within = tt
+fine_from bytes from upto [] last (p ∷ []) stand small spelled within = ((subst IsSmall spelled.0.0 small, within.0), tt)
+fine_from bytes from upto [] last (p ∷ q ∷ ps) stand small spelled within = absurd spelled.1
+fine_from bytes from upto (t ∷ front) last (p ∷ ps) stand small spelled within =
+    ((subst IsSmall spelled.0.0 stand.0.small, within.0), fine_from bytes t.span.end upto front last ps stand.1 small spelled.1 within.1)
+
+fine_split : (ps qs : List Piece) → AreFine (ps ++ qs) → AreFine ps × AreFine qs
+fine_split [] qs f = (tt, f)
+fine_split (p ∷ ps) qs f = let r = fine_split ps qs f.1 in ((f.0, r.0), r.1)
+
+-- the pieces of a part that is numbered, if it is not one too many
+fine_marked : (within : Bool) (ps : List Piece) → AreFine (marked within ps) → AreFine ps
+fine_marked true ps f = f
+fine_marked false [] f = tt
+fine_marked false (p ∷ ps) f = absurd cc
+
+-- it has a first piece, on which a mark would stand
+abbrev HasPiece : List Piece → Type 0
+HasPiece [] = ⊥
+HasPiece (p ∷ ps) = Unit {0}
+
+marked_true : (within : Bool) (ps : List Piece) → HasPiece ps → AreFine (marked within ps) → within ≡ true
+marked_true true ps some f = refl
+marked_true false [] some f = absurd some
+marked_true false (p ∷ ps) some f = absurd cc
+
+-- ---- lists
+
+-- each of a list
+each_by_all : {A : Type 0} (P : A → Type 0) (next : ℕ → A → ℕ) (part : ℕ → A → List Piece) (law : (n : ℕ) (a : A) → AreFine (part n a) → P a) (n : ℕ) (xs : List A) → AreFine (each_by next part n xs) → All P xs
+each_by_all P next part law n [] f = All-nil P
+each_by_all P next part law n (x ∷ xs) f =
+    let r = fine_split (part n x) (each_by next part (next n x) xs) f in
+    All-cons P x xs (law n x r.0) (each_by_all P next part law (next n x) xs r.1)
+
+-- a list with commas
+listed_all : {A : Type 0} (P : A → Type 0) (part : ℕ → A → List Piece) (close : Symbol) (law : (n : ℕ) (a : A) → AreFine (part n a) → P a) (xs : List A) → AreFine (G.listed part close xs) → All P xs
+listed_all P part close law [] f = All-nil P
+listed_all P part close law (x ∷ xs) f =
+    let r = fine_split (part 0 x) (each (λ n y. sign s.Comma ++ part n y) 1 xs ++ sign close) f in
+    All-cons P x xs (law 0 x r.0) (each_by_all P one_more (λ n y. sign s.Comma ++ part n y) (λ n y g. law n y g.1) 1 xs (fine_split (each (λ n y. sign s.Comma ++ part n y) 1 xs) (sign close) r.1).0)
+
+-- no more than the limit, where each but the first few is marked
+each_few : {A : Type 0} (before : List Piece) (part : A → List Piece) (some : (a : A) → HasPiece (part a)) (n : ℕ) (xs : List A) → n ≤ G.most → AreFine (each (λ n x. before ++ marked (nat_lt n G.most) (part x)) n xs) → n + length xs ≤ G.most
+each_few before part some n [] few f = omega (arith, few)
+each_few before part some n (x ∷ xs) few f =
+    let r = fine_split (before ++ marked (nat_lt n G.most) (part x)) (each (λ n x. before ++ marked (nat_lt n G.most) (part x)) (suc n) xs) f in
+    let below = marked_true (nat_lt n G.most) (part x) (some x) (fine_split before (marked (nat_lt n G.most) (part x)) r.0).1 in
+    let more = each_few before part some (suc n) xs (grind (arith, below)) r.1 in
+    omega (arith, more)
+
+listed_few : {A : Type 0} (part : A → List Piece) (close : Symbol) (some : (a : A) → HasPiece (part a)) (xs : List A) → AreFine (G.listed (λ n x. marked (nat_lt n G.most) (part x)) close xs) → length xs ≤ G.most
+listed_few part close some [] f = omega arith
+listed_few part close some (x ∷ xs) f =
+    let r = fine_split (part x) (each (λ n y. sign s.Comma ++ marked (nat_lt n G.most) (part y)) 1 xs ++ sign close) f in
+    let more = each_few (sign s.Comma) part some 1 xs (omega arith) (fine_split (each (λ n y. sign s.Comma ++ marked (nat_lt n G.most) (part y)) 1 xs) (sign close) r.1).0 in
+    omega (arith, more)
+
+-- ---- numbers
+
+limited : (z : ℤ) → IsInRange z → IsInLimits z
+limited z (n, few, inl e) = subst IsInLimits (sym e) (omega (arith, ints, few), omega (arith, ints, few))
+limited z (n, few, inr e) = subst IsInLimits (sym e) (omega (arith, ints, few), omega (arith, ints, few))
+
+-- ---- the tree
+
+base_within : (base : Base) → AreFine (G.base base) → IsBaseWithin base
+base_within bases.Bool f = tt
+base_within (bases.Int place) f = tt
+base_within (bases.Values (values_are.Range r)) f = (limited r.low.value f.0.0, limited r.high f.1.1.0.0)
+base_within (bases.Values (values_are.Listed all)) f = tt
+base_within (bases.Set place v) f = tt
+
+var_within : (n : ℕ) (var : Var) → AreFine (G.var n var) → IsVarWithin var
+var_within n (vars.Array v) f = tt
+var_within n (vars.Single v) f =
+    let g = fine_marked (nat_lt n G.most) (G.single_var v) f in
+    base_within v.base (fine_split (G.base v.base) _ g.1).0
+
+vars_few : (n : ℕ) (all : List Var) → n ≤ G.most → AreFine (each_by G.singles_with G.var n all) → n + length (vars_of all) ≤ G.most
+vars_few n [] few f = omega (arith, few)
+vars_few n (vars.Array v ∷ more) few f = vars_few n more few (fine_split (G.array_var v) (each_by G.singles_with G.var n more) f).1
+vars_few n (vars.Single v ∷ more) few f =
+    let r = fine_split (G.var n (vars.Single v)) (each_by G.singles_with G.var (suc n) more) f in
+    let below = marked_true (nat_lt n G.most) (G.single_var v) tt r.0 in
+    let rest = vars_few (suc n) more (grind (arith, below)) r.1 in
+    omega (arith, rest)
+
+basic_within : (basic : Basic) → AreFine (G.basic basic) → IsBasicWithin basic
+basic_within (basics.Literal (l.Int i)) f = limited i.value f.0.0
+basic_within (basics.Literal (l.Bool b place)) f = tt
+basic_within (basics.Literal (l.Range r)) f = tt
+basic_within (basics.Literal (l.Set place all)) f = tt
+basic_within (basics.Name n) f = tt
+
+basic_has : (basic : Basic) → HasPiece (G.basic basic)
+basic_has (basics.Literal (l.Int i)) = tt
+basic_has (basics.Literal (l.Bool true place)) = tt
+basic_has (basics.Literal (l.Bool false place)) = tt
+basic_has (basics.Literal (l.Range r)) = tt
+basic_has (basics.Literal (l.Set place all)) = tt
+basic_has (basics.Name n) = tt
+
+arg_within : (arg : Arg) → AreFine (G.arg arg) → IsArgWithin arg
+arg_within (args.Basic basic) f = basic_within basic f
+arg_within (args.Array a) f =
+    (listed_all IsBasicWithin G.entry s.CloseBracket (λ n basic g. basic_within basic (fine_marked (nat_lt n G.most) (G.basic basic) g)) a.entries f.1,
+     listed_few G.basic s.CloseBracket basic_has a.entries f.1)
+
+con_within : (con : Con) → AreFine (G.con con) → IsConWithin con
+con_within con f = listed_all IsArgWithin (λ n. G.arg) s.CloseParen (λ n arg g. arg_within arg g) con.args (fine_split (G.listed (λ n. G.arg) s.CloseParen con.args) _ f.1.1.1).0
+
+-- the tree of the tokens of a file
+pub tree_within : (bytes : List ℕ) (tokens : List Token) (tree : Tree) → Lexes bytes (Ok tokens) → IsTree tokens tree → IsWithinLimits tree
+tree_within bytes tokens tree lexed parsed =
+    let spelled = subst (λ (z : List Token). AreSpelled z (G.tree tree)) lexed.parts parsed.spelled in
+    let fine = fine_from bytes 0 lexed.upto lexed.front lexed.last (G.tree tree) lexed.stand (subst IsSmall (sym lexed.is_end.kind) tt) spelled parsed.within in
+    let items = (fine_split (G.items tree) (sign s.End) fine).0 in
+    let past_predicates = (fine_split (each (λ n. G.predicate) 0 tree.predicates) _ items).1 in
+    let parts = fine_split (G.declarations (tree.params, tree.vars)) _ past_predicates in
+    let variables = (fine_split (each (λ n. G.param) 0 tree.params) _ parts.0).1 in
+    let constraints = (fine_split (each (λ n c. marked (nat_lt n G.most) (G.con c)) 0 tree.cons) _ parts.1).0 in
+    let few_vars = vars_few 0 tree.vars (omega arith) variables in
+    let few_cons = each_few [] G.con (λ c. tt) 0 tree.cons (omega arith) constraints in
+    record {
+      vars = each_by_all IsVarWithin G.singles_with G.var var_within 0 tree.vars variables;
+      few_vars = omega (arith, few_vars);
+      cons = each_by_all IsConWithin one_more (λ n c. marked (nat_lt n G.most) (G.con c)) (λ n c g. con_within c (fine_marked (nat_lt n G.most) (G.con c) g)) 0 tree.cons constraints;
+      few_cons = omega (arith, few_cons) }

@@ -1,0 +1,15 @@
+//! From a reader of bytes to the model that a FlatZinc file states.
+//!
+//! In: a reader. Out: the model, or the first fault of the file with its number and place. Proved against `specs/Reads.antt`: the
+//! model, or the fault of the lexer, else of the parser, else of the types, on the bytes that the reader had left.
+#![tactic(auto)]
+
+mod fault;
+mod input;
+mod model;
+
+pub use fault::ModelFault;
+pub use model::read_model;
+
+#[cfg(test)]
+mod tests;

@@ -1,0 +1,37 @@
+//! From bytes to a model.
+
+ghost use Rattle.std.specs.Prelude.{IfOk, IfSome};
+ghost use Rattle.fzn_meaning.specs.WellFormed.{IsWellFormed};
+ghost use Rattle.fzn_reading.specs.Reads.{Answers, Reads};
+
+use crate::fault::ModelFault;
+use crate::input::read_bytes;
+use fzn_lexer::{ReadError, tokens};
+use fzn_meaning::Model;
+use fzn_parser::parse;
+use fzn_typing::type_check;
+use std::alloc::Global;
+use std::io::Read;
+
+/// The model of these bytes, or their first fault.
+fn model_of(alloc: Global, bytes: &[u8]) -> Result<Model, ReadError>
+    ensures right { Reads bytes.now result }
+    ensures well_formed { IfOk result IsWellFormed }
+{
+    let tokens = tokens(alloc, bytes)?;
+    let tree = parse(alloc, tokens.as_slice())?;
+    type_check(alloc, &tree)
+}
+
+/// The model of the file that the reader has left. After an error the reader stands anywhere.
+pub fn read_model<R: Read>(alloc: Global, input: &mut R) -> Result<Model, ModelFault>
+    ensures right { IfSome (R.remaining input.old) (λ bytes. Answers bytes result) }
+    ensures well_formed { IfOk result IsWellFormed }
+{
+    let bytes = read_bytes(alloc, input)?;
+    match model_of(alloc, bytes.as_slice()) {
+        Ok(model) => Ok(model),
+        Err(ReadError::Memory) => Err(ModelFault::Memory),
+        Err(ReadError::Fault(fault)) => Err(ModelFault::File(fault)),
+    }
+}

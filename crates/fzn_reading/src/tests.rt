@@ -1,0 +1,118 @@
+use super::*;
+use fzn_lexer::{Fault, FaultKind, Place};
+use std::alloc::{AllocError, Global};
+use std::io;
+use std::io::Read;
+use std::string::String;
+use std::test::*;
+
+/// Gives `most` bytes a call, and at the end fails where it is to.
+#[derive(Drop)]
+struct Pieces<'a> {
+    bytes: &'a [u8],
+    most: usize,
+    fails: Option<io::ErrorKind>,
+}
+
+impl Read for Pieces<'_> {
+    fn read(&mut self, buf: &mut [u8]) -> io::Result<usize> {
+        if let (true, Some(kind)) = (self.bytes.is_empty(), self.fails) {
+            return Err(io::Error::from(kind));
+        }
+        let count = self.bytes.len().min(buf.len()).min(self.most);
+        buf[..count].copy_from_slice(&self.bytes[..count]);
+        self.bytes = &self.bytes[count..];
+        Ok(count)
+    }
+}
+
+/// What is printed of the fault, and nothing where a model is read.
+fn shown<R: Read>(alloc: Global, input: &mut R) -> Result<String, AllocError> {
+    match read_model(alloc, input) {
+        Ok(_) => Ok(String::new(alloc)),
+        Err(fault) => format!(in alloc; "{fault}"),
+    }
+}
+
+#[test]
+fn faults_of_files(rt: HostRuntime) -> Result<(), Fail> {
+    for (file, most, want) in [
+        ("solve satisfy;\x7f", 1, "line 1 column 15: fault 1 BadByte"),
+        ("var\n\n @", 3, "line 3 column 2: fault 2 BadToken"),
+        ("", 1, "line 1 column 1: fault 3 Syntax"),
+        ("solve satisfy", 20_000, "line 1 column 14: fault 3 Syntax"),
+        ("% a\r\n\tx", 2, "line 2 column 2: fault 3 Syntax"),
+        ("var 1.5..2: x;", 4, "line 1 column 5: fault 5 Float"),
+        ("int: k = 1000000001;", 7, "line 1 column 10: fault 8 LiteralRange"),
+        ("array [1..100001] of int: k = [];", 1, "line 1 column 11: fault 16 TooMany"),
+        // A fault of the lexer stands before one of the parser that is nearer.
+        ("satisfy solve 1e5", 5, "line 1 column 15: fault 5 Float"),
+    ] {
+        let mut input = Pieces {
+            bytes: file.as_bytes(),
+            most,
+            fails: None,
+        };
+        let text = shown(rt.alloc(), &mut input)?;
+        assert_eq!(rt; text.as_str(), want, "in {file:?}");
+        let mut bytes = file.as_bytes();
+        let text = shown(rt.alloc(), &mut bytes)?;
+        assert_eq!(rt; text.as_str(), want, "in {file:?}, at once");
+    }
+    Ok(())
+}
+
+#[test]
+fn failed_reads(rt: HostRuntime) -> Result<(), Fail> {
+    for (file, most, kind) in [
+        ("", 1, io::ErrorKind::Other),
+        ("solve satisfy;", 6, io::ErrorKind::Interrupted),
+        ("solve satisfy;", 20_000, io::ErrorKind::Interrupted),
+        ("\x01", 1, io::ErrorKind::BrokenPipe),
+    ] {
+        let mut input = Pieces {
+            bytes: file.as_bytes(),
+            most,
+            fails: Some(kind),
+        };
+        let text = shown(rt.alloc(), &mut input)?;
+        assert_eq!(rt; text.as_str(), "fault 20 Read", "behind {file:?}");
+    }
+    Ok(())
+}
+
+#[test]
+fn messages(rt: HostRuntime) -> Result<(), Fail> {
+    for (kind, want) in [
+        (FaultKind::BadByte, "fault 1 BadByte"),
+        (FaultKind::BadToken, "fault 2 BadToken"),
+        (FaultKind::Syntax, "fault 3 Syntax"),
+        (FaultKind::TooDeep, "fault 4 TooDeep"),
+        (FaultKind::Float, "fault 5 Float"),
+        (FaultKind::SetRefused, "fault 6 SetRefused"),
+        (FaultKind::UnboundedInt, "fault 7 UnboundedInt"),
+        (FaultKind::LiteralRange, "fault 8 LiteralRange"),
+        (FaultKind::DuplicateName, "fault 9 DuplicateName"),
+        (FaultKind::UnknownName, "fault 10 UnknownName"),
+        (FaultKind::UnknownConstraint, "fault 11 UnknownConstraint"),
+        (FaultKind::Arity, "fault 12 Arity"),
+        (FaultKind::Type, "fault 13 Type"),
+        (FaultKind::Length, "fault 14 Length"),
+        (FaultKind::Argument, "fault 15 Argument"),
+        (FaultKind::TooMany, "fault 16 TooMany"),
+        (FaultKind::OutputAnnotation, "fault 17 OutputAnnotation"),
+        (FaultKind::FileTooLong, "fault 18 FileTooLong"),
+    ] {
+        let place = Place {
+            line: 12,
+            column: 7,
+        };
+        let fault = ModelFault::File(Fault { kind, place });
+        let text = format!(in rt.alloc(); "{fault}")?;
+        let want = format!(in rt.alloc(); "line 12 column 7: {want}")?;
+        assert_eq!(rt; text, want);
+    }
+    let memory = format!(in rt.alloc(); "{}", ModelFault::Memory)?;
+    assert_eq!(rt; memory.as_str(), "fault 19 Memory");
+    Ok(())
+}

@@ -1,0 +1,30 @@
+-- Variables with one value, and literals that split a set.
+use Rattle.std.specs.Prelude.{◌≡◌, ℕ, ◌+◌, ℤ, List, length}
+use Rattle.std.specs.List.{All}
+use Rattle.fzn_domain.specs.declared.literal.Lit.{Lit}
+use Rattle.fzn_domain.specs.IntSet.{IntSet, size}
+use Rattle.fzn_domain.specs.Limits.{IsInLimits}
+use Rattle.fzn_domain.specs.Narrow.{IsVariable, IsOpen, IsWithin}
+
+-- a search over this many variables, and the decisions that it has made
+pub record Searching : Type 0 where
+  pub vars : ℕ
+  pub nodes : ℕ
+
+-- one more decision
+abbrev pub counted : Searching → Searching
+counted search = record search { nodes = search.nodes + 1 }
+
+-- each variable has one value
+abbrev pub AllFixed : List IntSet → Type 0
+AllFixed sets = All (λ s. size s ≡ 1) sets
+
+-- some values of the variable's set make the literal true, and others false
+pub record Splits (sets : List IntSet) (lit : Lit) : Type 0 where
+  pub variable : IsVariable (length sets) lit.var
+  pub is_open : IsOpen sets lit
+  pub in_limits : IsInLimits lit.value
+
+-- no other values lie in the sets
+abbrev pub IsOnlyWithin : List IntSet → List ℤ → Type 0
+IsOnlyWithin sets values = (other : List ℤ) → IsWithin sets other → other ≡ values

@@ -1,0 +1,49 @@
+// The goal of a file.
+ghost use Rattle.std.specs.Prelude.{◌≡◌, Some};
+ghost use Rattle.fzn_typing.specs.Known.{known};
+ghost use Rattle.fzn_typing.specs.Places.{first};
+ghost use Rattle.fzn_typing.specs.Faults.{objective_of, objective_faults, goal_faults};
+ghost use Rattle.fzn_typing.specs.Models.{goal_of};
+ghost use Rattle.fzn_typing.specs.Typed.{Gives};
+
+use crate::names::{Declared, Names};
+use crate::place::place_of;
+use fzn_domain::VarId;
+use fzn_lexer::{Fault, FaultKind, ReadError};
+use fzn_meaning::Kind;
+use fzn_parser::{Basic, Goal};
+
+/// The integer variable that is named.
+fn objective_of(names: &Names, basic: &Basic) -> Result<VarId, ReadError>
+    ensures { Gives (objective_faults (known names.now) basic.now)
+        (λ var. objective_of (known names.now) basic.now ≡ Some var) result }
+{
+    match basic {
+        Basic::Literal(_) => Err(ReadError::Fault(Fault {
+            kind: FaultKind::Type,
+            place: place_of(basic),
+        })),
+        Basic::Name(name) => match names.meaning(&name.text) {
+            None => Err(ReadError::Fault(Fault {
+                kind: FaultKind::UnknownName,
+                place: name.place,
+            })),
+            Some(Declared::Variable(Kind::Integer, var)) => Ok(var),
+            Some(Declared::Variable(Kind::Boolean, _)) => Err(ReadError::Fault(Fault {
+                kind: FaultKind::Type,
+                place: name.place,
+            })),
+        },
+    }
+}
+
+pub fn goal_of(names: &Names, goal: &Goal) -> Result<fzn_meaning::Goal, ReadError>
+    ensures { Gives (goal_faults (known names.now) goal.now)
+        (λ found. goal_of (known names.now) goal.now ≡ Some found) result }
+{
+    match goal {
+        Goal::Satisfy => Ok(fzn_meaning::Goal::Satisfy),
+        Goal::Minimize(basic) => Ok(fzn_meaning::Goal::Minimize(objective_of(names, basic)?)),
+        Goal::Maximize(basic) => Ok(fzn_meaning::Goal::Maximize(objective_of(names, basic)?)),
+    }
+}

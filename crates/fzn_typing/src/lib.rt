@@ -1,0 +1,20 @@
+//! From the tree of a FlatZinc file to the model that it states.
+//!
+//! In: a tree. Out: its model, or its first fault. Proved against `specs/Faults.antt` (the faults of each item, in the order in which
+//! they count) and `specs/Models.antt` (the model of a tree without faults).
+#![tactic(auto)]
+
+pub use tree::type_check;
+
+mod annotation;
+mod argument;
+mod constraint;
+mod goal;
+mod names;
+mod output;
+mod place;
+#[cfg(test)]
+mod tests;
+mod tree;
+mod value;
+mod variable;
