@@ -275,29 +275,32 @@ fn clauses(rt: HostRuntime) -> Result<(), Fail> {
     Ok(())
 }
 
-/// Whether nothing is inferred at these values exactly where the sum meets them.
-fn agrees(alloc: Global, model: &Model, sum: &Constraint, x: i64, y: i64) -> Result<bool, Memory>
+/// Whether nothing is inferred at these values exactly where they meet the sum that is the model's constraint.
+fn agrees(
+    alloc: Global,
+    model: &Model,
+    sum: (i16, i16, i16),
+    x: i64,
+    y: i64,
+) -> Result<bool, Memory>
     requires well_formed { IsWellFormed model.now }
     requires one { length model.now.constraints ≡ 1 }
     requires sets { declared_sets model.now.vars ≡ range (pos 0) (pos 4) ∷ range (pos 0) (pos 4) ∷ [] }
-    requires sum { IsWellFormedConstraint 2 sum.now }
 {
+    let constraint = sum_of(alloc, sum.0, sum.1, sum.2)?;
     let found = answer(alloc, 4, model, (x, x), (y, y))?;
-    Ok(found.is_none() == holds(sum, &[x, y]))
+    Ok(found.is_none() == holds(&constraint, &[x, y]))
 }
 
 #[test]
 fn nothing_where_it_holds(rt: HostRuntime) -> Result<(), Fail> {
     let alloc = rt.alloc();
     for (a, b, bound) in [(1, 1, 4), (2, -3, -3), (-1, -2, -5), (0, 3, 0)] {
-        let sum = sum_of(alloc, a, b, bound)?;
         let model = model_of(alloc, 4, sum_of(alloc, a, b, bound)?)?;
         for i in 0..25 {
             let (x, y) = (i / 5, i % 5);
-            assert!(rt;
-                agrees(alloc, &model, &sum, x, y)?,
-                "{a} {b} {bound} at {x} {y}"
-            );
+            let agrees = agrees(alloc, &model, (a, b, bound), x, y)?;
+            assert!(rt; agrees, "{a} {b} {bound} at {x} {y}");
         }
     }
     Ok(())

@@ -60,8 +60,8 @@ pub HasRead-end : (text : List ℕ) (old new : Progress) (steps : List Step) →
 HasRead-end text old new steps so_far ends same =
     whole new.left
     (subst (λ (h : Option Header). Consumes (Some text) new.left (text_of h steps ++ end_line ends.closed)) ends.told
-        (subst (λ (t : List ℕ). Consumes (Some text) new.left t) (text_joined old.header new.header ends.header steps (end_line ends.closed) ends.told so_far.none_before same)
-            (Consumes-then (Some text) old.left new.left (text_of old.header steps) (lines_read old.header new.header ++ end_line ends.closed) so_far.taken ends.taken)))
+    (subst (λ (t : List ℕ). Consumes (Some text) new.left t) (text_joined old.header new.header ends.header steps (end_line ends.closed) ends.told so_far.none_before same)
+    (Consumes-then (Some text) old.left new.left (text_of old.header steps) (lines_read old.header new.header ++ end_line ends.closed) so_far.taken ends.taken)))
     ends.at_end
   where
     whole : (left : Option (List ℕ)) → Consumes (Some text) left (certificate_text ends.header steps ends.closed) → IsAtEnd left → text ≡ certificate_text ends.header steps ends.closed
@@ -72,11 +72,11 @@ HasRead-end text old new steps so_far ends same =
 pub HasRead-fault : (bytes : Option (List ℕ)) (old new : Progress) (steps : List Step) (fault : CertFault) (header : Header) → HasRead bytes old steps → Finds old new fault → new.header ≡ Some header → (IsSome old.header → new.header ≡ old.header)
     → (fault.line ≡ line_of fault.kind (length steps)) × After bytes (text_of (Some header) steps) (λ rest. IsFaultOf header.version (length steps) rest fault.kind)
 HasRead-fault bytes old new steps fault header so_far finds is same =
-    let next = subst (λ (h : Option Header). IsNextFault old h fault) is finds.is_next in
+    let next = subst (λ (h : Option Header). IsNextFault old h new.closing fault) is finds.is_next in
     let count = so_far.counted in
     let kept : IsSome old.header → Some header ≡ old.header = λ some. sym is ∙ same some in
     let taken = subst (λ (t : List ℕ). Consumes bytes next.1.0 t)
-        (ap (λ (t : List ℕ). text_of old.header steps ++ t) (sym (append-nil (lines_read old.header (Some header))))
-            ∙ text_joined old.header (Some header) header steps [] refl so_far.none_before kept ∙ append-nil (text_of (Some header) steps))
-        (Consumes-then bytes old.left next.1.0 (text_of old.header steps) (lines_read old.header (Some header)) so_far.taken next.1.1) in
-    (rw (← count) next.0, (next.1.0, taken, rw (← count) next.1.2))
+    (ap (λ (t : List ℕ). text_of old.header steps ++ t) (sym (append-nil (lines_read old.header (Some header))))
+    ∙ text_joined old.header (Some header) header steps [] refl so_far.none_before kept ∙ append-nil (text_of (Some header) steps))
+    (Consumes-then bytes old.left next.1.0 (text_of old.header steps) (lines_read old.header (Some header)) so_far.taken next.1.1) in
+    (rw (← count) next.0, (next.1.0, taken, rw (← count) next.1.2.0))

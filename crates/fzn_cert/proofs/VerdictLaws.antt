@@ -21,9 +21,16 @@ verdict-ends model version past count left outcome h = ([], tt, tt, (left, Consu
 
 -- one accepted step, and then the rest
 pub verdict-step : (model : Model) (version : Version) (past : Past) (count : ℕ) (left next : Option (List ℕ)) (step : Step) (outcome : Outcome) → HasLine version count step → IsAccepted model past step → Consumes left next (step_line step) → VerdictFrom model version (after model past step) (count + 1) next outcome → VerdictFrom model version past count left outcome
-verdict-step model version past count left next step outcome line is_accepted taken (later, lines, all, (rest, rest_taken, ends)) =
-    (step ∷ later, (line, lines), (is_accepted, all), (rest, Consumes-trans left next rest (step_line step) (lines_of later) taken rest_taken,
-    subst (λ n. EndsIn model version (fold (after model) (after model past step) later) n rest outcome) (shift count (length later)) ends))
+verdict-step model version past count left next step outcome line is_accepted taken (later, lines, all, (rest, rest_taken, ends)) = (
+  step ∷ later,
+  (line, lines),
+  (is_accepted, all),
+  (
+    rest,
+    Consumes-trans left next rest (step_line step) (lines_of later) taken rest_taken,
+    subst (λ n. EndsIn model version (fold (after model) (after model past step) later) n rest outcome) (shift count (length later)) ends,
+  ),
+)
   where
     shift : (m n : ℕ) → m + 1 + n ≡ m + suc n
     shift m n = omega arith

@@ -4,12 +4,13 @@ use Rattle.std.specs.List.{flat_map}
 use Rattle.std.specs.declared.io.traits.Read.{Ghosts}
 use Rattle.std.specs.Io.KnownBytes.{Consumes, IsAtEnd}
 use Rattle.fzn_cert.specs.declared.fault.CertFault.{CertFault}
+use Rattle.fzn_cert.specs.declared.fault.FaultKind.TheVariants.{Trailing}
 use Rattle.fzn_cert.specs.declared.header.Header.{Header}
 use Rattle.fzn_cert.specs.declared.step.Step.{Step}
 use Rattle.fzn_cert.specs.declared.stream.StepReader.{StepReader}
 use Rattle.fzn_cert.specs.Spelling.{step_line, end_line, header_lines, HasLine}
 use Rattle.fzn_cert.specs.Input.{left_in}
-use Rattle.fzn_cert.specs.Stream.{IsFaultOf, IsHeaderFault, After, line_of}
+use Rattle.fzn_cert.specs.Stream.{IsFaultOf, IsHeaderFault, IsTrailedBy, After, line_of}
 
 -- how far a certificate was read
 pub record Progress : Type 0 where
@@ -70,16 +71,17 @@ pub record Ends (old new : Progress) : Type 0 where
   pub same_steps : new.steps ≡ old.steps
   pub no_fault : new.fault_line ≡ None
 
--- the fault of the first line that is still to be read and has one, where this call read the first two lines or not
-abbrev pub IsNextFault : Progress → Option Header → CertFault → Type 0
-IsNextFault old None fault = IsHeaderFault old.left fault
-IsNextFault old (Some header) fault =
+-- the fault of the first line that is still to be read and has one, where this call read the first two lines or not; a byte after the
+-- last line is told with what that line says
+abbrev pub IsNextFault : Progress → Option Header → Option Bool → CertFault → Type 0
+IsNextFault old None closing fault = IsHeaderFault old.left fault
+IsNextFault old (Some header) closing fault =
     (fault.line ≡ line_of fault.kind old.steps)
-    × After old.left (lines_read old.header (Some header)) (λ rest. IsFaultOf header.version old.steps rest fault.kind)
+    × After old.left (lines_read old.header (Some header)) (λ rest. IsFaultOf header.version old.steps rest fault.kind × (fault.kind ≡ Trailing → IsTrailedBy rest closing))
 
 -- the call found this fault
 pub record Finds (old new : Progress) (fault : CertFault) : Type 0 where
-  pub is_next : IsNextFault old new.header fault
+  pub is_next : IsNextFault old new.header new.closing fault
   pub same_steps : new.steps ≡ old.steps
   pub line : new.fault_line ≡ Some fault.line
 

@@ -1,5 +1,5 @@
 -- What the next line of a certificate is, and which fault it has.
-use Rattle.std.specs.Prelude.{◌≡◌, ◌⊎◌, ℕ, ◌+◌, ◌≤◌, Bool, List, ◌∷◌, [], ◌++◌, length, Option}
+use Rattle.std.specs.Prelude.{◌≡◌, ◌⊎◌, ℕ, ◌+◌, ◌≤◌, Bool, List, ◌∷◌, [], ◌++◌, length, Option, Some}
 use Rattle.std.specs.Io.KnownBytes.{Consumes, IsAtEnd}
 use Rattle.fzn_cert.specs.declared.fault.CertFault.{CertFault}
 use Rattle.fzn_cert.specs.declared.fault.FaultKind.{FaultKind}
@@ -34,12 +34,20 @@ pub record IsTooLong (left : Option (List ℕ)) : Type 0 where
   pub inside : HasNoLineFeed text
   pub past : length text ≡ LINE_LIMIT + 1
 
+-- what is left after this text has the property
+abbrev pub After : Option (List ℕ) → List ℕ → (Option (List ℕ) → Type 0) → Type 0
+After left text Holds = (rest : Option (List ℕ)) × Consumes left rest text × Holds rest
+
 -- the last line, and a byte after it
 pub record IsTrailed (left : Option (List ℕ)) : Type 0 where
   pub closed : Bool
   pub byte : ℕ
   pub rest : Option (List ℕ)
   pub taken : Consumes left rest (end_line closed ++ byte ∷ [])
+
+-- the last line says so, and a byte follows it
+abbrev pub IsTrailedBy : Option (List ℕ) → Option Bool → Type 0
+IsTrailedBy left closing = (closed : Bool) × (byte : ℕ) × (closing ≡ Some closed) × After left (end_line closed ++ byte ∷ []) (λ _. Unit {0})
 
 -- the line is that of no step that may stand after so many, and not the last line
 abbrev pub IsMisspelled : Version → ℕ → List ℕ → Type 0
@@ -77,10 +85,6 @@ IsVersionText text = (version : Version) × (text ≡ version_text version)
 
 abbrev pub IsCountsText : List ℕ → Type 0
 IsCountsText text = (variables : ℕ) × (constraints : ℕ) × IsSized variables × IsSized constraints × (text ≡ counts_text variables constraints)
-
--- what is left after this text has the property
-abbrev pub After : Option (List ℕ) → List ℕ → (Option (List ℕ) → Type 0) → Type 0
-After left text Holds = (rest : Option (List ℕ)) × Consumes left rest text × Holds rest
 
 -- the first line is faulty, or the second after a first line that is not
 abbrev pub IsHeaderFault : Option (List ℕ) → CertFault → Type 0

@@ -3,7 +3,8 @@ ghost use Rattle.std.specs.Prelude.{◌≡◌, ◌≤◌, ◌+◌, ◌++◌, ◌
 ghost use Rattle.std.specs.Io.KnownBytes.{Consumes, IsAtEnd};
 ghost use Rattle.fzn_cert.specs.Spelling.{step_line, end_line, version_text, counts_text, HasLine, IsSized};
 ghost use Rattle.fzn_cert.specs.Input.{left_in};
-ghost use Rattle.fzn_cert.specs.Stream.{IsFaultOf, IsHeaderFaultOf, IsVersionText, IsCountsText};
+ghost use Rattle.fzn_cert.specs.declared.fault.FaultKind.TheVariants.{Trailing};
+ghost use Rattle.fzn_cert.specs.Stream.{IsFaultOf, IsTrailedBy, IsHeaderFaultOf, IsVersionText, IsCountsText};
 
 use crate::ending::closed_of_line;
 use crate::fault::FaultKind;
@@ -37,6 +38,7 @@ impl<R: Read + Drop> StepLines<R> {
             × (self.new.steps ≡ self.old.steps))) }
         ensures err { IfErr result (IsFaultOf version self.old.steps (left_in R.remaining self.old.bytes)) }
         ensures same_steps { OnErr result (self.new.steps ≡ self.old.steps) }
+        ensures trailed { IfErr result (λ kind. kind ≡ Trailing → IsTrailedBy (left_in R.remaining self.old.bytes) self.new.closed) }
     {
         match next_line(&mut self.bytes, &mut self.line)? {
             LineEnd::Truncated => Err(FaultKind::Truncated),

@@ -105,7 +105,7 @@ impl<R: Read + Drop> StepReader<R> {
         requires { IsReading (progress R.remaining self.old) }
         ensures step { IfOk result (λ found. IfSome found (Gives (progress R.remaining self.old) (progress R.remaining self.new))) }
         ensures end { IfOk result (λ found. IfNone found (Ends (progress R.remaining self.old) (progress R.remaining self.new))) }
-        ensures err { IfErr result (IsNextFault (progress R.remaining self.old) self.new.header) }
+        ensures err { IfErr result (IsNextFault (progress R.remaining self.old) self.new.header self.new.lines.closed) }
         ensures same { (self.new.fault_line ≡ self.old.fault_line) × (IsSome self.old.header → self.new.header ≡ self.old.header) }
         ensures same_steps { OnErr result (self.new.lines.steps ≡ self.old.lines.steps) }
     {

@@ -1,3 +1,4 @@
+mod AnswerLaws
 mod ChainLemmas
 mod FaultLaws
 mod JudgeLemmas

@@ -7,9 +7,9 @@ ghost use Rattle.fzn_lexer.specs.Tokens.{IsKnown, Lexes, EndsInEnd, place_after}
 use crate::bytes::Class;
 use crate::fault::{Fault, FaultKind, ReadError};
 use crate::gap::gap_len;
-use fzn_list::Items;
 use crate::lexeme::{Refusal, read_lexeme};
 use crate::token::{Kind, Place, Span, Symbol, Token};
+use fzn_list::Items;
 use std::alloc::Global;
 
 /// The most bytes of a file.

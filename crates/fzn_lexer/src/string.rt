@@ -6,8 +6,8 @@ ghost use Rattle.fzn_lexer.specs.Steps.{Reads};
 use crate::bytes::inside_len;
 use crate::fault::FaultKind;
 use crate::lexeme::{Lexeme, Refusal};
-use fzn_list::Text;
 use crate::token::Kind;
+use fzn_list::Text;
 use std::alloc::Global;
 
 /// The string at the front of the bytes that are left, where a quote stands.

@@ -10,8 +10,8 @@ ghost use Rattle.fzn_lexer.specs.Steps.{Reads};
 use crate::bytes::Class;
 use crate::fault::FaultKind;
 use crate::lexeme::{Lexeme, Refusal};
-use fzn_list::Text;
 use crate::token::{Kind, Symbol};
+use fzn_list::Text;
 use std::alloc::Global;
 
 /// The reserved word that this is.

@@ -8,6 +8,6 @@ pub use items::Items;
 pub use text::Text;
 
 mod items;
-mod text;
 #[cfg(test)]
 mod tests;
+mod text;

@@ -56,7 +56,7 @@ module _ {X : Type 0} (f : X → List ℕ) where
       ap (flat_map f) (sym (take-append-drop (i + 1) xs))
       ∙ flat_map-append f (take (i + 1) xs) (drop (i + 1) xs)
       ∙ ap (λ (front : List ℕ). front ++ flat_map f (drop (i + 1) xs))
-        (ap (flat_map f) (take_more xs i d within) ∙ flat_map-append f (take i xs) (get_or xs i d ∷ []) ∙ ap (λ (back : List ℕ). flat_map f (take i xs) ++ back) (append-nil (f (get_or xs i d))))
+      (ap (flat_map f) (take_more xs i d within) ∙ flat_map-append f (take i xs) (get_or xs i d ∷ []) ∙ ap (λ (back : List ℕ). flat_map f (take i xs) ++ back) (append-nil (f (get_or xs i d))))
 
   -- the texts up to an element, and a beginning of its text
   pub front-each : (a b c : Option (List ℕ)) (xs : List X) (i : ℕ) (d : X) → i < length xs → Appends a b (flat_map f (take i xs)) → AppendsFront b c (f (get_or xs i d)) → AppendsFront a c (flat_map f xs)

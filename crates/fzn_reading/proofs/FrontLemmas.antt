@@ -1,5 +1,5 @@
 -- What is read of a file that is too long is read of a front of it.
-use Rattle.std.proofs.Common.{◌≡◌, ℕ, ◌<◌, ◌≤◌, List, ◌++◌, length, ◌⊎◌, inl, inr, sym, subst, Option, Some, None, IfSome, Result, Ok, Err, arith, length-append, ◌∙◌}
+use Rattle.std.proofs.Common.{◌≡◌, ℕ, ◌<◌, List, ◌++◌, length, inl, inr, sym, subst, Option, Some, None, IfSome, Result, Ok, Err, arith, length-append}
 use Rattle.fzn_lexer.specs.declared.fault.Fault.{Fault}
 use Rattle.fzn_lexer.specs.declared.fault.ReadError.{ReadError}
 use Rattle.fzn_lexer.specs.declared.fault.ReadError.TheVariants as errors

@@ -1,17 +1,15 @@
 -- What the tokens of a file spell is within the limits.
-use Rattle.std.proofs.Common.{◌≡◌, ℕ, suc, ◌+◌, ◌<◌, ◌≤◌, Bool, true, false, List, [], ◌∷◌, ◌++◌, length, Option, Some, None, ◌⊎◌, inl, inr, sym, subst, refl, Ok, arith, nat_lt}
+use Rattle.std.proofs.Common.{◌≡◌, ℕ, suc, ◌+◌, ◌≤◌, Bool, true, false, List, [], ◌∷◌, ◌++◌, length, None, inl, inr, sym, subst, refl, Ok, arith, nat_lt}
 use Rattle.std.proofs.lemmas.Int.{ints}
 use Rattle.std.proofs.lemmas.List.Elements.{All-cons, All-nil}
-use Rattle.std.specs.Prelude.{ℤ, pos, ◌≤ℤ◌}
+use Rattle.std.specs.Prelude.{ℤ}
 use Rattle.std.specs.List.{All}
 use Rattle.fzn_domain.specs.Limits.{IsInLimits}
-use Rattle.fzn_lexer.specs.declared.token.Kind.TheVariants as k
 use Rattle.fzn_lexer.specs.declared.token.Symbol.{Symbol}
 use Rattle.fzn_lexer.specs.declared.token.Symbol.TheVariants as s
 use Rattle.fzn_lexer.specs.declared.token.Token.{Token}
 use Rattle.fzn_lexer.specs.Lexemes.{IsSmall, IsInRange}
 use Rattle.fzn_lexer.specs.Tokens.{Lexes, Stand}
-use Rattle.fzn_meaning.specs.Meaning.{longest}
 use Rattle.fzn_parser.specs.declared.tree.Arg.{Arg}
 use Rattle.fzn_parser.specs.declared.tree.Arg.TheVariants as args
 use Rattle.fzn_parser.specs.declared.tree.Base.{Base}
@@ -20,7 +18,6 @@ use Rattle.fzn_parser.specs.declared.tree.Basic.{Basic}
 use Rattle.fzn_parser.specs.declared.tree.Basic.TheVariants as basics
 use Rattle.fzn_parser.specs.declared.tree.Con.{Con}
 use Rattle.fzn_parser.specs.declared.tree.Literal.TheVariants as l
-use Rattle.fzn_parser.specs.declared.tree.SingleVar.{SingleVar}
 use Rattle.fzn_parser.specs.declared.tree.Tree.{Tree}
 use Rattle.fzn_parser.specs.declared.tree.Values.TheVariants as values_are
 use Rattle.fzn_parser.specs.declared.tree.Var.{Var}
@@ -145,9 +142,10 @@ basic_has (basics.Name n) = tt
 
 arg_within : (arg : Arg) → AreFine (G.arg arg) → IsArgWithin arg
 arg_within (args.Basic basic) f = basic_within basic f
-arg_within (args.Array a) f =
-    (listed_all IsBasicWithin G.entry s.CloseBracket (λ n basic g. basic_within basic (fine_marked (nat_lt n G.most) (G.basic basic) g)) a.entries f.1,
-     listed_few G.basic s.CloseBracket basic_has a.entries f.1)
+arg_within (args.Array a) f = (
+  listed_all IsBasicWithin G.entry s.CloseBracket (λ n basic g. basic_within basic (fine_marked (nat_lt n G.most) (G.basic basic) g)) a.entries f.1,
+  listed_few G.basic s.CloseBracket basic_has a.entries f.1,
+)
 
 con_within : (con : Con) → AreFine (G.con con) → IsConWithin con
 con_within con f = listed_all IsArgWithin (λ n. G.arg) s.CloseParen (λ n arg g. arg_within arg g) con.args (fine_split (G.listed (λ n. G.arg) s.CloseParen con.args) _ f.1.1.1).0
@@ -168,4 +166,5 @@ tree_within bytes tokens tree lexed parsed =
       vars = each_by_all IsVarWithin G.singles_with G.var var_within 0 tree.vars variables;
       few_vars = omega (arith, few_vars);
       cons = each_by_all IsConWithin one_more (λ n c. marked (nat_lt n G.most) (G.con c)) (λ n c g. con_within c (fine_marked (nat_lt n G.most) (G.con c) g)) 0 tree.cons constraints;
-      few_cons = omega (arith, few_cons) }
+      few_cons = omega (arith, few_cons);
+    }

@@ -3,10 +3,10 @@
 ghost use Rattle.std.specs.Prelude.{◌≡◌};
 ghost use Rattle.fzn_reading.specs.Numbers.{number_of as number};
 
-use fzn_lexer::{Fault, FaultKind, ReadError};
-use std::alloc::{AllocError, AllocFailed};
+use fzn_lexer::{Fault, FaultKind};
 use thiserror::Error;
 
+/// Why no model was read, printed as the programs print it.
 #[derive(Debug, Drop, Error)]
 pub enum ModelFault {
     #[error("fault 19 Memory")]

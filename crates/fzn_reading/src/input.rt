@@ -26,7 +26,9 @@ pub fn read_bytes<R: Read>(alloc: Global, input: &mut R) -> Result<Vec<u8>, Mode
         if count == 0 {
             return Ok(bytes);
         }
-        bytes.extend_from_slice(&chunk[..count]).map_err(|_| ModelFault::Memory)?;
+        bytes
+            .extend_from_slice(&chunk[..count])
+            .map_err(|_| ModelFault::Memory)?;
     }
     Ok(bytes)
 }

@@ -43,8 +43,16 @@ fn faults_of_files(rt: HostRuntime) -> Result<(), Fail> {
         ("solve satisfy", 20_000, "line 1 column 14: fault 3 Syntax"),
         ("% a\r\n\tx", 2, "line 2 column 2: fault 3 Syntax"),
         ("var 1.5..2: x;", 4, "line 1 column 5: fault 5 Float"),
-        ("int: k = 1000000001;", 7, "line 1 column 10: fault 8 LiteralRange"),
-        ("array [1..100001] of int: k = [];", 1, "line 1 column 11: fault 16 TooMany"),
+        (
+            "int: k = 1000000001;",
+            7,
+            "line 1 column 10: fault 8 LiteralRange",
+        ),
+        (
+            "array [1..100001] of int: k = [];",
+            1,
+            "line 1 column 11: fault 16 TooMany",
+        ),
         // A fault of the lexer stands before one of the parser that is nearer.
         ("satisfy solve 1e5", 5, "line 1 column 15: fault 5 Float"),
     ] {

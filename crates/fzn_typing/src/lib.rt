@@ -13,8 +13,6 @@ mod goal;
 mod names;
 mod output;
 mod place;
-#[cfg(test)]
-mod tests;
 mod tree;
 mod value;
 mod variable;

@@ -1,5 +1,6 @@
 use Rattle.std.proofs.Common.{ℕ, length, sym, ap, subst, ◌∙◌}
 use Rattle.fzn_domain.specs.Narrow.{IsVariable}
+use Rattle.fzn_trail.specs.declared.trail.Reason.TheVariants.{Decision}
 use Rattle.fzn_trail.specs.Levels.{Levels}
 use Rattle.fzn_trail.proofs.CallerLemmas.{length-asserted}
 use Rattle.fzn_arith.proofs.TestLemmas.{filled_after}
@@ -7,9 +8,9 @@ use Rattle.fzn_arith.proofs.tests.keep.Goals as goal
 
 pub returns-clause-sets : goal.returns-clause-sets
 returns-clause-sets c =
-    ap (λ (t : Levels). length t.sets) c.in_ok-left.ensures.ok ∙ length-asserted c.args.lit _ c.args.trail.now ∙ c.requires.sets
+    ap (λ (t : Levels). length t.sets) c.in_ok-left.ensures.ok ∙ length-asserted c.args.lit Decision c.args.trail.now ∙ c.requires.sets
 
 pub returns-clause-filled : goal.returns-clause-filled
 returns-clause-filled c =
-    filled_after c.args.lit _ c.args.trail.now _ c.in_ok-left.left (subst (λ (n : ℕ). IsVariable n c.args.lit.var) (sym c.requires.sets) c.requires.variable)
+    filled_after c.args.lit Decision c.args.trail.now _ c.in_ok-left.left (subst (λ (n : ℕ). IsVariable n c.args.lit.var) (sym c.requires.sets) c.requires.variable)
     c.requires.filled c.in_ok-left.ensures.ok c.in_ok-left.ensures.left

@@ -1,0 +1,60 @@
+// Why words give no options.
+ghost use Rattle.std.specs.Prelude.{◌≡◌, ◌≢◌, ◌⊎◌, IsTrue};
+ghost use Rattle.clap.specs.Values.{kind_of};
+ghost use Rattle.fzn_words.specs.Words.{status_of};
+ghost use Rattle.fzn_words.specs.declared.fault.OptionsFault.TheVariants.{CommandLine, Memory};
+
+use clap::Error as ClapError;
+use clap::error::ErrorKind;
+use std::alloc::{AllocError, Global};
+use thiserror::Error;
+
+/// Why words give no options. Its message is the line that the program prints.
+#[derive(Debug, Drop, Error)]
+pub enum OptionsFault {
+    #[error("fault 23 CommandLine")]
+    CommandLine,
+    /// Help was asked for: its text, which ends in a line feed.
+    #[error("{0}")]
+    Help(String),
+    #[error("fault 19 Memory")]
+    Memory,
+}
+
+impl OptionsFault {
+    /// The status that the program ends with.
+    pub fn status(&self) -> u8
+        ensures { result ≡ status_of self.now }
+    {
+        match self {
+            OptionsFault::CommandLine => 3,
+            OptionsFault::Help(_) => 0,
+            OptionsFault::Memory => 5,
+        }
+    }
+}
+
+impl From<AllocError> for OptionsFault {
+    ghost from_gives = { λ _ e. e ≡ Memory };
+
+    fn from(_e: AllocError) -> OptionsFault {
+        OptionsFault::Memory
+    }
+}
+
+/// The fault of a parse that gave no matches.
+pub fn fault_of(alloc: Global, error: &ClapError) -> OptionsFault
+    ensures memory { kind_of error.now ≡ ErrorKind.OutOfMemory → result ≡ Memory }
+    ensures help { kind_of error.now ≡ ErrorKind.DisplayHelp → result ≢ CommandLine }
+    ensures other { kind_of error.now ≢ ErrorKind.OutOfMemory → kind_of error.now ≢ ErrorKind.DisplayHelp
+        → result ≡ CommandLine }
+{
+    match error.kind() {
+        ErrorKind::OutOfMemory => OptionsFault::Memory,
+        ErrorKind::DisplayHelp => match error.to_string(alloc) {
+            Ok(text) => OptionsFault::Help(text),
+            Err(_) => OptionsFault::Memory,
+        },
+        _ => OptionsFault::CommandLine,
+    }
+}

@@ -1,0 +1,62 @@
+//! `fzncheck`: reads a FlatZinc file and a certificate of its answer, and prints the answer that the certificate shows, or what is wrong.
+//!
+//! In: the command line. Out: the answer on standard output, or one line on standard error, and the status that goes with it. What is
+//! printed and when is proved on `check` of `fzn_checker`; here the paths are opened.
+#![tactic(auto)]
+
+use fzn_checker::{CheckFault, Verdict, check};
+use fzn_words::{CheckOptions, OptionsFault, check_options_of};
+use std::env;
+use std::fs::File;
+use std::io::{BufWriter, Write};
+use std::process::ExitCode;
+
+fn main(rt: HostRuntime) -> ExitCode {
+    let options = match options(&rt) {
+        Ok(options) => options,
+        Err(OptionsFault::Help(text)) => {
+            let _ = print!(&rt; "{text}");
+            return ExitCode::SUCCESS;
+        }
+        Err(fault) => {
+            let _ = eprintln!(&rt; "{fault}");
+            return ExitCode::from(fault.status());
+        }
+    };
+    match check_files(&rt, &options) {
+        Ok(_) => ExitCode::SUCCESS,
+        Err(fault) => {
+            let _ = eprintln!(&rt; "{fault}");
+            ExitCode::from(fault.status())
+        }
+    }
+}
+
+fn options(rt: &HostRuntime) -> Result<CheckOptions, OptionsFault> {
+    let alloc = rt.alloc();
+    let mut words: Vec<String> = Vec::new(alloc);
+    let Ok(args) = env::args(rt) else {
+        return Err(OptionsFault::Memory);
+    };
+    for word in args.skip(1) {
+        if words.push(word).is_err() {
+            return Err(OptionsFault::Memory);
+        }
+    }
+    check_options_of(alloc, words.as_slice())
+}
+
+/// Opens the file and its certificate, in this order, and checks them.
+fn check_files(rt: &HostRuntime, options: &CheckOptions) -> Result<Verdict, CheckFault> {
+    let alloc = rt.alloc();
+    let Ok(model) = File::open(rt, options.model.as_str()) else {
+        return Err(CheckFault::Read);
+    };
+    let Ok(cert) = File::open(rt, options.cert.as_str()) else {
+        return Err(CheckFault::Read);
+    };
+    let Ok(mut out) = BufWriter::new(alloc, rt.stdout()) else {
+        return Err(CheckFault::Memory);
+    };
+    check(alloc, model, cert, options.all, &mut out)
+}
