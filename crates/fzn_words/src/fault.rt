@@ -1,5 +1,5 @@
 // Why words give no options.
-ghost use Rattle.std.specs.Prelude.{◌≡◌, ◌≢◌, ◌⊎◌, IsTrue};
+ghost use Rattle.std.specs.Prelude.{◌≡◌, ◌≢◌};
 ghost use Rattle.clap.specs.Values.{kind_of};
 ghost use Rattle.fzn_words.specs.Words.{status_of};
 ghost use Rattle.fzn_words.specs.declared.fault.OptionsFault.TheVariants.{CommandLine, Memory};

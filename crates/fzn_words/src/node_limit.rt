@@ -47,12 +47,3 @@ fn number_of(digits: &str) -> u64
         Err(_) => 0,
     }
 }
-
-fn number_by_or(digits: &str) -> u64
-    requires digits { list_all is_ascii_digit digits.now ≡ true }
-    requires some { 1 ≤ length digits.now }
-    requires few { length digits.now ≤ 13 }
-    ensures { result ≡ digits_value 10 digits.now }
-{
-    digits.parse::<u64>().unwrap_or(0)
-}

@@ -1,5 +1,5 @@
 // The words of `fznsolve`.
-ghost use Rattle.std.specs.Prelude.{◌≡◌, ◌≢◌, ◌≤◌, ◌^◌, IfOk, IfSome, string_bytes};
+ghost use Rattle.std.specs.Prelude.{◌≢◌, ◌≤◌, ◌^◌, IfOk, IfSome, string_bytes};
 
 use crate::fault::{OptionsFault, fault_of};
 use crate::node_limit::node_limit_of;
