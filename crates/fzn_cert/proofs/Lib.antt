@@ -3,6 +3,11 @@ pub mod HeaderLaws
 pub mod LineLaws
 pub mod LoopLaws
 pub mod NumberLaws
+pub mod OneVerdict
+pub mod OneVerdictEnds
+pub mod OneVerdictHeader
+pub mod OneVerdictLines
+pub mod OneVerdictSteps
 pub mod ReadLaws
 pub mod RefusalLaws
 pub mod RiseLaws

@@ -162,14 +162,14 @@ text_takes v line step e =
 
 -- ---- where a line ends
 
-abbrev is_inside : ℕ → Bool
+abbrev pub is_inside : ℕ → Bool
 is_inside b = not (eqb b 10)
 
 -- no byte is a line feed
 abbrev pub IsInside : List ℕ → Type 0
 IsInside text = list_all is_inside text ≡ true
 
-inside_word : (word : List ℕ) → IsPlain word → IsInside word
+pub inside_word : (word : List ℕ) → IsPlain word → IsInside word
 inside_word [] h = refl
 inside_word (b ∷ word) h =
     let t = and_true (is_plain b) (list_all is_plain word) h in

@@ -1,5 +1,5 @@
 -- Accepted steps keep what came before sound, and what a sound past says of its solutions is true.
-use Rattle.std.proofs.Common.{◌≡◌, ℕ, ◌-◌, ◌<◌, ◌≤◌, ◌==◌, List, [], ◌∷◌, ◌++◌, Bool, true, false, cond, ◌||◌, Option, Some, None, IsSome, IfSome, unwrap_or, map, set, length, get_or, refl, sym, ◌∙◌, ◌⊎◌, inl, inr, subst, ℤ, arith, nat_eq}
+use Rattle.std.proofs.Common.{◌≡◌, ℕ, ◌-◌, ◌<◌, ◌≤◌, ◌==◌, List, [], ◌∷◌, ◌++◌, Bool, true, false, cond, Option, Some, None, IsSome, IfSome, unwrap_or, set, length, get_or, sym, ◌⊎◌, inl, inr, subst, ℤ, arith}
 use Rattle.std.specs.List.{All, AllByRecursion, fold}
 use Rattle.std.proofs.lemmas.List.{get_or_past, length-map}
 use Rattle.std.proofs.lemmas.List.Elements.{All-nil, All-push, All-set, recursion_from_All, All-from_recursion}
@@ -7,12 +7,11 @@ use Rattle.std.proofs.lemmas.List.Quantifiers.{all_pairs_push}
 use Rattle.std.proofs.lemmas.Option.{slice_get_cases}
 use Rattle.std.proofs.lemmas.Bool.{cases_lt, or_cases}
 use Rattle.fzn_domain.specs.declared.literal.Lit.{Lit}
-use Rattle.fzn_domain.specs.IntSet.{IntSet}
-use Rattle.fzn_domain.specs.Narrow.{IsWithin, IsVariable, IsClauseOver, denied, is_clause_true}
+use Rattle.fzn_domain.specs.Narrow.{IsClauseOver, is_clause_true}
 use Rattle.fzn_domain.proofs.NarrowLemmas.{accepted_sound}
 use Rattle.fzn_meaning.specs.declared.constraint.Constraint.{Constraint}
 use Rattle.fzn_meaning.specs.declared.model.Model.{Model}
-use Rattle.fzn_meaning.specs.Meaning.{Meets, HasBooleanSets, HasBooleanValues}
+use Rattle.fzn_meaning.specs.Meaning.{Meets, HasBooleanSets}
 use Rattle.fzn_meaning.specs.Solutions.{declared_sets, IsSolution, IsProper, IsExhausted, PassesCuts, cut_of}
 use Rattle.fzn_meaning.specs.WellFormed.{IsWellFormed}
 use Rattle.fzn_meaning.proofs.CutLemmas.{cut_of-variables, bits-choice, proper-from_cuts, exhausted-from_cuts}
@@ -22,7 +21,7 @@ use Rattle.fzn_rules.proofs.CallerLemmas.{accepted_by_sound}
 use Rattle.fzn_cert.specs.declared.step.Step.{Step}
 use Rattle.fzn_cert.specs.declared.step.Step.TheVariants.{Infer, Resolve, Solution, Delete}
 use Rattle.fzn_cert.specs.Past.{Past, start, clause_held, IsHeld, clauses_held, is_empty_clause, after_clause, after_solution, without, after_deletion}
-use Rattle.fzn_cert.specs.Accepted.{HasVariables, denying, IsTrivial, IsConstraintNumber, IsRuleMet, IsAccepted, AllAcceptedAfter, AllAccepted, after, past_of}
+use Rattle.fzn_cert.specs.Accepted.{HasVariables, denying, IsTrivial, IsAccepted, AllAcceptedAfter, AllAccepted, after, past_of}
 use Rattle.fzn_cert.specs.Sound.{IsSound}
 
 -- as many sets as variables

@@ -8,7 +8,7 @@ use Rattle.std.proofs.lemmas.List.Concat.{flat_map-append}
 use Rattle.fzn_cert.specs.declared.step.Step.{Step}
 use Rattle.fzn_cert.specs.declared.step.Step.TheVariants.{Infer, Resolve, Solution, Delete}
 use Rattle.fzn_cert.specs.Spelling.{rule_name, hints, literal_text, spaced, step_text}
-use Rattle.fzn_cert.specs.Output.{after_space, after_spaces, step_parts}
+use Rattle.fzn_cert.specs.Parts.{after_space, after_spaces, step_parts}
 
 joined : (word : List ℕ) (words : List (List ℕ)) → join_with_byte 32 (word ∷ words) ≡ word ++ after_spaces words
 joined word [] = sym (append-nil word)

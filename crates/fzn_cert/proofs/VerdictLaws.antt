@@ -1,5 +1,5 @@
 -- A verdict from line to line, and what it says where a certificate is accepted.
-use Rattle.std.proofs.Common.{◌≡◌, ℕ, suc, ◌+◌, Bool, true, false, List, [], ◌∷◌, ◌++◌, ℤ, length, Option, Some, None, refl, sym, ap, subst, ◌∙◌, inl, inr, arith}
+use Rattle.std.proofs.Common.{◌≡◌, ℕ, suc, ◌+◌, Bool, true, List, [], ◌∷◌, ℤ, length, Option, Some, sym, subst, inl, inr, arith}
 use Rattle.std.specs.List.{fold}
 use Rattle.std.specs.Io.KnownBytes.{Consumes}
 use Rattle.std.proofs.KnownBytes.{Consumes-nil, Consumes-trans}
@@ -8,11 +8,10 @@ use Rattle.fzn_meaning.specs.Solutions.{IsProper, IsExhausted}
 use Rattle.fzn_meaning.specs.WellFormed.{IsWellFormed}
 use Rattle.fzn_cert.specs.declared.step.Step.{Step}
 use Rattle.fzn_cert.specs.declared.step.Version.{Version}
-use Rattle.fzn_cert.specs.declared.refusal.Refusal.{Refusal}
-use Rattle.fzn_cert.specs.Spelling.{step_line, header_lines, HasLine}
-use Rattle.fzn_cert.specs.Past.{Past, start}
-use Rattle.fzn_cert.specs.Accepted.{IsAccepted, AllAccepted, AllAcceptedAfter, after, past_of}
-use Rattle.fzn_cert.specs.Verdict.{Outcome, accepted, refused, lines_of, AllHaveLines, EndsIn, VerdictFrom, header_of, VerdictOn}
+use Rattle.fzn_cert.specs.Spelling.{step_line, HasLine}
+use Rattle.fzn_cert.specs.Past.{Past}
+use Rattle.fzn_cert.specs.Accepted.{IsAccepted, after}
+use Rattle.fzn_cert.specs.Verdict.{Outcome, accepted, lines_of, EndsIn, VerdictFrom, VerdictOn}
 use Rattle.fzn_cert.proofs.SoundLaws.{accepted-proper, closed-exhausted}
 
 -- the end stands here, with no step before it
@@ -38,11 +37,11 @@ verdict-step model version past count left next step outcome line is_accepted ta
 -- the solutions of an accepted certificate are a proper list
 pub verdict-proper : (model : Model) (left : List ℕ) (found : List (List ℤ)) (closed : Bool) → IsWellFormed model → VerdictOn model (Some left) (accepted found closed) → IsProper model found
 verdict-proper model left found closed wf (inl h) = absurd h
-verdict-proper model left found closed wf (inr (version, (rest, taken, (later, lines, all, (last, last_taken, ends))))) =
+verdict-proper model left found closed wf (inr (version, sized, (rest, taken, (later, lines, all, (last, last_taken, ends))))) =
     subst (IsProper model) (sym ends.2) (accepted-proper model later wf all)
 
 -- and exhausted where it says closed
 pub verdict-exhausted : (model : Model) (left : List ℕ) (found : List (List ℤ)) (closed : Bool) → IsWellFormed model → VerdictOn model (Some left) (accepted found closed) → closed ≡ true → IsExhausted model found
 verdict-exhausted model left found closed wf (inl h) is_closed = absurd h
-verdict-exhausted model left found closed wf (inr (version, (rest, taken, (later, lines, all, (last, last_taken, ends))))) is_closed =
+verdict-exhausted model left found closed wf (inr (version, sized, (rest, taken, (later, lines, all, (last, last_taken, ends))))) is_closed =
     subst (IsExhausted model) (sym ends.2) (closed-exhausted model later wf all (ends.1 is_closed))

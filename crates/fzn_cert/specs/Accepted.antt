@@ -1,5 +1,5 @@
 -- Which steps are accepted, given the model and what came before, and what is wrong with the others.
-use Rattle.std.specs.Prelude.{ℕ, ◌-◌, ◌≤◌, ◌≡◌, ◌⊎◌, true, List, [], ◌∷◌, ℤ, length, slice_get, IfSome, MatchOption, Option}
+use Rattle.std.specs.Prelude.{ℕ, ◌-◌, ◌≤◌, ◌≡◌, ◌⊎◌, true, List, [], ◌∷◌, length, slice_get, IfSome, MatchOption, Option}
 use Rattle.std.specs.List.{All, fold}
 use Rattle.fzn_domain.specs.declared.literal.Lit.{Lit}
 use Rattle.fzn_domain.specs.IntSet.{IntSet}

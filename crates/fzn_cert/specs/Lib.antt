@@ -1,7 +1,7 @@
 pub mod Accepted
 pub mod Input
 pub mod Lines
-pub mod Output
+pub mod Parts
 pub mod Past
 pub mod Reader
 pub mod Reading

@@ -9,7 +9,7 @@ use Rattle.fzn_cert.specs.declared.refusal.Refusal.{Refusal}
 use Rattle.fzn_cert.specs.declared.refusal.Refusal.TheVariants.{Header as BadHeader, Spelling, Truncated, Trailing, LineTooLong, Counts, NotClosed}
 use Rattle.fzn_cert.specs.declared.step.Step.{Step}
 use Rattle.fzn_cert.specs.declared.step.Version.{Version}
-use Rattle.fzn_cert.specs.Spelling.{step_line, end_line, version_text, counts_text, header_lines, HasLine, IsSized}
+use Rattle.fzn_cert.specs.Spelling.{step_line, end_line, version_text, counts_text, header_lines, IsHeader, HasLine, IsSized}
 use Rattle.fzn_cert.specs.Stream.{After, IsFaultOf, IsHeaderFaultOf, IsVersionText, IsCountsText}
 use Rattle.fzn_cert.specs.Past.{Past, start}
 use Rattle.fzn_cert.specs.Accepted.{HasFault, AllAcceptedAfter, after}
@@ -95,11 +95,11 @@ IsHeaderRefused model left (refused line refusal) =
     ((line ≡ 1) × IsFirstRefused left refusal)
     ⊎ ((line ≡ 2) × ((version : Version) × After left (version_text version ++ 10 ∷ []) (λ rest. IsSecondRefused model rest refusal)))
 
--- The verdict on what a reader has: one of the first two lines is faulty, or after them come accepted
--- steps and an end. A reader that does not tell its bytes may have any.
+-- The verdict on what a reader has: one of the first two lines is faulty, or they have the model's counts, in at most 18 digits
+-- each, and after them come accepted steps and an end. A reader that does not tell its bytes may have any.
 abbrev pub VerdictOn : Model → Option (List ℕ) → Outcome → Type 0
 VerdictOn model left outcome = IsHeaderRefused model left outcome
-    ⊎ ((version : Version) × After left (header_lines (header_of model version)) (λ rest. VerdictFrom model version start 0 rest outcome))
+    ⊎ ((version : Version) × IsHeader (header_of model version) × After left (header_lines (header_of model version)) (λ rest. VerdictFrom model version start 0 rest outcome))
 
 -- the verdict on the bytes of a certificate
 abbrev pub Verdict : Model → List ℕ → Outcome → Type 0

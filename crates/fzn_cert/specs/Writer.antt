@@ -2,6 +2,7 @@
 use Rattle.std.specs.Prelude.{ℕ, List, Option}
 use Rattle.std.specs.Io.KnownBytes.{Keeps}
 use Rattle.std.specs.Borrow.{GName}
+use Rattle.fzn_output.specs.Output.{AppendsFront}
 use Rattle.fzn_cert.specs.declared.fault.FaultKind.{FaultKind}
 use Rattle.fzn_cert.specs.declared.fault.FaultKind.TheVariants.{Memory, Write, StepTooLong}
 use Rattle.fzn_cert.specs.declared.step.Step.{Step}
@@ -9,7 +10,6 @@ use Rattle.fzn_cert.specs.declared.step.Version.{Version}
 use Rattle.fzn_cert.specs.declared.writer.Stage.{Stage}
 use Rattle.fzn_cert.specs.declared.writer.StepWriter.{StepWriter}
 use Rattle.fzn_cert.specs.Spelling.{HasRoom}
-use Rattle.fzn_cert.specs.Output.{AppendsFront}
 
 -- what the writer below holds
 abbrev pub contents_of : {W : Type 0} → (W → Option (List ℕ)) → StepWriter W → Option (List ℕ)

@@ -7,7 +7,7 @@
 
 pub use fault::{CertFault, FaultKind};
 pub use header::Header;
-pub use law::one_line;
+pub use law::{one_line, one_verdict};
 pub use limits::{LAST_STEP, LINE_LIMIT};
 pub use refusal::Refusal;
 pub use step::{Step, Version};
@@ -24,7 +24,6 @@ mod line;
 mod lines;
 mod literal;
 mod number;
-mod output;
 mod parse;
 mod reader;
 mod refusal;

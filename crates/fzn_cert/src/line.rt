@@ -3,7 +3,7 @@ ghost use Rattle.std.specs.Prelude.{◌≡◌, ◌∷◌, [], ◌++◌, List, �
 ghost use Rattle.std.specs.List.{flat_map};
 ghost use Rattle.std.specs.Fmt.{decimal, signed_decimal};
 ghost use Rattle.fzn_cert.specs.Spelling.{rule_name, hints, literal_text, step_words, step_text};
-ghost use Rattle.fzn_cert.specs.Output.{after_space, after_spaces, step_parts};
+ghost use Rattle.fzn_cert.specs.Parts.{after_space, after_spaces, step_parts};
 
 use crate::step::Step;
 use fzn_domain::{Lit, Memory, Op};

@@ -244,7 +244,7 @@ fn tells_what_the_lines_say(rt: HostRuntime) -> Result<(), Fail> {
         (reader.counts(), reader.version(), reader.closed()),
         (Some((2, 2)), Some(Version::One), None)
     );
-    assert_eq!(rt; one_line(), ());
+    assert_eq!(rt; (one_line(), one_verdict()), ((), ()));
     let text = format!(in alloc; "{} / {}", FaultKind::Spelling, Refusal::NoSuchVariable)?;
     assert_eq!(rt;
         text.as_str(),
@@ -290,7 +290,8 @@ fn delete_step(alloc: Global) -> Result<Step, Memory>
 
 // Writes one step of each kind.
 fn write_all<W: Write>(alloc: Global, out: &mut W) -> Result<(), FaultKind> {
-    let mut writer = StepWriter::with_version(alloc, out, Version::Two, 2, 1)?;
+    let mut writer = StepWriter::over(out);
+    writer.begin(alloc, Version::Two, 2, 1)?;
     writer.write(alloc, &cut_step(alloc)?)?;
     writer.write(
         alloc,
@@ -351,7 +352,7 @@ fn writes_nothing_after_a_fault(rt: HostRuntime) -> Result<(), Fail> {
         room: 23,
         fails: true,
     };
-    let mut writer = StepWriter::new(alloc, &mut out, 0, 0)?;
+    let mut writer = StepWriter::with_version(alloc, &mut out, Version::One, 0, 0)?;
     let step = Step::Solution(Items::new(alloc));
     assert_eq!(rt; writer.write(alloc, &step), Ok(()));
     assert_eq!(rt; writer.write(alloc, &step), Err(FaultKind::Write));

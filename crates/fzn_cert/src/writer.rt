@@ -1,17 +1,17 @@
 // The writer of a certificate.
 ghost use Rattle.std.specs.Prelude.{◌≡◌, ℕ, ◌+◌, ◌<◌, ◌^◌, Bool, string_bytes, OnOk, OnErr, IfOk, IfErr, Err};
 ghost use Rattle.std.specs.Io.KnownBytes.{Appends, Keeps};
+ghost use Rattle.fzn_output.specs.Output.{Puts};
 ghost use Rattle.fzn_cert.specs.declared.step.Version.TheVariants.{One};
 ghost use Rattle.fzn_cert.specs.declared.writer.Stage.TheVariants.{Fresh, Open, Shut};
 ghost use Rattle.fzn_cert.specs.Spelling.{step_line, IsSpelled, HasRoom, version_text, header_text, end_line};
-ghost use Rattle.fzn_cert.specs.Output.{AppendsFront};
 ghost use Rattle.fzn_cert.specs.Writer.{contents_of, out_name, version_of, step_count, stage_of, Leaves, IsLineFault, IsStepFault};
 
 use crate::fault::FaultKind;
 use crate::limits::{LAST_STEP, LINE_LIMIT};
 use crate::line::push_step;
-use crate::output::{WriteFailed, put};
 use crate::step::{Step, Version};
+use fzn_output::{WriteFailed, put};
 use std::alloc::Global;
 use std::io::Write;
 
@@ -160,11 +160,13 @@ impl<'w, W: Write> StepWriter<'w, W> {
         ensures shut { OnErr result (stage_of self.new ≡ Shut) }
     {
         self.take_open()?;
-        if self.out.flush().is_err() {
-            return Err(FaultKind::Write);
+        match self.out.flush() {
+            Ok(()) => {
+                self.stage = Stage::Open;
+                Ok(())
+            }
+            Err(_) => Err(FaultKind::Write),
         }
-        self.stage = Stage::Open;
-        Ok(())
     }
 
     /// Writes the last line, and flushes the writer below.
@@ -219,8 +221,7 @@ fn header_of(
 }
 
 fn put_end<W: Write>(out: &mut W, closed: bool) -> Result<(), WriteFailed>
-    ensures ok { OnOk result (Appends (W.contents out.old) (W.contents out.new) (end_line closed)) }
-    ensures err { OnErr result (AppendsFront (W.contents out.old) (W.contents out.new) (end_line closed)) }
+    ensures { Puts (W.contents out.old) (W.contents out.new) result (end_line closed) }
 {
     if closed {
         put(out, b"e closed\n")

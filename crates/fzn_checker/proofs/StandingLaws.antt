@@ -14,7 +14,7 @@ use Rattle.fzn_cert.specs.declared.refusal.Refusal.TheVariants as refusals
 use Rattle.fzn_cert.specs.declared.step.Step.{Step}
 use Rattle.fzn_cert.specs.declared.step.Step.TheVariants.{Infer, Resolve, Solution, Delete}
 use Rattle.fzn_cert.specs.declared.step.Version.{Version}
-use Rattle.fzn_cert.specs.Spelling.{step_line, end_line, version_text, counts_text, header_text, header_lines, IsHeader, IsLiteral, IsSpelled, HasLine}
+use Rattle.fzn_cert.specs.Spelling.{step_line, end_line, version_text, counts_text, header_text, header_lines, IsSized, IsHeader, IsLiteral, IsSpelled, HasLine}
 use Rattle.fzn_cert.specs.Stream.{After}
 use Rattle.fzn_cert.specs.Past.{Past, start}
 use Rattle.fzn_cert.specs.Accepted.{HasFault, after}
@@ -55,6 +55,7 @@ standing-from model past left None (Some found) steps header outcome told counts
     let nothing = fresh refl in
     inr (
       header.version,
+      (subst IsSized counts.0 counts.2.0, subst IsSized counts.1 counts.2.1),
       (
         rest,
         subst (Consumes left rest) (ap header_lines found_is ∙ header_is model header counts) taken,
@@ -73,7 +74,7 @@ other-counts model past left None (Some found) steps header told sized other cou
     let text : header_lines found ≡ (version_text header.version ++ 10 ∷ []) ++ (counts_text header.variables header.constraints ++ 10 ∷ []) =
     ap header_lines (some_is found header told) ∙ append_assoc (version_text header.version ++ 10 ∷ []) (counts_text header.variables header.constraints) (10 ∷ []) in
     let split = Consumes-split left rest (version_text header.version ++ 10 ∷ []) (counts_text header.variables header.constraints ++ 10 ∷ []) (subst (Consumes left rest) text taken) in
-    inl (inr (refl, (header.version, (split.0, split.1, (header.variables, header.constraints, sized.0, sized.1, (rest, split.2, tt), other)))))
+    inl (inr (refl, (header.version, (split.0, split.1, (header.variables, header.constraints, sized.0, sized.1, (rest, split.2, tt), λ same_counts. other (same_counts.0, same_counts.1, sized))))))
 other-counts model past left (Some before) None steps header told sized other counts same (rest, taken, _) = absurd (none_is header told)
 other-counts model past left (Some before) (Some found) steps header told sized other counts same (rest, taken, _) =
     absurd (other (subst (HasCounts model) (sym (some_is found before (same refl)) ∙ some_is found header told) counts))

@@ -7,6 +7,7 @@ use Rattle.fzn_cert.specs.declared.header.Header.{Header}
 use Rattle.fzn_cert.specs.declared.limits.TheConstants.{LAST_STEP}
 use Rattle.fzn_cert.specs.declared.refusal.Refusal.{Refusal}
 use Rattle.fzn_cert.specs.declared.step.Step.{Step}
+use Rattle.fzn_cert.specs.Spelling.{IsHeader}
 use Rattle.fzn_cert.specs.Past.{Past, start}
 use Rattle.fzn_cert.specs.Accepted.{IsAccepted, HasFault, after}
 use Rattle.fzn_cert.specs.Reader.{Progress, IsReading}
@@ -23,9 +24,9 @@ IsFaultWhere Holds Read = Unit {0}
 IsFaultWhere Holds WriteOutput = ⊥
 IsFaultWhere Holds (File fault) = ⊥
 
--- the first two lines tell the model's counts
+-- the first two lines tell the model's counts, in at most 18 digits
 abbrev pub HasCounts : Model → Header → Type 0
-HasCounts model header = (header.variables ≡ length model.vars) × (header.constraints ≡ length model.constraints)
+HasCounts model header = (header.variables ≡ length model.vars) × (header.constraints ≡ length model.constraints) × IsHeader header
 
 -- what the lines that are still to be read come to
 abbrev pub Standing : Model → Past → Progress → Outcome → Type 0

@@ -1,10 +1,15 @@
 -- What a contract sees of a printer.
-use Rattle.std.specs.Prelude.{Bool}
+use Rattle.std.specs.Prelude.{Bool, ℕ, List, Option}
+use Rattle.std.specs.Borrow.{GName}
 use Rattle.fzn_printer.specs.declared.printer.Printer.{Printer}
 
--- the writer below
-abbrev pub output : {W : Type 0} → Printer W → W
-output printer = printer.out
+-- what the writer below holds
+abbrev pub contents_of : {W : Type 0} → (W → Option (List ℕ)) → Printer W → Option (List ℕ)
+contents_of contents printer = contents printer.out.now
+
+-- by this name a caller knows the writer below
+abbrev pub out_name : {W : Type 0} → Printer W → GName
+out_name printer = printer.out.ghost_name
 
 -- false after a fault, and after the end
 abbrev pub is_open : {W : Type 0} → Printer W → Bool

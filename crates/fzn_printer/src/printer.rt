@@ -5,7 +5,7 @@ ghost use Rattle.fzn_output.specs.Output.{AppendsFront};
 ghost use Rattle.fzn_meaning.specs.Solutions.{IsAssignment};
 ghost use Rattle.fzn_meaning.specs.WellFormed.{IsWellFormed};
 ghost use Rattle.fzn_printer.specs.Shown.{shown, ending_text, is_closed};
-ghost use Rattle.fzn_printer.specs.Printer.{output, is_open, has_printed};
+ghost use Rattle.fzn_printer.specs.Printer.{contents_of, out_name, is_open, has_printed};
 
 use crate::item::put_solution;
 use fzn_meaning::Model;
@@ -27,7 +27,8 @@ pub enum Ending {
 }
 
 impl Ending {
-    fn is_closed(self) -> bool
+    /// Whether nothing is left to find.
+    pub fn is_closed(self) -> bool
         ensures { result ≡ is_closed self }
     {
         match self {
@@ -50,15 +51,16 @@ pub enum PrintFault {
 
 /// Prints an answer, solution by solution. It takes no memory.
 #[derive(Drop)]
-pub struct Printer<W: Write> {
-    out: W,
+pub struct Printer<'w, W: Write> {
+    out: &'w mut W,
     printed: bool,
     open: bool,
 }
 
-impl<W: Write + Drop> Printer<W> {
-    pub fn new(out: W) -> Printer<W>
-        ensures out { output result ≡ out }
+impl<'w, W: Write> Printer<'w, W> {
+    pub fn new(out: &'w mut W) -> Printer<'w, W>
+        ensures same { contents_of W.contents result ≡ W.contents out.old }
+        ensures same_writer { out_name result ≡ out.entry.ghost_name }
         ensures fresh { (is_open result ≡ true) × (has_printed result ≡ false) }
     {
         Printer {
@@ -72,20 +74,21 @@ impl<W: Write + Drop> Printer<W> {
     pub fn solution(&mut self, model: &Model, values: &[i64]) -> Result<(), PrintFault>
         requires model { IsWellFormed model.now }
         requires assignment { IsAssignment model.now values.now }
-        ensures written { OnOk result (Appends (W.contents (output self.old)) (W.contents (output self.new)) (shown model.now values.now)) }
+        ensures written { OnOk result (Appends (contents_of W.contents self.old) (contents_of W.contents self.new) (shown model.now values.now)) }
         ensures ok { OnOk result ((is_open self.new ≡ true) × (has_printed self.new ≡ true)) }
 
         // After a failed write a beginning of the text stands, and any later call answers `Failed`.
-        ensures front { OnErr result (AppendsFront (W.contents (output self.old)) (W.contents (output self.new)) (shown model.now values.now)) }
+        ensures front { OnErr result (AppendsFront (contents_of W.contents self.old) (contents_of W.contents self.new) (shown model.now values.now)) }
         ensures err { OnErr result (is_open self.new ≡ false) }
-        ensures failed { is_open self.old ≡ false → (result ≡ Err PrintFault.Failed) × Keeps (W.contents (output self.old)) (W.contents (output self.new)) }
+        ensures same_writer { out_name self.new ≡ out_name self.old }
+        ensures failed { is_open self.old ≡ false → (result ≡ Err PrintFault.Failed) × Keeps (contents_of W.contents self.old) (contents_of W.contents self.new) }
         ensures failed_only { is_open self.old ≡ true → result ≢ Err PrintFault.Failed }
     {
         if !self.open {
             return Err(PrintFault::Failed);
         }
         self.open = false;
-        if put_solution(&mut self.out, model, values).is_err() {
+        if put_solution(self.out, model, values).is_err() {
             return Err(PrintFault::Write);
         }
         self.printed = true;
@@ -95,9 +98,10 @@ impl<W: Write + Drop> Printer<W> {
 
     /// Flushes the writer below.
     pub fn flush(&mut self) -> Result<(), PrintFault>
-        ensures kept { Keeps (W.contents (output self.old)) (W.contents (output self.new)) }
+        ensures kept { Keeps (contents_of W.contents self.old) (contents_of W.contents self.new) }
         ensures ok { OnOk result ((is_open self.new ≡ true) × (has_printed self.new ≡ has_printed self.old)) }
         ensures err { OnErr result (is_open self.new ≡ false) }
+        ensures same_writer { out_name self.new ≡ out_name self.old }
         ensures failed { is_open self.old ≡ false → result ≡ Err PrintFault.Failed }
         ensures failed_only { is_open self.old ≡ true → result ≢ Err PrintFault.Failed }
     {
@@ -113,10 +117,11 @@ impl<W: Write + Drop> Printer<W> {
 
     /// Prints the line that ends the answer, if it has one, and flushes the writer below. Any later call answers `Failed`.
     pub fn close(&mut self, ending: Ending) -> Result<(), PrintFault>
-        ensures written { OnOk result (Appends (W.contents (output self.old)) (W.contents (output self.new)) (ending_text (is_closed ending) (has_printed self.old))) }
-        ensures front { OnErr result (AppendsFront (W.contents (output self.old)) (W.contents (output self.new)) (ending_text (is_closed ending) (has_printed self.old))) }
+        ensures written { OnOk result (Appends (contents_of W.contents self.old) (contents_of W.contents self.new) (ending_text (is_closed ending) (has_printed self.old))) }
+        ensures front { OnErr result (AppendsFront (contents_of W.contents self.old) (contents_of W.contents self.new) (ending_text (is_closed ending) (has_printed self.old))) }
         ensures shut { is_open self.new ≡ false }
-        ensures failed { is_open self.old ≡ false → (result ≡ Err PrintFault.Failed) × Keeps (W.contents (output self.old)) (W.contents (output self.new)) }
+        ensures same_writer { out_name self.new ≡ out_name self.old }
+        ensures failed { is_open self.old ≡ false → (result ≡ Err PrintFault.Failed) × Keeps (contents_of W.contents self.old) (contents_of W.contents self.new) }
         ensures failed_only { is_open self.old ≡ true → result ≢ Err PrintFault.Failed }
     {
         if !self.open {
@@ -124,7 +129,7 @@ impl<W: Write + Drop> Printer<W> {
         }
         self.open = false;
         let line = ending_line(ending.is_closed(), self.printed);
-        if put(&mut self.out, line).is_err() {
+        if put(self.out, line).is_err() {
             return Err(PrintFault::Write);
         }
         if self.out.flush().is_err() {

@@ -56,7 +56,8 @@ fn endings(rt: HostRuntime) {
 
 #[test]
 fn nothing_after_the_end(rt: HostRuntime) -> Result<(), Fail> {
-    let mut printer = Printer::new(Vec::new(rt.alloc()));
+    let mut text: Vec<u8> = Vec::new(rt.alloc());
+    let mut printer = Printer::new(&mut text);
     printer.flush()?;
     printer.close(Ending::NodeLimit)?;
     assert_eq!(rt; printer.close(Ending::Complete), Err(PrintFault::Failed));

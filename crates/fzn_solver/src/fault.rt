@@ -1,34 +1,87 @@
-// What can stop a run before its end.
+// Why a run has no answer.
 ghost use Rattle.std.specs.Prelude.{◌≡◌};
-ghost use Rattle.fzn_solver.specs.declared.fault.Fault.TheVariants.{Memory};
+ghost use Rattle.fzn_solver.specs.declared.fault.RunFault.TheVariants.{Memory};
+ghost use Rattle.fzn_solver.specs.FaultsFrom.{fault_of_model, fault_of_engine, fault_of_lacking};
 
-use std::alloc::{AllocError, AllocFailed};
+use fzn_engine::Fault as EngineFault;
+use fzn_lexer::Fault;
+use fzn_propagators::Lacking;
+use fzn_reading::ModelFault;
+use std::alloc::AllocError;
+use thiserror::Error;
 
-/// Why a run stopped before its end.
-#[derive(Clone, Copy, Debug, PartialEq, Eq)]
-pub enum Fault {
-    /// Memory was wanted and not there.
+/// Why a run has no answer. Its message is the line that the program prints.
+#[derive(Clone, Copy, Debug, PartialEq, Eq, Error)]
+pub enum RunFault {
+    /// The first fault of the file.
+    #[error("{}", ModelFault::File(*.0))]
+    File(Fault),
+    /// No propagator is for the constraint of this number.
+    #[error("constraint {0}: fault 11 UnknownConstraint")]
+    NoPropagator(u64),
+    #[error("fault 19 Memory")]
     Memory,
-    /// The output could not be written.
+    #[error("fault 20 Read")]
+    Read,
+    #[error("fault 21 WriteOutput")]
     WriteOutput,
-    /// The certificate could not be written.
+    #[error("fault 22 WriteCert")]
     WriteCert,
-    /// A step is too long for a line of the certificate.
+    #[error("fault 24 StepTooLong")]
     StepTooLong,
 }
 
-impl From<AllocError> for Fault {
-    ghost from_gives = { λ _ e. e ≡ Memory };
-
-    fn from(_e: AllocError) -> Fault {
-        Fault::Memory
+impl RunFault {
+    /// The exit status of a program that answers it.
+    pub fn status(self) -> u8 {
+        match self {
+            RunFault::File(_) | RunFault::NoPropagator(_) => 2,
+            RunFault::Read | RunFault::WriteOutput | RunFault::WriteCert => 4,
+            RunFault::Memory | RunFault::StepTooLong => 5,
+        }
     }
 }
 
-impl<T: Drop> From<AllocFailed<T>> for Fault {
-    ghost from_gives = { λ _ e. e ≡ Memory };
+impl From<AllocError> for RunFault {
+    ghost from_gives = { λ _ fault. fault ≡ Memory };
 
-    fn from(_e: AllocFailed<T>) -> Fault {
-        Fault::Memory
+    fn from(_error: AllocError) -> RunFault {
+        RunFault::Memory
+    }
+}
+
+impl From<ModelFault> for RunFault {
+    ghost from_gives = { λ of fault. fault ≡ fault_of_model of };
+
+    fn from(fault: ModelFault) -> RunFault {
+        match fault {
+            ModelFault::File(fault) => RunFault::File(fault),
+            ModelFault::Memory => RunFault::Memory,
+            ModelFault::Read => RunFault::Read,
+        }
+    }
+}
+
+impl From<Lacking> for RunFault {
+    ghost from_gives = { λ of fault. fault ≡ fault_of_lacking of };
+
+    fn from(lacking: Lacking) -> RunFault {
+        match lacking {
+            Lacking::Propagator(number) => RunFault::NoPropagator(number),
+            Lacking::Memory => RunFault::Memory,
+        }
+    }
+}
+
+impl From<EngineFault> for RunFault {
+    ghost from_gives = { λ of fault. fault ≡ fault_of_engine of };
+
+    fn from(fault: EngineFault) -> RunFault {
+        match fault {
+            EngineFault::Memory => RunFault::Memory,
+            EngineFault::WriteOutput => RunFault::WriteOutput,
+            EngineFault::WriteCert => RunFault::WriteCert,
+            EngineFault::StepTooLong => RunFault::StepTooLong,
+        }
     }
 }

@@ -1,22 +1,15 @@
-//! The search for solutions of a model, with plain learning.
+//! A run of the solver: from the bytes of a file to its answer, with a certificate.
 //!
-//! In: a model, what reasons for its constraints, and limits. Out: the steps of a certificate, one after the other, and why
-//! the search ended. Proved against `specs/Outcome.antt`: the steps are accepted, the solutions among them are a proper list,
-//! it is exhausted where the end is closed, an end is open only where a limit was really reached, and the decisions are
-//! bounded. `specs/State.antt` says what holds at each moment.
+//! In: a reader of the file, the options, and a writer each for the answer and the certificate. Out: the answer and its certificate on
+//! the writers, and what a run tells. Proved against `specs/Run.antt`: the certificate's verdict is accepted, the answer is that of the
+//! verdict and true of the file, and it is left open only where a limit was really reached.
 #![tactic(auto)]
 
-pub use fault::Fault;
-pub use inference::{Constraints, Inference};
-pub use limits::{Ending, Limits};
-pub use outcome::{Outcome, solve};
-pub use sink::Sink;
+pub use answer::run;
+pub use fault::RunFault;
+pub use report::Report;
 
+mod answer;
 mod fault;
-mod inference;
-mod limits;
-mod outcome;
-mod sink;
-mod solver;
-#[cfg(test)]
-mod tests;
+mod report;
+mod writers;

@@ -1,0 +1,16 @@
+mod AcceptedLemmas
+mod ChangeLemmas
+mod CutLemmas
+mod FoundLemmas
+mod FreshLemmas
+mod LearnLemmas
+mod PropagationLemmas
+mod RunLemmas
+mod SolutionLemmas
+mod SolverLemmas
+mod SpelledLemmas
+mod StateLemmas
+mod TakenLemmas
+mod TestLemmas
+mod VolumeLemmas
+mod WithinLemmas

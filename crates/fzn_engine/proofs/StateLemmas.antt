@@ -1,0 +1,115 @@
+-- Each change of a search keeps what holds of it.
+use Rattle.std.proofs.Common.{◌≡◌, ℕ, ◌+◌, ◌-◌, ◌*◌, ◌<◌, ◌≤◌, Bool, true, ◌⊎◌, inl, inr, List, [], ◌∷◌, ◌++◌, length, map, All, Contains, Some, refl, sym, ◌∙◌, ap, subst, arith, ℤ, Option}
+use Rattle.std.proofs.lemmas.List.{length_push, length-map, append-nil}
+use Rattle.std.proofs.lemmas.List.Elements.{All-push, All-weaker, Contains-append_left, Contains-push}
+use Rattle.fzn_domain.specs.declared.literal.Lit.{Lit}
+use Rattle.fzn_domain.specs.Literal.{negated}
+use Rattle.fzn_domain.specs.IntSet.{IntSet, is_possible}
+use Rattle.fzn_domain.specs.Narrow.{IsVariable, IsClauseOver, IsOpen, NoneEmpty, set_of, narrowed, can_fail, possible_in}
+use Rattle.fzn_meaning.specs.declared.model.Model.{Model}
+use Rattle.fzn_meaning.specs.Solutions.{declared_sets, cut_of}
+use Rattle.fzn_cert.specs.declared.step.Step.{Step}
+use Rattle.fzn_cert.specs.Past.{Past}
+use Rattle.fzn_cert.specs.Accepted.{IsAccepted, AllAccepted, after, past_of}
+use Rattle.fzn_trail.specs.Levels.{Levels}
+use Rattle.fzn_conflict.specs.Reasoned.{IsReasoned, Open, opens}
+use Rattle.fzn_engine.specs.Volume.{volume, slack}
+use Rattle.fzn_engine.specs.Learned.{resolved, FreshAfter, HasCertain, negations, LevelsBacked, AllCertain, left_open, other_part}
+use Rattle.fzn_engine.specs.State.{CoreOf, PlainOf, StateOf, work}
+use Rattle.fzn_engine.proofs.AcceptedLemmas.{past_of-push, AllAccepted-push, held-push}
+use Rattle.fzn_engine.proofs.VolumeLemmas.{decided-accounts, slack-narrowed_lt, slack-narrowed_le, volume-narrowed_le}
+use Rattle.fzn_engine.proofs.WithinLemmas.{Within, Within-narrowed, backed-within}
+use Rattle.fzn_engine.proofs.FreshLemmas.{learned-fresh, LevelsBacked-push, LevelsBacked-back, backed-back}
+
+module _ (model : Model) (held : List (List Lit)) (steps : List Step) (trail : Levels) (nodes : ℕ) where
+  -- a change of the trail alone
+  pub Core-moved : CoreOf model held steps trail nodes → (new : Levels) (count : ℕ) → new.declared ≡ trail.declared → IsReasoned held new → count + slack new.sets ≤ nodes + slack trail.sets → CoreOf model held steps new count
+  Core-moved h new count e reasoned less =
+      let conflicts = h.nodes_by_conflicts in
+      let N : List IntSet → Type 0 = λ s. count + slack new.sets ≤ (length (resolved steps) + 1) * slack s in
+      let F : List IntSet → Type 0 = λ s. NoneEmpty s in
+      let O : List IntSet → Type 0 = λ s. All (IsClauseOver (length s)) held in
+      record {
+        declared = e ∙ h.declared;
+        filled = subst F (sym e) h.filled;
+        accepted = h.accepted;
+        held_is = h.held_is;
+        cuts_held = h.cuts_held;
+        held_over = subst O (sym e) h.held_over;
+        reasoned = reasoned;
+        nodes_by_conflicts = subst N (sym e) (omega arith);
+      }
+
+  -- one more step, and its clause held
+  pub Core-step : CoreOf model held steps trail nodes → (step : Step) (clause : List Lit) → IsAccepted model (past_of model steps) step → (after model (past_of model steps) step).clauses ≡ (past_of model steps).clauses ++ Some clause ∷ [] → All (λ values. Contains (held ++ clause ∷ []) (cut_of model values)) (after model (past_of model steps) step).solutions → IsClauseOver (length trail.declared) clause → (new : Levels) → new.declared ≡ trail.declared → IsReasoned (held ++ clause ∷ []) new → nodes + slack new.sets ≤ (length (resolved (steps ++ step ∷ [])) + 1) * slack trail.declared → CoreOf model (held ++ clause ∷ []) (steps ++ step ∷ []) new nodes
+  Core-step h step clause accepted clauses_is cuts over new e reasoned less =
+      let past : past_of model (steps ++ step ∷ []) ≡ after model (past_of model steps) step = past_of-push model steps step in
+      let N : List IntSet → Type 0 = λ s. nodes + slack new.sets ≤ (length (resolved (steps ++ step ∷ [])) + 1) * slack s in
+      let F : List IntSet → Type 0 = λ s. NoneEmpty s in
+      let O : List IntSet → Type 0 = λ s. All (IsClauseOver (length s)) (held ++ clause ∷ []) in
+      let C : Past → Type 0 = λ p. All (λ values. Contains (held ++ clause ∷ []) (cut_of model values)) p.solutions in
+      record {
+        declared = e ∙ h.declared;
+        filled = subst F (sym e) h.filled;
+        accepted = AllAccepted-push model steps step h.accepted accepted;
+        held_is = ap (λ (p : Past). p.clauses) past ∙ clauses_is ∙ held-push (past_of model steps).clauses held clause h.held_is;
+        cuts_held = subst C (sym past) cuts;
+        held_over = subst O (sym e) (All-push (IsClauseOver (length trail.declared)) held clause h.held_over over);
+        reasoned = reasoned;
+        nodes_by_conflicts = subst N (sym e) less;
+      }
+
+  -- the cuts held so far, and one more clause
+  pub cuts-grown : CoreOf model held steps trail nodes → (clause : List Lit) → All (λ values. Contains (held ++ clause ∷ []) (cut_of model values)) (past_of model steps).solutions
+  cuts-grown h clause =
+      All-weaker (λ values. Contains held (cut_of model values)) (λ values. Contains (held ++ clause ∷ []) (cut_of model values))
+      (λ values c. Contains-append_left held (clause ∷ []) (cut_of model values) c) (past_of model steps).solutions h.cuts_held
+
+-- ---- plain learning
+
+module _ (declared sets : List IntSet) (taken : List Open) (learned : List (List Lit)) (nodes : ℕ) where
+  pub Plain-narrowed : PlainOf declared sets taken learned nodes → (new : List IntSet) → Within new sets → volume new ≤ volume sets → PlainOf declared new taken learned nodes
+  Plain-narrowed h new within less =
+      let parts = h.nodes_by_parts in
+      record {
+        fresh = h.fresh;
+        backed = backed-within (length declared) new sets learned within h.backed;
+        levels_backed = h.levels_backed;
+        nodes_by_parts = omega arith;
+      }
+
+  left_open-push : (before : List Open) (at : Open) → left_open (before ++ at ∷ []) ≡ left_open before + (volume (other_part at) - 1)
+  left_open-push [] at = omega arith
+  left_open-push (first ∷ before) at = omega (arith, left_open-push before at)
+
+  -- a decision leaves its other part open
+  pub Plain-decided : PlainOf declared sets taken learned nodes → NoneEmpty sets → (lit : Lit) → IsVariable (length sets) lit.var → IsOpen sets lit → PlainOf declared (narrowed sets lit) (taken ++ record { sets = sets; decision = lit } ∷ []) learned (nodes + 1)
+  Plain-decided h filled lit var either =
+      let parts = h.nodes_by_parts in
+      let shares = decided-accounts sets lit filled var either in
+      let more = left_open-push taken (record { sets = sets; decision = lit }) in
+      record {
+        fresh = h.fresh;
+        backed = backed-within (length declared) (narrowed sets lit) sets learned (Within-narrowed sets lit) h.backed;
+        levels_backed = LevelsBacked-push (length declared) learned taken (record { sets = sets; decision = lit }) h.levels_backed h.backed;
+        nodes_by_parts = omega arith;
+      }
+
+  -- the learned clause, one level back, and what it forces there
+  pub Plain-learned : (before : List Open) (at : Open) → taken ≡ before ++ at ∷ [] → PlainOf declared sets taken learned nodes → FreshAfter declared [] (learned ++ negations taken ∷ []) → length at.sets ≡ length declared → IsVariable (length declared) at.decision.var → PlainOf declared (narrowed at.sets (negated at.decision)) before (learned ++ negations taken ∷ []) nodes
+  Plain-learned before at e h fresh count var =
+      let P : List Open → Type 0 = λ t. PlainOf declared sets t learned nodes in
+      let F : List Open → Type 0 = λ t. FreshAfter declared [] (learned ++ negations t ∷ []) in
+      let G : List Open → Type 0 = λ t. PlainOf declared (narrowed at.sets (negated at.decision)) before (learned ++ negations t ∷ []) nodes in
+      let p = subst P e h in
+      let parts = p.nodes_by_parts in
+      let more = left_open-push before at in
+      subst G (sym e) (record {
+        fresh = subst F e fresh;
+        backed = backed-back (length declared) learned before at count var p.levels_backed;
+        levels_backed = LevelsBacked-back (length declared) learned before at p.levels_backed;
+        nodes_by_parts = omega arith;
+      })
+
+  pub Plain-fresh : PlainOf declared sets taken learned nodes → length sets ≡ length declared → Within sets declared → NoneEmpty sets → AllCertain (length declared) sets taken → FreshAfter declared [] (learned ++ negations taken ∷ [])
+  Plain-fresh h count within filled certain = learned-fresh declared sets learned taken count within filled certain h.backed h.fresh

@@ -1,0 +1,115 @@
+// A whole run.
+ghost use Rattle.std.specs.Prelude.{◌≡◌, ◌⊎◌, ◌∷◌, ◌++◌, [], true, length, IfOk, OnOk, IsTrue, IsFalse};
+ghost use Rattle.fzn_domain.specs.Narrow.{NoneEmpty, is_some_empty};
+ghost use Rattle.fzn_meaning.specs.Solutions.{declared_sets};
+ghost use Rattle.fzn_meaning.specs.WellFormed.{IsWellFormed};
+ghost use Rattle.fzn_cert.specs.declared.step.Step.TheVariants.{Resolve};
+ghost use Rattle.fzn_cert.specs.Accepted.{AllAccepted};
+ghost use Rattle.fzn_engine.specs.Outcome.{HasRoom, count, IsEnded, IsOutcome};
+
+use crate::fault::Fault;
+use crate::inference::Constraints;
+use crate::limits::{Ending, Limits};
+use crate::sink::Sink;
+use crate::solver::Solver;
+use fzn_cert::Step;
+use fzn_list::Items;
+use fzn_meaning::{Model, Var};
+use std::alloc::Global;
+
+/// What a run tells.
+#[derive(Clone, Copy, Debug, PartialEq, Eq)]
+pub struct Outcome {
+    pub solutions: u64,
+    pub nodes: u64,
+    pub ending: Ending,
+}
+
+/// Searches for solutions of the model, and hands on each step of the argument.
+pub fn solve<S: Sink, C: Constraints>(
+    alloc: Global,
+    model: &Model,
+    limits: Limits,
+    constraints: &C,
+    sink: &mut S,
+) -> Result<Outcome, Fault>
+    requires model { IsWellFormed model.now }
+    requires is_for { C.is_for constraints.now model.now }
+    requires room { HasRoom model.now.goal limits.solutions 0 }
+    requires fresh { S.written sink.old ≡ [] }
+    requires kept { S.keeps model.now sink.old }
+    ensures outcome { IfOk result (λ outcome. IsOutcome model.now limits (S.written sink.new) outcome.nodes outcome.ending) }
+    ensures solutions { IfOk result (λ outcome. outcome.solutions ≡ count model.now (S.written sink.new)) }
+    ensures accepted { AllAccepted model.now (S.written sink.new) }
+    ensures kept { S.keeps model.now sink.new × (S.origin sink.new ≡ S.origin sink.old) }
+{
+    let outcome = search(alloc, model, limits, constraints, sink)?;
+    Ok(outcome)
+}
+
+fn search<S: Sink, C: Constraints>(
+    alloc: Global,
+    model: &Model,
+    limits: Limits,
+    constraints: &C,
+    sink: &mut S,
+) -> Result<Outcome, Fault>
+    requires model { IsWellFormed model.now }
+    requires is_for { C.is_for constraints.now model.now }
+    requires room { HasRoom model.now.goal limits.solutions 0 }
+    requires fresh { S.written sink.old ≡ [] }
+    requires kept { S.keeps model.now sink.old }
+    ensures ended { IfOk result (λ outcome. IsEnded model.now limits (S.written sink.new) outcome.nodes outcome.ending) }
+    ensures solutions { IfOk result (λ outcome. outcome.solutions ≡ count model.now (S.written sink.new)) }
+    ensures accepted { AllAccepted model.now (S.written sink.new) }
+    ensures kept { S.keeps model.now sink.new × (S.origin sink.new ≡ S.origin sink.old) }
+{
+    if has_empty(model.vars.as_slice()) {
+        refute(alloc, model, limits, sink)?;
+        return Ok(Outcome {
+            solutions: 0,
+            nodes: 0,
+            ending: Ending::Closed,
+        });
+    }
+    let mut solver = Solver::new(alloc, model)?;
+    let ending = solver.run(alloc, model, limits, constraints, sink)?;
+    Ok(Outcome {
+        solutions: solver.found,
+        nodes: solver.search.nodes(),
+        ending,
+    })
+}
+
+/// Writes the empty clause, which needs no reason where a declared set is empty.
+fn refute<S: Sink>(alloc: Global, model: &Model, limits: Limits, sink: &mut S) -> Result<(), Fault>
+    requires model { IsWellFormed model.now }
+    requires empty { is_some_empty (declared_sets model.now.vars) ≡ true }
+    requires room { HasRoom model.now.goal limits.solutions 0 }
+    requires fresh { S.written sink.old ≡ [] }
+    requires kept { S.keeps model.now sink.old }
+    ensures ended { OnOk result (IsEnded model.now limits (S.written sink.new) 0 Ending.Closed) }
+    ensures none { OnOk result (count model.now (S.written sink.new) ≡ 0) }
+    ensures accepted { AllAccepted model.now (S.written sink.new) }
+    ensures kept { S.keeps model.now sink.new × (S.origin sink.new ≡ S.origin sink.old) }
+{
+    let step = Step::Resolve {
+        clause: Items::new(alloc),
+        ids: Items::new(alloc),
+    };
+    sink.step(alloc, model, &step)?;
+    Ok(())
+}
+
+/// Whether some declared set is empty.
+fn has_empty(vars: &[Var]) -> bool
+    ensures some { IsTrue result → is_some_empty (declared_sets vars.now) ≡ true }
+    ensures none { IsFalse result → NoneEmpty (declared_sets vars.now) }
+{
+    for i in 0..vars.len() {
+        if vars[i].domain.len() == 0 {
+            return true;
+        }
+    }
+    false
+}

@@ -1,0 +1,4 @@
+mod FoundLemmas
+mod MadeLemmas
+mod SpelledLemmas
+mod TestLemmas

@@ -1,0 +1,51 @@
+-- Propagators that are made one after the other.
+use Rattle.std.proofs.Common.{◌≡◌, ℕ, ◌+◌, ◌-◌, ◌<◌, List, [], ◌∷◌, ◌++◌, length, get_or, sym, ap, ◌∙◌, subst, inl, inr, arith}
+use Rattle.std.proofs.lemmas.Bool.{cases_lt}
+use Rattle.std.proofs.lemmas.List.{get_or_append_left, get_or_push}
+use Rattle.fzn_meaning.specs.declared.constraint.Constraint.{Constraint}
+use Rattle.fzn_meaning.specs.declared.model.Model.{Model}
+use Rattle.fzn_meaning.specs.Solutions.{declared_sets}
+use Rattle.fzn_arith.specs.declared.kinds.ArithPropagator.{ArithPropagator}
+use Rattle.fzn_arith.specs.AnyKind.{kind_number, KindIsFor, KindFits}
+use Rattle.fzn_propagators.specs.declared.lacking.Lacking.TheVariants.{Propagator}
+use Rattle.fzn_propagators.specs.Propagators.{IsPropagatorOf, IsFirst}
+
+-- where a place stands in a list there is a member
+pub some_member : {X : Type 0} (xs : List X) (k : ℕ) → k < length xs → X
+some_member [] k below = absurd (omega arith)
+some_member (x ∷ xs) k below = x
+
+-- the propagators of the first n constraints
+abbrev pub AreFirst : Model → ℕ → List ArithPropagator → Type 0
+AreFirst model n items =
+    (k : ℕ) (constraint : Constraint) (propagator : ArithPropagator) → k < n
+    → IsPropagatorOf model (k + 1) (get_or model.constraints k constraint) (get_or items k propagator)
+
+module _ (model : Model) (n : ℕ) (earlier : List ArithPropagator) (next : ArithPropagator) where
+  -- what is promised of the propagator of constraint n + 1
+  next-is : kind_number next ≡ n + 1 → ((constraint : Constraint) → KindIsFor next (get_or model.constraints (n + 1 - 1) constraint)) → KindFits next (declared_sets model.vars) → (constraint : Constraint) → IsPropagatorOf model (n + 1) (get_or model.constraints n constraint) next
+  next-is numbered is_for fits constraint =
+      let place : n + 1 - 1 ≡ n = omega arith in record {
+        numbered = numbered;
+        is_for = subst (λ (k : ℕ). KindIsFor next (get_or model.constraints k constraint)) place (is_for constraint);
+        fits = fits;
+      }
+
+  -- one more
+  pub AreFirst-push : (items : List ArithPropagator) → items ≡ earlier ++ next ∷ [] → length earlier ≡ n → AreFirst model n earlier → kind_number next ≡ n + 1 → ((constraint : Constraint) → KindIsFor next (get_or model.constraints (n + 1 - 1) constraint)) → KindFits next (declared_sets model.vars) → AreFirst model (n + 1) items
+  AreFirst-push items is count before numbered is_for fits k constraint propagator below =
+      let R : ℕ → ArithPropagator → Type 0 = λ m p. IsPropagatorOf model (m + 1) (get_or model.constraints m constraint) p in
+      let at_k : get_or items k propagator ≡ get_or (earlier ++ next ∷ []) k propagator = ap (λ (xs : List ArithPropagator). get_or xs k propagator) is in
+      elim (cases_lt k n) [
+        | inl inside ↦ subst (R k) (sym (at_k ∙ get_or_append_left earlier (next ∷ []) propagator k (omega arith))) (before k constraint propagator inside)
+        | inr past ↦
+            let last : n ≡ k = omega arith in
+            subst (R k) (sym (at_k ∙ get_or_push earlier next propagator k (omega arith))) (subst (λ (m : ℕ). R m next) last (next-is numbered is_for fits constraint))
+      ]
+
+-- the constraint after them is the first that has no propagator
+pub AreFirst-lacking : (model : Model) (n : ℕ) (items : List ArithPropagator) → length items ≡ n → AreFirst model n items → (number : ℕ) → number ≡ n + 1 → IsFirst model (Propagator number)
+AreFirst-lacking model n items count first number is k default below =
+    let inside : k < n = omega arith in
+    let p = some_member items k (omega arith) in
+    (get_or items k p, (first k default p inside).is_for)

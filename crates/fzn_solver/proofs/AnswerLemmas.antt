@@ -1,0 +1,146 @@
+-- The whole answer with its certificate.
+use Rattle.std.proofs.Common.{◌≡◌, ◌≢◌, ℕ, zero, suc, ◌-◌, ◌==◌, not, Bool, true, false, ℤ, List, [], ◌∷◌, ◌++◌, length, drop, Option, Some, None, refl, sym, ap, ◌∙◌, subst, arith, append_assoc, append-nil, cond, inr, slice_index_or}
+use Rattle.std.specs.List.{flat_map}
+use Rattle.std.specs.Borrow.{GName}
+use Rattle.std.specs.Io.KnownBytes.{Appends}
+use Rattle.std.proofs.lemmas.Bool.Decides.{nat_tests}
+use Rattle.fzn_meaning.specs.declared.model.Goal.{Goal}
+use Rattle.fzn_meaning.specs.declared.model.Goal.TheVariants.{Satisfy, Minimize, Maximize}
+use Rattle.fzn_meaning.specs.declared.model.Model.{Model}
+use Rattle.fzn_meaning.specs.Solutions.{declared_sets, IsExhausted}
+use Rattle.fzn_meaning.specs.WellFormed.{IsWellFormed}
+use Rattle.fzn_cert.specs.declared.step.Step.{Step}
+use Rattle.fzn_cert.specs.declared.step.Version.TheVariants.{One}
+use Rattle.fzn_cert.specs.declared.writer.StepWriter.{StepWriter}
+use Rattle.fzn_cert.specs.Accepted.{AllAccepted, past_of}
+use Rattle.fzn_cert.specs.Past.{start}
+use Rattle.fzn_cert.specs.Spelling.{header_lines, end_line}
+use Rattle.fzn_cert.specs.Verdict.{Verdict, accepted, header_of, lines_of, AllHaveLines}
+use Rattle.fzn_cert.specs.Writer.{contents_of as cert_contents, out_name as cert_name}
+use Rattle.fzn_engine.specs.declared.limits.Ending.{Ending as EngineEnding}
+use Rattle.fzn_engine.specs.declared.limits.Ending.TheVariants as engine
+use Rattle.fzn_engine.specs.declared.limits.Limits.{Limits}
+use Rattle.fzn_engine.specs.Outcome.{HasRoom, IsReached, IsRefuted, EndsTruly as EndsTrulyThere, IsExhaustedIf, IsOutcome}
+use Rattle.fzn_engine.specs.Volume.{volume}
+use Rattle.fzn_printer.specs.declared.printer.Ending.{Ending}
+use Rattle.fzn_printer.specs.declared.printer.Ending.TheVariants.{Complete, Unsatisfiable, NodeLimit, SolutionLimit}
+use Rattle.fzn_printer.specs.declared.printer.Printer.{Printer}
+use Rattle.fzn_printer.specs.Printer.{contents_of as out_contents, out_name}
+use Rattle.fzn_printer.specs.Answer.{answer_text}
+use Rattle.fzn_printer.specs.Shown.{shown, ending_text, is_closed}
+use Rattle.fzn_solver.specs.declared.report.Report.{Report}
+use Rattle.fzn_solver.specs.declared.writers.Writers.{Writers}
+use Rattle.fzn_solver.specs.Endings.{ending_for}
+use Rattle.fzn_solver.specs.Standing.{found_by, is_alone, early, late, certificate, shown_all}
+use Rattle.fzn_solver.specs.Answer.{wanted, EndsTruly, IsCertified, IsBounded, IsAnswer}
+use Rattle.fzn_solver.specs.Writers.{taken, origin, IsFresh, IsClosed}
+
+-- ---- the verdict on the certificate
+
+certificate-verdict : (model : Model) (steps : List Step) (closed : Bool) → IsWellFormed model → AllAccepted model steps → AllHaveLines One 0 steps → (closed ≡ true → (past_of model steps).refuted ≡ true)
+    → Verdict model (certificate model steps closed) (accepted (found_by model steps) closed)
+certificate-verdict model steps closed formed all_accepted have_lines refuted =
+    let few_vars = formed.few_vars in
+    let few_constraints = formed.few_constraints in
+    inr (One, (omega arith, omega arith), (Some (lines_of steps ++ end_line closed), append_assoc (header_lines (header_of model One)) (lines_of steps) (end_line closed),
+    (steps, have_lines, all_accepted, (Some (end_line closed), refl, ((Some [], sym (append-nil (end_line closed)), refl), refuted, refl)))))
+
+-- ---- the text of the answer
+
+answer-is : (model : Model) (all closed : Bool) (found : List (List ℤ)) →
+    shown_all model (early (is_alone model.goal all) found ++ late (is_alone model.goal all) found) ++ ending_text closed (not (length found == 0)) ≡ answer_text model found closed all
+answer-is model all closed found = by model.goal all refl
+  where
+    by : (goal : Goal) (b : Bool) → model.goal ≡ goal →
+        shown_all model (early (is_alone goal b) found ++ late (is_alone goal b) found) ++ ending_text closed (not (length found == 0)) ≡ answer_text (record model { goal = goal }) found closed b
+    by Satisfy b e = ap (λ (l : List (List ℤ)). shown_all model l ++ ending_text closed (not (length found == 0))) (append-nil found)
+    by (Minimize var) true e = ap (λ (l : List (List ℤ)). shown_all model l ++ ending_text closed (not (length found == 0))) (append-nil found)
+    by (Minimize var) false e = refl
+    by (Maximize var) true e = ap (λ (l : List (List ℤ)). shown_all model l ++ ending_text closed (not (length found == 0))) (append-nil found)
+    by (Maximize var) false e = refl
+
+-- ---- how it ended
+
+not_zero : (k : ℕ) → (suc k == 0) ≡ false
+not_zero k = grind (arith, nat_tests)
+
+none-found : (found : List (List ℤ)) → length found ≡ 0 → found ≡ []
+none-found [] e = refl
+none-found (first ∷ found) e = absurd (omega arith)
+
+some-found : (found : List (List ℤ)) (k : ℕ) → length found ≡ suc k → found ≢ []
+some-found found k e none = let l = ap length none in absurd (omega arith)
+
+pub ends-truly : (model : Model) (all : Bool) (limits : Limits) (steps : List Step) (nodes n : ℕ) (ending : EngineEnding) → limits.solutions ≡ wanted all → n ≡ length (found_by model steps) → EndsTrulyThere model limits steps nodes ending → EndsTruly model all limits.nodes (found_by model steps) nodes (ending_for ending n)
+ends-truly model all limits steps nodes n engine.Closed most count truly = closed n count
+  where
+    closed : (k : ℕ) → k ≡ length (found_by model steps) → EndsTruly model all limits.nodes (found_by model steps) nodes (ending_for engine.Closed k)
+    closed zero e = none-found (found_by model steps) (sym e)
+    closed (suc k) e =
+        let H : Option ℕ → Type 0 = λ m. HasRoom model.goal m (length (found_by model steps)) in
+        let E : Bool → Type 0 = λ b. EndsTruly model all limits.nodes (found_by model steps) nodes (cond b Unsatisfiable Complete) in
+        subst E (sym (not_zero k)) (some-found (found_by model steps) k (sym e), subst H most truly.1)
+ends-truly model all limits steps nodes n engine.NodeLimit most count truly =
+    let H : Option ℕ → Type 0 = λ m. HasRoom model.goal m (length (found_by model steps)) in
+    (truly.0, subst H most truly.2)
+ends-truly model all limits steps nodes n engine.SolutionLimit most count truly =
+    let R : Option ℕ → Type 0 = λ m. IsReached model.goal m (length (found_by model steps)) in
+    subst R most truly
+
+closed-refuted : (model : Model) (limits : Limits) (steps : List Step) (nodes n : ℕ) (ending : EngineEnding) → EndsTrulyThere model limits steps nodes ending → is_closed (ending_for ending n) ≡ true → (past_of model steps).refuted ≡ true
+closed-refuted model limits steps nodes n engine.Closed truly closed = truly.0
+closed-refuted model limits steps nodes n engine.NodeLimit truly closed = cc
+closed-refuted model limits steps nodes n engine.SolutionLimit truly closed = cc
+
+closed-exhausted : (model : Model) (steps : List Step) (n : ℕ) (ending : EngineEnding) → IsExhaustedIf model steps ending → is_closed (ending_for ending n) ≡ true → IsExhausted model (found_by model steps)
+closed-exhausted model steps n engine.Closed exhausted closed = exhausted
+closed-exhausted model steps n engine.NodeLimit exhausted closed = cc
+closed-exhausted model steps n engine.SolutionLimit exhausted closed = cc
+
+node-limit-is : (ending : EngineEnding) (n : ℕ) → ending_for ending n ≡ NodeLimit → ending ≡ engine.NodeLimit
+node-limit-is engine.Closed zero e = cc
+node-limit-is engine.Closed (suc k) e = let f = sym (ap (λ (b : Bool). cond b Unsatisfiable Complete) (not_zero k)) ∙ e in cc
+node-limit-is engine.NodeLimit n e = refl
+node-limit-is engine.SolutionLimit n e = cc
+
+-- ---- all of it
+
+first-pair : {A B : Type 0} (p q : A × B) → p ∷ [] ≡ q ∷ [] → (p.0 ≡ q.0) × (p.1 ≡ q.1)
+first-pair {A = A} {B = B} p q e =
+    (ap (λ (l : List (A × B)). (slice_index_or l 0 p).0) e, ap (λ (l : List (A × B)). (slice_index_or l 0 p).1) e)
+
+module _ {W C : Type 0} (outs : W → Option (List ℕ)) (certs : C → Option (List ℕ)) (model : Model) (all : Bool) where
+  pub answer-of : IsWellFormed model → (before searched after : Writers W C) (limits : Limits) (nodes n : ℕ) (ending : EngineEnding) → IsFresh outs certs before → before.alone ≡ is_alone model.goal all → origin searched ≡ origin before → limits.solutions ≡ wanted all
+      → AllAccepted model (taken searched) → IsOutcome model limits (taken searched) nodes ending → n ≡ length (found_by model (taken searched)) → IsClosed outs certs model (is_closed (ending_for ending n)) searched after
+      → IsAnswer model all limits.nodes (out_contents outs before.out) (out_contents outs after.out) (cert_contents certs before.cert) (cert_contents certs after.cert) (record { solutions = n; nodes = nodes; ending = ending_for ending n })
+  answer-of formed before searched after limits nodes n ending fresh alone same most all_accepted outcome count closed =
+      let steps = taken searched in
+      let found = found_by model steps in
+      let p : W × C = (closed.out_first, closed.cert_first) in
+      let q : W × C = (fresh.out_first, fresh.cert_first) in
+      let firsts : p ∷ [] ≡ q ∷ [] = sym closed.begun ∙ ap (λ (o : List (W × C) × Bool × GName × GName). o.0) same ∙ fresh.begun in
+      let at = first-pair p q firsts in
+      let is : searched.alone ≡ is_alone model.goal all = ap (λ (o : List (W × C) × Bool × GName × GName). o.1) same ∙ alone in
+      let K : Option (List ℕ) → Type 0 = λ w. Appends w (cert_contents certs after.cert) (certificate model steps (is_closed (ending_for ending n))) in
+      let O : Option (List ℕ) → Type 0 = λ w. Appends w (out_contents outs after.out) (shown_all model (early searched.alone found ++ late searched.alone found) ++ ending_text (is_closed (ending_for ending n)) (not (length found == 0))) in
+      let A : Bool → Type 0 = λ b. Appends (out_contents outs before.out) (out_contents outs after.out) (shown_all model (early b found ++ late b found) ++ ending_text (is_closed (ending_for ending n)) (not (length found == 0))) in
+      let cert : certs closed.cert_first ≡ cert_contents certs before.cert = ap certs at.1 ∙ sym fresh.same_cert in
+      let out : outs closed.out_first ≡ out_contents outs before.out = ap outs at.0 ∙ sym fresh.same_out in
+      let T : List ℕ → Type 0 = λ t. Appends (out_contents outs before.out) (out_contents outs after.out) t in
+      record {
+        steps = steps;
+        certified = record {
+          written = subst K cert closed.cert;
+          verdict = certificate-verdict model steps (is_closed (ending_for ending n)) formed all_accepted closed.have_lines (closed-refuted model limits steps nodes n ending outcome.ended.truly);
+          printed = subst T (answer-is model all (is_closed (ending_for ending n)) found) (subst A is (subst O out closed.out));
+        };
+        proper = outcome.proper;
+        exhausted = closed-exhausted model steps n ending outcome.exhausted;
+        solutions = count;
+        ends = ends-truly model all limits steps nodes n ending most count outcome.ended.truly;
+        bounded = record {
+          by_choices = λ enough is_limit. outcome.enough_nodes enough (node-limit-is ending n is_limit);
+          by_conflicts = outcome.ended.certified.nodes_by_conflicts;
+          fresh = outcome.ended.certified.fresh;
+        };
+      }

@@ -1,0 +1,97 @@
+-- The end of the certificate, and the rest of the answer.
+use Rattle.std.proofs.Common.{◌≡◌, ℕ, zero, suc, ◌-◌, ◌==◌, ◌||◌, not, Bool, true, false, ℤ, List, [], ◌∷◌, ◌++◌, length, drop, Option, Some, None, Result, Ok, Err, is_some, refl, sym, ap, ◌∙◌, subst, arith, append_assoc, append-nil, inl, inr}
+use Rattle.std.specs.List.{flat_map}
+use Rattle.std.specs.Option.{option_to_list}
+use Rattle.std.specs.Io.KnownBytes.{Appends}
+use Rattle.std.proofs.lemmas.Bool.Decides.{nat_tests}
+use Rattle.std.proofs.lemmas.List.{length-drop}
+use Rattle.std.proofs.lemmas.List.Concat.{flat_map-append}
+use Rattle.fzn_output.proofs.CallerLemmas.{Appends-then}
+use Rattle.fzn_meaning.specs.declared.model.Model.{Model}
+use Rattle.fzn_cert.specs.declared.writer.Stage.TheVariants.{Fresh, Open, Shut}
+use Rattle.fzn_cert.specs.declared.writer.Stage.{Stage}
+use Rattle.fzn_cert.specs.declared.fault.FaultKind.{FaultKind}
+use Rattle.fzn_cert.specs.declared.fault.FaultKind.TheVariants.{Failed}
+use Rattle.fzn_printer.specs.declared.printer.PrintFault.{PrintFault}
+use Rattle.fzn_printer.specs.declared.printer.PrintFault.TheVariants.{Failed as NoMore}
+use Rattle.fzn_cert.specs.declared.writer.StepWriter.{StepWriter}
+use Rattle.fzn_cert.specs.Spelling.{end_line}
+use Rattle.fzn_cert.specs.Writer.{contents_of as cert_contents, out_name as cert_name, stage_of}
+use Rattle.fzn_printer.specs.declared.printer.Printer.{Printer}
+use Rattle.fzn_printer.specs.Printer.{contents_of as out_contents, out_name, is_open, has_printed}
+use Rattle.fzn_printer.specs.Shown.{shown, ending_text}
+use Rattle.fzn_solver.specs.declared.writers.Writers.{Writers}
+use Rattle.fzn_solver.specs.Standing.{found_by, early, late, begun_certificate, shown_all, IsOutInStep}
+use Rattle.fzn_solver.specs.Writers.{taken, IsKept, IsLastShown, IsAllSame, IsClosed}
+
+-- a solution was printed early or waits exactly where there is one
+some-waits : (last : Option (List ℤ)) (xs : List (List ℤ)) → option_to_list last ≡ xs → is_some last ≡ not (length xs == 0)
+some-waits None xs e = ap (λ (l : List (List ℤ)). not (length l == 0)) e
+some-waits (Some v) xs e = ap (λ (l : List (List ℤ)). not (length l == 0)) e
+
+not_zero : (k : ℕ) → (suc k == 0) ≡ false
+not_zero k = grind (arith, nat_tests)
+
+same_test : (m n : ℕ) → (m ≡ 0 → n ≡ 0) → (n ≡ 0 → m ≡ 0) → (m == 0) ≡ (n == 0)
+same_test zero zero h k = refl
+same_test zero (suc n) h k = let e = h refl in absurd (omega arith)
+same_test (suc m) zero h k = let e = k refl in absurd (omega arith)
+same_test (suc m) (suc n) h k = not_zero m ∙ sym (not_zero n)
+
+some-late : (found : List (List ℤ)) → not (length (drop (length found - 1) found) == 0) ≡ not (length found == 0)
+some-late found =
+    let left = length-drop (length found - 1) found in
+    ap not (same_test (length (drop (length found - 1) found)) (length found) (λ e. omega arith) (λ e. omega arith))
+
+or_none : (b : Bool) → (b || false) ≡ b
+or_none true = refl
+or_none false = refl
+
+some-shown : (alone : Bool) (found : List (List ℤ)) → (not (length (early alone found) == 0) || not (length (late alone found) == 0)) ≡ not (length found == 0)
+some-shown true found = some-late found
+some-shown false found = or_none (not (length found == 0))
+
+shown_all-append : (model : Model) (xs ys : List (List ℤ)) → shown_all model (xs ++ ys) ≡ shown_all model xs ++ shown_all model ys
+shown_all-append model xs ys = flat_map-append (shown model) xs ys
+
+-- the rest of the answer behind what was printed early
+answer-text : (model : Model) (alone closed : Bool) (found : List (List ℤ)) (first old mid new : Option (List ℕ)) (printed : Bool) (last : Option (List ℤ)) → IsOutInStep model alone found first old printed last → Appends old mid (shown_all model (option_to_list last)) → Appends mid new (ending_text closed (printed || is_some last))
+    → Appends first new (shown_all model (early alone found ++ late alone found) ++ ending_text closed (not (length found == 0)))
+answer-text model alone closed found first old mid new printed last in_step rest ending =
+    let L : List (List ℤ) → Type 0 = λ l. Appends old mid (shown_all model l) in
+    let E : Bool → Type 0 = λ b. Appends mid new (ending_text closed b) in
+    let some : (printed || is_some last) ≡ not (length found == 0) =
+    ap (λ (b : Bool). b || is_some last) in_step.has_shown ∙ ap (λ (b : Bool). not (length (early alone found) == 0) || b) (some-waits last (late alone found) in_step.waits) ∙ some-shown alone found in
+    rw (shown_all-append model (early alone found) (late alone found))
+    (Appends-then first mid new (shown_all model (early alone found) ++ shown_all model (late alone found)) (ending_text closed (not (length found == 0)))
+    (Appends-then first old mid (shown_all model (early alone found)) (shown_all model (late alone found)) in_step.text (subst L in_step.waits rest)) (subst E some ending))
+
+-- ---- a call that went well found its writer open
+
+open-before : (stage : Stage) (result : Result Unit FaultKind) (v : Unit) → (¬ (stage ≡ Open) → result ≡ Err Failed) → result ≡ Ok v → stage ≡ Open
+open-before Fresh result v failed is = let bad : Ok v ≡ Err Failed = sym is ∙ failed (λ h. cc) in cc
+open-before Open result v failed is = refl
+open-before Shut result v failed is = let bad : Ok v ≡ Err Failed = sym is ∙ failed (λ h. cc) in cc
+
+open-print : {K : Type 0} (opened : Bool) (result : Result Unit PrintFault) (v : Unit) → (opened ≡ false → (result ≡ Err NoMore) × K) → result ≡ Ok v → opened ≡ true
+open-print true result v failed is = refl
+open-print false result v failed is = let bad : Ok v ≡ Err NoMore = sym is ∙ (failed refl).0 in cc
+
+module _ {W C : Type 0} (outs : W → Option (List ℕ)) (certs : C → Option (List ℕ)) (model : Model) (closed : Bool) where
+  pub closed-by : (old mid new : Writers W C) (finished : Result Unit FaultKind) (ended : Result Unit PrintFault) (v w : Unit) {K : Type 0} → IsKept outs certs model old
+      → (¬ (stage_of old.cert ≡ Open) → finished ≡ Err Failed) → finished ≡ Ok v → (is_open mid.out ≡ false → (ended ≡ Err NoMore) × K) → ended ≡ Ok w
+      → Appends (cert_contents certs old.cert) (cert_contents certs new.cert) (end_line closed)
+      → IsLastShown outs model old.last.now old.out mid.out → Appends (out_contents outs mid.out) (out_contents outs new.out) (ending_text closed (has_printed mid.out))
+      → IsClosed outs certs model closed old new
+  closed-by old mid new finished ended v w kept shut finished_is over ended_is end last ending =
+      let opened = open-before (stage_of old.cert) finished v shut finished_is in
+      let still = open-print (is_open mid.out) ended w over ended_is in
+      let E : Bool → Type 0 = λ b. Appends (out_contents outs mid.out) (out_contents outs new.out) (ending_text closed b) in record {
+        cert_first = kept.cert_first;
+        out_first = kept.out_first;
+        begun = kept.begun;
+        have_lines = (kept.cert_in_step opened).have_lines;
+        cert = Appends-then (certs kept.cert_first) (cert_contents certs old.cert) (cert_contents certs new.cert) (begun_certificate model (taken old)) (end_line closed) (kept.cert_in_step opened).lines end;
+        out = answer-text model old.alone closed (found_by model (taken old)) (outs kept.out_first) (out_contents outs old.out) (out_contents outs mid.out) (out_contents outs new.out) (has_printed old.out) old.last.now
+            (kept.out_in_step opened (last.was_open still)) last.text (subst E last.has_shown ending);
+      }

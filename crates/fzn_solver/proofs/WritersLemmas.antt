@@ -1,0 +1,273 @@
+-- What the writers of a run keep from one call to the next.
+use Rattle.std.specs.Prelude.{⊤}
+use Rattle.std.proofs.Common.{◌≡◌, ◌≢◌, ℕ, ◌+◌, ◌<◌, ◌^◌, Bool, true, false, ℤ, List, [], ◌∷◌, ◌++◌, length, map, Option, Some, None, IfSome, Result, Ok, Err, OnOk, OnErr, refl, sym, ap, ap₂, ◌∙◌, subst, arith, inl, inr}
+use Rattle.std.specs.Borrow.{MutBor}
+use Rattle.std.specs.Io.KnownBytes.{Appends, Keeps}
+use Rattle.std.proofs.lemmas.Bool.{cases_Bool}
+use Rattle.std.proofs.lemmas.List.{append-nil, length-append}
+use Rattle.fzn_output.specs.Output.{AppendsFront}
+use Rattle.fzn_output.proofs.CallerLemmas.{front-none}
+use Rattle.fzn_meaning.specs.declared.model.Model.{Model}
+use Rattle.fzn_meaning.specs.Solutions.{IsAssignment}
+use Rattle.fzn_engine.specs.declared.fault.Fault.{Fault}
+use Rattle.fzn_cert.specs.declared.step.Step.{Step}
+use Rattle.fzn_cert.specs.declared.step.Step.TheVariants.{Solution}
+use Rattle.fzn_cert.specs.declared.step.Version.TheVariants.{One}
+use Rattle.fzn_cert.specs.declared.writer.Stage.{Stage}
+use Rattle.fzn_cert.specs.declared.writer.Stage.TheVariants.{Fresh, Open, Shut}
+use Rattle.fzn_cert.specs.declared.writer.StepWriter.{StepWriter}
+use Rattle.fzn_cert.specs.Past.{start}
+use Rattle.fzn_cert.specs.Accepted.{AllAccepted}
+use Rattle.fzn_cert.specs.Spelling.{step_line, header_text, header_lines, IsSpelled, HasRoom}
+use Rattle.fzn_cert.specs.Verdict.{header_of}
+use Rattle.fzn_cert.specs.Writer.{contents_of as cert_contents, out_name as cert_name, stage_of, step_count, version_of}
+use Rattle.fzn_printer.specs.declared.printer.Printer.{Printer}
+use Rattle.fzn_printer.specs.Printer.{contents_of as out_contents, out_name, is_open, has_printed}
+use Rattle.fzn_printer.specs.Shown.{shown}
+use Rattle.fzn_solver.specs.Standing.{found_by, early, late, begun_certificate, shown_all, IsStanding, IsCertInStep, IsOutInStep}
+use Rattle.http_server.specs.declared.log.Log.{Log}
+use Rattle.fzn_solver.specs.declared.writers.Writers.{Writers}
+use Rattle.fzn_solver.specs.Writers.{taken, origin, IsLogged, IsKeptBy, IsKept, IsFresh, IsLineTaken, IsLineRefused, IsRestSame, IsAllSame, IsPrinted}
+use Rattle.fzn_solver.proofs.StandingLemmas.{cert-push, cert-kept, found-solution, found-infer, last-accepted, out-held, out-printed, out-kept, standing-in_step, standing-refused, front-kept, front-found, front-printed, Appends-kept}
+
+shut_open : Shut ≡ Open → ⊥
+shut_open h = cc
+
+false_true : false ≡ true → ⊥
+false_true h = cc
+
+-- where the writer stays open the call went well
+pub on_ok : {C : Type 0} (old new : StepWriter C) (result : Result Unit Fault) → OnOk result ((stage_of old ≡ Open) × (stage_of new ≡ Open) × (step_count new ≡ step_count old)) → OnErr result (stage_of new ≡ Shut) → stage_of new ≡ Open → step_count new ≡ step_count old
+on_ok old new (Ok v) ok err stays = ok.2
+on_ok old new (Err e) ok err stays = absurd (shut_open (sym err ∙ stays))
+
+Keeps-same : (o : Option (List ℕ)) → Keeps o o
+Keeps-same None = tt
+Keeps-same (Some xs) = refl
+
+module _ {W C : Type 0} (outs : W → Option (List ℕ)) (certs : C → Option (List ℕ)) (model : Model) where
+  -- the first two lines
+  pub kept-begun : (old new : StepWriter C) (out : Printer W) (alone : Bool) (first : List (W × C)) (cert_first : C) (out_first : W) → first ≡ (out_first, cert_first) ∷ [] → cert_contents certs old ≡ certs cert_first → out_contents outs out ≡ outs out_first
+      → has_printed out ≡ false → version_of new ≡ One → step_count new ≡ 0
+      → Appends (cert_contents certs old) (cert_contents certs new) (header_text One (length model.vars) (length model.constraints)) → IsKeptBy outs certs model new out alone None [] first
+  kept-begun old new out alone first cert_first out_first begun cert_is out_is none_shown version none header =
+      let H : Option (List ℕ) → Type 0 = λ o. Appends o (cert_contents certs new) (header_text One (length model.vars) (length model.constraints)) in
+      let F : Option (List ℕ) → Type 0 = λ o. AppendsFront o (out_contents outs out) (shown_all model (early alone [])) in
+      let O : Option (List ℕ) → Type 0 = λ o. IsOutInStep model alone [] o (out_contents outs out) (has_printed out) None in
+      let in_step : IsCertInStep model [] (certs cert_first) (cert_contents certs new) (step_count new) =
+      record { lines = rw (append-nil (header_lines (header_of model One))) (subst H cert_is header); have_lines = tt; counted = none } in
+      record {
+        cert_first = cert_first;
+        out_first = out_first;
+        begun = begun;
+        version = version;
+        assignment = tt;
+        standing = standing-in_step model alone [] (certs cert_first) (cert_contents certs new) (outs out_first) (out_contents outs out) (step_count new) in_step
+            (subst F out_is (front-none (out_contents outs out) (out_contents outs out) (shown_all model (early alone [])) (Keeps-same (out_contents outs out))));
+        cert_in_step = λ _. in_step;
+        out_in_step = λ _ _. subst O out_is (nothing alone);
+      }
+    where
+      no_text : (o : Option (List ℕ)) → Appends o o []
+      no_text None = tt
+      no_text (Some xs) = sym (append-nil xs)
+
+      nothing : (b : Bool) → IsOutInStep model b [] (out_contents outs out) (out_contents outs out) (has_printed out) None
+      nothing true = record { text = no_text (out_contents outs out); has_shown = none_shown; waits = refl }
+      nothing false = record { text = no_text (out_contents outs out); has_shown = none_shown; waits = refl }
+
+  -- a line that was not taken
+  pub kept-refused : (old new : StepWriter C) (out : Printer W) (alone : Bool) (last : Option (List ℤ)) (steps : List Step) (first : List (W × C)) (text : List ℕ) → IsKeptBy outs certs model old out alone last steps first → version_of new ≡ version_of old → stage_of new ≡ Shut
+      → AppendsFront (cert_contents certs old) (cert_contents certs new) text → IsKeptBy outs certs model new out alone last steps first
+  kept-refused old new out alone last steps first text kept version shut front = record {
+    cert_first = kept.cert_first;
+    out_first = kept.out_first;
+    begun = kept.begun;
+    version = version ∙ kept.version;
+    assignment = kept.assignment;
+    standing = standing-refused model alone steps (certs kept.cert_first) (cert_contents certs old) (cert_contents certs new) (outs kept.out_first) (out_contents outs out) text kept.standing front;
+    cert_in_step = λ is_so. absurd (shut_open (sym shut ∙ is_so));
+    out_in_step = λ is_so _. absurd (shut_open (sym shut ∙ is_so));
+  }
+
+  -- the line of a step that is no solution
+  pub kept-line : (old new : StepWriter C) (out : Printer W) (alone : Bool) (last : Option (List ℤ)) (steps : List Step) (first : List (W × C)) (step : Step) → IsKeptBy outs certs model old out alone last steps first → ((values : List ℤ) → step ≢ Solution values) → IsSpelled One step
+      → version_of new ≡ version_of old → stage_of old ≡ Open → step_count new ≡ step_count old + 1 → HasRoom (step_count old) step → Appends (cert_contents certs old) (cert_contents certs new) (step_line step)
+      → IsKeptBy outs certs model new out alone last (steps ++ step ∷ []) first
+  kept-line old new out alone last steps first step kept other spelled version was_open counted room line =
+      let N : ℕ → Type 0 = λ n. IsCertInStep model (steps ++ step ∷ []) (certs kept.cert_first) (cert_contents certs new) n in
+      let in_step = subst N (sym counted) (cert-push model steps step (certs kept.cert_first) (cert_contents certs old) (cert_contents certs new) (step_count old) (kept.cert_in_step was_open) spelled room line) in
+      let found : found_by model (steps ++ step ∷ []) ≡ found_by model steps = found-infer model steps step other in
+      let T : List (List ℤ) → Type 0 = λ f. AppendsFront (outs kept.out_first) (out_contents outs out) (shown_all model (early alone f)) in
+      let O : List (List ℤ) → Type 0 = λ f. IsOutInStep model alone f (outs kept.out_first) (out_contents outs out) (has_printed out) last in
+      record {
+        cert_first = kept.cert_first;
+        out_first = kept.out_first;
+        begun = kept.begun;
+        version = version ∙ kept.version;
+        assignment = kept.assignment;
+        standing = standing-in_step model alone (steps ++ step ∷ []) (certs kept.cert_first) (cert_contents certs new) (outs kept.out_first) (out_contents outs out) (step_count new) in_step (subst T (sym found) kept.standing.shown);
+        cert_in_step = λ _. in_step;
+        out_in_step = λ _ opened. subst O (sym found) (kept.out_in_step was_open opened);
+      }
+
+  -- The line of a solution, flushed. The output follows behind it: `front` and `goes` say what is known of it then.
+  pub kept-solution : (old new : StepWriter C) (out after : Printer W) (alone : Bool) (last waiting : Option (List ℤ)) (steps : List Step) (first : List (W × C)) (values : List ℤ) → IsKeptBy outs certs model old out alone last steps first → IsSpelled One (Solution values)
+      → version_of new ≡ version_of old → stage_of old ≡ Open → (stage_of new ≡ Open → step_count new ≡ step_count old + 1) → HasRoom (step_count old) (Solution values) → Appends (cert_contents certs old) (cert_contents certs new) (step_line (Solution values))
+      → IfSome waiting (IsAssignment model)
+      → ((o : Option (List ℕ)) → AppendsFront o (out_contents outs out) (shown_all model (early alone (found_by model steps))) → (is_open out ≡ true → Appends o (out_contents outs out) (shown_all model (early alone (found_by model steps)))) → AppendsFront o (out_contents outs after) (shown_all model (early alone (found_by model steps ++ values ∷ []))))
+      → ((o : Option (List ℕ)) → stage_of new ≡ Open → is_open after ≡ true → (is_open out ≡ true → IsOutInStep model alone (found_by model steps) o (out_contents outs out) (has_printed out) last) → IsOutInStep model alone (found_by model steps ++ values ∷ []) o (out_contents outs after) (has_printed after) waiting)
+      → IsKeptBy outs certs model new after alone waiting (steps ++ Solution values ∷ []) first
+  kept-solution old new out after alone last waiting steps first values kept spelled version was_open counted room line assignment front goes =
+      let N : ℕ → Type 0 = λ n. IsCertInStep model (steps ++ Solution values ∷ []) (certs kept.cert_first) (cert_contents certs new) n in
+      let in_step = cert-push model steps (Solution values) (certs kept.cert_first) (cert_contents certs old) (cert_contents certs new) (step_count old) (kept.cert_in_step was_open) spelled room line in
+      let found : found_by model (steps ++ Solution values ∷ []) ≡ found_by model steps ++ values ∷ [] = found-solution model steps values in
+      let T : List (List ℤ) → Type 0 = λ f. AppendsFront (outs kept.out_first) (out_contents outs after) (shown_all model (early alone f)) in
+      let O : List (List ℤ) → Type 0 = λ f. IsOutInStep model alone f (outs kept.out_first) (out_contents outs after) (has_printed after) waiting in
+      record {
+        cert_first = kept.cert_first;
+        out_first = kept.out_first;
+        begun = kept.begun;
+        version = version ∙ kept.version;
+        assignment = assignment;
+        standing = standing-in_step model alone (steps ++ Solution values ∷ []) (certs kept.cert_first) (cert_contents certs new) (outs kept.out_first) (out_contents outs after) (step_count old + 1) in_step
+            (subst T (sym found) (front (outs kept.out_first) kept.standing.shown (λ opened. (kept.out_in_step was_open opened).text)));
+        cert_in_step = λ stays. subst N (sym (counted stays)) in_step;
+        out_in_step = λ stays opened. subst O (sym found) (goes (outs kept.out_first) stays opened (kept.out_in_step was_open));
+      }
+
+  moved : (cert : StepWriter C) (out out' : Printer W) (alone alone' : Bool) (last last' : Option (List ℤ)) (steps steps' : List Step) (first first' : List (W × C)) → out' ≡ out → alone' ≡ alone → last' ≡ last → steps' ≡ steps → first' ≡ first
+      → IsKeptBy outs certs model cert out alone last steps first → IsKeptBy outs certs model cert out' alone' last' steps' first'
+  moved cert out out' alone alone' last last' steps steps' first first' e f g h i kept =
+      let O : Printer W → Type 0 = λ x. IsKeptBy outs certs model cert x alone last steps first in
+      let A : Bool → Type 0 = λ x. IsKeptBy outs certs model cert out' x last steps first in
+      let L : Option (List ℤ) → Type 0 = λ x. IsKeptBy outs certs model cert out' alone' x steps first in
+      let S : List Step → Type 0 = λ x. IsKeptBy outs certs model cert out' alone' last' x first in
+      let F : List (W × C) → Type 0 = λ x. IsKeptBy outs certs model cert out' alone' last' steps' x in
+      subst F (sym i) (subst S (sym h) (subst L (sym g) (subst A (sym f) (subst O (sym e) kept))))
+
+  abbrev taken_by : Log Step Unit → List Step
+  taken_by log = map (λ pair. pair.0) log.items
+
+  pub refused-kept : (step : Step) (old new : Writers W C) → IsKept outs certs model old → IsLineRefused certs step old new → IsKept outs certs model new
+  refused-kept step old new kept refused =
+      moved new.cert old.out new.out old.alone new.alone old.last.now new.last.now (taken old) (taken new) old.first.items new.first.items
+      refused.same_rest.out refused.same_rest.alone (ap (λ (l : MutBor (Option (List ℤ))). l.now) refused.same_rest.last) (ap taken_by refused.taken) (ap (λ (l : Log W C). l.items) refused.same_rest.first)
+      (kept-refused old.cert new.cert old.out old.alone old.last.now (taken old) old.first.items (step_line step) kept refused.same_version refused.shut refused.front)
+
+  pub line-kept : (step : Step) (old new : Writers W C) → ((values : List ℤ) → step ≢ Solution values) → IsSpelled One step → IsKept outs certs model old → IsLineTaken certs step old new → IsKept outs certs model new
+  line-kept step old new other spelled kept line =
+      moved new.cert old.out new.out old.alone new.alone old.last.now new.last.now (taken old ++ step ∷ []) (taken new) old.first.items new.first.items
+      line.same_rest.out line.same_rest.alone (ap (λ (l : MutBor (Option (List ℤ))). l.now) line.same_rest.last) line.taken (ap (λ (l : Log W C). l.items) line.same_rest.first)
+      (kept-line old.cert new.cert old.out old.alone old.last.now (taken old) old.first.items step kept other spelled line.same_version line.was_open line.counted line.room line.line)
+
+  -- the steps that were taken are few
+  pub line-few : (step : Step) (old new : Writers W C) → IsKept outs certs model old → IsLineTaken certs step old new → length (taken new) < 10 ^ 18
+  line-few step old new kept line =
+      let count = (kept.cert_in_step line.was_open).counted in
+      let more = ap length line.taken in
+      omega (arith, line.room.1, length-append (taken old) (step ∷ []))
+
+  pub assignment-of : (steps : List Step) (values : List ℤ) → AllAccepted model (steps ++ Solution values ∷ []) → IsAssignment model values
+  assignment-of steps values accepted = (last-accepted model start steps (Solution values) accepted).0.0
+
+  -- a solution that waits for the end, its line flushed
+  pub held-kept : (values : List ℤ) (old mid new : Writers W C) → old.alone ≡ true → IsAssignment model values → IsSpelled One (Solution values) → IsKept outs certs model old → IsLineTaken certs (Solution values) old mid
+      → Keeps (cert_contents certs mid.cert) (cert_contents certs new.cert) → (stage_of new.cert ≡ Open → step_count new.cert ≡ step_count mid.cert) → version_of new.cert ≡ version_of mid.cert
+      → new.out ≡ mid.out → new.alone ≡ mid.alone → new.last.now ≡ Some values → new.first ≡ mid.first → new.taken ≡ mid.taken → IsKept outs certs model new
+  held-kept values old mid new alone assignment spelled kept line nothing counted version out_is alone_is last_is first_is taken_is =
+      let A : Bool → Type 0 = λ b. IsKeptBy outs certs model old.cert old.out b old.last.now (taken old) old.first.items in
+      moved new.cert old.out new.out true new.alone (Some values) new.last.now (taken old ++ Solution values ∷ []) (taken new) old.first.items new.first.items
+      (out_is ∙ line.same_rest.out) (alone_is ∙ line.same_rest.alone ∙ alone) last_is (ap taken_by taken_is ∙ line.taken) (ap (λ (l : Log W C). l.items) (first_is ∙ line.same_rest.first))
+      (kept-solution old.cert new.cert old.out old.out true old.last.now (Some values) (taken old) old.first.items values (subst A alone kept) spelled (version ∙ line.same_version) line.was_open
+      (λ stays. counted stays ∙ line.counted) line.room (Appends-kept (cert_contents certs old.cert) (cert_contents certs mid.cert) (cert_contents certs new.cert) (step_line (Solution values)) line.line nothing) assignment
+      (λ o front _. front) (λ o _ opened step. out-held model (found_by model (taken old)) values o (out_contents outs old.out) (has_printed old.out) old.last.now (step opened)))
+
+  -- a solution that is printed, its line flushed
+  pub printed-kept : (values : List ℤ) (old mid new : Writers W C) → old.alone ≡ false → IsSpelled One (Solution values) → IsKept outs certs model old → IsLineTaken certs (Solution values) old mid
+      → Keeps (cert_contents certs mid.cert) (cert_contents certs new.cert) → (stage_of new.cert ≡ Open → step_count new.cert ≡ step_count mid.cert) → version_of new.cert ≡ version_of mid.cert
+      → IsPrinted outs model values (stage_of new.cert ≡ Open) mid.out new.out → new.alone ≡ mid.alone → new.last ≡ mid.last → new.first ≡ mid.first → new.taken ≡ mid.taken → IsKept outs certs model new
+  printed-kept values old mid new alone spelled kept line nothing counted version printed alone_is last_is first_is taken_is =
+      let A : Bool → Type 0 = λ b. IsKeptBy outs certs model old.cert old.out b old.last.now (taken old) old.first.items in
+      let P : Printer W → Type 0 = λ p. IsPrinted outs model values (stage_of new.cert ≡ Open) p new.out in
+      let behind : IsPrinted outs model values (stage_of new.cert ≡ Open) old.out new.out = subst P line.same_rest.out printed in
+      moved new.cert new.out new.out false new.alone old.last.now new.last.now (taken old ++ Solution values ∷ []) (taken new) old.first.items new.first.items
+      refl (alone_is ∙ line.same_rest.alone ∙ alone) (ap (λ (l : MutBor (Option (List ℤ))). l.now) last_is ∙ (ap (λ (l : MutBor (Option (List ℤ))). l.now) line.same_rest.last)) (ap taken_by taken_is ∙ line.taken) (ap (λ (l : Log W C). l.items) (first_is ∙ line.same_rest.first))
+      (kept-solution old.cert new.cert old.out new.out false old.last.now old.last.now (taken old) old.first.items values (subst A alone kept) spelled (version ∙ line.same_version) line.was_open
+      (λ is_so. counted is_so ∙ line.counted) line.room (Appends-kept (cert_contents certs old.cert) (cert_contents certs mid.cert) (cert_contents certs new.cert) (step_line (Solution values)) line.line nothing) kept.assignment
+      (λ o front whole. elim (cases_Bool (is_open old.out)) [
+        | inl opened ↦ front-printed model (found_by model (taken old)) values o (out_contents outs old.out) (out_contents outs new.out) (whole opened) behind.front
+        | inr closed ↦ front-found model false (found_by model (taken old)) values o (out_contents outs new.out) (front-kept o (out_contents outs old.out) (out_contents outs new.out) (shown_all model (found_by model (taken old))) front (behind.nothing closed))
+      ])
+      (λ o is_so opened step.
+        let known = behind.whole is_so opened in
+        let B : Bool → Type 0 = λ b. IsOutInStep model false (found_by model (taken old) ++ values ∷ []) o (out_contents outs new.out) b old.last.now in
+        subst B (sym known.2) (out-printed model (found_by model (taken old)) values o (out_contents outs old.out) (out_contents outs new.out) (has_printed old.out) old.last.now (step known.0) known.1)))
+
+  -- nothing was printed yet, and nothing more is
+  pub IsPrinted-none : (values : List ℤ) (goes : Type 0) (old new : Printer W) → new ≡ old → (goes → ⊥) → IsPrinted outs model values goes old new
+  IsPrinted-none values goes old new same stops =
+      let P : Printer W → Type 0 = λ p. IsPrinted outs model values goes old p in
+      subst P (sym same) (record {
+        same = refl;
+        front = front-none (out_contents outs old) (out_contents outs old) (shown model values) (Keeps-same (out_contents outs old));
+        nothing = λ _. Keeps-same (out_contents outs old);
+        whole = λ goes_on _. absurd (stops goes_on);
+      })
+
+  -- the first two lines stand
+  pub begun-kept : (cert : StepWriter C) (old : Writers W C) → IsFresh outs certs old → version_of cert ≡ One → step_count cert ≡ 0
+      → Appends (cert_contents certs old.cert) (cert_contents certs cert) (header_text One (length model.vars) (length model.constraints)) → IsKept outs certs model (record old { cert = cert })
+  begun-kept cert old fresh version none header =
+      moved cert old.out old.out old.alone old.alone None old.last.now [] (taken old) old.first.items old.first.items
+      refl refl fresh.none_waits (ap (λ (items : List (Step × Unit)). map (λ pair. pair.0) items) fresh.none_taken) refl
+      (kept-begun old.cert cert old.out old.alone old.first.items fresh.cert_first fresh.out_first fresh.begun fresh.same_cert fresh.same_out fresh.none_shown version none header)
+
+  -- a solution that waits for the end, whether or not its line was flushed
+  pub flushed-held : (step : Step) (values : List ℤ) (old mid waiting new : Writers W C) → step ≡ Solution values → old.alone ≡ true → AllAccepted model (taken old ++ step ∷ []) → IsSpelled One step → IsKept outs certs model old → IsLineTaken certs step old mid
+      → (waiting ≡ record mid { last = waiting.last }) × (waiting.last.now ≡ Some values) → Keeps (cert_contents certs waiting.cert) (cert_contents certs new.cert) → (stage_of new.cert ≡ Open → step_count new.cert ≡ step_count waiting.cert)
+      → (cert_name new.cert ≡ cert_name waiting.cert) × (version_of new.cert ≡ version_of waiting.cert) → IsRestSame waiting new × (new.taken ≡ waiting.taken) → IsKept outs certs model new
+  flushed-held step values old mid waiting new is alone accepted spelled kept line waits nothing counted same rest =
+      let A : Step → Type 0 = λ s. AllAccepted model (taken old ++ s ∷ []) in
+      let S : Step → Type 0 = λ s. IsSpelled One s in
+      let L : Step → Type 0 = λ s. IsLineTaken certs s old mid in
+      let cert : waiting.cert ≡ mid.cert = ap (λ (w : Writers W C). w.cert) waits.0 in
+      let K : StepWriter C → Type 0 = λ w. Keeps (cert_contents certs w) (cert_contents certs new.cert) in
+      held-kept values old mid new alone (assignment-of (taken old) values (subst A is accepted)) (subst S is spelled) kept (subst L is line)
+      (subst K cert nothing) (λ stays. counted stays ∙ ap step_count cert) (same.1 ∙ ap version_of cert)
+      (rest.0.out ∙ ap (λ (w : Writers W C). w.out) waits.0) (rest.0.alone ∙ ap (λ (w : Writers W C). w.alone) waits.0) (ap (λ (l : MutBor (Option (List ℤ))). l.now) rest.0.last ∙ waits.1)
+      (rest.0.first ∙ ap (λ (w : Writers W C). w.first) waits.0) (rest.1 ∙ ap (λ (w : Writers W C). w.taken) waits.0)
+
+  -- a solution whose line could not be flushed
+  pub unflushed-kept : (step : Step) (values : List ℤ) (old mid new : Writers W C) → step ≡ Solution values → old.alone ≡ false → IsSpelled One step → IsKept outs certs model old → IsLineTaken certs step old mid
+      → Keeps (cert_contents certs mid.cert) (cert_contents certs new.cert) → stage_of new.cert ≡ Shut
+      → (cert_name new.cert ≡ cert_name mid.cert) × (version_of new.cert ≡ version_of mid.cert) → IsRestSame mid new × (new.taken ≡ mid.taken) → IsKept outs certs model new
+  unflushed-kept step values old mid new is alone spelled kept line nothing shut same rest =
+      let S : Step → Type 0 = λ s. IsSpelled One s in
+      let L : Step → Type 0 = λ s. IsLineTaken certs s old mid in
+      printed-kept values old mid new alone (subst S is spelled) kept (subst L is line) nothing (λ stays. absurd (shut_open (sym shut ∙ stays))) same.1
+      (IsPrinted-none values (stage_of new.cert ≡ Open) mid.out new.out rest.0.out (λ stays. shut_open (sym shut ∙ stays))) rest.0.alone rest.0.last rest.0.first rest.1
+
+  -- a solution that was printed, or a beginning of it
+  pub shown-kept : (step : Step) (values : List ℤ) (old mid flushed new : Writers W C) → step ≡ Solution values → old.alone ≡ false → IsSpelled One step → IsKept outs certs model old → IsLineTaken certs step old mid
+      → Keeps (cert_contents certs mid.cert) (cert_contents certs flushed.cert) → step_count flushed.cert ≡ step_count mid.cert
+      → (cert_name flushed.cert ≡ cert_name mid.cert) × (version_of flushed.cert ≡ version_of mid.cert) → IsRestSame mid flushed × (flushed.taken ≡ mid.taken)
+      → (new.cert ≡ flushed.cert) × IsAllSame flushed new → IsPrinted outs model values ⊤ flushed.out new.out → IsKept outs certs model new
+  shown-kept step values old mid flushed new is alone spelled kept line nothing counted same rest still printed =
+      let S : Step → Type 0 = λ s. IsSpelled One s in
+      let L : Step → Type 0 = λ s. IsLineTaken certs s old mid in
+      let K : StepWriter C → Type 0 = λ w. Keeps (cert_contents certs mid.cert) (cert_contents certs w) in
+      let P : Printer W → Type 0 = λ p. IsPrinted outs model values (stage_of new.cert ≡ Open) p new.out in
+      let behind : IsPrinted outs model values (stage_of new.cert ≡ Open) flushed.out new.out = record { same = printed.same; front = printed.front; nothing = printed.nothing; whole = λ _ opened. printed.whole tt opened } in
+      printed-kept values old mid new alone (subst S is spelled) kept (subst L is line) (subst K (sym still.0) nothing) (λ _. ap step_count still.0 ∙ counted) (ap version_of still.0 ∙ same.1)
+      (subst P rest.0.out behind) (still.1.alone ∙ rest.0.alone) (still.1.last ∙ rest.0.last) (still.1.first ∙ rest.0.first) (still.1.taken ∙ rest.1)
+
+  same_origin : (old new : Writers W C) → IsRestSame old new → cert_name new.cert ≡ cert_name old.cert → origin new ≡ origin old
+  same_origin old new rest name = rw (rest.first, rest.alone, rest.out, name) refl
+
+  -- the line of a step that is no solution, taken or not
+  pub line-step : (step : Step) (old new : Writers W C) (result : Result Unit Fault) → ((values : List ℤ) → step ≢ Solution values) → IsSpelled One step → IsKept outs certs model old
+      → OnOk result (IsLineTaken certs step old new) → OnErr result (IsLineRefused certs step old new)
+      → IsLogged step old new × OnOk result (taken new ≡ taken old ++ step ∷ []) × OnOk result (length (taken new) < 10 ^ 18) × IsKept outs certs model new × (origin new ≡ origin old)
+  line-step step old new (Ok v) other spelled kept line refused = (inr line.taken, line.taken, line-few step old new kept line, line-kept step old new other spelled kept line, same_origin old new line.same_rest line.same_cert)
+  line-step step old new (Err e) other spelled kept line refused = (inl (ap taken_by refused.taken), tt, tt, refused-kept step old new kept refused, same_origin old new refused.same_rest refused.same_cert)

@@ -1,0 +1,50 @@
+-- What the search of a model leaves: a true answer on the output, and its certificate.
+use Rattle.std.specs.Prelude.{◌≡◌, ◌≢◌, ℕ, ◌+◌, ◌-◌, ◌*◌, ◌<◌, ◌≤◌, Bool, true, false, ℤ, List, [], length, Option, Some, None}
+use Rattle.std.specs.Io.KnownBytes.{Appends}
+use Rattle.fzn_meaning.specs.declared.model.Model.{Model}
+use Rattle.fzn_meaning.specs.Solutions.{declared_sets, IsProper, IsExhausted}
+use Rattle.fzn_cert.specs.declared.step.Step.{Step}
+use Rattle.fzn_cert.specs.Verdict.{Verdict, accepted}
+use Rattle.fzn_printer.specs.declared.printer.Ending.{Ending}
+use Rattle.fzn_printer.specs.declared.printer.Ending.TheVariants.{Complete, Unsatisfiable, NodeLimit, SolutionLimit}
+use Rattle.fzn_printer.specs.Answer.{answer_text}
+use Rattle.fzn_printer.specs.Shown.{is_closed}
+use Rattle.fzn_engine.specs.Learned.{resolved, FreshAfter}
+use Rattle.fzn_engine.specs.Outcome.{HasRoom, IsReached}
+use Rattle.fzn_engine.specs.Volume.{volume, spread}
+use Rattle.fzn_solver.specs.declared.report.Report.{Report}
+use Rattle.fzn_solver.specs.Standing.{found_by, certificate}
+
+-- how many solutions are wanted at most, in satisfaction
+abbrev pub wanted : Bool → Option ℕ
+wanted true = None
+wanted false = Some 1
+
+-- Complete after a solution and unsatisfiable without, and neither limit reached; open where a decision was wanted at the node limit, or
+-- where there are as many solutions as are wanted.
+abbrev pub EndsTruly : Model → Bool → ℕ → List (List ℤ) → ℕ → Ending → Type 0
+EndsTruly model all limit found nodes Complete = (found ≢ []) × HasRoom model.goal (wanted all) (length found)
+EndsTruly model all limit found nodes Unsatisfiable = found ≡ []
+EndsTruly model all limit found nodes NodeLimit = (nodes ≡ limit) × HasRoom model.goal (wanted all) (length found)
+EndsTruly model all limit found nodes SolutionLimit = IsReached model.goal (wanted all) (length found)
+
+-- These steps are the certificate: its verdict is accepted, and what is printed is the answer of the verdict.
+pub record IsCertified (model : Model) (steps : List Step) (all closed : Bool) (out_old out_new cert_old cert_new : Option (List ℕ)) : Type 0 where
+  pub written : Appends cert_old cert_new (certificate model steps closed)
+  pub verdict : Verdict model (certificate model steps closed) (accepted (found_by model steps) closed)
+  pub printed : Appends out_old out_new (answer_text model (found_by model steps) closed all)
+
+-- the decisions are bounded, by the choices and by the conflicts, and each learned clause excludes something that those before it leave
+pub record IsBounded (model : Model) (steps : List Step) (limit : ℕ) (report : Report) : Type 0 where
+  pub by_choices : volume (declared_sets model.vars) - 1 ≤ limit → report.ending ≢ NodeLimit
+  pub by_conflicts : report.nodes ≤ (length (resolved steps) + 1) * spread (declared_sets model.vars)
+  pub fresh : 0 < volume (declared_sets model.vars) → FreshAfter (declared_sets model.vars) [] (resolved steps)
+
+pub record IsAnswer (model : Model) (all : Bool) (limit : ℕ) (out_old out_new cert_old cert_new : Option (List ℕ)) (report : Report) : Type 0 where
+  pub steps : List Step
+  pub certified : IsCertified model steps all (is_closed report.ending) out_old out_new cert_old cert_new
+  pub proper : IsProper model (found_by model steps)
+  pub exhausted : is_closed report.ending ≡ true → IsExhausted model (found_by model steps)
+  pub solutions : report.solutions ≡ length (found_by model steps)
+  pub ends : EndsTruly model all limit (found_by model steps) report.nodes report.ending
+  pub bounded : IsBounded model steps limit report

@@ -1,0 +1,24 @@
+-- The faults of the parts as those of a run.
+use Rattle.fzn_engine.specs.declared.fault.Fault.{Fault}
+use Rattle.fzn_engine.specs.declared.fault.Fault.TheVariants as engine
+use Rattle.fzn_propagators.specs.declared.lacking.Lacking.{Lacking}
+use Rattle.fzn_propagators.specs.declared.lacking.Lacking.TheVariants as lacking
+use Rattle.fzn_reading.specs.declared.fault.ModelFault.{ModelFault}
+use Rattle.fzn_reading.specs.declared.fault.ModelFault.TheVariants as reading
+use Rattle.fzn_solver.specs.declared.fault.RunFault.{RunFault}
+use Rattle.fzn_solver.specs.declared.fault.RunFault.TheVariants.{File, NoPropagator, Memory, Read, WriteOutput, WriteCert, StepTooLong}
+
+abbrev pub fault_of_model : ModelFault → RunFault
+fault_of_model (reading.File fault) = File fault
+fault_of_model reading.Memory = Memory
+fault_of_model reading.Read = Read
+
+abbrev pub fault_of_lacking : Lacking → RunFault
+fault_of_lacking (lacking.Propagator number) = NoPropagator number
+fault_of_lacking lacking.Memory = Memory
+
+abbrev pub fault_of_engine : Fault → RunFault
+fault_of_engine engine.Memory = Memory
+fault_of_engine engine.WriteOutput = WriteOutput
+fault_of_engine engine.WriteCert = WriteCert
+fault_of_engine engine.StepTooLong = StepTooLong

@@ -1,0 +1,120 @@
+-- What a contract sees of the writers of a run.
+use Rattle.std.specs.Prelude.{◌≡◌, ◌⊎◌, ◌||◌, ◌==◌, not, ℕ, ◌+◌, Bool, true, false, ℤ, List, [], ◌∷◌, ◌++◌, Option, None, IfSome, is_some, length, map}
+use Rattle.std.specs.Option.{option_to_list}
+use Rattle.std.specs.Borrow.{GName}
+use Rattle.std.specs.Io.KnownBytes.{Appends, Keeps}
+use Rattle.fzn_output.specs.Output.{AppendsFront}
+use Rattle.fzn_meaning.specs.declared.model.Model.{Model}
+use Rattle.fzn_meaning.specs.Solutions.{IsAssignment}
+use Rattle.fzn_cert.specs.declared.step.Step.{Step}
+use Rattle.fzn_cert.specs.declared.step.Version.TheVariants.{One}
+use Rattle.fzn_cert.specs.declared.writer.Stage.TheVariants.{Fresh, Open, Shut}
+use Rattle.fzn_cert.specs.declared.writer.StepWriter.{StepWriter}
+use Rattle.fzn_cert.specs.Verdict.{AllHaveLines}
+use Rattle.fzn_cert.specs.Spelling.{step_line, HasRoom}
+use Rattle.fzn_cert.specs.Writer.{contents_of as cert_contents, out_name as cert_name, stage_of, step_count, version_of}
+use Rattle.fzn_printer.specs.declared.printer.Printer.{Printer}
+use Rattle.fzn_printer.specs.Printer.{contents_of as out_contents, out_name, is_open, has_printed}
+use Rattle.fzn_printer.specs.Shown.{shown, ending_text}
+use Rattle.fzn_solver.specs.declared.writers.Writers.{Writers}
+use Rattle.fzn_solver.specs.Standing.{certificate, shown_all, early, late, found_by, IsStanding, IsCertInStep, IsOutInStep}
+
+-- the steps that were taken
+abbrev pub taken : {W C : Type 0} → Writers W C → List Step
+taken writers = map (λ pair. pair.0) writers.taken.items
+
+-- what stood on both at first, whether the last solution alone is printed, and the names by which a caller knows the writers
+abbrev pub origin : {W C : Type 0} → Writers W C → List (W × C) × Bool × GName × GName
+origin writers = (writers.first.items, writers.alone, cert_name writers.cert, out_name writers.out)
+
+-- nothing was written
+pub record IsFresh {W C : Type 0} (outs : W → Option (List ℕ)) (certs : C → Option (List ℕ)) (now : Writers W C) : Type 0 where
+  pub cert_first : C
+  pub out_first : W
+  pub begun : now.first.items ≡ (out_first, cert_first) ∷ []
+  pub same_cert : cert_contents certs now.cert ≡ certs cert_first
+  pub same_out : out_contents outs now.out ≡ outs out_first
+  pub stage : stage_of now.cert ≡ Fresh
+  pub begins_open : is_open now.out ≡ true
+  pub none_shown : has_printed now.out ≡ false
+  pub none_taken : now.taken.items ≡ []
+  pub none_waits : now.last.now ≡ None
+
+-- What stands, after a fault too; and while the writers can go on, just what these steps ask for.
+pub record IsKeptBy {W C : Type 0} (outs : W → Option (List ℕ)) (certs : C → Option (List ℕ)) (model : Model) (cert : StepWriter C) (out : Printer W) (alone : Bool) (last : Option (List ℤ)) (steps : List Step) (first : List (W × C)) : Type 0 where
+  -- the writers as they were at first
+  pub cert_first : C
+  pub out_first : W
+  pub begun : first ≡ (out_first, cert_first) ∷ []
+  pub version : version_of cert ≡ One
+  pub standing : IsStanding model alone steps (certs cert_first) (cert_contents certs cert) (outs out_first) (out_contents outs out)
+  pub assignment : IfSome last (IsAssignment model)
+  pub cert_in_step : stage_of cert ≡ Open → IsCertInStep model steps (certs cert_first) (cert_contents certs cert) (step_count cert)
+  pub out_in_step : stage_of cert ≡ Open → is_open out ≡ true → IsOutInStep model alone (found_by model steps) (outs out_first) (out_contents outs out) (has_printed out) last
+
+abbrev pub IsKept : {W C : Type 0} → (W → Option (List ℕ)) → (C → Option (List ℕ)) → Model → Writers W C → Type 0
+IsKept outs certs model now = IsKeptBy outs certs model now.cert now.out now.alone now.last.now (taken now) now.first.items
+
+-- all but the certificate and the steps
+pub record IsRestSame {W C : Type 0} (old new : Writers W C) : Type 0 where
+  pub out : new.out ≡ old.out
+  pub alone : new.alone ≡ old.alone
+  pub last : new.last ≡ old.last
+  pub first : new.first ≡ old.first
+
+-- the line of one more step stands
+pub record IsLineTaken {W C : Type 0} (certs : C → Option (List ℕ)) (step : Step) (old new : Writers W C) : Type 0 where
+  pub taken : taken new ≡ taken old ++ step ∷ []
+  pub line : Appends (cert_contents certs old.cert) (cert_contents certs new.cert) (step_line step)
+  pub room : HasRoom (step_count old.cert) step
+  pub counted : step_count new.cert ≡ step_count old.cert + 1
+  pub was_open : stage_of old.cert ≡ Open
+  pub stays_open : stage_of new.cert ≡ Open
+  pub same_version : version_of new.cert ≡ version_of old.cert
+  pub same_cert : cert_name new.cert ≡ cert_name old.cert
+  pub same_rest : IsRestSame old new
+
+-- the line was not taken: a beginning of it stands after a failed write, and nothing more is
+pub record IsLineRefused {W C : Type 0} (certs : C → Option (List ℕ)) (step : Step) (old new : Writers W C) : Type 0 where
+  pub taken : new.taken ≡ old.taken
+  pub front : AppendsFront (cert_contents certs old.cert) (cert_contents certs new.cert) (step_line step)
+  pub shut : stage_of new.cert ≡ Shut
+  pub same_version : version_of new.cert ≡ version_of old.cert
+  pub same_cert : cert_name new.cert ≡ cert_name old.cert
+  pub same_rest : IsRestSame old new
+
+-- the step was taken, or was not
+abbrev pub IsLogged : {W C : Type 0} → Step → Writers W C → Writers W C → Type 0
+IsLogged step old new = (taken new ≡ taken old) ⊎ (taken new ≡ taken old ++ step ∷ [])
+
+-- A solution was printed: its text stands where the output can go on and something else does, else a beginning of it.
+pub record IsPrinted {W : Type 0} (outs : W → Option (List ℕ)) (model : Model) (values : List ℤ) (goes : Type 0) (old new : Printer W) : Type 0 where
+  pub same : out_name new ≡ out_name old
+  pub front : AppendsFront (out_contents outs old) (out_contents outs new) (shown model values)
+  pub nothing : is_open old ≡ false → Keeps (out_contents outs old) (out_contents outs new)
+  pub whole : goes → is_open new ≡ true → (is_open old ≡ true) × Appends (out_contents outs old) (out_contents outs new) (shown model values) × (has_printed new ≡ true)
+
+-- all but the writers
+pub record IsAllSame {W C : Type 0} (old new : Writers W C) : Type 0 where
+  pub alone : new.alone ≡ old.alone
+  pub last : new.last ≡ old.last
+  pub taken : new.taken ≡ old.taken
+  pub first : new.first ≡ old.first
+
+-- the solution that waited, if any, was printed
+pub record IsLastShown {W : Type 0} (outs : W → Option (List ℕ)) (model : Model) (last : Option (List ℤ)) (old new : Printer W) : Type 0 where
+  pub same : out_name new ≡ out_name old
+  pub text : Appends (out_contents outs old) (out_contents outs new) (shown_all model (option_to_list last))
+  pub was_open : is_open new ≡ true → is_open old ≡ true
+  pub has_shown : has_printed new ≡ (has_printed old || is_some last)
+
+-- the end of the certificate stands, and the whole answer
+pub record IsClosed {W C : Type 0} (outs : W → Option (List ℕ)) (certs : C → Option (List ℕ)) (model : Model) (closed : Bool) (old new : Writers W C) : Type 0 where
+  pub cert_first : C
+  pub out_first : W
+  pub begun : old.first.items ≡ (out_first, cert_first) ∷ []
+  pub have_lines : AllHaveLines One 0 (taken old)
+  pub cert : Appends (certs cert_first) (cert_contents certs new.cert) (certificate model (taken old) closed)
+  pub out :
+      Appends (outs out_first) (out_contents outs new.out)
+      (shown_all model (early old.alone (found_by model (taken old)) ++ late old.alone (found_by model (taken old))) ++ ending_text closed (not (length (found_by model (taken old)) == 0)))

@@ -1,0 +1,109 @@
+// From the bytes of a file to its answer and its certificate.
+ghost use Rattle.std.specs.Prelude.{◌≡◌, IfOk, IfErr};
+ghost use Rattle.fzn_meaning.specs.WellFormed.{IsWellFormed};
+ghost use Rattle.fzn_cert.specs.Writer.{contents_of as cert_contents, out_name as cert_name};
+ghost use Rattle.fzn_printer.specs.Printer.{contents_of as out_contents, out_name};
+ghost use Rattle.fzn_propagators.specs.Propagators.{AreFor};
+ghost use Rattle.fzn_solver.specs.Answer.{wanted, IsAnswer};
+ghost use Rattle.fzn_solver.specs.Standing.{is_alone};
+ghost use Rattle.fzn_solver.specs.Writers.{IsFresh};
+ghost use Rattle.fzn_solver.specs.Run.{IsRun, IsRunFault, IsLater};
+
+use crate::fault::RunFault;
+use crate::report::{Report, ending_for};
+use crate::writers::{Writers, is_alone};
+use fzn_cert::StepWriter;
+use fzn_engine::{Limits, solve};
+use fzn_meaning::Model;
+use fzn_printer::Printer;
+use fzn_propagators::Propagators;
+use fzn_reading::read_model;
+use fzn_words::Options;
+use http_server::Log;
+use std::alloc::Global;
+use std::io::{Read, Write};
+
+/// Solves a file: prints its answer on `out`, and writes a certificate of the answer on `cert`. The paths among the options are not
+/// looked at. The line of a solution stands on the certificate, flushed, before the solution is printed, and the whole certificate
+/// before the line that ends the answer.
+pub fn run<R: Read + Drop, W: Write, C: Write>(
+    alloc: Global,
+    input: R,
+    options: &Options,
+    out: &mut W,
+    cert: &mut C,
+) -> Result<Report, RunFault>
+    ensures ran { IfOk result (IsRun (R.remaining input) options.now.all options.now.nodes (W.contents out.old) (W.contents out.new) (C.contents cert.old) (C.contents cert.new)) }
+    ensures fault { IfErr result (IsRunFault (R.remaining input) (W.contents out.old) (W.contents out.new) (C.contents cert.old) (C.contents cert.new)) }
+{
+    let mut input = input;
+    let model = read_model(alloc, &mut input)?;
+    let propagators = Propagators::new(alloc, &model)?;
+    answer(alloc, &model, &propagators, options, out, cert)
+}
+
+/// Searches a model for its answer.
+fn answer<W: Write, C: Write>(
+    alloc: Global,
+    model: &Model,
+    propagators: &Propagators,
+    options: &Options,
+    out: &mut W,
+    cert: &mut C,
+) -> Result<Report, RunFault>
+    requires model { IsWellFormed model.now }
+    requires propagators { AreFor propagators.now model.now }
+    ensures answer { IfOk result (IsAnswer model.now options.now.all options.now.nodes (W.contents out.old) (W.contents out.new) (C.contents cert.old) (C.contents cert.new)) }
+    ensures later { IfErr result IsLater }
+{
+    let mut last = None;
+    let first = Log::new().and(&*out, &*cert);
+    let mut writers = Writers {
+        cert: StepWriter::over(cert),
+        out: Printer::new(out),
+        alone: is_alone(model.goal, options.all),
+        last: &mut last,
+        taken: Log::new(),
+        first,
+    };
+    search(alloc, model, propagators, options, &mut writers)
+}
+
+/// Searches a model for its answer, on fresh writers.
+fn search<W: Write, C: Write>(
+    alloc: Global,
+    model: &Model,
+    propagators: &Propagators,
+    options: &Options,
+    writers: &mut Writers<'_, '_, '_, W, C>,
+) -> Result<Report, RunFault>
+    requires model { IsWellFormed model.now }
+    requires propagators { AreFor propagators.now model.now }
+    requires fresh { IsFresh W.contents C.contents writers.old }
+    requires alone { writers.old.alone ≡ is_alone model.now.goal options.now.all }
+    ensures answer { IfOk result (IsAnswer model.now options.now.all options.now.nodes (out_contents W.contents writers.old.out) (out_contents W.contents writers.new.out) (cert_contents C.contents writers.old.cert) (cert_contents C.contents writers.new.cert)) }
+    ensures same_out { out_name writers.new.out ≡ out_name writers.old.out }
+    ensures same_cert { cert_name writers.new.cert ≡ cert_name writers.old.cert }
+    ensures later { IfErr result IsLater }
+{
+    writers.begin(alloc, model)?;
+    let limits = Limits {
+        nodes: options.nodes,
+        solutions: wanted(options.all),
+    };
+    let outcome = solve(alloc, model, limits, propagators, writers)?;
+    let ending = ending_for(outcome.ending, outcome.solutions);
+    writers.close(model, ending)?;
+    Ok(Report {
+        solutions: outcome.solutions,
+        nodes: outcome.nodes,
+        ending,
+    })
+}
+
+/// How many solutions are wanted at most, in satisfaction.
+fn wanted(all: bool) -> Option<u64>
+    ensures { result ≡ wanted all }
+{
+    if all { None } else { Some(1) }
+}

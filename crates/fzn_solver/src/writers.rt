@@ -1,0 +1,226 @@
+// The certificate and the output of a run.
+ghost use Rattle.std.specs.Prelude.{⊤, ◌≡◌, ◌++◌, ◌∷◌, [], ◌<◌, ◌^◌, true, false, length, OnOk, OnErr, IfOk, IfSome, None, Bool, List};
+ghost use Rattle.fzn_meaning.specs.Solutions.{IsAssignment};
+ghost use Rattle.fzn_meaning.specs.WellFormed.{IsWellFormed};
+ghost use Rattle.fzn_cert.specs.Accepted.{AllAccepted};
+ghost use Rattle.fzn_cert.specs.Spelling.{IsSpelled};
+ghost use Rattle.fzn_cert.specs.Writer.{contents_of as cert_contents, out_name as cert_name, version_of, stage_of, step_count};
+ghost use Rattle.fzn_cert.specs.declared.step.Step.TheVariants.{Solution};
+ghost use Rattle.fzn_cert.specs.declared.writer.Stage.TheVariants.{Open, Shut};
+ghost use Rattle.std.specs.Io.KnownBytes.{Keeps};
+ghost use Rattle.std.specs.Borrow.{GName};
+ghost use Rattle.fzn_cert.specs.declared.step.Version.TheVariants.{One};
+ghost use Rattle.fzn_printer.specs.Printer.{contents_of as out_contents, out_name, is_open};
+ghost use Rattle.fzn_printer.specs.Shown.{is_closed};
+ghost use Rattle.fzn_solver.specs.Standing.{is_alone};
+ghost use Rattle.fzn_solver.specs.Writers.{taken, origin, IsFresh, IsKept, IsLineTaken, IsLineRefused, IsLogged, IsRestSame, IsAllSame, IsPrinted, IsLastShown, IsClosed};
+
+use fzn_cert::{FaultKind, Step, StepWriter, Version};
+use fzn_domain::Memory;
+use fzn_engine::{Fault, Sink};
+use fzn_list::Items;
+use fzn_meaning::{Goal, Model};
+use fzn_printer::{Ending, Printer};
+use http_server::Log;
+use std::alloc::Global;
+use std::io::Write;
+
+/// Writes each step on the certificate, and its solution on the output once its line was written and flushed. Where the last solution
+/// alone is printed, it waits for the end.
+#[derive(Drop)]
+pub struct Writers<'o, 'c, 'l, W: Write, C: Write> {
+    pub cert: StepWriter<'c, C>,
+    pub out: Printer<'o, W>,
+    pub alone: bool,
+    pub last: &'l mut Option<Items<i64>>,
+    pub taken: Log<Step, ()>,
+    pub first: Log<W, C>,
+}
+
+impl<'o, 'c, 'l, W: Write, C: Write> Writers<'o, 'c, 'l, W, C> {
+    /// Writes the first two lines of the certificate.
+    pub fn begin(&mut self, alloc: Global, model: &Model) -> Result<(), Fault>
+        requires model { IsWellFormed model.now }
+        requires fresh { IsFresh W.contents C.contents self.old }
+        ensures kept { OnOk result (IsKept W.contents C.contents model.now self.new) }
+        ensures none_taken { OnOk result (taken self.new ≡ []) }
+        ensures same { origin self.new ≡ origin self.old }
+        ensures same_writers { (cert_name self.new.cert ≡ cert_name self.old.cert) × (out_name self.new.out ≡ out_name self.old.out) }
+    {
+        let variables = model.vars.len() as u64;
+        let constraints = model.constraints.len() as u64;
+        match self.cert.begin(alloc, Version::One, variables, constraints) {
+            Ok(()) => Ok(()),
+            Err(fault) => Err(fault_of(fault)),
+        }
+    }
+
+    /// Writes the line of a step.
+    fn line(&mut self, alloc: Global, step: &Step) -> Result<(), Fault>
+        requires spelled { IsSpelled One step.now }
+        requires version { version_of self.old.cert ≡ One }
+        ensures ok { OnOk result (IsLineTaken C.contents step.now self.old self.new) }
+        ensures err { OnErr result (IsLineRefused C.contents step.now self.old self.new) }
+    {
+        match self.cert.write(alloc, step) {
+            Ok(()) => {
+                self.taken = self.taken.and(step, &());
+                Ok(())
+            }
+            Err(fault) => Err(fault_of(fault)),
+        }
+    }
+}
+
+impl<'o, 'c, 'l, W: Write, C: Write> Writers<'o, 'c, 'l, W, C> {
+    /// Writes the line of a solution, which waits for the end.
+    fn hold_back(&mut self, alloc: Global, model: &Model, step: &Step, values: &Items<i64>) -> Result<(), Fault>
+        requires spelled { IsSpelled One step.now }
+        requires accepted { AllAccepted model.now (taken self.old ++ step.now ∷ []) }
+        requires kept { IsKept W.contents C.contents model.now self.old }
+        requires is { (step.now ≡ Solution values.now) × (self.old.alone ≡ true) }
+        ensures logged { IsLogged step.now self.old self.new }
+        ensures ok { OnOk result (taken self.new ≡ taken self.old ++ step.now ∷ []) }
+        ensures few { OnOk result (length (taken self.new) < 10 ^ 18) }
+        ensures kept { IsKept W.contents C.contents model.now self.new }
+        ensures same { origin self.new ≡ origin self.old }
+    {
+        let values = copied(alloc, values.as_slice())?;
+        self.line(alloc, step)?;
+        *self.last = Some(values);
+        self.flush_certificate()
+    }
+
+    /// Writes the line of a solution, and prints the solution once the line is flushed.
+    fn print(&mut self, alloc: Global, model: &Model, step: &Step, values: &Items<i64>) -> Result<(), Fault>
+        requires model { IsWellFormed model.now }
+        requires spelled { IsSpelled One step.now }
+        requires accepted { AllAccepted model.now (taken self.old ++ step.now ∷ []) }
+        requires kept { IsKept W.contents C.contents model.now self.old }
+        requires is { (step.now ≡ Solution values.now) × (self.old.alone ≡ false) }
+        ensures logged { IsLogged step.now self.old self.new }
+        ensures ok { OnOk result (taken self.new ≡ taken self.old ++ step.now ∷ []) }
+        ensures few { OnOk result (length (taken self.new) < 10 ^ 18) }
+        ensures kept { IsKept W.contents C.contents model.now self.new }
+        ensures same { origin self.new ≡ origin self.old }
+    {
+        self.line(alloc, step)?;
+        self.flush_certificate()?;
+        self.show(model, values)
+    }
+
+    /// Prints a solution, and flushes the output.
+    fn show(&mut self, model: &Model, values: &Items<i64>) -> Result<(), Fault>
+        requires model { IsWellFormed model.now }
+        requires assignment { IsAssignment model.now values.now }
+        ensures printed { IsPrinted W.contents model.now values.now ⊤ self.old.out self.new.out }
+        ensures ok { OnOk result (is_open self.new.out ≡ true) }
+        ensures same { (self.new.cert ≡ self.old.cert) × IsAllSame self.old self.new }
+    {
+        if self.out.solution(model, values.as_slice()).is_err() {
+            return Err(Fault::WriteOutput);
+        }
+        if self.out.flush().is_err() {
+            return Err(Fault::WriteOutput);
+        }
+        Ok(())
+    }
+
+    /// Writes the end of the certificate, and then prints what is left of the answer.
+    pub fn close(&mut self, model: &Model, ending: Ending) -> Result<(), Fault>
+        requires model { IsWellFormed model.now }
+        requires kept { IsKept W.contents C.contents model.now self.old }
+        ensures closed { OnOk result (IsClosed W.contents C.contents model.now (is_closed ending) self.old self.new) }
+        ensures same_writers { (cert_name self.new.cert ≡ cert_name self.old.cert) × (out_name self.new.out ≡ out_name self.old.out) }
+    {
+        match self.cert.finish(ending.is_closed()) {
+            Ok(()) => {}
+            Err(fault) => return Err(fault_of(fault)),
+        }
+        self.show_last(model)?;
+        match self.out.close(ending) {
+            Ok(()) => Ok(()),
+            Err(_) => Err(Fault::WriteOutput),
+        }
+    }
+
+    /// Prints the solution that waits.
+    fn show_last(&mut self, model: &Model) -> Result<(), Fault>
+        requires model { IsWellFormed model.now }
+        requires assignment { IfSome self.old.last.now (IsAssignment model.now) }
+        ensures shown { OnOk result (IsLastShown W.contents model.now self.old.last.now self.old.out self.new.out) }
+        ensures same_writer { out_name self.new.out ≡ out_name self.old.out }
+        ensures same { (self.new.cert ≡ self.old.cert) × IsAllSame self.old self.new }
+    {
+        if let Some(values) = &*self.last {
+            if self.out.solution(model, values.as_slice()).is_err() {
+                return Err(Fault::WriteOutput);
+            }
+        }
+        Ok(())
+    }
+
+    fn flush_certificate(&mut self) -> Result<(), Fault>
+        ensures kept { Keeps (cert_contents C.contents self.old.cert) (cert_contents C.contents self.new.cert) }
+        ensures ok { OnOk result ((stage_of self.old.cert ≡ Open) × (stage_of self.new.cert ≡ Open) × (step_count self.new.cert ≡ step_count self.old.cert)) }
+        ensures err { OnErr result (stage_of self.new.cert ≡ Shut) }
+        ensures same_cert { (cert_name self.new.cert ≡ cert_name self.old.cert) × (version_of self.new.cert ≡ version_of self.old.cert) }
+        ensures same_rest { IsRestSame self.old self.new × (self.new.taken ≡ self.old.taken) }
+    {
+        match self.cert.flush() {
+            Ok(()) => Ok(()),
+            Err(fault) => Err(fault_of(fault)),
+        }
+    }
+}
+
+impl<'o, 'c, 'l, W: Write, C: Write> Sink for Writers<'o, 'c, 'l, W, C> {
+    ghost written = { λ writers. taken writers };
+
+    ghost Origin = { List (W × C) × Bool × GName × GName };
+
+    ghost origin = { λ writers. origin writers };
+
+    ghost keeps = { λ model writers. IsKept W.contents C.contents model writers };
+
+    fn step(&mut self, alloc: Global, model: &Model, step: &Step) -> Result<(), Fault> {
+        match step {
+            Step::Solution(values) => {
+                if self.alone {
+                    self.hold_back(alloc, model, step, values)
+                } else {
+                    self.print(alloc, model, step, values)
+                }
+            }
+            _ => self.line(alloc, step),
+        }
+    }
+}
+
+fn copied(alloc: Global, values: &[i64]) -> Result<Items<i64>, Memory>
+    ensures { IfOk result (λ copy. copy ≡ values.now) }
+{
+    let mut copy = Items::new(alloc);
+    for value in values {
+        copy.push(*value)?;
+    }
+    Ok(copy)
+}
+
+fn fault_of(fault: FaultKind) -> Fault {
+    match fault {
+        FaultKind::Memory => Fault::Memory,
+        FaultKind::StepTooLong => Fault::StepTooLong,
+        _ => Fault::WriteCert,
+    }
+}
+
+/// Whether the last solution alone is printed.
+pub fn is_alone(goal: Goal, all: bool) -> bool
+    ensures { result ≡ is_alone goal all }
+{
+    match goal {
+        Goal::Satisfy => false,
+        Goal::Minimize(_) | Goal::Maximize(_) => !all,
+    }
+}
