@@ -37,7 +37,7 @@ use Rattle.fzn_solver.specs.Writers.{taken, origin, IsFresh, IsClosed}
 
 -- ---- the verdict on the certificate
 
-certificate-verdict : (model : Model) (steps : List Step) (closed : Bool) → IsWellFormed model → AllAccepted model steps → AllHaveLines One 0 steps → (closed ≡ true → (past_of model steps).refuted ≡ true)
+pub certificate-verdict : (model : Model) (steps : List Step) (closed : Bool) → IsWellFormed model → AllAccepted model steps → AllHaveLines One 0 steps → (closed ≡ true → (past_of model steps).refuted ≡ true)
     → Verdict model (certificate model steps closed) (accepted (found_by model steps) closed)
 certificate-verdict model steps closed formed all_accepted have_lines refuted =
     let few_vars = formed.few_vars in
@@ -47,7 +47,7 @@ certificate-verdict model steps closed formed all_accepted have_lines refuted =
 
 -- ---- the text of the answer
 
-answer-is : (model : Model) (all closed : Bool) (found : List (List ℤ)) →
+pub answer-is : (model : Model) (all closed : Bool) (found : List (List ℤ)) →
     shown_all model (early (is_alone model.goal all) found ++ late (is_alone model.goal all) found) ++ ending_text closed (not (length found == 0)) ≡ answer_text model found closed all
 answer-is model all closed found = by model.goal all refl
   where
@@ -87,12 +87,12 @@ ends-truly model all limits steps nodes n engine.SolutionLimit most count truly 
     let R : Option ℕ → Type 0 = λ m. IsReached model.goal m (length (found_by model steps)) in
     subst R most truly
 
-closed-refuted : (model : Model) (limits : Limits) (steps : List Step) (nodes n : ℕ) (ending : EngineEnding) → EndsTrulyThere model limits steps nodes ending → is_closed (ending_for ending n) ≡ true → (past_of model steps).refuted ≡ true
+pub closed-refuted : (model : Model) (limits : Limits) (steps : List Step) (nodes n : ℕ) (ending : EngineEnding) → EndsTrulyThere model limits steps nodes ending → is_closed (ending_for ending n) ≡ true → (past_of model steps).refuted ≡ true
 closed-refuted model limits steps nodes n engine.Closed truly closed = truly.0
 closed-refuted model limits steps nodes n engine.NodeLimit truly closed = cc
 closed-refuted model limits steps nodes n engine.SolutionLimit truly closed = cc
 
-closed-exhausted : (model : Model) (steps : List Step) (n : ℕ) (ending : EngineEnding) → IsExhaustedIf model steps ending → is_closed (ending_for ending n) ≡ true → IsExhausted model (found_by model steps)
+pub closed-exhausted : (model : Model) (steps : List Step) (n : ℕ) (ending : EngineEnding) → IsExhaustedIf model steps ending → is_closed (ending_for ending n) ≡ true → IsExhausted model (found_by model steps)
 closed-exhausted model steps n engine.Closed exhausted closed = exhausted
 closed-exhausted model steps n engine.NodeLimit exhausted closed = cc
 closed-exhausted model steps n engine.SolutionLimit exhausted closed = cc
@@ -105,7 +105,7 @@ node-limit-is engine.SolutionLimit n e = cc
 
 -- ---- all of it
 
-first-pair : {A B : Type 0} (p q : A × B) → p ∷ [] ≡ q ∷ [] → (p.0 ≡ q.0) × (p.1 ≡ q.1)
+pub first-pair : {A B : Type 0} (p q : A × B) → p ∷ [] ≡ q ∷ [] → (p.0 ≡ q.0) × (p.1 ≡ q.1)
 first-pair {A = A} {B = B} p q e =
     (ap (λ (l : List (A × B)). (slice_index_or l 0 p).0) e, ap (λ (l : List (A × B)). (slice_index_or l 0 p).1) e)
 

@@ -2,27 +2,31 @@
 use Rattle.std.proofs.Common.{◌≡◌, ℕ, zero, suc, ◌-◌, ◌==◌, ◌||◌, not, Bool, true, false, ℤ, List, [], ◌∷◌, ◌++◌, length, drop, Option, Some, None, Result, Ok, Err, is_some, refl, sym, ap, ◌∙◌, subst, arith, append_assoc, append-nil, inl, inr}
 use Rattle.std.specs.List.{flat_map}
 use Rattle.std.specs.Option.{option_to_list}
-use Rattle.std.specs.Io.KnownBytes.{Appends}
+use Rattle.std.specs.Io.KnownBytes.{Appends, Keeps}
+use Rattle.std.proofs.lemmas.Bool.{cases_Bool}
 use Rattle.std.proofs.lemmas.Bool.Decides.{nat_tests}
 use Rattle.std.proofs.lemmas.List.{length-drop}
 use Rattle.std.proofs.lemmas.List.Concat.{flat_map-append}
-use Rattle.fzn_output.proofs.CallerLemmas.{Appends-then}
+use Rattle.fzn_output.specs.Output.{AppendsFront}
+use Rattle.fzn_output.proofs.CallerLemmas.{Appends-then, front-then, front-left, front-none}
 use Rattle.fzn_meaning.specs.declared.model.Model.{Model}
 use Rattle.fzn_cert.specs.declared.writer.Stage.TheVariants.{Fresh, Open, Shut}
 use Rattle.fzn_cert.specs.declared.writer.Stage.{Stage}
 use Rattle.fzn_cert.specs.declared.fault.FaultKind.{FaultKind}
 use Rattle.fzn_cert.specs.declared.fault.FaultKind.TheVariants.{Failed}
+use Rattle.fzn_cert.specs.declared.fault.FaultKind.TheVariants as faults
 use Rattle.fzn_printer.specs.declared.printer.PrintFault.{PrintFault}
 use Rattle.fzn_printer.specs.declared.printer.PrintFault.TheVariants.{Failed as NoMore}
 use Rattle.fzn_cert.specs.declared.writer.StepWriter.{StepWriter}
 use Rattle.fzn_cert.specs.Spelling.{end_line}
-use Rattle.fzn_cert.specs.Writer.{contents_of as cert_contents, out_name as cert_name, stage_of}
+use Rattle.fzn_cert.specs.Writer.{contents_of as cert_contents, stage_of, Leaves}
 use Rattle.fzn_printer.specs.declared.printer.Printer.{Printer}
 use Rattle.fzn_printer.specs.Printer.{contents_of as out_contents, out_name, is_open, has_printed}
 use Rattle.fzn_printer.specs.Shown.{shown, ending_text}
 use Rattle.fzn_solver.specs.declared.writers.Writers.{Writers}
 use Rattle.fzn_solver.specs.Standing.{found_by, early, late, begun_certificate, shown_all, IsOutInStep}
-use Rattle.fzn_solver.specs.Writers.{taken, IsKept, IsLastShown, IsAllSame, IsClosed}
+use Rattle.fzn_solver.proofs.StandingLemmas.{front-kept}
+use Rattle.fzn_solver.specs.Writers.{taken, IsKept, IsLastShown, IsAllSame, IsClosed, IsCutOff}
 
 -- a solution was printed early or waits exactly where there is one
 some-waits : (last : Option (List ℤ)) (xs : List (List ℤ)) → option_to_list last ≡ xs → is_some last ≡ not (length xs == 0)
@@ -66,6 +70,24 @@ answer-text model alone closed found first old mid new printed last in_step rest
     (Appends-then first mid new (shown_all model (early alone found) ++ shown_all model (late alone found)) (ending_text closed (not (length found == 0)))
     (Appends-then first old mid (shown_all model (early alone found)) (shown_all model (late alone found)) in_step.text (subst L in_step.waits rest)) (subst E some ending))
 
+-- a beginning of the rest of the answer behind what was printed early, and nothing more where the output was shut
+pub answer-front : (model : Model) (alone closed : Bool) (found : List (List ℤ)) (first old new : Option (List ℕ)) (opened printed : Bool) (last : Option (List ℤ)) → (opened ≡ true → IsOutInStep model alone found first old printed last) → AppendsFront first old (shown_all model (early alone found))
+    → (opened ≡ false → Keeps old new) → AppendsFront old new (shown_all model (option_to_list last) ++ ending_text closed (printed || is_some last))
+    → AppendsFront first new (shown_all model (early alone found ++ late alone found) ++ ending_text closed (not (length found == 0)))
+answer-front model alone closed found first old new opened printed last in_step before nothing front = elim (cases_Bool opened) [
+  | inl is_open_before ↦
+      let step = in_step is_open_before in
+      let L : List (List ℤ) → Type 0 = λ l. AppendsFront old new (shown_all model l ++ ending_text closed (printed || is_some last)) in
+      let E : Bool → Type 0 = λ b. AppendsFront old new (shown_all model (late alone found) ++ ending_text closed b) in
+      let some : (printed || is_some last) ≡ not (length found == 0) =
+      ap (λ (b : Bool). b || is_some last) step.has_shown ∙ ap (λ (b : Bool). not (length (early alone found) == 0) || b) (some-waits last (late alone found) step.waits) ∙ some-shown alone found in
+      rw (shown_all-append model (early alone found) (late alone found), append_assoc (shown_all model (early alone found)) (shown_all model (late alone found)) (ending_text closed (not (length found == 0))))
+      (front-then first old new (shown_all model (early alone found)) (shown_all model (late alone found) ++ ending_text closed (not (length found == 0))) step.text (subst E some (subst L step.waits front)))
+  | inr shut ↦
+      rw (shown_all-append model (early alone found) (late alone found), append_assoc (shown_all model (early alone found)) (shown_all model (late alone found)) (ending_text closed (not (length found == 0))))
+      (front-left first new (shown_all model (early alone found)) (shown_all model (late alone found) ++ ending_text closed (not (length found == 0))) (front-kept first old new (shown_all model (early alone found)) before (nothing shut)))
+]
+
 -- ---- a call that went well found its writer open
 
 open-before : (stage : Stage) (result : Result Unit FaultKind) (v : Unit) → (¬ (stage ≡ Open) → result ≡ Err Failed) → result ≡ Ok v → stage ≡ Open
@@ -76,6 +98,25 @@ open-before Shut result v failed is = let bad : Ok v ≡ Err Failed = sym is ∙
 open-print : {K : Type 0} (opened : Bool) (result : Result Unit PrintFault) (v : Unit) → (opened ≡ false → (result ≡ Err NoMore) × K) → result ≡ Ok v → opened ≡ true
 open-print true result v failed is = refl
 open-print false result v failed is = let bad : Ok v ≡ Err NoMore = sym is ∙ (failed refl).0 in cc
+
+kept-on : (a b c : Option (List ℕ)) → Keeps a b → Keeps b c → Keeps a c
+kept-on None b c h k = tt
+kept-on (Some x) None c h k = absurd h
+kept-on (Some x) (Some y) None h k = absurd k
+kept-on (Some x) (Some y) (Some z) h k = k ∙ h
+
+-- what a fault of the certificate leaves is a beginning of the text
+pub leaves-front : (text : List ℕ) (old new : Option (List ℕ)) (fault : FaultKind) → Leaves text old new fault → AppendsFront old new text
+leaves-front text old new faults.Write h = h
+leaves-front text old new faults.Memory h = front-none old new text h
+leaves-front text old new faults.Read h = front-none old new text h
+leaves-front text old new faults.StepTooLong h = front-none old new text h
+leaves-front text old new faults.Header h = front-none old new text h
+leaves-front text old new faults.Spelling h = front-none old new text h
+leaves-front text old new faults.Truncated h = front-none old new text h
+leaves-front text old new faults.Trailing h = front-none old new text h
+leaves-front text old new faults.LineTooLong h = front-none old new text h
+leaves-front text old new faults.Failed h = front-none old new text h
 
 module _ {W C : Type 0} (outs : W → Option (List ℕ)) (certs : C → Option (List ℕ)) (model : Model) (closed : Bool) where
   pub closed-by : (old mid new : Writers W C) (finished : Result Unit FaultKind) (ended : Result Unit PrintFault) (v w : Unit) {K : Type 0} → IsKept outs certs model old
@@ -95,3 +136,22 @@ module _ {W C : Type 0} (outs : W → Option (List ℕ)) (certs : C → Option (
         out = answer-text model old.alone closed (found_by model (taken old)) (outs kept.out_first) (out_contents outs old.out) (out_contents outs mid.out) (out_contents outs new.out) (has_printed old.out) old.last.now
             (kept.out_in_step opened (last.was_open still)) last.text (subst E last.has_shown ending);
       }
+
+  -- the end of the certificate stands, but not that of the answer
+  pub cut-off : (old mid new : Writers W C) (finished : Result Unit FaultKind) (ended : Result Unit PrintFault) (v : Unit) → (¬ (stage_of old.cert ≡ Open) → finished ≡ Err Failed) → finished ≡ Ok v
+      → (is_open mid.out ≡ false → (ended ≡ Err NoMore) × Keeps (out_contents outs mid.out) (out_contents outs new.out))
+      → Appends (cert_contents certs old.cert) (cert_contents certs new.cert) (end_line closed) → IsLastShown outs model old.last.now old.out mid.out → AppendsFront (out_contents outs mid.out) (out_contents outs new.out) (ending_text closed (has_printed mid.out))
+      → IsCutOff outs certs model closed old new
+  cut-off old mid new finished ended v shut finished_is over end last front =
+      let F : Bool → Type 0 = λ b. AppendsFront (out_contents outs mid.out) (out_contents outs new.out) (ending_text closed b) in record {
+        was_open = open-before (stage_of old.cert) finished v shut finished_is;
+        end = end;
+        out = record {
+          front = front-then (out_contents outs old.out) (out_contents outs mid.out) (out_contents outs new.out) (shown_all model (option_to_list old.last.now)) (ending_text closed (has_printed old.out || is_some old.last.now)) last.text (subst F last.has_shown front);
+          nothing = λ closed_before. kept-on (out_contents outs old.out) (out_contents outs mid.out) (out_contents outs new.out) (last.nothing closed_before) (over (still-shut (is_open mid.out) closed_before last.was_open)).1;
+        };
+      }
+    where
+      still-shut : (b : Bool) → is_open old.out ≡ false → (b ≡ true → is_open old.out ≡ true) → b ≡ false
+      still-shut false e f = refl
+      still-shut true e f = let g = sym e ∙ f refl in cc

@@ -2,3 +2,4 @@ mod StandingLemmas
 mod WritersLemmas
 mod ClosedLemmas
 mod AnswerLemmas
+mod LeftLemmas

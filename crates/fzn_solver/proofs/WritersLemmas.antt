@@ -41,7 +41,7 @@ pub on_ok : {C : Type 0} (old new : StepWriter C) (result : Result Unit Fault) �
 on_ok old new (Ok v) ok err stays = ok.2
 on_ok old new (Err e) ok err stays = absurd (shut_open (sym err ∙ stays))
 
-Keeps-same : (o : Option (List ℕ)) → Keeps o o
+pub Keeps-same : (o : Option (List ℕ)) → Keeps o o
 Keeps-same None = tt
 Keeps-same (Some xs) = refl
 

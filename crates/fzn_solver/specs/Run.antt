@@ -1,5 +1,5 @@
 -- What a run leaves, from the bytes of a file.
-use Rattle.std.specs.Prelude.{ℕ, Bool, List, Option, IfSome, Ok, Err}
+use Rattle.std.specs.Prelude.{◌⊎◌, ℕ, Bool, List, Option, IfSome, Ok, Err}
 use Rattle.std.specs.Io.KnownBytes.{Keeps}
 use Rattle.fzn_lexer.specs.declared.fault.ReadError.TheVariants as errors
 use Rattle.fzn_meaning.specs.declared.model.Model.{Model}
@@ -7,9 +7,10 @@ use Rattle.fzn_propagators.specs.declared.lacking.Lacking.TheVariants.{Propagato
 use Rattle.fzn_propagators.specs.Propagators.{Lacks}
 use Rattle.fzn_reading.specs.Reads.{Reads}
 use Rattle.fzn_solver.specs.declared.fault.RunFault.{RunFault}
-use Rattle.fzn_solver.specs.declared.fault.RunFault.TheVariants.{File, NoPropagator, Memory, Read, WriteOutput, WriteCert, StepTooLong}
+use Rattle.fzn_solver.specs.declared.fault.RunFault.TheVariants.{File, NoPropagator, Memory, Read}
 use Rattle.fzn_solver.specs.declared.report.Report.{Report}
 use Rattle.fzn_solver.specs.Answer.{IsAnswer}
+use Rattle.fzn_solver.specs.Left.{IsLeft}
 
 -- a file's bytes, where the reader tells them, state this model
 abbrev pub States : Option (List ℕ) → Model → Type 0
@@ -21,20 +22,14 @@ pub record IsRun (file : Option (List ℕ)) (all : Bool) (limit : ℕ) (out_old 
   pub states : States file model
   pub answer : IsAnswer model all limit out_old out_new cert_old cert_new report
 
--- The file's first fault, and that of a failed read, leave both writers as they were, as does a constraint that no propagator is for.
-abbrev pub IsRunFault : Option (List ℕ) → Option (List ℕ) → Option (List ℕ) → Option (List ℕ) → Option (List ℕ) → RunFault → Type 0
-IsRunFault file out_old out_new cert_old cert_new (File fault) = Keeps out_old out_new × Keeps cert_old cert_new × IfSome file (λ bytes. Reads bytes (Err (errors.Fault fault)))
-IsRunFault file out_old out_new cert_old cert_new (NoPropagator c) = Keeps out_old out_new × Keeps cert_old cert_new × ((model : Model) × States file model × Lacks model (Propagator c))
-IsRunFault file out_old out_new cert_old cert_new Read = Keeps out_old out_new × Keeps cert_old cert_new
-IsRunFault file out_old out_new cert_old cert_new Memory = Unit {0}
-IsRunFault file out_old out_new cert_old cert_new WriteOutput = Unit {0}
-IsRunFault file out_old out_new cert_old cert_new WriteCert = Unit {0}
-IsRunFault file out_old out_new cert_old cert_new StepTooLong = Unit {0}
+-- a fault that came once the model was read
+abbrev pub IsLeftOf : Option (List ℕ) → Bool → Option (List ℕ) → Option (List ℕ) → Option (List ℕ) → Option (List ℕ) → RunFault → Type 0
+IsLeftOf file all out_old out_new cert_old cert_new fault = (model : Model) × States file model × IsLeft model all out_old out_new cert_old cert_new fault
 
--- a fault that comes once the model was read
-abbrev pub IsLater : RunFault → Type 0
-IsLater Memory = Unit {0}
-IsLater WriteOutput = Unit {0}
-IsLater WriteCert = Unit {0}
-IsLater StepTooLong = Unit {0}
-IsLater _ = ⊥
+-- The file's first fault, and that of a failed read, leave both writers as they were, as does a constraint that no propagator is for.
+abbrev pub IsRunFault : Option (List ℕ) → Bool → Option (List ℕ) → Option (List ℕ) → Option (List ℕ) → Option (List ℕ) → RunFault → Type 0
+IsRunFault file all out_old out_new cert_old cert_new (File fault) = Keeps out_old out_new × Keeps cert_old cert_new × IfSome file (λ bytes. Reads bytes (Err (errors.Fault fault)))
+IsRunFault file all out_old out_new cert_old cert_new (NoPropagator c) = Keeps out_old out_new × Keeps cert_old cert_new × ((model : Model) × States file model × Lacks model (Propagator c))
+IsRunFault file all out_old out_new cert_old cert_new Read = Keeps out_old out_new × Keeps cert_old cert_new
+IsRunFault file all out_old out_new cert_old cert_new Memory = (Keeps out_old out_new × Keeps cert_old cert_new) ⊎ IsLeftOf file all out_old out_new cert_old cert_new Memory
+IsRunFault file all out_old out_new cert_old cert_new fault = IsLeftOf file all out_old out_new cert_old cert_new fault

@@ -11,8 +11,10 @@ use Rattle.fzn_cert.specs.declared.step.Version.TheVariants.{One}
 use Rattle.fzn_cert.specs.declared.writer.Stage.TheVariants.{Fresh, Open, Shut}
 use Rattle.fzn_cert.specs.declared.writer.StepWriter.{StepWriter}
 use Rattle.fzn_cert.specs.Verdict.{AllHaveLines}
-use Rattle.fzn_cert.specs.Spelling.{step_line, HasRoom}
+use Rattle.fzn_cert.specs.Spelling.{step_line, header_text, end_line, HasRoom}
 use Rattle.fzn_cert.specs.Writer.{contents_of as cert_contents, out_name as cert_name, stage_of, step_count, version_of}
+use Rattle.fzn_engine.specs.declared.fault.Fault.{Fault}
+use Rattle.fzn_engine.specs.declared.fault.Fault.TheVariants.{WriteOutput}
 use Rattle.fzn_printer.specs.declared.printer.Printer.{Printer}
 use Rattle.fzn_printer.specs.Printer.{contents_of as out_contents, out_name, is_open, has_printed}
 use Rattle.fzn_printer.specs.Shown.{shown, ending_text}
@@ -101,12 +103,23 @@ pub record IsAllSame {W C : Type 0} (old new : Writers W C) : Type 0 where
   pub taken : new.taken ≡ old.taken
   pub first : new.first ≡ old.first
 
+-- the first two lines do not stand, perhaps a beginning of them
+pub record IsUnbegun {W C : Type 0} (certs : C → Option (List ℕ)) (model : Model) (old new : Writers W C) : Type 0 where
+  pub front : AppendsFront (cert_contents certs old.cert) (cert_contents certs new.cert) (header_text One (length model.vars) (length model.constraints))
+  pub out : new.out ≡ old.out
+
+-- a text was not printed: a beginning of it stands, and nothing where the output was shut
+pub record IsUnprinted {W : Type 0} (outs : W → Option (List ℕ)) (text : List ℕ) (old new : Printer W) : Type 0 where
+  pub front : AppendsFront (out_contents outs old) (out_contents outs new) text
+  pub nothing : is_open old ≡ false → Keeps (out_contents outs old) (out_contents outs new)
+
 -- the solution that waited, if any, was printed
 pub record IsLastShown {W : Type 0} (outs : W → Option (List ℕ)) (model : Model) (last : Option (List ℤ)) (old new : Printer W) : Type 0 where
   pub same : out_name new ≡ out_name old
   pub text : Appends (out_contents outs old) (out_contents outs new) (shown_all model (option_to_list last))
   pub was_open : is_open new ≡ true → is_open old ≡ true
   pub has_shown : has_printed new ≡ (has_printed old || is_some last)
+  pub nothing : is_open old ≡ false → Keeps (out_contents outs old) (out_contents outs new)
 
 -- the end of the certificate stands, and the whole answer
 pub record IsClosed {W C : Type 0} (outs : W → Option (List ℕ)) (certs : C → Option (List ℕ)) (model : Model) (closed : Bool) (old new : Writers W C) : Type 0 where
@@ -118,3 +131,18 @@ pub record IsClosed {W C : Type 0} (outs : W → Option (List ℕ)) (certs : C �
   pub out :
       Appends (outs out_first) (out_contents outs new.out)
       (shown_all model (early old.alone (found_by model (taken old)) ++ late old.alone (found_by model (taken old))) ++ ending_text closed (not (length (found_by model (taken old)) == 0)))
+
+-- the end of the certificate does not stand, perhaps a beginning of it, and the output is as it was
+pub record IsUnfinished {W C : Type 0} (certs : C → Option (List ℕ)) (closed : Bool) (old new : Writers W C) : Type 0 where
+  pub front : AppendsFront (cert_contents certs old.cert) (cert_contents certs new.cert) (end_line closed)
+  pub out : new.out ≡ old.out
+
+-- the end of the certificate stands, and a beginning of what was left of the answer
+pub record IsCutOff {W C : Type 0} (outs : W → Option (List ℕ)) (certs : C → Option (List ℕ)) (model : Model) (closed : Bool) (old new : Writers W C) : Type 0 where
+  pub was_open : stage_of old.cert ≡ Open
+  pub end : Appends (cert_contents certs old.cert) (cert_contents certs new.cert) (end_line closed)
+  pub out : IsUnprinted outs (shown_all model (option_to_list old.last.now) ++ ending_text closed (has_printed old.out || is_some old.last.now)) old.out new.out
+
+-- what a fault at the end leaves
+abbrev pub IsUnclosed : {W C : Type 0} → (W → Option (List ℕ)) → (C → Option (List ℕ)) → Model → Bool → Writers W C → Writers W C → Fault → Type 0
+IsUnclosed outs certs model closed old new fault = IsUnfinished certs closed old new ⊎ ((fault ≡ WriteOutput) × IsCutOff outs certs model closed old new)

@@ -5,9 +5,10 @@ ghost use Rattle.fzn_cert.specs.Writer.{contents_of as cert_contents, out_name a
 ghost use Rattle.fzn_printer.specs.Printer.{contents_of as out_contents, out_name};
 ghost use Rattle.fzn_propagators.specs.Propagators.{AreFor};
 ghost use Rattle.fzn_solver.specs.Answer.{wanted, IsAnswer};
+ghost use Rattle.fzn_solver.specs.Left.{IsLeft};
 ghost use Rattle.fzn_solver.specs.Standing.{is_alone};
 ghost use Rattle.fzn_solver.specs.Writers.{IsFresh};
-ghost use Rattle.fzn_solver.specs.Run.{IsRun, IsRunFault, IsLater};
+ghost use Rattle.fzn_solver.specs.Run.{IsRun, IsRunFault};
 
 use crate::fault::RunFault;
 use crate::report::{Report, ending_for};
@@ -34,7 +35,7 @@ pub fn run<R: Read + Drop, W: Write, C: Write>(
     cert: &mut C,
 ) -> Result<Report, RunFault>
     ensures ran { IfOk result (IsRun (R.remaining input) options.now.all options.now.nodes (W.contents out.old) (W.contents out.new) (C.contents cert.old) (C.contents cert.new)) }
-    ensures fault { IfErr result (IsRunFault (R.remaining input) (W.contents out.old) (W.contents out.new) (C.contents cert.old) (C.contents cert.new)) }
+    ensures fault { IfErr result (IsRunFault (R.remaining input) options.now.all (W.contents out.old) (W.contents out.new) (C.contents cert.old) (C.contents cert.new)) }
 {
     let mut input = input;
     let model = read_model(alloc, &mut input)?;
@@ -54,7 +55,7 @@ fn answer<W: Write, C: Write>(
     requires model { IsWellFormed model.now }
     requires propagators { AreFor propagators.now model.now }
     ensures answer { IfOk result (IsAnswer model.now options.now.all options.now.nodes (W.contents out.old) (W.contents out.new) (C.contents cert.old) (C.contents cert.new)) }
-    ensures later { IfErr result IsLater }
+    ensures left { IfErr result (IsLeft model.now options.now.all (W.contents out.old) (W.contents out.new) (C.contents cert.old) (C.contents cert.new)) }
 {
     let mut last = None;
     let first = Log::new().and(&*out, &*cert);
@@ -82,9 +83,9 @@ fn search<W: Write, C: Write>(
     requires fresh { IsFresh W.contents C.contents writers.old }
     requires alone { writers.old.alone ≡ is_alone model.now.goal options.now.all }
     ensures answer { IfOk result (IsAnswer model.now options.now.all options.now.nodes (out_contents W.contents writers.old.out) (out_contents W.contents writers.new.out) (cert_contents C.contents writers.old.cert) (cert_contents C.contents writers.new.cert)) }
+    ensures left { IfErr result (IsLeft model.now options.now.all (out_contents W.contents writers.old.out) (out_contents W.contents writers.new.out) (cert_contents C.contents writers.old.cert) (cert_contents C.contents writers.new.cert)) }
     ensures same_out { out_name writers.new.out ≡ out_name writers.old.out }
     ensures same_cert { cert_name writers.new.cert ≡ cert_name writers.old.cert }
-    ensures later { IfErr result IsLater }
 {
     writers.begin(alloc, model)?;
     let limits = Limits {

@@ -1,5 +1,5 @@
 // The certificate and the output of a run.
-ghost use Rattle.std.specs.Prelude.{⊤, ◌≡◌, ◌++◌, ◌∷◌, [], ◌<◌, ◌^◌, true, false, length, OnOk, OnErr, IfOk, IfSome, None, Bool, List};
+ghost use Rattle.std.specs.Prelude.{⊤, ◌≡◌, ◌++◌, ◌∷◌, [], ◌<◌, ◌^◌, true, false, length, OnOk, OnErr, IfOk, IfSome, IfErr, None, Bool, List};
 ghost use Rattle.fzn_meaning.specs.Solutions.{IsAssignment};
 ghost use Rattle.fzn_meaning.specs.WellFormed.{IsWellFormed};
 ghost use Rattle.fzn_cert.specs.Accepted.{AllAccepted};
@@ -11,9 +11,11 @@ ghost use Rattle.std.specs.Io.KnownBytes.{Keeps};
 ghost use Rattle.std.specs.Borrow.{GName};
 ghost use Rattle.fzn_cert.specs.declared.step.Version.TheVariants.{One};
 ghost use Rattle.fzn_printer.specs.Printer.{contents_of as out_contents, out_name, is_open};
+ghost use Rattle.std.specs.Option.{option_to_list};
+ghost use Rattle.fzn_engine.specs.declared.fault.Fault.TheVariants.{WriteOutput};
 ghost use Rattle.fzn_printer.specs.Shown.{is_closed};
-ghost use Rattle.fzn_solver.specs.Standing.{is_alone};
-ghost use Rattle.fzn_solver.specs.Writers.{taken, origin, IsFresh, IsKept, IsLineTaken, IsLineRefused, IsLogged, IsRestSame, IsAllSame, IsPrinted, IsLastShown, IsClosed};
+ghost use Rattle.fzn_solver.specs.Standing.{is_alone, shown_all};
+ghost use Rattle.fzn_solver.specs.Writers.{taken, origin, IsFresh, IsKept, IsLineTaken, IsLineRefused, IsLogged, IsRestSame, IsAllSame, IsPrinted, IsLastShown, IsClosed, IsUnbegun, IsUnprinted, IsUnclosed};
 
 use fzn_cert::{FaultKind, Step, StepWriter, Version};
 use fzn_domain::Memory;
@@ -44,6 +46,7 @@ impl<'o, 'c, 'l, W: Write, C: Write> Writers<'o, 'c, 'l, W, C> {
         requires fresh { IsFresh W.contents C.contents self.old }
         ensures kept { OnOk result (IsKept W.contents C.contents model.now self.new) }
         ensures none_taken { OnOk result (taken self.new ≡ []) }
+        ensures err { OnErr result (IsUnbegun C.contents model.now self.old self.new) }
         ensures same { origin self.new ≡ origin self.old }
         ensures same_writers { (cert_name self.new.cert ≡ cert_name self.old.cert) × (out_name self.new.out ≡ out_name self.old.out) }
     {
@@ -131,6 +134,7 @@ impl<'o, 'c, 'l, W: Write, C: Write> Writers<'o, 'c, 'l, W, C> {
         requires model { IsWellFormed model.now }
         requires kept { IsKept W.contents C.contents model.now self.old }
         ensures closed { OnOk result (IsClosed W.contents C.contents model.now (is_closed ending) self.old self.new) }
+        ensures err { IfErr result (IsUnclosed W.contents C.contents model.now (is_closed ending) self.old self.new) }
         ensures same_writers { (cert_name self.new.cert ≡ cert_name self.old.cert) × (out_name self.new.out ≡ out_name self.old.out) }
     {
         match self.cert.finish(ending.is_closed()) {
@@ -149,6 +153,7 @@ impl<'o, 'c, 'l, W: Write, C: Write> Writers<'o, 'c, 'l, W, C> {
         requires model { IsWellFormed model.now }
         requires assignment { IfSome self.old.last.now (IsAssignment model.now) }
         ensures shown { OnOk result (IsLastShown W.contents model.now self.old.last.now self.old.out self.new.out) }
+        ensures err { IfErr result (λ fault. (fault ≡ WriteOutput) × IsUnprinted W.contents (shown_all model.now (option_to_list self.old.last.now)) self.old.out self.new.out) }
         ensures same_writer { out_name self.new.out ≡ out_name self.old.out }
         ensures same { (self.new.cert ≡ self.old.cert) × IsAllSame self.old self.new }
     {

@@ -1,0 +1,155 @@
+-- What a fault leaves.
+use Rattle.std.proofs.Common.{◌≡◌, ℕ, ◌==◌, ◌||◌, not, Bool, true, false, ℤ, List, [], ◌∷◌, ◌++◌, length, Option, Some, None, Result, Ok, Err, IfSome, IfErr, is_some, refl, sym, ap, ◌∙◌, subst, inl, inr}
+use Rattle.std.specs.Result.{IsErrAnd}
+use Rattle.std.specs.Borrow.{GName}
+use Rattle.std.specs.Option.{option_to_list}
+use Rattle.std.specs.Io.KnownBytes.{Appends, Keeps}
+use Rattle.std.proofs.lemmas.Bool.{cases_Bool}
+use Rattle.fzn_output.specs.Output.{AppendsFront}
+use Rattle.fzn_output.proofs.CallerLemmas.{Appends-then, front-none, front-left, front-then}
+use Rattle.fzn_meaning.specs.declared.model.Model.{Model}
+use Rattle.fzn_meaning.specs.WellFormed.{IsWellFormed}
+use Rattle.fzn_meaning.specs.Solutions.{IsExhausted}
+use Rattle.fzn_cert.specs.declared.step.Step.{Step}
+use Rattle.fzn_cert.specs.Accepted.{AllAccepted, past_of}
+use Rattle.fzn_cert.specs.Spelling.{end_line}
+use Rattle.fzn_cert.specs.Writer.{contents_of as cert_contents, out_name as cert_name}
+use Rattle.fzn_cert.proofs.SoundLaws.{accepted-proper}
+use Rattle.fzn_engine.specs.declared.fault.Fault.{Fault}
+use Rattle.fzn_engine.specs.declared.fault.Fault.TheVariants as engine
+use Rattle.fzn_engine.specs.declared.limits.Ending.{Ending as EngineEnding}
+use Rattle.fzn_engine.specs.declared.limits.Limits.{Limits}
+use Rattle.fzn_engine.specs.Outcome.{IsOutcome}
+use Rattle.fzn_printer.specs.declared.printer.Printer.{Printer}
+use Rattle.fzn_printer.specs.Printer.{contents_of as out_contents, is_open, has_printed}
+use Rattle.fzn_printer.specs.Shown.{shown, ending_text, is_closed}
+use Rattle.fzn_solver.specs.declared.writers.Writers.{Writers}
+use Rattle.fzn_solver.specs.Endings.{ending_for}
+use Rattle.fzn_solver.specs.FaultsFrom.{fault_of_model, fault_of_engine}
+use Rattle.fzn_solver.specs.Standing.{found_by, is_alone, early, late, begun_certificate, certificate, shown_all, IsStanding, IsOutInStep}
+use Rattle.fzn_reading.specs.declared.fault.ModelFault.{ModelFault}
+use Rattle.fzn_reading.specs.declared.fault.ModelFault.TheVariants as reading
+use Rattle.fzn_reading.specs.Reads.{Answers}
+use Rattle.fzn_solver.specs.declared.fault.RunFault.{RunFault}
+use Rattle.fzn_solver.specs.declared.fault.RunFault.TheVariants as run
+use Rattle.fzn_solver.specs.Run.{States, IsRunFault}
+use Rattle.fzn_solver.specs.Left.{IsStopped, IsInterrupted, IsLater, IsLeft}
+use Rattle.fzn_solver.specs.Writers.{taken, origin, IsFresh, IsKept, IsUnbegun, IsUnfinished, IsCutOff, IsUnclosed}
+use Rattle.fzn_solver.proofs.StandingLemmas.{standing-refused, front-kept}
+use Rattle.fzn_solver.proofs.WritersLemmas.{Keeps-same}
+use Rattle.fzn_solver.proofs.ClosedLemmas.{answer-front}
+use Rattle.fzn_solver.proofs.AnswerLemmas.{certificate-verdict, closed-refuted, closed-exhausted, answer-is, first-pair}
+
+-- an error that is this fault
+pub error-is : {A : Type 0} (result : Result A RunFault) (fault : RunFault) (P : RunFault → Type 0) → IsErrAnd result (λ e. e ≡ fault) → P fault → IfErr result P
+error-is (Ok value) fault P same p = tt
+error-is (Err e) fault P same p = subst P (sym same) p
+
+-- ---- the whole run
+
+pub read-fault : (file : Option (List ℕ)) (all : Bool) (out cert : Option (List ℕ)) (fault : ModelFault) → IfSome file (λ bytes. Answers bytes (Err fault)) → IsRunFault file all out out cert cert (fault_of_model fault)
+read-fault file all out cert (reading.File fault) right = (Keeps-same out, Keeps-same cert, right)
+read-fault file all out cert reading.Memory right = inl (Keeps-same out, Keeps-same cert)
+read-fault file all out cert reading.Read right = (Keeps-same out, Keeps-same cert)
+
+pub later-fault : (file : Option (List ℕ)) (all : Bool) (out_old out_new cert_old cert_new : Option (List ℕ)) (model : Model) (fault : RunFault) → States file model → IsLeft model all out_old out_new cert_old cert_new fault → IsRunFault file all out_old out_new cert_old cert_new fault
+later-fault file all out_old out_new cert_old cert_new model (run.File fault) states left = absurd left.0
+later-fault file all out_old out_new cert_old cert_new model (run.NoPropagator c) states left = absurd left.0
+later-fault file all out_old out_new cert_old cert_new model run.Read states left = absurd left.0
+later-fault file all out_old out_new cert_old cert_new model run.Memory states left = inr (model, states, left)
+later-fault file all out_old out_new cert_old cert_new model run.WriteOutput states left = (model, states, left)
+later-fault file all out_old out_new cert_old cert_new model run.WriteCert states left = (model, states, left)
+later-fault file all out_old out_new cert_old cert_new model run.StepTooLong states left = (model, states, left)
+
+pub each-fault : {A : Type 0} (result : Result A RunFault) (file : Option (List ℕ)) (all : Bool) (out_old out_new cert_old cert_new : Option (List ℕ)) (model : Model) → States file model → IfErr result (IsLeft model all out_old out_new cert_old cert_new) → IfErr result (IsRunFault file all out_old out_new cert_old cert_new)
+each-fault (Ok value) file all out_old out_new cert_old cert_new model states left = tt
+each-fault (Err fault) file all out_old out_new cert_old cert_new model states left = later-fault file all out_old out_new cert_old cert_new model fault states left
+
+later : (fault : Fault) → IsLater (fault_of_engine fault)
+later engine.Memory = tt
+later engine.WriteOutput = tt
+later engine.WriteCert = tt
+later engine.StepTooLong = tt
+
+stopped-by : (model : Model) (all alone : Bool) (steps : List Step) (cert_first cert_old cert_new out_first out_old out_new : Option (List ℕ)) → IsWellFormed model → AllAccepted model steps → alone ≡ is_alone model.goal all → cert_first ≡ cert_old → out_first ≡ out_old
+    → IsStanding model alone steps cert_first cert_new out_first out_new → IsStopped model all out_old out_new cert_old cert_new
+stopped-by model all alone steps cert_first cert_old cert_new out_first out_old out_new formed all_accepted is cert_is out_is standing =
+    let K : Option (List ℕ) → Type 0 = λ o. Appends o cert_new (begun_certificate model steps ++ standing.more) in
+    let O : Option (List ℕ) → Type 0 = λ o. AppendsFront o out_new (shown_all model (early alone (found_by model steps))) in
+    let A : Bool → Type 0 = λ b. AppendsFront out_old out_new (shown_all model (early b (found_by model steps))) in record {
+      steps = steps;
+      proper = accepted-proper model steps formed all_accepted;
+      lines = inr (standing.more, subst K cert_is standing.lines);
+      shown = subst A is (subst O out_is standing.shown);
+    }
+
+module _ {W C : Type 0} (outs : W → Option (List ℕ)) (certs : C → Option (List ℕ)) (model : Model) (all : Bool) where
+  abbrev Left : Writers W C → Writers W C → Fault → Type 0
+  Left before after fault = IsLeft model all (out_contents outs before.out) (out_contents outs after.out) (cert_contents certs before.cert) (cert_contents certs after.cert) (fault_of_engine fault)
+
+  -- before the first step
+  pub left-unbegun : (before after : Writers W C) (fault : Fault) → IsWellFormed model → IsUnbegun certs model before after → Left before after fault
+  left-unbegun before after fault formed unbegun =
+      let O : Printer W → Type 0 = λ p. AppendsFront (out_contents outs before.out) (out_contents outs p) (shown_all model (early (is_alone model.goal all) [])) in (
+        later fault,
+        inl (record {
+          steps = [];
+          proper = accepted-proper model [] formed tt;
+          lines = inl (refl, unbegun.front);
+          shown = subst O (sym unbegun.out) (front-none (out_contents outs before.out) (out_contents outs before.out) (shown_all model (early (is_alone model.goal all) [])) (Keeps-same (out_contents outs before.out)));
+        }),
+      )
+
+  certs-first : (before now : Writers W C) (fresh : IsFresh outs certs before) → origin now ≡ origin before → (kept : IsKept outs certs model now) → certs kept.cert_first ≡ cert_contents certs before.cert
+  certs-first before now fresh same kept =
+      let p : W × C = (kept.out_first, kept.cert_first) in
+      let q : W × C = (fresh.out_first, fresh.cert_first) in
+      let firsts : p ∷ [] ≡ q ∷ [] = sym kept.begun ∙ ap (λ (o : List (W × C) × Bool × GName × GName). o.0) same ∙ fresh.begun in
+      ap certs (first-pair p q firsts).1 ∙ sym fresh.same_cert
+
+  outs-first : (before now : Writers W C) (fresh : IsFresh outs certs before) → origin now ≡ origin before → (kept : IsKept outs certs model now) → outs kept.out_first ≡ out_contents outs before.out
+  outs-first before now fresh same kept =
+      let p : W × C = (kept.out_first, kept.cert_first) in
+      let q : W × C = (fresh.out_first, fresh.cert_first) in
+      let firsts : p ∷ [] ≡ q ∷ [] = sym kept.begun ∙ ap (λ (o : List (W × C) × Bool × GName × GName). o.0) same ∙ fresh.begun in
+      ap outs (first-pair p q firsts).0 ∙ sym fresh.same_out
+
+  -- on the way
+  pub left-on_way : (before now : Writers W C) (fault : Fault) → IsWellFormed model → IsFresh outs certs before → before.alone ≡ is_alone model.goal all → origin now ≡ origin before → AllAccepted model (taken now) → IsKept outs certs model now → Left before now fault
+  left-on_way before now fault formed fresh alone same all_accepted kept = (
+    later fault,
+    inl (stopped-by model all now.alone (taken now) (certs kept.cert_first) (cert_contents certs before.cert) (cert_contents certs now.cert) (outs kept.out_first) (out_contents outs before.out) (out_contents outs now.out) formed all_accepted
+    (ap (λ (o : List (W × C) × Bool × GName × GName). o.1) same ∙ alone) (certs-first before now fresh same kept) (outs-first before now fresh same kept) kept.standing),
+  )
+
+  -- at the end
+  pub left-at_end : (before now after : Writers W C) (fault : Fault) (limits : Limits) (nodes n : ℕ) (ending : EngineEnding) → IsWellFormed model → IsFresh outs certs before → before.alone ≡ is_alone model.goal all → origin now ≡ origin before → AllAccepted model (taken now)
+      → IsOutcome model limits (taken now) nodes ending → IsKept outs certs model now → IsUnclosed outs certs model (is_closed (ending_for ending n)) now after fault → Left before after fault
+  left-at_end before now after fault limits nodes n ending formed fresh alone same all_accepted outcome kept (inl unfinished) =
+      let O : Printer W → Type 0 = λ p. IsStanding model now.alone (taken now) (certs kept.cert_first) (cert_contents certs after.cert) (outs kept.out_first) (out_contents outs p) in (
+        later fault,
+        inl (stopped-by model all now.alone (taken now) (certs kept.cert_first) (cert_contents certs before.cert) (cert_contents certs after.cert) (outs kept.out_first) (out_contents outs before.out) (out_contents outs after.out) formed all_accepted
+        (ap (λ (o : List (W × C) × Bool × GName × GName). o.1) same ∙ alone) (certs-first before now fresh same kept) (outs-first before now fresh same kept)
+        (subst O (sym unfinished.out) (standing-refused model now.alone (taken now) (certs kept.cert_first) (cert_contents certs now.cert) (cert_contents certs after.cert) (outs kept.out_first) (out_contents outs now.out) (end_line (is_closed (ending_for ending n))) kept.standing unfinished.front))),
+      )
+  left-at_end before now after fault limits nodes n ending formed fresh alone same all_accepted outcome kept (inr (is_output, cut)) =
+      let steps = taken now in
+      let found = found_by model steps in
+      let closed = is_closed (ending_for ending n) in
+      let in_step = kept.cert_in_step cut.was_open in
+      let K : Option (List ℕ) → Type 0 = λ o. Appends o (cert_contents certs after.cert) (certificate model steps closed) in
+      let O : Option (List ℕ) → Type 0 = λ o. AppendsFront o (out_contents outs after.out) (shown_all model (early now.alone found ++ late now.alone found) ++ ending_text closed (not (length found == 0))) in
+      let A : Bool → Type 0 = λ b. AppendsFront (out_contents outs before.out) (out_contents outs after.out) (shown_all model (early b found ++ late b found) ++ ending_text closed (not (length found == 0))) in
+      let T : List ℕ → Type 0 = λ t. AppendsFront (out_contents outs before.out) (out_contents outs after.out) t in
+      let front = answer-front model now.alone closed found (outs kept.out_first) (out_contents outs now.out) (out_contents outs after.out) (is_open now.out) (has_printed now.out) now.last.now (kept.out_in_step cut.was_open) kept.standing.shown cut.out.nothing cut.out.front in (
+        later fault,
+        inr (ap fault_of_engine is_output, record {
+          steps = steps;
+          closed = closed;
+          written = subst K (certs-first before now fresh same kept) (Appends-then (certs kept.cert_first) (cert_contents certs now.cert) (cert_contents certs after.cert) (begun_certificate model steps) (end_line closed) in_step.lines cut.end);
+          verdict = certificate-verdict model steps closed formed all_accepted in_step.have_lines (closed-refuted model limits steps nodes n ending outcome.ended.truly);
+          proper = outcome.proper;
+          exhausted = closed-exhausted model steps n ending outcome.exhausted;
+          shown = subst T (answer-is model all closed found) (subst A (ap (λ (o : List (W × C) × Bool × GName × GName). o.1) same ∙ alone) (subst O (outs-first before now fresh same kept) front));
+        }),
+      )

@@ -1,0 +1,51 @@
+-- What a run leaves after a fault that comes once the model was read.
+use Rattle.std.specs.Prelude.{◌≡◌, ◌⊎◌, ℕ, Bool, true, List, [], ◌++◌, Option}
+use Rattle.std.specs.Io.KnownBytes.{Appends}
+use Rattle.fzn_output.specs.Output.{AppendsFront}
+use Rattle.fzn_meaning.specs.declared.model.Model.{Model}
+use Rattle.fzn_meaning.specs.Solutions.{IsProper, IsExhausted}
+use Rattle.fzn_cert.specs.declared.step.Step.{Step}
+use Rattle.fzn_cert.specs.declared.step.Version.TheVariants.{One}
+use Rattle.fzn_cert.specs.Spelling.{header_lines}
+use Rattle.fzn_cert.specs.Verdict.{Verdict, accepted, header_of}
+use Rattle.fzn_printer.specs.Answer.{answer_text}
+use Rattle.fzn_solver.specs.declared.fault.RunFault.{RunFault}
+use Rattle.fzn_solver.specs.declared.fault.RunFault.TheVariants.{Memory, WriteOutput, WriteCert, StepTooLong}
+use Rattle.fzn_solver.specs.Standing.{found_by, is_alone, early, begun_certificate, certificate, shown_all}
+
+-- the lines of the steps stand whole, and perhaps a beginning of another text; or no step does, and a beginning of the first two lines
+abbrev pub HasLines : Model → List Step → Option (List ℕ) → Option (List ℕ) → Type 0
+HasLines model steps cert_old cert_new =
+    ((steps ≡ []) × AppendsFront cert_old cert_new (header_lines (header_of model One)))
+    ⊎ ((more : List ℕ) × Appends cert_old cert_new (begun_certificate model steps ++ more))
+
+-- The run stopped on the way: its steps show a proper list, and a beginning of the text of these solutions stands on the output, nothing
+-- in an optimisation that shows the last alone.
+pub record IsStopped (model : Model) (all : Bool) (out_old out_new cert_old cert_new : Option (List ℕ)) : Type 0 where
+  pub steps : List Step
+  pub proper : IsProper model (found_by model steps)
+  pub lines : HasLines model steps cert_old cert_new
+  pub shown : AppendsFront out_old out_new (shown_all model (early (is_alone model.goal all) (found_by model steps)))
+
+-- the whole certificate stands, which is accepted, and a beginning of its true answer
+pub record IsInterrupted (model : Model) (all : Bool) (out_old out_new cert_old cert_new : Option (List ℕ)) : Type 0 where
+  pub steps : List Step
+  pub closed : Bool
+  pub written : Appends cert_old cert_new (certificate model steps closed)
+  pub verdict : Verdict model (certificate model steps closed) (accepted (found_by model steps) closed)
+  pub proper : IsProper model (found_by model steps)
+  pub exhausted : closed ≡ true → IsExhausted model (found_by model steps)
+  pub shown : AppendsFront out_old out_new (answer_text model (found_by model steps) closed all)
+
+-- the faults that come once the model was read
+abbrev pub IsLater : RunFault → Type 0
+IsLater Memory = Unit {0}
+IsLater WriteOutput = Unit {0}
+IsLater WriteCert = Unit {0}
+IsLater StepTooLong = Unit {0}
+IsLater _ = ⊥
+
+-- the end of the certificate stands only where the output failed behind it
+abbrev pub IsLeft : Model → Bool → Option (List ℕ) → Option (List ℕ) → Option (List ℕ) → Option (List ℕ) → RunFault → Type 0
+IsLeft model all out_old out_new cert_old cert_new fault =
+    IsLater fault × (IsStopped model all out_old out_new cert_old cert_new ⊎ ((fault ≡ WriteOutput) × IsInterrupted model all out_old out_new cert_old cert_new))
