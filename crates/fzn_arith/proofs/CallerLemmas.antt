@@ -1,6 +1,5 @@
 -- What callers may cite: which values a clause leaves, and when it is false or forces a literal.
-use Rattle.std.proofs.Common.{◌≡◌, ◌≢◌, ℕ, zero, suc, ◌+◌, ◌-◌, ◌<◌, Bool, true, false, not, cond, List, [], ◌∷◌, ◌++◌, length, length-append, get_or, nat_eq, refl, sym, ap, subst, ◌∙◌, inl, inr, arith, ℤ, All, None}
-use Rattle.std.proofs.lemmas.Int.{ints}
+use Rattle.std.proofs.Common.{◌≡◌, ◌≢◌, ℕ, zero, suc, ◌-◌, ◌<◌, Bool, true, false, not, cond, List, [], ◌∷◌, ◌++◌, length, length-append, get_or, nat_eq, refl, sym, ap, subst, ◌∙◌, inl, inr, arith, ℤ, All}
 use Rattle.std.proofs.lemmas.Bool.{cases_eq, or_parts}
 use Rattle.std.proofs.lemmas.List.{get_or_append_left}
 use Rattle.std.proofs.lemmas.List.Elements.{All-head, All-tail, All-cons, All-contains, All-get_or, Contains-push, filter-append}
@@ -13,11 +12,8 @@ use Rattle.fzn_domain.proofs.SetLemmas.{kept_within, is_true_at-negated, member_
 use Rattle.fzn_domain.proofs.NarrowLemmas.{length-narrowed, set_of-narrowed, other_set-narrowed, length-denied}
 use Rattle.fzn_meaning.specs.declared.term.Term.{Term}
 use Rattle.fzn_meaning.specs.declared.term.Term.TheVariants.{Constant, Variable}
-use Rattle.fzn_meaning.specs.declared.constraint.Constraint.{Constraint}
-use Rattle.fzn_meaning.specs.declared.constraint.Constraint.TheVariants.{BoolClause, IntLinLe}
 use Rattle.fzn_meaning.specs.Term.{IsTerm}
 use Rattle.fzn_rules.specs.Linear.{least_value, greatest_value}
-use Rattle.fzn_rules.specs.Form.{form_of}
 use Rattle.fzn_trail.specs.Levels.{IsNarrower}
 use Rattle.fzn_arith.specs.Explained.{IsLeft}
 
@@ -109,11 +105,3 @@ end_left declared clause (Constant k) b over fits none = flat_cond b k
 end_left declared clause (Variable var) b over fits none =
     let some = nonempty_at (denied declared clause) (var.0 - 1) none (omega (arith, length-denied clause declared)) in
     left_of_denied clause declared var (cond b (greatest (set_of (denied declared clause) var)) (least (set_of (denied declared clause) var))) over (one_end (set_of (denied declared clause) var) b some)
-
--- ---- which constraints have a propagator
-
--- none of today's constraints is without a form
-pub has_form : (constraint : Constraint) → form_of constraint ≡ None → ⊥
-unfolding form_of
-has_form (BoolClause positive negative) none = cc
-has_form (IntLinLe sum bound) none = cc

@@ -1,5 +1,5 @@
 -- What a refutation and its absence say of a constraint.
-use Rattle.std.proofs.Common.{◌≡◌, ℕ, ◌-◌, ◌<◌, ◌⊎◌, Bool, true, cond, List, [], length, get_or, refl, sym, ap, subst, ◌∙◌, inl, inr, arith, ℤ, pos, ◌-ℤ◌, ◌*ℤ◌, ◌≤ℤ◌, ◌<ℤ◌, int_lt, All, Option, Some, None, IfSome, IfNone, IsSomeAnd}
+use Rattle.std.proofs.Common.{◌≡◌, ℕ, ◌-◌, ◌⊎◌, Bool, true, cond, List, length, get_or, refl, sym, ap, ap₂, subst, ◌∙◌, inl, inr, arith, ℤ, pos, ◌*ℤ◌, ◌≤ℤ◌, ◌<ℤ◌, int_lt, All, Option, Some, None, IfSome, IfNone, IsSomeAnd}
 use Rattle.std.proofs.lemmas.Int.{ints}
 use Rattle.std.proofs.lemmas.Bool.{cases_Bool}
 use Rattle.std.proofs.lemmas.List.Elements.{All-nil}
@@ -11,21 +11,30 @@ use Rattle.fzn_meaning.specs.declared.term.Term.{Term}
 use Rattle.fzn_meaning.specs.declared.term.Term.TheVariants.{Constant, Variable}
 use Rattle.fzn_meaning.specs.declared.term.Place.{Place}
 use Rattle.fzn_meaning.specs.declared.constraint.Constraint.{Constraint}
-use Rattle.fzn_meaning.specs.declared.constraint.Constraint.TheVariants.{BoolClause, IntLinLe}
 use Rattle.fzn_meaning.specs.Term.{IsTerm, IsPlace, term_value, product_at, sum_at}
-use Rattle.fzn_meaning.specs.Meaning.{Meets, HasBooleanSets, HasBooleanValues, booleans_of}
-use Rattle.fzn_meaning.proofs.CutLemmas.{bits-choice}
+use Rattle.fzn_meaning.specs.Meaning.{HasBooleanSets}
+use Rattle.fzn_meaning.proofs.CallerLemmas.{bits-choice}
 use Rattle.fzn_rules.specs.declared.rule.Rule.TheVariants.{Lin}
 use Rattle.fzn_rules.specs.Linear.{low_end, least_value, greatest_value, low_product, least_sum}
-use Rattle.fzn_rules.specs.Form.{Form, form_of, IsFormMet}
+use Rattle.fzn_rules.specs.Form.{Form, form, form_of, IsFormMet}
+use Rattle.fzn_meaning.specs.declared.relation.Comparison.{Comparison}
+use Rattle.fzn_meaning.specs.declared.relation.Comparison.TheVariants.{AtMost}
 use Rattle.fzn_rules.specs.Rules.{IsMet}
 use Rattle.fzn_trail.specs.Levels.{Levels}
 use Rattle.fzn_arith.specs.Inference.{AllFixed, IsHint, IsTight, IsInference, IsExhausted}
-use Rattle.fzn_arith.specs.Kinds.{at_most, IsAtMost}
+use Rattle.fzn_arith.specs.declared.form.SumForm.{SumForm}
+use Rattle.fzn_arith.specs.Kinds.{IsFormOf}
 use Rattle.fzn_arith.specs.Explained.{IsRefutation}
 use Rattle.fzn_arith.proofs.SumLemmas.{total_le}
 use Rattle.fzn_arith.proofs.CallerLemmas.{end_left, one_end, flat_cond}
-use Rattle.fzn_arith.proofs.BitLemmas.{clause_meets}
+use Rattle.fzn_arith.proofs.MeaningLemmas.{FormHolds, form_meets}
+
+-- the sum over the places is at most the bound
+abbrev IsAtMost : List Place → ℤ → Constraint → Type 0
+IsAtMost places bound constraint = form_of constraint ≡ Some (form places AtMost bound None)
+
+pub at_most_of : (constraint : Constraint) (sum : SumForm) → sum.comparison ≡ AtMost → sum.switch ≡ None → IsFormOf constraint sum → IsAtMost sum.places sum.bound constraint
+at_most_of constraint sum comparison switch same = same ∙ ap₂ (λ (c : Comparison) (s : Option Term). Some (form sum.places c sum.bound s)) comparison switch
 
 -- ---- refuted on the denied sets
 
@@ -78,12 +87,6 @@ module _ (sets : List IntSet) (values : List ℤ) (fixed : AllFixed sets) (withi
       le_same (low_product sets place) (product_at values place)
       (ap (λ (x : ℤ). place.coefficient *ℤ x) (term_is place.term (int_lt place.coefficient (pos 0)) (fit k d below).0)))
 
--- where a form's sum is at most its bound, the values meet the constraint
-form_meets : (constraint : Constraint) (values : List ℤ) → HasBooleanValues values constraint → IfSome (form_of constraint) (λ (form : Form). sum_at values form.places ≤ℤ form.bound) → Meets constraint values
-unfolding form_of Meets booleans_of
-form_meets (BoolClause positive negative) values bits h = clause_meets values positive negative bits h
-form_meets (IntLinLe sum bound) values bits h = h
-
 le_through : (a b c : ℤ) → a ≤ℤ b → b ≤ℤ c → a ≤ℤ c
 le_through a b c h k = omega (arith, ints)
 
@@ -94,7 +97,7 @@ at_most_none trail places bound constraint same booleans fit tight = record {
       let here = subst (λ (n : ℕ). All (IsPlace n) places) (sym counts) fit in
       let sum = le_through _ _ bound (fixed_sum trail.sets values fixed within places here) tight.least in
       form_meets constraint values (bits-choice trail.declared values constraint declared booleans)
-      (subst (λ (f : Option Form). IfSome f (λ (form : Form). sum_at values form.places ≤ℤ form.bound)) (sym same) sum);
+      (subst (λ (f : Option Form). IsSomeAnd f (λ (x : Form). FormHolds x values)) (sym same) sum);
   strong = λ form is comparison switch. subst (λ (f : Option Form). IfSome f (λ (form : Form). IsTight trail.sets form.places form.bound)) (sym same ∙ is) tight;
 }
 

@@ -10,7 +10,7 @@ use Rattle.fzn_meaning.specs.declared.constraint.Constraint.{Constraint}
 use Rattle.fzn_meaning.specs.Meaning.{Meets, HasBooleanSets}
 use Rattle.fzn_rules.specs.declared.rule.Rule.{Rule}
 use Rattle.fzn_rules.specs.declared.rule.Rule.TheVariants.{Lin, Rows, Box, Fixed, Enum, Hall, Load, Energy, Cut, Pair}
-use Rattle.fzn_rules.specs.declared.linear.Comparison.TheVariants.{AtMost}
+use Rattle.fzn_meaning.specs.declared.relation.Comparison.TheVariants.{AtMost}
 use Rattle.fzn_rules.specs.Linear.{least_sum, low_product, high_product}
 use Rattle.fzn_rules.specs.Form.{Form, form_of}
 use Rattle.fzn_rules.specs.Rules.{IsAcceptedBy}

@@ -1,20 +1,32 @@
 -- Which constraint a propagator stands for.
-use Rattle.std.specs.Prelude.{◌≡◌, ℕ, ◌≤◌, ℤ, List, length, Some, None}
+use Rattle.std.specs.Prelude.{◌≡◌, ℕ, ◌≤◌, length, unsigned_abs, Some, None, IsSomeAnd}
 use Rattle.std.specs.List.{All}
-use Rattle.fzn_meaning.specs.declared.term.Place.{Place}
+use Rattle.fzn_meaning.specs.declared.relation.Comparison.TheVariants.{AtMost}
 use Rattle.fzn_meaning.specs.declared.constraint.Constraint.{Constraint}
 use Rattle.fzn_meaning.specs.Term.{IsPlace}
-use Rattle.fzn_rules.specs.declared.linear.Comparison.TheVariants.{AtMost}
-use Rattle.fzn_rules.specs.Form.{Form, form_of}
+use Rattle.fzn_meaning.specs.Meaning.{IsSwitch}
+use Rattle.fzn_rules.specs.Form.{Form, form, form_of}
+use Rattle.fzn_arith.specs.declared.form.SumForm.{SumForm}
 
--- the sum over the places is at most the bound
-abbrev pub at_most : List Place → ℤ → Form
-at_most places bound = record { places = places; comparison = AtMost; bound = bound; switch = None }
+abbrev pub form_in : SumForm → Form
+form_in sum = form sum.places sum.comparison sum.bound sum.switch
 
-abbrev pub IsAtMost : List Place → ℤ → Constraint → Type 0
-IsAtMost places bound constraint = form_of constraint ≡ Some (at_most places bound)
+-- the form of the constraint
+abbrev pub IsFormOf : Constraint → SumForm → Type 0
+IsFormOf constraint sum = form_of constraint ≡ Some (form_in sum)
 
--- the places of a sum over this many variables
-pub record IsSum (count : ℕ) (places : List Place) : Type 0 where
-  pub places_fit : All (IsPlace count) places
-  pub short : length places ≤ 200000
+-- places and a switch over this many variables, and numbers within the limits
+pub record Fits (count : ℕ) (found : Form) : Type 0 where
+  pub places_fit : All (IsPlace count) found.places
+  pub short : length found.places ≤ 200000
+  pub bounded : unsigned_abs found.bound ≤ 1000000000
+  pub switch_fits : IsSwitch count found.switch
+
+-- the sum is at most its bound, without a switch
+abbrev pub HasPropagator : Constraint → Type 0
+HasPropagator constraint = IsSomeAnd (form_of constraint) (λ found. (found.comparison ≡ AtMost) × (found.switch ≡ None))
+
+pub record IsReady (count : ℕ) (sum : SumForm) : Type 0 where
+  pub fits : Fits count (form_in sum)
+  pub comparison : sum.comparison ≡ AtMost
+  pub switch : sum.switch ≡ None

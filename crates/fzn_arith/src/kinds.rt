@@ -1,23 +1,23 @@
 // One type for all kinds of propagators of this crate, and which constraint gets which.
-ghost use Rattle.std.specs.Prelude.{◌≡◌, ◌-◌, ◌≤◌, length, IfOk, IfSome, IfNone, None, slice_index_or};
+ghost use Rattle.std.specs.Prelude.{◌≡◌, ◌-◌, ◌≤◌, length, IfOk, IfSome, IfNone, slice_index_or};
 ghost use Rattle.fzn_meaning.specs.declared.constraint.Constraint.{Constraint};
 ghost use Rattle.fzn_meaning.specs.Solutions.{declared_sets};
 ghost use Rattle.fzn_meaning.specs.WellFormed.{IsWellFormed};
-ghost use Rattle.fzn_rules.specs.Form.{form_of};
 ghost use Rattle.fzn_arith.specs.AnyKind.{kind_number, KindIsFor, KindFits};
+ghost use Rattle.fzn_arith.specs.Kinds.{HasPropagator};
 
-use crate::form::{clause_places, copied};
-use crate::linear::AtMostPropagator;
+use crate::form::form_of;
 use crate::propagator::{Inference, Propagator};
+use crate::sum::SumPropagator;
 use fzn_domain::Memory;
-use fzn_meaning::{Constraint, Model};
+use fzn_meaning::{Comparison, Model};
 use fzn_trail::Trail;
 use std::alloc::Global;
 
 #[derive(Debug, Drop)]
 pub enum ArithPropagator {
-    /// A sum is at most a bound.
-    AtMost(AtMostPropagator),
+    /// A sum compares with a bound.
+    Sum(SumPropagator),
 }
 
 impl Propagator for ArithPropagator {
@@ -29,7 +29,7 @@ impl Propagator for ArithPropagator {
 
     fn propagate(&self, alloc: Global, trail: &Trail) -> Result<Option<Inference>, Memory> {
         match self {
-            ArithPropagator::AtMost(propagator) => propagator.propagate(alloc, trail),
+            ArithPropagator::Sum(propagator) => propagator.propagate(alloc, trail),
         }
     }
 }
@@ -45,28 +45,15 @@ pub fn propagator_of(
     ensures number { IfOk result (λ found. IfSome found (λ propagator. kind_number propagator ≡ c)) }
     ensures is_for { IfOk result (λ found. IfSome found (λ propagator. (default : Constraint) → KindIsFor propagator (slice_index_or model.now.constraints (c - 1) default))) }
     ensures fits { IfOk result (λ found. IfSome found (λ propagator. KindFits propagator (declared_sets model.now.vars))) }
-    ensures none { IfOk result (λ found. IfNone found ((default : Constraint) → form_of (slice_index_or model.now.constraints (c - 1) default) ≡ None)) }
+    ensures none { IfOk result (λ found. IfNone found ((default : Constraint) → HasPropagator (slice_index_or model.now.constraints (c - 1) default) → ⊥)) }
 {
-    let number = c as u64;
-    match &model.constraints.as_slice()[c - 1] {
-        Constraint::BoolClause { positive, negative } => {
-            let places = clause_places(alloc, positive.as_slice(), negative.as_slice())?;
-            let bound = negative.len() as i64 - 1;
-            let propagator = AtMostPropagator {
-                number,
-                places,
-                bound,
-            };
-            Ok(Some(ArithPropagator::AtMost(propagator)))
-        }
-        Constraint::IntLinLe { sum, bound } => {
-            let places = copied(alloc, sum.as_slice())?;
-            let propagator = AtMostPropagator {
-                number,
-                places,
-                bound: *bound,
-            };
-            Ok(Some(ArithPropagator::AtMost(propagator)))
-        }
+    let constraint = &model.constraints.as_slice()[c - 1];
+    let Some(form) = form_of(alloc, model, constraint)? else {
+        return Ok(None);
+    };
+    if form.comparison != Comparison::AtMost || form.switch.is_some() {
+        return Ok(None);
     }
+    let number = c as u64;
+    Ok(Some(ArithPropagator::Sum(SumPropagator { number, form })))
 }

@@ -12,7 +12,8 @@ mod at_most;
 mod ends;
 mod form;
 mod kinds;
-mod linear;
+
 mod propagator;
+mod sum;
 #[cfg(test)]
 mod tests;

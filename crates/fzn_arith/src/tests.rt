@@ -9,7 +9,7 @@ ghost use Rattle.fzn_meaning.specs.WellFormed.{IsWellFormed};
 use super::*;
 use fzn_domain::{Domain, Lit, Memory, Op, VarId};
 use fzn_list::{Items, Text};
-use fzn_meaning::{Constraint, Goal, Kind, Model, Place, Term, Var, holds};
+use fzn_meaning::{Comparison, Constraint, Goal, Kind, Model, Place, Term, Var, holds};
 use fzn_rules::Rule;
 use fzn_trail::{Reason, Trail};
 use std::alloc::Global;
@@ -46,9 +46,11 @@ fn sum_of(alloc: Global, a: i16, b: i16, bound: i16) -> Result<Constraint, Memor
         coefficient: i64::from(b),
         term: Term::Variable(VarId(2)),
     };
-    Ok(Constraint::IntLinLe {
+    Ok(Constraint::Linear {
         sum: two(alloc, x, y)?,
+        comparison: Comparison::AtMost,
         bound: i64::from(bound),
+        switch: None,
     })
 }
 

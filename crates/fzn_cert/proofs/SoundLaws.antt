@@ -11,7 +11,7 @@ use Rattle.fzn_domain.specs.Narrow.{IsClauseOver, is_clause_true}
 use Rattle.fzn_domain.proofs.NarrowLemmas.{accepted_sound}
 use Rattle.fzn_meaning.specs.declared.constraint.Constraint.{Constraint}
 use Rattle.fzn_meaning.specs.declared.model.Model.{Model}
-use Rattle.fzn_meaning.specs.Meaning.{Meets, HasBooleanSets}
+use Rattle.fzn_meaning.specs.Meaning.{Meets, HasBooleanSets, IsWellFormed as IsWellFormedConstraint}
 use Rattle.fzn_meaning.specs.Solutions.{declared_sets, IsSolution, IsProper, IsExhausted, PassesCuts, cut_of}
 use Rattle.fzn_meaning.specs.WellFormed.{IsWellFormed}
 use Rattle.fzn_meaning.proofs.CutLemmas.{cut_of-variables, bits-choice, proper-from_cuts, exhausted-from_cuts}
@@ -31,6 +31,9 @@ count model = length-map model.vars (λ var. var.domain)
 over_sets : (model : Model) (clause : List Lit) → IsClauseOver (length model.vars) clause → IsClauseOver (length (declared_sets model.vars)) clause
 over_sets model clause h = subst (λ n. IsClauseOver n clause) (sym (count model)) h
 
+formed_sets : (model : Model) (constraint : Constraint) → IsWellFormedConstraint (length model.vars) constraint → IsWellFormedConstraint (length (declared_sets model.vars)) constraint
+formed_sets model constraint h = subst (λ n. IsWellFormedConstraint n constraint) (sym (count model)) h
+
 -- ---- the clause of an accepted step is true at every solution that passes the cuts so far
 
 as_rule : (model : Model) (c : ℕ) (rule : Rule) (clause : List Lit) (constraint : Constraint) → IsTrivial model clause ⊎ IsMet constraint (denying model clause) rule → IsAcceptedBy constraint rule (declared_sets model.vars) clause
@@ -47,6 +50,7 @@ infer_true model past c rule clause a wf accepted solution =
             | inr met ↦ inr (subst (λ o. IfSome o (λ k. IsMet k (denying model clause) rule)) is met)
           ] in
           accepted_by_sound constraint rule (declared_sets model.vars) clause
+          (formed_sets model constraint (subst (λ k. IsWellFormedConstraint (length model.vars) k) at (wf.constraints (c - 1) constraint within)))
           (over_sets model clause accepted.0)
           (as_rule model c rule clause constraint reason) a solution.0
           (bits-choice (declared_sets model.vars) a constraint solution.0 (subst (λ k. HasBooleanSets (declared_sets model.vars) k) at (wf.booleans (c - 1) constraint within)))

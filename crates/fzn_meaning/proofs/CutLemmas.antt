@@ -19,12 +19,9 @@ use Rattle.fzn_meaning.specs.declared.model.Goal.TheVariants.{Satisfy, Minimize,
 use Rattle.fzn_meaning.specs.declared.model.Model.{Model}
 use Rattle.fzn_meaning.specs.Term.{term_value}
 use Rattle.fzn_meaning.specs.Meaning.{IsBit, IsBoolean, HasBooleanSets, HasBooleanValues, booleans_of}
-use Rattle.fzn_meaning.specs.Solutions.{IsSolution, IsBetterFor, Agree, IsInOrder, IsProper, IsCovered, IsExhausted, cut_for, cut_of, PassesCuts}
+use Rattle.fzn_meaning.specs.Solutions.{IsSolution, Agree, IsInOrder, IsProper, IsCovered, IsExhausted, cut_for, cut_of, PassesCuts}
 use Rattle.fzn_meaning.specs.WellFormed.{IsGoal, IsWellFormed}
-
-or_false : (b : Bool) → (b || false) ≡ b
-or_false true = refl
-or_false false = refl
+use Rattle.fzn_meaning.proofs.OrderLemmas.{or_false, better-from_cut, passes-better}
 
 int_eq-same : (x y : ℤ) → int_eq x y ≡ true → x ≡ y
 int_eq-same x y h = grind (arith, ints, h)
@@ -50,22 +47,6 @@ agree-from_cut (var ∷ vars) a b h =
 cut-from_agree : (outputs : List VarId) (a b : List ℤ) → AllByRecursion (λ var. value_of a var ≡ value_of b var) outputs → is_clause_true b (differ outputs a) ≡ false
 cut-from_agree [] a b h = refl
 cut-from_agree (var ∷ vars) a b h = rw (same-int_eq (value_of b var) (value_of a var) (sym h.0)) (cut-from_agree vars a b h.1)
-
--- ---- optimisation: the cut says "better than this one"
-
-better-from_cut : (goal : Goal) (outputs : List VarId) (a b : List ℤ) → (goal ≡ Satisfy → ⊥) → is_clause_true b (cut_for goal outputs a) ≡ true → IsBetterFor goal b a
-better-from_cut Satisfy outputs a b other h = absurd (other refl)
-better-from_cut (Minimize var) outputs a b other h =
-    let t : int_le (value_of b var) (value_of a var -ℤ pos 1) ≡ true = sym (or_false (int_le (value_of b var) (value_of a var -ℤ pos 1))) ∙ h in
-    grind (arith, ints, t)
-better-from_cut (Maximize var) outputs a b other h =
-    let t : int_le (value_of a var +ℤ pos 1) (value_of b var) ≡ true = sym (or_false (int_le (value_of a var +ℤ pos 1) (value_of b var))) ∙ h in
-    grind (arith, ints, t)
-
-cut-from_better : (goal : Goal) (outputs : List VarId) (a b : List ℤ) → IsBetterFor goal b a → is_clause_true b (cut_for goal outputs a) ≡ true
-cut-from_better Satisfy outputs a b h = absurd h
-cut-from_better (Minimize var) outputs a b h = or_false (int_le (value_of b var) (value_of a var -ℤ pos 1)) ∙ grind (arith, ints, h)
-cut-from_better (Maximize var) outputs a b h = or_false (int_le (value_of a var +ℤ pos 1) (value_of b var)) ∙ grind (arith, ints, h)
 
 -- ---- a cut is false at its own solution
 
@@ -120,24 +101,9 @@ passes_or_covered outputs (m ∷ ms) a =
     other_way a b [] h = tt
     other_way a b (var ∷ vars) h = (sym h.0, other_way a b vars h.1)
 
-better_trans : (goal : Goal) (a b c : List ℤ) → IsBetterFor goal a b → IsBetterFor goal b c → IsBetterFor goal a c
-better_trans Satisfy a b c p q = p
-better_trans (Minimize var) a b c p q = omega (arith, ints)
-better_trans (Maximize var) a b c p q = omega (arith, ints)
-
--- what is better than the last member passes every cut
-passes-better : (goal : Goal) (outputs : List VarId) (found : List (List ℤ)) (a : List ℤ) → (goal ≡ Satisfy → ⊥) → IsCutOff goal outputs found → IsBetterFor goal a (get_or found (length found - 1) []) → All (λ m. IsTrue (is_clause_true a (cut_for goal outputs m))) found
-passes-better goal outputs found a other cuts better k d within =
-    cut-from_better goal outputs (get_or found k d) a
-    (elim (cases_lt k (length found - 1)) [
-      | inl before ↦
-          better_trans goal a (get_or found (length found - 1) d) (get_or found k d)
-          (rw (get_or_default found (length found - 1) d [] (omega arith)) better)
-          (better-from_cut goal outputs (get_or found k d) (get_or found (length found - 1) d) other (cuts k (length found - 1) d before (omega arith)))
-      | inr after ↦
-          let same : k ≡ length found - 1 = omega arith in
-          rw (same, get_or_default found (length found - 1) d [] (omega arith)) better
-    ])
+last_is : (found : List (List ℤ)) → get_or found (length found - 1) (get_or found (length found - 1) []) ≡ get_or found (length found - 1) []
+last_is [] = refl
+last_is (m ∷ ms) = get_or_default (m ∷ ms) (length (m ∷ ms) - 1) (get_or (m ∷ ms) (length (m ∷ ms) - 1) []) [] (omega arith)
 
 covered-from_cuts : (goal : Goal) (outputs : List VarId) (found : List (List ℤ)) (a : List ℤ) → IsCutOff goal outputs found → (All (λ m. IsTrue (is_clause_true a (cut_for goal outputs m))) found → ⊥) → IsCovered goal outputs found a
 covered-from_cuts Satisfy outputs found a cuts none =
@@ -145,8 +111,8 @@ covered-from_cuts Satisfy outputs found a cuts none =
       | inl passes ↦ absurd (none (All-from_recursion (λ m. IsTrue (is_clause_true a (differ outputs m))) found passes))
       | inr covered ↦ covered
     ]
-covered-from_cuts (Minimize var) outputs found a cuts none = λ better. none (passes-better (Minimize var) outputs found a (λ e. cc) cuts better)
-covered-from_cuts (Maximize var) outputs found a cuts none = λ better. none (passes-better (Maximize var) outputs found a (λ e. cc) cuts better)
+covered-from_cuts (Minimize var) outputs found a cuts none = λ better. none (passes-better (Minimize var) outputs found (get_or found (length found - 1) []) a (λ e. cc) cuts (last_is found) better)
+covered-from_cuts (Maximize var) outputs found a cuts none = λ better. none (passes-better (Maximize var) outputs found (get_or found (length found - 1) []) a (λ e. cc) cuts (last_is found) better)
 
 pub exhausted-from_cuts : (model : Model) (found : List (List ℤ)) → IsCutOff model.goal model.outputs found → ((a : List ℤ) → IsSolution model a → PassesCuts model found a → ⊥) → IsExhausted model found
 exhausted-from_cuts model [] cuts none = λ a solution. none a solution (All-nil (λ m. IsTrue (is_clause_true a (cut_of model m))))

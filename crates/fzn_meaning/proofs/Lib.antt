@@ -1,3 +1,11 @@
+mod AllDifferentLemmas
+pub mod CallerLemmas
+pub mod CircuitLemmas
+pub mod CountLemmas
+mod CumulativeLemmas
 pub mod CutLemmas
+mod InverseLemmas
+pub mod OrderLemmas
+mod ReturnLemmas
 pub mod SumLemmas
 mod TestLemmas

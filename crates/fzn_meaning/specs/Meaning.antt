@@ -1,43 +1,107 @@
--- What each constraint says of the values of its terms (MiniZinc Handbook, "FlatZinc builtins").
-use Rattle.std.specs.Prelude.{◌≡◌, ◌⊎◌, true, ℕ, ◌≤◌, ℤ, pos, ◌≤ℤ◌, List, [], ◌++◌, length, unsigned_abs}
-use Rattle.std.specs.List.{All, Any}
+-- What each constraint says of the values of its terms.
+use Rattle.std.specs.Prelude.{◌≡◌, ◌⊎◌, true, ℕ, ◌%◌, ◌<◌, ◌≤◌, ℤ, pos, List, [], ◌∷◌, ◌++◌, length, unsigned_abs, Option, IfSome}
+use Rattle.std.specs.List.{All}
+use Rattle.std.specs.Option.{option_map, option_to_list}
 use Rattle.fzn_domain.specs.IntSet.{IntSet, contains}
+use Rattle.fzn_domain.specs.Limits.{IsInLimits, IsLimited}
 use Rattle.fzn_domain.specs.Narrow.{set_of}
 use Rattle.fzn_meaning.specs.declared.term.Term.{Term}
 use Rattle.fzn_meaning.specs.declared.term.Term.TheVariants.{Constant, Variable}
 use Rattle.fzn_meaning.specs.declared.term.Place.{Place}
+use Rattle.fzn_meaning.specs.declared.relation.Comparison.TheVariants.{Equal}
 use Rattle.fzn_meaning.specs.declared.constraint.Constraint.{Constraint}
-use Rattle.fzn_meaning.specs.declared.constraint.Constraint.TheVariants.{BoolClause, IntLinLe}
-use Rattle.fzn_meaning.specs.Term.{term_value, sum_at, IsTerm, IsPlace}
+use Rattle.fzn_meaning.specs.declared.constraint.Constraint.TheVariants.{Compare, BoolNot, BoolToInt, Linear, BoolLinEq, Arithmetic, IntAbs, Extremum, Element, SetIn, Gated, BoolXor, ArrayBoolXor, BoolClause, AllDifferent, Table, Cumulative, Circuit, Inverse}
+use Rattle.fzn_meaning.specs.Term.{term_value, values_of, sum_at, IsTerm, IsPlace}
+pub use Rattle.fzn_meaning.specs.Term.{IsNotNegative}
+use Rattle.fzn_meaning.specs.Comparisons.{IsRelated, IsSwitched}
+use Rattle.fzn_meaning.specs.Linear.{IsLinear}
+use Rattle.fzn_meaning.specs.Arithmetic.{IsArithmetic, IsIntAbs}
+use Rattle.fzn_meaning.specs.Extrema.{IsExtremum}
+use Rattle.fzn_meaning.specs.Elements.{IsElement}
+use Rattle.fzn_meaning.specs.Sets.{IsInSet}
+use Rattle.fzn_meaning.specs.Booleans.{IsBoolNot, IsBoolToInt, IsGated, IsBoolXor, IsArrayBoolXor, IsBoolClause}
+use Rattle.fzn_meaning.specs.AllDifferent.{IsAllDifferent}
+use Rattle.fzn_meaning.specs.Table.{IsTable}
+use Rattle.fzn_meaning.specs.Cumulative.{IsCumulative}
+use Rattle.fzn_meaning.specs.Circuit.{IsCircuit}
+use Rattle.fzn_meaning.specs.Inverse.{IsInverse}
 
--- bool_clause: some positive term is 1, or some negative one is 0
-abbrev pub IsBoolClause : List Term → List Term → List ℤ → Type 0
-IsBoolClause positive negative values = Any (λ term. term_value values term ≡ pos 1) positive ⊎ Any (λ term. term_value values term ≡ pos 0) negative
-
--- int_lin_le: the sum is at most the bound
-abbrev pub IsIntLinLe : List Place → ℤ → List ℤ → Type 0
-IsIntLinLe sum bound values = sum_at values sum ≤ℤ bound
+-- the value of a switch, where there is one
+abbrev pub switch_value : List ℤ → Option Term → Option ℤ
+switch_value values switch = option_map (term_value values) switch
 
 -- the values meet the constraint
 unfoldable pub Meets : Constraint → List ℤ → Type 0
-Meets (BoolClause positive negative) values = IsBoolClause positive negative values
-Meets (IntLinLe sum bound) values = IsIntLinLe sum bound values
+Meets (Compare relation left right switch) values = IsSwitched (switch_value values switch) (IsRelated relation (term_value values left) (term_value values right))
+Meets (BoolNot left right) values = IsBoolNot (term_value values left) (term_value values right)
+Meets (BoolToInt boolean integer) values = IsBoolToInt (term_value values boolean) (term_value values integer)
+Meets (Linear sum comparison bound switch) values = IsSwitched (switch_value values switch) (IsLinear comparison (sum_at values sum) bound)
+Meets (BoolLinEq sum total) values = IsLinear Equal (sum_at values sum) (term_value values total)
+Meets (Arithmetic operation left right result) values = IsArithmetic operation (term_value values left) (term_value values right) (term_value values result)
+Meets (IntAbs of result) values = IsIntAbs (term_value values of) (term_value values result)
+Meets (Extremum extreme entries result) values = IsExtremum extreme (values_of values entries) (term_value values result)
+Meets (Element index entries value) values = IsElement (term_value values index) (values_of values entries) (term_value values value)
+Meets (SetIn term set switch) values = IsSwitched (switch_value values switch) (IsInSet (term_value values term) set)
+Meets (Gated gate inputs result) values = IsGated gate (values_of values inputs) (term_value values result)
+Meets (BoolXor left right result) values = IsBoolXor (term_value values left) (term_value values right) (term_value values result)
+Meets (ArrayBoolXor inputs) values = IsArrayBoolXor (values_of values inputs)
+Meets (BoolClause positive negative) values = IsBoolClause (values_of values positive) (values_of values negative)
+Meets (AllDifferent places) values = IsAllDifferent (values_of values places)
+Meets (Table places rows) values = IsTable (values_of values places) rows
+Meets (Cumulative starts durations uses capacity) values = IsCumulative (values_of values starts) (values_of values durations) (values_of values uses) (term_value values capacity)
+Meets (Circuit successors) values = IsCircuit (values_of values successors)
+Meets (Inverse forward backward) values = IsInverse (values_of values forward) (values_of values backward)
 
 -- ---- which constraints a model may have
 
 abbrev pub longest : ℕ
 longest = 100000
 
--- the terms are constants within the limits or of this many variables, and lists and numbers are within their limits
-unfoldable pub IsWellFormed : ℕ → Constraint → Type 0
-IsWellFormed count (BoolClause positive negative) =
-    All (IsTerm count) positive × All (IsTerm count) negative × (length positive ≤ longest) × (length negative ≤ longest)
-IsWellFormed count (IntLinLe sum bound) = All (IsPlace count) sum × (length sum ≤ longest) × (unsigned_abs bound ≤ 1000000000)
+-- constants within the limits or variables among this many, and not too many of them
+abbrev pub AreTerms : ℕ → List Term → Type 0
+AreTerms count terms = All (IsTerm count) terms × (length terms ≤ longest)
 
--- the Boolean terms of a constraint
+abbrev pub IsSum : ℕ → List Place → Type 0
+IsSum count sum = All (IsPlace count) sum × (length sum ≤ longest)
+
+abbrev pub IsSwitch : ℕ → Option Term → Type 0
+IsSwitch count switch = IfSome switch (IsTerm count)
+
+-- terms, lists and numbers are within their limits, and lists have the lengths that the constraint asks for
+unfoldable pub IsWellFormed : ℕ → Constraint → Type 0
+IsWellFormed count (Compare relation left right switch) = IsTerm count left × IsTerm count right × IsSwitch count switch
+IsWellFormed count (BoolNot left right) = IsTerm count left × IsTerm count right
+IsWellFormed count (BoolToInt boolean integer) = IsTerm count boolean × IsTerm count integer
+IsWellFormed count (Linear sum comparison bound switch) = IsSum count sum × (unsigned_abs bound ≤ 1000000000) × IsSwitch count switch
+IsWellFormed count (BoolLinEq sum total) = IsSum count sum × IsTerm count total
+IsWellFormed count (Arithmetic operation left right result) = IsTerm count left × IsTerm count right × IsTerm count result
+IsWellFormed count (IntAbs of result) = IsTerm count of × IsTerm count result
+IsWellFormed count (Extremum extreme entries result) = AreTerms count entries × IsTerm count result × (0 < length entries)
+IsWellFormed count (Element index entries value) = IsTerm count index × AreTerms count entries × IsTerm count value
+IsWellFormed count (SetIn term set switch) = IsTerm count term × IsLimited set × IsSwitch count switch
+IsWellFormed count (Gated gate inputs result) = AreTerms count inputs × IsTerm count result
+IsWellFormed count (BoolXor left right result) = IsTerm count left × IsTerm count right × IsTerm count result
+IsWellFormed count (ArrayBoolXor inputs) = AreTerms count inputs
+IsWellFormed count (BoolClause positive negative) = AreTerms count positive × AreTerms count negative
+IsWellFormed count (AllDifferent places) = AreTerms count places
+IsWellFormed count (Table places rows) = AreTerms count places × (0 < length places) × All IsInLimits rows × (length rows ≤ longest) × (length rows % length places ≡ 0)
+IsWellFormed count (Cumulative starts durations uses capacity) = AreTerms count starts × AreTerms count durations × AreTerms count uses × IsTerm count capacity
+    × (length durations ≡ length starts) × (length uses ≡ length starts) × All IsNotNegative durations × All IsNotNegative uses × IsNotNegative capacity
+IsWellFormed count (Circuit successors) = AreTerms count successors
+IsWellFormed count (Inverse forward backward) = AreTerms count forward × AreTerms count backward × (length backward ≡ length forward)
+
+-- the terms that are Boolean wherever the constraint stands in a file: they have to be 0 or 1 for it to say what its name says
 unfoldable pub booleans_of : Constraint → List Term
+booleans_of (Compare relation left right switch) = option_to_list switch
+booleans_of (BoolNot left right) = left ∷ right ∷ []
+booleans_of (BoolToInt boolean integer) = boolean ∷ []
+booleans_of (Linear sum comparison bound switch) = option_to_list switch
+booleans_of (SetIn term set switch) = option_to_list switch
+booleans_of (Gated gate inputs result) = result ∷ inputs
+booleans_of (BoolXor left right result) = left ∷ right ∷ result ∷ []
+booleans_of (ArrayBoolXor inputs) = inputs
 booleans_of (BoolClause positive negative) = positive ++ negative
-booleans_of (IntLinLe sum bound) = []
+booleans_of _ = []
 
 abbrev pub IsBit : ℤ → Type 0
 IsBit x = (x ≡ pos 0) ⊎ (x ≡ pos 1)

@@ -1,5 +1,5 @@
 -- Terms, and weighted sums of them.
-use Rattle.std.specs.Prelude.{ℕ, ◌≤◌, ℤ, pos, ◌+ℤ◌, ◌*ℤ◌, List, unsigned_abs}
+use Rattle.std.specs.Prelude.{ℕ, ◌≤◌, ℤ, pos, ◌+ℤ◌, ◌*ℤ◌, ◌≤ℤ◌, List, map, unsigned_abs}
 use Rattle.std.specs.List.{fold}
 use Rattle.fzn_domain.specs.Limits.{IsInLimits}
 use Rattle.fzn_domain.specs.Narrow.{IsVariable, value_of}
@@ -11,6 +11,10 @@ use Rattle.fzn_meaning.specs.declared.term.Place.{Place}
 abbrev pub term_value : List ℤ → Term → ℤ
 term_value values (Constant k) = k
 term_value values (Variable var) = value_of values var
+
+-- the values of the terms, in order
+abbrev pub values_of : List ℤ → List Term → List ℤ
+values_of values terms = map (term_value values) terms
 
 -- the sum over the places of what each gives
 abbrev pub total_by : (Place → ℤ) → List Place → ℤ
@@ -27,6 +31,11 @@ sum_at values places = total_by (product_at values) places
 abbrev pub IsTerm : ℕ → Term → Type 0
 IsTerm count (Constant k) = IsInLimits k
 IsTerm count (Variable var) = IsVariable count var
+
+-- a constant is not below 0
+abbrev pub IsNotNegative : Term → Type 0
+IsNotNegative (Constant k) = pos 0 ≤ℤ k
+IsNotNegative (Variable var) = Unit {0}
 
 abbrev pub IsPlace : ℕ → Place → Type 0
 IsPlace count place = IsTerm count place.term × (unsigned_abs place.coefficient ≤ 1000000000)

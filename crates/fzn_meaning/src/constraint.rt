@@ -1,50 +1,119 @@
-// Constraints, and whether values meet one.
-ghost use Rattle.std.specs.Prelude.{◌≡◌, ◌↔◌, IsTrue, length};
-ghost use Rattle.std.specs.List.{All, Any};
-ghost use Rattle.fzn_meaning.specs.Term.{term_value, IsTerm};
-ghost use Rattle.fzn_meaning.specs.Meaning.{Meets, IsWellFormed};
+// The constraints of a model.
 
-use crate::sum::sum_at;
+use crate::arithmetic::Operation;
+use crate::boolean::Gate;
+use crate::extremum::Extreme;
+use crate::relation::{Comparison, Relation};
 use crate::term::{Place, Term};
+use fzn_domain::Domain;
 use fzn_list::Items;
 
-/// A numbered constraint, by the name that a file gives it.
-#[derive(Debug, Drop)]
+/// A numbered constraint. A switch is a Boolean term that is 1 exactly when the constraint without it holds.
+#[derive(Drop)]
 pub enum Constraint {
+    /// `int_eq`, `int_ne`, `int_le`, `int_lt`, `bool_eq`, `bool_le`, `bool_lt`, and with a switch their `_reif` forms.
+    Compare {
+        relation: Relation,
+        left: Term,
+        right: Term,
+        switch: Option<Term>,
+    },
+    /// The two differ.
+    BoolNot {
+        left: Term,
+        right: Term,
+    },
+    /// `bool2int`
+    BoolToInt {
+        boolean: Term,
+        integer: Term,
+    },
+    /// `int_lin_eq`, `int_lin_le`, `int_lin_ne`, `bool_lin_le`, and with a switch the `_reif` forms of the first three.
+    Linear {
+        sum: Items<Place>,
+        comparison: Comparison,
+        bound: i64,
+        switch: Option<Term>,
+    },
+    /// The sum is the value of a term.
+    BoolLinEq {
+        sum: Items<Place>,
+        total: Term,
+    },
+    /// `int_plus`, `int_times`, `int_div`, `int_mod`
+    Arithmetic {
+        operation: Operation,
+        left: Term,
+        right: Term,
+        result: Term,
+    },
+    /// The result is the amount of the other term.
+    IntAbs {
+        of: Term,
+        result: Term,
+    },
+    /// `int_min`, `int_max` with two entries, `array_int_minimum`, `array_int_maximum`
+    Extremum {
+        extreme: Extreme,
+        entries: Items<Term>,
+        result: Term,
+    },
+    /// The four element constraints.
+    Element {
+        index: Term,
+        entries: Items<Term>,
+        value: Term,
+    },
+    /// `set_in`, and with a switch `set_in_reif`.
+    SetIn {
+        term: Term,
+        set: Domain,
+        switch: Option<Term>,
+    },
+    /// `bool_and`, `bool_or` with two inputs, `array_bool_and`, `array_bool_or`
+    Gated {
+        gate: Gate,
+        inputs: Items<Term>,
+        result: Term,
+    },
+    /// The result is 1 exactly when one of the two is.
+    BoolXor {
+        left: Term,
+        right: Term,
+        result: Term,
+    },
+    /// An odd number of inputs are 1.
+    ArrayBoolXor {
+        inputs: Items<Term>,
+    },
     /// Some positive term is 1, or some negative one is 0.
     BoolClause {
         positive: Items<Term>,
         negative: Items<Term>,
     },
-    /// The sum over the places is at most the bound.
-    IntLinLe {
-        sum: Items<Place>,
-        bound: i64,
+    /// No two places have one value.
+    AllDifferent {
+        places: Items<Term>,
     },
-}
-
-/// Whether the values meet the constraint.
-#[tactic(auto, unfolding(crate::specs::Meaning::Meets, crate::specs::Meaning::IsWellFormed))]
-pub fn holds(constraint: &Constraint, values: &[i64]) -> bool
-    requires { IsWellFormed (length values.now) constraint.now }
-    ensures { IsTrue result ↔ Meets constraint.now values.now }
-{
-    match constraint {
-        Constraint::BoolClause { positive, negative } => {
-            has_value(positive.as_slice(), values, 1) || has_value(negative.as_slice(), values, 0)
-        }
-        Constraint::IntLinLe { sum, bound } => sum_at(sum.as_slice(), values) <= *bound as i128,
-    }
-}
-
-fn has_value(terms: &[Term], values: &[i64], wanted: i64) -> bool
-    requires { All (IsTerm (length values.now)) terms.now }
-    ensures { IsTrue result ↔ Any (λ term. term_value values.now term ≡ wanted) terms.now }
-{
-    for term in terms {
-        if term.value(values) == wanted {
-            return true;
-        }
-    }
-    false
+    /// Some row equals the places. The rows stand one after another.
+    Table {
+        places: Items<Term>,
+        rows: Items<i64>,
+    },
+    /// The tasks that run at one time use no more than the capacity together.
+    Cumulative {
+        starts: Items<Term>,
+        durations: Items<Term>,
+        uses: Items<Term>,
+        capacity: Term,
+    },
+    /// From each place to its successor is one cycle through all places.
+    Circuit {
+        successors: Items<Term>,
+    },
+    /// Each list leads back from the places that the other names.
+    Inverse {
+        forward: Items<Term>,
+        backward: Items<Term>,
+    },
 }

@@ -1,20 +1,40 @@
 //! Models, and what they mean.
 //!
 //! In: a model and lists of values, one for each variable. Out: whether the values meet a constraint, are a solution, are better than
-//! others, and the clause that a solution adds. Proved against `specs/Meaning.antt` (the meaning of a constraint) and
-//! `specs/Solutions.antt` (assignment, solution, better, proper, exhausted, cut).
+//! others, and the clause that a solution adds. Proved against `specs/Meaning.antt` (the meaning of each constraint, on the values of
+//! its terms by the files of `specs/` that it names) and `specs/Solutions.antt` (assignment, solution, better, proper, exhausted, cut).
 #![tactic(auto)]
 
-pub use constraint::{Constraint, holds};
+pub use arithmetic::Operation;
+pub use boolean::Gate;
+pub use constraint::Constraint;
+pub use extremum::Extreme;
+pub use meaning::holds;
 pub use model::{Goal, IndexRange, Kind, Model, OutputItem, Var, better, is_solution};
+pub use relation::{Comparison, Relation};
 pub use solution_cut::cut;
 pub use sum::plus_product;
 pub use term::{Place, Term};
 
+mod all_different;
+mod arithmetic;
+mod boolean;
+mod circuit;
+mod comparison;
 mod constraint;
+mod cumulative;
+mod element;
+mod entries;
+mod extremum;
+mod inverse;
+mod linear;
+mod meaning;
 mod model;
+mod relation;
+mod set;
 mod solution_cut;
 mod sum;
+mod table;
 mod term;
 #[cfg(test)]
 mod tests;

@@ -6,7 +6,8 @@ ghost use Rattle.fzn_meaning.specs.Meaning.{Meets, IsWellFormed as IsWellFormedC
 ghost use Rattle.fzn_meaning.specs.Solutions.{IsSolution, IsBetter, declared_sets};
 ghost use Rattle.fzn_meaning.specs.WellFormed.{IsWellFormed, IsGoal};
 
-use crate::constraint::{Constraint, holds};
+use crate::constraint::Constraint;
+use crate::meaning::holds;
 use crate::term::Term;
 use fzn_domain::{Domain, VarId};
 use fzn_list::{Items, Text};

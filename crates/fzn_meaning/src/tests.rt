@@ -12,6 +12,8 @@ use fzn_list::{Items, Text};
 use std::alloc::Global;
 use std::test::*;
 
+mod kinds;
+
 fn one<T: Drop>(alloc: Global, item: T) -> Result<Items<T>, Memory>
     ensures { IfOk result (λ items. items ≡ item ∷ []) }
 {
@@ -43,9 +45,11 @@ fn sum_at_most_13(alloc: Global) -> Result<Constraint, Memory>
         coefficient: 3,
         term: Term::Variable(VarId(2)),
     };
-    Ok(Constraint::IntLinLe {
+    Ok(Constraint::Linear {
         sum: two(alloc, x, y)?,
+        comparison: Comparison::AtMost,
         bound: 13,
+        switch: None,
     })
 }
 
@@ -87,24 +91,6 @@ fn small_model(alloc: Global, goal: Goal) -> Result<Model, Memory>
         outputs: two(alloc, VarId(1), VarId(2))?,
         shown: Items::new(alloc),
     })
-}
-
-#[test]
-fn constraints_at_values(rt: HostRuntime) -> Result<(), Fail> {
-    let alloc = rt.alloc();
-    let sum = sum_at_most_13(alloc)?;
-    let clause = x_or_not_1(alloc)?;
-    for (values, below, some) in [
-        // values, whether 2 x + 3 y <= 13, whether x is 1
-        ([1, 3], true, true),
-        ([2, 3], true, false),
-        ([1, 4], false, true),
-        ([0, 5], false, false),
-    ] {
-        assert_eq!(rt; holds(&sum, &values), below, "the sum at {values:?}");
-        assert_eq!(rt; holds(&clause, &values), some, "the clause at {values:?}");
-    }
-    Ok(())
 }
 
 #[test]

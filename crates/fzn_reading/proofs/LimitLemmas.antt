@@ -1,5 +1,5 @@
 -- What the tokens of a file spell is within the limits.
-use Rattle.std.proofs.Common.{◌≡◌, ℕ, suc, ◌+◌, ◌≤◌, Bool, true, false, List, [], ◌∷◌, ◌++◌, length, None, inl, inr, sym, subst, refl, Ok, arith, nat_lt}
+use Rattle.std.proofs.Common.{◌≡◌, ℕ, suc, ◌+◌, ◌≤◌, Bool, true, false, List, [], ◌∷◌, ◌++◌, length, Option, Some, None, inl, inr, sym, subst, refl, Ok, arith, nat_lt}
 use Rattle.std.proofs.lemmas.Int.{ints}
 use Rattle.std.proofs.lemmas.List.Elements.{All-cons, All-nil}
 use Rattle.std.specs.Prelude.{ℤ}
@@ -12,21 +12,29 @@ use Rattle.fzn_lexer.specs.Lexemes.{IsSmall, IsInRange}
 use Rattle.fzn_lexer.specs.Tokens.{Lexes, Stand}
 use Rattle.fzn_parser.specs.declared.tree.Arg.{Arg}
 use Rattle.fzn_parser.specs.declared.tree.Arg.TheVariants as args
+use Rattle.fzn_parser.specs.declared.tree.Array.{Array}
 use Rattle.fzn_parser.specs.declared.tree.Base.{Base}
 use Rattle.fzn_parser.specs.declared.tree.Base.TheVariants as bases
 use Rattle.fzn_parser.specs.declared.tree.Basic.{Basic}
 use Rattle.fzn_parser.specs.declared.tree.Basic.TheVariants as basics
 use Rattle.fzn_parser.specs.declared.tree.Con.{Con}
+use Rattle.fzn_parser.specs.declared.tree.Literal.{Literal}
 use Rattle.fzn_parser.specs.declared.tree.Literal.TheVariants as l
+use Rattle.fzn_parser.specs.declared.tree.Param.{Param}
+use Rattle.fzn_parser.specs.declared.tree.ParamValue.{ParamValue}
+use Rattle.fzn_parser.specs.declared.tree.ParamValue.TheVariants as param_values
+use Rattle.fzn_parser.specs.declared.tree.Range.{Range}
 use Rattle.fzn_parser.specs.declared.tree.Tree.{Tree}
+use Rattle.fzn_parser.specs.declared.tree.Values.{Values}
 use Rattle.fzn_parser.specs.declared.tree.Values.TheVariants as values_are
 use Rattle.fzn_parser.specs.declared.tree.Var.{Var}
 use Rattle.fzn_parser.specs.declared.tree.Var.TheVariants as vars
 use Rattle.fzn_parser.specs.Grammar as G
 use Rattle.fzn_parser.specs.Parse.{IsTree}
 use Rattle.fzn_parser.specs.Piece.{Piece, AreSpelled, AreWithin, sign, each, each_by, one_more, marked}
-use Rattle.fzn_typing.specs.Limits.{IsBaseWithin, IsVarWithin, IsBasicWithin, IsArgWithin, IsConWithin, IsWithinLimits}
-use Rattle.fzn_typing.specs.Models.{vars_of}
+use Rattle.fzn_names.specs.Limits.{IsRangeWithin, IsLiteralWithin, AreValuesWithin, IsBaseWithin, IsBasicWithin, IsValueWithin, AreEntriesWithin, IsParamValueWithin, IsParamWithin, IsVarWithin}
+use Rattle.fzn_names.specs.Variables.{vars_of}
+use Rattle.fzn_typing.specs.Limits.{IsArgWithin, IsConWithin, IsWithinLimits}
 
 -- ---- pieces
 
@@ -103,18 +111,81 @@ limited z (n, few, inr e) = subst IsInLimits (sym e) (omega (arith, ints, few), 
 
 -- ---- the tree
 
+range_within : (r : Range) → AreFine (G.range r) → IsRangeWithin r
+range_within r f = (limited r.low.value f.0.0, limited r.high f.1.1.0.0)
+
+listed_within : (all : List ℤ) → AreFine (G.listed G.listed_value s.CloseBrace all) → All IsInLimits all
+listed_within all f = listed_all IsInLimits G.listed_value s.CloseBrace (λ n z g. limited z (fine_marked (nat_lt n G.most_listed) (G.number z) g).0.0) all f
+
+values_within : (values : Values) → AreFine (G.values values) → AreValuesWithin values
+values_within (values_are.Range r) f = range_within r f
+values_within (values_are.Listed all) f = listed_within all f.1
+
+literal_within : (literal : Literal) → AreFine (G.literal literal) → IsLiteralWithin literal
+literal_within (l.Bool b place) f = tt
+literal_within (l.Int i) f = limited i.value f.0.0
+literal_within (l.Range r) f = range_within r f
+literal_within (l.Set place all) f = listed_within all f.1
+
+literal_has : (literal : Literal) → HasPiece (G.literal literal)
+literal_has (l.Int i) = tt
+literal_has (l.Bool true place) = tt
+literal_has (l.Bool false place) = tt
+literal_has (l.Range r) = tt
+literal_has (l.Set place all) = tt
+
+basic_within : (basic : Basic) → AreFine (G.basic basic) → IsBasicWithin basic
+basic_within (basics.Literal literal) f = literal_within literal f
+basic_within (basics.Name n) f = tt
+
+basic_has : (basic : Basic) → HasPiece (G.basic basic)
+basic_has (basics.Literal literal) = literal_has literal
+basic_has (basics.Name n) = tt
+
+array_within : (a : Array) → AreFine (G.array a) → AreEntriesWithin a.entries
+array_within a f = (
+  listed_all IsBasicWithin G.entry s.CloseBracket (λ n basic g. basic_within basic (fine_marked (nat_lt n G.most) (G.basic basic) g)) a.entries f.1,
+  listed_few G.basic s.CloseBracket basic_has a.entries f.1,
+)
+
+-- ---- declarations
+
+param_value_within : (value : ParamValue) → AreFine (G.param_value value) → IsParamValueWithin value
+param_value_within (param_values.Literal literal) f = literal_within literal f
+param_value_within (param_values.Array place all) f = (
+  listed_all IsLiteralWithin G.param_entry s.CloseBracket (λ n literal g. literal_within literal (fine_marked (nat_lt n G.most) (G.literal literal) g)) all f.1,
+  listed_few G.literal s.CloseBracket literal_has all f.1,
+)
+
+param_within : (param : Param) → AreFine (G.param param) → IsParamWithin param
+param_within param f =
+    let typed = (fine_split (G.param_array param.size) _ f).1 in
+    let named = (fine_split (G.param_base param.base) _ typed).1 in
+    param_value_within param.value (fine_split (G.param_value param.value) _ named.1.1.1).0
+
 base_within : (base : Base) → AreFine (G.base base) → IsBaseWithin base
 base_within bases.Bool f = tt
 base_within (bases.Int place) f = tt
-base_within (bases.Values (values_are.Range r)) f = (limited r.low.value f.0.0, limited r.high f.1.1.0.0)
-base_within (bases.Values (values_are.Listed all)) f = tt
+base_within (bases.Values values) f = values_within values f
 base_within (bases.Set place v) f = tt
 
+given_within : (value : Option Basic) → AreFine (G.given value) → IsValueWithin value
+given_within None f = tt
+given_within (Some value) f = basic_within value f.1
+
 var_within : (n : ℕ) (var : Var) → AreFine (G.var n var) → IsVarWithin var
-var_within n (vars.Array v) f = tt
+var_within n (vars.Array v) f =
+    let valued = sign s.Equals ++ (G.array v.array ++ sign s.Semicolon) in
+    let named = sign s.Colon ++ (G.name v.name ++ (G.anns v.anns ++ valued)) in
+    let typed = fine_split (G.array_of v.size) (sign s.Var ++ (G.base v.base ++ named)) f in
+    let r = fine_split (G.base v.base) named typed.1.1 in
+    let behind = fine_split (G.anns v.anns) valued r.1.1.1 in
+    (base_within v.base r.0, array_within v.array (fine_split (G.array v.array) (sign s.Semicolon) behind.1.1).0)
 var_within n (vars.Single v) f =
     let g = fine_marked (nat_lt n G.most) (G.single_var v) f in
-    base_within v.base (fine_split (G.base v.base) _ g.1).0
+    let r = fine_split (G.base v.base) _ g.1 in
+    let valued = (fine_split (G.anns v.anns) _ r.1.1.1).1 in
+    (base_within v.base r.0, given_within v.value (fine_split (G.given v.value) _ valued).0)
 
 vars_few : (n : ℕ) (all : List Var) → n ≤ G.most → AreFine (each_by G.singles_with G.var n all) → n + length (vars_of all) ≤ G.most
 vars_few n [] few f = omega (arith, few)
@@ -125,27 +196,11 @@ vars_few n (vars.Single v ∷ more) few f =
     let rest = vars_few (suc n) more (grind (arith, below)) r.1 in
     omega (arith, rest)
 
-basic_within : (basic : Basic) → AreFine (G.basic basic) → IsBasicWithin basic
-basic_within (basics.Literal (l.Int i)) f = limited i.value f.0.0
-basic_within (basics.Literal (l.Bool b place)) f = tt
-basic_within (basics.Literal (l.Range r)) f = tt
-basic_within (basics.Literal (l.Set place all)) f = tt
-basic_within (basics.Name n) f = tt
-
-basic_has : (basic : Basic) → HasPiece (G.basic basic)
-basic_has (basics.Literal (l.Int i)) = tt
-basic_has (basics.Literal (l.Bool true place)) = tt
-basic_has (basics.Literal (l.Bool false place)) = tt
-basic_has (basics.Literal (l.Range r)) = tt
-basic_has (basics.Literal (l.Set place all)) = tt
-basic_has (basics.Name n) = tt
+-- ---- constraints
 
 arg_within : (arg : Arg) → AreFine (G.arg arg) → IsArgWithin arg
 arg_within (args.Basic basic) f = basic_within basic f
-arg_within (args.Array a) f = (
-  listed_all IsBasicWithin G.entry s.CloseBracket (λ n basic g. basic_within basic (fine_marked (nat_lt n G.most) (G.basic basic) g)) a.entries f.1,
-  listed_few G.basic s.CloseBracket basic_has a.entries f.1,
-)
+arg_within (args.Array a) f = array_within a f
 
 con_within : (con : Con) → AreFine (G.con con) → IsConWithin con
 con_within con f = listed_all IsArgWithin (λ n. G.arg) s.CloseParen (λ n arg g. arg_within arg g) con.args (fine_split (G.listed (λ n. G.arg) s.CloseParen con.args) _ f.1.1.1).0
@@ -158,13 +213,16 @@ tree_within bytes tokens tree lexed parsed =
     let items = (fine_split (G.items tree) (sign s.End) fine).0 in
     let past_predicates = (fine_split (each (λ n. G.predicate) 0 tree.predicates) _ items).1 in
     let parts = fine_split (G.declarations (tree.params, tree.vars)) _ past_predicates in
-    let variables = (fine_split (each (λ n. G.param) 0 tree.params) _ parts.0).1 in
+    let declared = fine_split (each (λ n. G.param) 0 tree.params) _ parts.0 in
     let constraints = (fine_split (each (λ n c. marked (nat_lt n G.most) (G.con c)) 0 tree.cons) _ parts.1).0 in
-    let few_vars = vars_few 0 tree.vars (omega arith) variables in
+    let few_vars = vars_few 0 tree.vars (omega arith) declared.1 in
     let few_cons = each_few [] G.con (λ c. tt) 0 tree.cons (omega arith) constraints in
     record {
-      vars = each_by_all IsVarWithin G.singles_with G.var var_within 0 tree.vars variables;
-      few_vars = omega (arith, few_vars);
+      declarations = record {
+        params = each_by_all IsParamWithin one_more (λ n. G.param) (λ n param g. param_within param g) 0 tree.params declared.0;
+        vars = each_by_all IsVarWithin G.singles_with G.var var_within 0 tree.vars declared.1;
+        few_vars = omega (arith, few_vars);
+      };
       cons = each_by_all IsConWithin one_more (λ n c. marked (nat_lt n G.most) (G.con c)) (λ n c g. con_within c (fine_marked (nat_lt n G.most) (G.con c) g)) 0 tree.cons constraints;
       few_cons = omega (arith, few_cons);
     }

@@ -6,6 +6,9 @@ use std::io::Read;
 use std::string::String;
 use std::test::*;
 
+mod items;
+mod models;
+
 /// Gives `most` bytes a call, and at the end fails where it is to.
 #[derive(Drop)]
 struct Pieces<'a> {

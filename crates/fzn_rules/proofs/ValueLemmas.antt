@@ -2,20 +2,21 @@
 use Rattle.std.proofs.Common.{◌≡◌, ℕ, zero, suc, ◌-◌, ◌<◌, List, [], ◌∷◌, Bool, false, ◌||◌, cond, length, get_or, refl, sym, ap, ◌∙◌, inl, inr, arith, nat_eq, ℤ, pos, negsuc, ◌*ℤ◌, ◌≤ℤ◌, int_lt}
 use Rattle.std.proofs.lemmas.Int.{ints}
 use Rattle.std.specs.List.{list_any}
-use Rattle.std.specs.Ordering.{int_cmp, eq_by_cmp}
+use Rattle.std.specs.Ordering.{int_cmp, eq_by_cmp, int_eq}
 use Rattle.std.specs.FinSet as set
-use Rattle.std.proofs.lemmas.Bool.{or_parts, cases_lt, false≢true}
+use Rattle.std.proofs.lemmas.Bool.{or_parts, cases_lt, cases_Bool, false≢true}
 use Rattle.std.proofs.lemmas.Bool.Decides.{Decides-int_eq}
 use Rattle.std.proofs.lemmas.List.{get_or_past}
 use Rattle.fzn_domain.specs.declared.literal.VarId.{VarId}
 use Rattle.fzn_domain.specs.IntSet.{IntSet, size, no_values, least, greatest, least_in, greatest_in}
 use Rattle.fzn_domain.specs.Narrow.{IsVariable, IsWithin, set_of, value_of, is_some_empty}
-use Rattle.fzn_domain.proofs.SetLemmas.{contains-no_values, least_le, le_greatest}
+use Rattle.fzn_domain.proofs.SetLemmas.{contains-no_values, contains-least, contains-greatest, member_of_size, least_le, le_greatest}
 use Rattle.fzn_meaning.specs.declared.term.Term.{Term}
 use Rattle.fzn_meaning.specs.declared.term.Term.TheVariants.{Constant, Variable}
 use Rattle.fzn_meaning.specs.declared.term.Place.{Place}
-use Rattle.fzn_meaning.specs.Term.{term_value, product_at, sum_at}
+use Rattle.fzn_meaning.specs.Term.{term_value, product_at, sum_at, IsTerm}
 use Rattle.fzn_rules.specs.Linear.{least_value, greatest_value, low_product, high_product, least_sum, greatest_sum, IsFixedTo}
+use Rattle.fzn_rules.specs.Terms.{MayBe}
 use Rattle.fzn_rules.proofs.ProductLemmas.{mono_up, mono_down}
 use Rattle.fzn_rules.proofs.SumLemmas.{total_le}
 
@@ -86,3 +87,29 @@ sum_between sets values places within = (
 -- a term that is fixed has its one value
 pub fixed_value : (sets : List IntSet) (values : List ℤ) (term : Term) (k : ℤ) → IsWithin sets values → IsFixedTo sets term k → term_value values term ≡ k
 fixed_value sets values term k within fixed = let between = term_between sets values term within in omega (arith, ints)
+
+-- ---- terms with one value
+
+-- a value of a term lies between its ends
+pub MayBe-between : (sets : List IntSet) (term : Term) (v : ℤ) → MayBe sets term v → IsBetween (least_value sets term) (greatest_value sets term) v
+MayBe-between sets (Constant k) v may = (same_le k v may, same_le v k (sym may))
+MayBe-between sets (Variable var) v may = (least_le (set_of sets var) v may, le_greatest (set_of sets var) v may)
+
+-- its ends are values
+pub MayBe-ends : (sets : List IntSet) (term : Term) → is_some_empty sets ≡ false → IsTerm (length sets) term → MayBe sets term (least_value sets term) × MayBe sets term (greatest_value sets term)
+MayBe-ends sets (Constant k) none formed = (refl, refl)
+MayBe-ends sets (Variable var) none formed =
+    let some = member_of_size (set_of sets var) (some_value sets var none formed) in
+    (contains-least (set_of sets var) some.0 some.1, contains-greatest (set_of sets var) some.0 some.1)
+
+-- where no value but k is left, the term is fixed to k
+pub only_value : (sets : List IntSet) (term : Term) (k : ℤ) → is_some_empty sets ≡ false → IsTerm (length sets) term → ((v : ℤ) → MayBe sets term v → (v ≡ k → ⊥) → ⊥) → IsFixedTo sets term k
+only_value sets term k none formed only =
+    let ends = MayBe-ends sets term none formed in
+    (decided (least_value sets term) k (only (least_value sets term) ends.0), decided (greatest_value sets term) k (only (greatest_value sets term) ends.1))
+  where
+    decided : (v k : ℤ) → ((v ≡ k → ⊥) → ⊥) → v ≡ k
+    decided v k h = elim (cases_Bool (int_eq v k)) [
+      | inl e ↦ (Decides-int_eq v k).0 e
+      | inr e ↦ absurd (h (λ same. false≢true (sym e ∙ (Decides-int_eq v k).1 same)))
+    ]

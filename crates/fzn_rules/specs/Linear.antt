@@ -1,13 +1,13 @@
 -- The least and the greatest sum, each place by itself.
-use Rattle.std.specs.Prelude.{◌≡◌, ◌⊎◌, ℤ, pos, ◌*ℤ◌, ◌≤ℤ◌, ◌<ℤ◌, int_lt, if◌then◌else◌, List}
+use Rattle.std.specs.Prelude.{◌≡◌, ◌⊎◌, ℤ, pos, ◌*ℤ◌, ◌≤ℤ◌, ◌<ℤ◌, int_lt, if◌then◌else◌, List, Option, MatchOption}
 use Rattle.fzn_domain.specs.IntSet.{IntSet, least, greatest}
 use Rattle.fzn_domain.specs.Narrow.{set_of}
 use Rattle.fzn_meaning.specs.declared.term.Term.{Term}
 use Rattle.fzn_meaning.specs.declared.term.Term.TheVariants.{Constant, Variable}
 use Rattle.fzn_meaning.specs.declared.term.Place.{Place}
+use Rattle.fzn_meaning.specs.declared.relation.Comparison.{Comparison}
+use Rattle.fzn_meaning.specs.declared.relation.Comparison.TheVariants.{AtMost, Equal, NotEqual}
 use Rattle.fzn_meaning.specs.Term.{total_by}
-use Rattle.fzn_rules.specs.declared.linear.Comparison.{Comparison}
-use Rattle.fzn_rules.specs.declared.linear.Comparison.TheVariants.{AtMost, Equal, NotEqual}
 
 -- the least and the greatest value of a term; a constant has its own one value
 abbrev pub least_value : List IntSet → Term → ℤ
@@ -40,12 +40,6 @@ greatest_sum sets places = total_by (high_product sets) places
 abbrev pub IsFixedTo : List IntSet → Term → ℤ → Type 0
 IsFixedTo sets term value = (least_value sets term ≡ value) × (greatest_value sets term ≡ value)
 
--- a sum stands so to the bound
-abbrev pub Compares : Comparison → ℤ → ℤ → Type 0
-Compares AtMost sum bound = sum ≤ℤ bound
-Compares Equal sum bound = sum ≡ bound
-Compares NotEqual sum bound = sum ≡ bound → ⊥
-
 -- no sum from low to high compares so with the bound
 abbrev pub NoneCompares : Comparison → ℤ → ℤ → ℤ → Type 0
 NoneCompares AtMost low high bound = bound <ℤ low
@@ -57,3 +51,8 @@ abbrev pub AllCompare : Comparison → ℤ → ℤ → ℤ → Type 0
 AllCompare AtMost low high bound = high ≤ℤ bound
 AllCompare Equal low high bound = (low ≡ bound) × (high ≡ bound)
 AllCompare NotEqual low high bound = (bound <ℤ low) ⊎ (high <ℤ bound)
+
+-- without a switch no sum compares so; with one it is fixed to 1 and no sum does, or to 0 and every sum does
+abbrev pub IsExcluded : List IntSet → Option Term → Comparison → ℤ → ℤ → ℤ → Type 0
+IsExcluded sets switch comparison low high bound = MatchOption switch (NoneCompares comparison low high bound) (λ term.
+    (IsFixedTo sets term (pos 1) × NoneCompares comparison low high bound) ⊎ (IsFixedTo sets term (pos 0) × AllCompare comparison low high bound))

@@ -4,7 +4,16 @@ ghost use Rattle.fzn_domain.specs.Narrow.{is_some_empty, IsWithin};
 ghost use Rattle.fzn_meaning.specs.Meaning.{IsWellFormed, HasBooleanValues, Meets};
 ghost use Rattle.fzn_rules.specs.Rules.{IsMet};
 
+use crate::choices::{is_enum_met, is_fixed_met};
+use crate::cut::is_cut_met;
+use crate::energy::is_energy_met;
+use crate::global_rows::is_global_rows_met;
+use crate::hall::is_hall_met;
 use crate::linear::is_lin_met;
+use crate::load::is_load_met;
+use crate::pair::is_pair_met;
+use crate::product::is_box_met;
+use crate::rows::is_rows_met;
 use crate::rule::Rule;
 use crate::state::State;
 use fzn_meaning::Constraint;
@@ -28,6 +37,14 @@ fn is_met(constraint: &Constraint, state: &State, rule: &Rule) -> bool
 {
     match rule {
         Rule::Lin => is_lin_met(constraint, state),
-        _ => false,
+        Rule::Rows => { is_rows_met(constraint, state) || is_global_rows_met(constraint, state) }
+        Rule::Box => is_box_met(constraint, state),
+        Rule::Fixed => is_fixed_met(constraint, state),
+        Rule::Enum => is_enum_met(constraint, state),
+        Rule::Hall(low, high) => is_hall_met(constraint, state, low, high),
+        Rule::Load(time) => is_load_met(constraint, state, time),
+        Rule::Energy(from, until) => is_energy_met(constraint, state, from, until),
+        Rule::Cut(places) => is_cut_met(constraint, state, places.as_slice()),
+        Rule::Pair(first, second) => is_pair_met(constraint, state, first, second),
     }
 }

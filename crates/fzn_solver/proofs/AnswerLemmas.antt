@@ -42,8 +42,15 @@ pub certificate-verdict : (model : Model) (steps : List Step) (closed : Bool) â†
 certificate-verdict model steps closed formed all_accepted have_lines refuted =
     let few_vars = formed.few_vars in
     let few_constraints = formed.few_constraints in
-    inr (One, (omega arith, omega arith), (Some (lines_of steps ++ end_line closed), append_assoc (header_lines (header_of model One)) (lines_of steps) (end_line closed),
-    (steps, have_lines, all_accepted, (Some (end_line closed), refl, ((Some [], sym (append-nil (end_line closed)), refl), refuted, refl)))))
+    inr (
+      One,
+      (omega arith, omega arith),
+      (
+        Some (lines_of steps ++ end_line closed),
+        append_assoc (header_lines (header_of model One)) (lines_of steps) (end_line closed),
+        (steps, have_lines, all_accepted, (Some (end_line closed), refl, ((Some [], sym (append-nil (end_line closed)), refl), refuted, refl))),
+      ),
+    )
 
 -- ---- the text of the answer
 

@@ -119,7 +119,7 @@ module _ {W C : Type 0} (outs : W → Option (List ℕ)) (certs : C → Option (
   left-on_way before now fault formed fresh alone same all_accepted kept = (
     later fault,
     inl (stopped-by model all now.alone (taken now) (certs kept.cert_first) (cert_contents certs before.cert) (cert_contents certs now.cert) (outs kept.out_first) (out_contents outs before.out) (out_contents outs now.out) formed all_accepted
-    (ap (λ (o : List (W × C) × Bool × GName × GName). o.1) same ∙ alone) (certs-first before now fresh same kept) (outs-first before now fresh same kept) kept.standing),
+        (ap (λ (o : List (W × C) × Bool × GName × GName). o.1) same ∙ alone) (certs-first before now fresh same kept) (outs-first before now fresh same kept) kept.standing),
   )
 
   -- at the end
@@ -129,8 +129,8 @@ module _ {W C : Type 0} (outs : W → Option (List ℕ)) (certs : C → Option (
       let O : Printer W → Type 0 = λ p. IsStanding model now.alone (taken now) (certs kept.cert_first) (cert_contents certs after.cert) (outs kept.out_first) (out_contents outs p) in (
         later fault,
         inl (stopped-by model all now.alone (taken now) (certs kept.cert_first) (cert_contents certs before.cert) (cert_contents certs after.cert) (outs kept.out_first) (out_contents outs before.out) (out_contents outs after.out) formed all_accepted
-        (ap (λ (o : List (W × C) × Bool × GName × GName). o.1) same ∙ alone) (certs-first before now fresh same kept) (outs-first before now fresh same kept)
-        (subst O (sym unfinished.out) (standing-refused model now.alone (taken now) (certs kept.cert_first) (cert_contents certs now.cert) (cert_contents certs after.cert) (outs kept.out_first) (out_contents outs now.out) (end_line (is_closed (ending_for ending n))) kept.standing unfinished.front))),
+            (ap (λ (o : List (W × C) × Bool × GName × GName). o.1) same ∙ alone) (certs-first before now fresh same kept) (outs-first before now fresh same kept)
+            (subst O (sym unfinished.out) (standing-refused model now.alone (taken now) (certs kept.cert_first) (cert_contents certs now.cert) (cert_contents certs after.cert) (outs kept.out_first) (out_contents outs now.out) (end_line (is_closed (ending_for ending n))) kept.standing unfinished.front))),
       )
   left-at_end before now after fault limits nodes n ending formed fresh alone same all_accepted outcome kept (inr (is_output, cut)) =
       let steps = taken now in
@@ -143,13 +143,16 @@ module _ {W C : Type 0} (outs : W → Option (List ℕ)) (certs : C → Option (
       let T : List ℕ → Type 0 = λ t. AppendsFront (out_contents outs before.out) (out_contents outs after.out) t in
       let front = answer-front model now.alone closed found (outs kept.out_first) (out_contents outs now.out) (out_contents outs after.out) (is_open now.out) (has_printed now.out) now.last.now (kept.out_in_step cut.was_open) kept.standing.shown cut.out.nothing cut.out.front in (
         later fault,
-        inr (ap fault_of_engine is_output, record {
-          steps = steps;
-          closed = closed;
-          written = subst K (certs-first before now fresh same kept) (Appends-then (certs kept.cert_first) (cert_contents certs now.cert) (cert_contents certs after.cert) (begun_certificate model steps) (end_line closed) in_step.lines cut.end);
-          verdict = certificate-verdict model steps closed formed all_accepted in_step.have_lines (closed-refuted model limits steps nodes n ending outcome.ended.truly);
-          proper = outcome.proper;
-          exhausted = closed-exhausted model steps n ending outcome.exhausted;
-          shown = subst T (answer-is model all closed found) (subst A (ap (λ (o : List (W × C) × Bool × GName × GName). o.1) same ∙ alone) (subst O (outs-first before now fresh same kept) front));
-        }),
+        inr (
+          ap fault_of_engine is_output,
+          record {
+            steps = steps;
+            closed = closed;
+            written = subst K (certs-first before now fresh same kept) (Appends-then (certs kept.cert_first) (cert_contents certs now.cert) (cert_contents certs after.cert) (begun_certificate model steps) (end_line closed) in_step.lines cut.end);
+            verdict = certificate-verdict model steps closed formed all_accepted in_step.have_lines (closed-refuted model limits steps nodes n ending outcome.ended.truly);
+            proper = outcome.proper;
+            exhausted = closed-exhausted model steps n ending outcome.exhausted;
+            shown = subst T (answer-is model all closed found) (subst A (ap (λ (o : List (W × C) × Bool × GName × GName). o.1) same ∙ alone) (subst O (outs-first before now fresh same kept) front));
+          },
+        ),
       )

@@ -200,9 +200,9 @@ module _ {W C : Type 0} (outs : W → Option (List ℕ)) (certs : C → Option (
         | inr closed ↦ front-found model false (found_by model (taken old)) values o (out_contents outs new.out) (front-kept o (out_contents outs old.out) (out_contents outs new.out) (shown_all model (found_by model (taken old))) front (behind.nothing closed))
       ])
       (λ o is_so opened step.
-        let known = behind.whole is_so opened in
-        let B : Bool → Type 0 = λ b. IsOutInStep model false (found_by model (taken old) ++ values ∷ []) o (out_contents outs new.out) b old.last.now in
-        subst B (sym known.2) (out-printed model (found_by model (taken old)) values o (out_contents outs old.out) (out_contents outs new.out) (has_printed old.out) old.last.now (step known.0) known.1)))
+      let known = behind.whole is_so opened in
+      let B : Bool → Type 0 = λ b. IsOutInStep model false (found_by model (taken old) ++ values ∷ []) o (out_contents outs new.out) b old.last.now in
+      subst B (sym known.2) (out-printed model (found_by model (taken old)) values o (out_contents outs old.out) (out_contents outs new.out) (has_printed old.out) old.last.now (step known.0) known.1)))
 
   -- nothing was printed yet, and nothing more is
   pub IsPrinted-none : (values : List ℤ) (goes : Type 0) (old new : Printer W) → new ≡ old → (goes → ⊥) → IsPrinted outs model values goes old new

@@ -12,4 +12,6 @@ pub use report::Report;
 mod answer;
 mod fault;
 mod report;
+#[cfg(test)]
+mod tests;
 mod writers;

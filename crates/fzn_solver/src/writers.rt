@@ -77,7 +77,13 @@ impl<'o, 'c, 'l, W: Write, C: Write> Writers<'o, 'c, 'l, W, C> {
 
 impl<'o, 'c, 'l, W: Write, C: Write> Writers<'o, 'c, 'l, W, C> {
     /// Writes the line of a solution, which waits for the end.
-    fn hold_back(&mut self, alloc: Global, model: &Model, step: &Step, values: &Items<i64>) -> Result<(), Fault>
+    fn hold_back(
+        &mut self,
+        alloc: Global,
+        model: &Model,
+        step: &Step,
+        values: &Items<i64>,
+    ) -> Result<(), Fault>
         requires spelled { IsSpelled One step.now }
         requires accepted { AllAccepted model.now (taken self.old ++ step.now ∷ []) }
         requires kept { IsKept W.contents C.contents model.now self.old }
@@ -95,7 +101,13 @@ impl<'o, 'c, 'l, W: Write, C: Write> Writers<'o, 'c, 'l, W, C> {
     }
 
     /// Writes the line of a solution, and prints the solution once the line is flushed.
-    fn print(&mut self, alloc: Global, model: &Model, step: &Step, values: &Items<i64>) -> Result<(), Fault>
+    fn print(
+        &mut self,
+        alloc: Global,
+        model: &Model,
+        step: &Step,
+        values: &Items<i64>,
+    ) -> Result<(), Fault>
         requires model { IsWellFormed model.now }
         requires spelled { IsSpelled One step.now }
         requires accepted { AllAccepted model.now (taken self.old ++ step.now ∷ []) }

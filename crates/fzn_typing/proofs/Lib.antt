@@ -1,6 +1,7 @@
-pub mod ConstraintLemmas
+pub mod AcceptedLemmas
+pub mod ArgumentLemmas
 pub mod FirstLemmas
-pub mod GivesLemmas
-pub mod NameLemmas
-pub mod VarLemmas
+pub mod ItemLemmas
+pub mod MadeLemmas
+pub mod TreeLemmas
 pub mod WellFormedLemmas

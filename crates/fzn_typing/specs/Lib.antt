@@ -1,9 +1,6 @@
-pub mod Annotations
 pub mod Arguments
+pub mod Constraints
 pub mod Faults
-pub mod Known
 pub mod Limits
 pub mod Models
-pub mod Names
-pub mod Places
 pub mod Typed

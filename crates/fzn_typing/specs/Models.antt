@@ -1,83 +1,66 @@
 -- The model that a tree without faults states.
-use Rattle.std.specs.Prelude.{◌≡◌, ◌↔◌, ℕ, ◌+◌, pos, List, [], ◌∷◌, ◌++◌, Option, Some, None, map, flat_map, option_map, length, Contains}
-use Rattle.std.specs.List.{Any, filter_map}
+use Rattle.std.specs.Prelude.{◌≡◌, ◌↔◌, List, [], ◌∷◌, ◌++◌, Option, Some, None, map, flat_map, option_map, Contains}
 use Rattle.fzn_domain.specs.declared.literal.VarId.{VarId}
-use Rattle.fzn_domain.specs.IntSet.{IntSet, no_values, range}
 use Rattle.fzn_meaning.specs.declared.constraint.Constraint.{Constraint}
-use Rattle.fzn_meaning.specs.declared.constraint.Constraint.TheVariants.{BoolClause, IntLinLe}
+use Rattle.fzn_meaning.specs.declared.constraint.Constraint.TheVariants.{SetIn}
 use Rattle.fzn_meaning.specs.declared.model.Goal.{Goal}
 use Rattle.fzn_meaning.specs.declared.model.Goal.TheVariants.{Satisfy, Minimize, Maximize}
+use Rattle.fzn_meaning.specs.declared.model.Kind.{Kind}
+use Rattle.fzn_meaning.specs.declared.model.Kind.TheVariants.{Integer, Boolean}
 use Rattle.fzn_meaning.specs.declared.model.Model.{Model}
-use Rattle.fzn_meaning.specs.declared.model.OutputItem.{OutputItem}
-use Rattle.fzn_meaning.specs.declared.model.OutputItem.TheVariants as items
-use Rattle.fzn_meaning.specs.declared.model.Var.{Var as ModelVar}
-use Rattle.fzn_meaning.specs.declared.term.Term.TheVariants as terms
+use Rattle.fzn_names.specs.Outputs.{IsShown, shown_from}
+use Rattle.fzn_names.specs.Values.{NameList, term_of}
+use Rattle.fzn_names.specs.Variables.{kind_of, values_in, vars_of}
 use Rattle.fzn_parser.specs.declared.tree.Arg.{Arg}
+use Rattle.fzn_parser.specs.declared.tree.Arg.TheVariants as args
 use Rattle.fzn_parser.specs.declared.tree.Base.{Base}
 use Rattle.fzn_parser.specs.declared.tree.Base.TheVariants as bases
+use Rattle.fzn_parser.specs.declared.tree.Basic.{Basic}
+use Rattle.fzn_parser.specs.declared.tree.Basic.TheVariants as basics
 use Rattle.fzn_parser.specs.declared.tree.Con.{Con}
 use Rattle.fzn_parser.specs.declared.tree.Goal.{Goal as Wanted}
 use Rattle.fzn_parser.specs.declared.tree.Goal.TheVariants as goals
 use Rattle.fzn_parser.specs.declared.tree.SingleVar.{SingleVar}
 use Rattle.fzn_parser.specs.declared.tree.Tree.{Tree}
-use Rattle.fzn_parser.specs.declared.tree.Values.TheVariants as values_are
 use Rattle.fzn_parser.specs.declared.tree.Var.{Var}
 use Rattle.fzn_parser.specs.declared.tree.Var.TheVariants as vars
 use Rattle.fzn_registry.specs.declared.name.Name.{Name}
 use Rattle.fzn_registry.specs.declared.name.Name.TheVariants as n
-use Rattle.fzn_typing.specs.Annotations.{is_marked}
-use Rattle.fzn_typing.specs.Arguments.{entries_at, terms_at, number_at, products}
-use Rattle.fzn_typing.specs.Faults.{supported_name, objective_of}
-use Rattle.fzn_typing.specs.Names.{NameList, kind_of, names_of}
-use Rattle.fzn_typing.specs.Places.{when}
-
--- ---- variables
-
-abbrev pub values_of : Base → IntSet
-values_of bases.Bool = range (pos 0) (pos 1)
-values_of (bases.Values (values_are.Range r)) = range r.low.value r.high
-values_of _ = no_values
-
-abbrev pub var_of : SingleVar → ModelVar
-var_of var = record { name = var.name.text; domain = values_of var.base; kind = kind_of var.base }
-
--- the variables, in order of declaration
-abbrev pub vars_of : List Var → List ModelVar
-vars_of [] = []
-vars_of (vars.Single var ∷ more) = var_of var ∷ vars_of more
-vars_of (vars.Array var ∷ more) = vars_of more
-
--- ---- what is printed
-
-abbrev pub item_of : ℕ → SingleVar → OutputItem
-item_of number var = items.Single var.name.text (kind_of var.base) (record { 0 = number })
-
--- the items of the marked declarations, where the next variable has this number
-abbrev pub shown_from : ℕ → List Var → List OutputItem
-shown_from number [] = []
-shown_from number (vars.Single var ∷ more) = when (is_marked var.anns) (item_of number var) ++ shown_from (number + 1) more
-shown_from number (vars.Array var ∷ more) = shown_from number more
-
--- the variables of the marked declarations
-abbrev pub marked_from : ℕ → List Var → List VarId
-marked_from number [] = []
-marked_from number (vars.Single var ∷ more) = when (is_marked var.anns) (record { 0 = number }) ++ marked_from (number + 1) more
-marked_from number (vars.Array var ∷ more) = marked_from number more
-
--- the variable is printed in this item
-abbrev pub IsShownIn : VarId → OutputItem → Type 0
-IsShownIn var (items.Single name kind shown) = var ≡ shown
-IsShownIn var (items.Array name kind ranges entries) = Contains entries (terms.Variable var)
+use Rattle.fzn_typing.specs.Constraints.{supported_name, constraint_for}
+use Rattle.fzn_typing.specs.Faults.{objective_of, tree_names}
 
 -- ---- constraints
 
-unfoldable pub constraint_for : NameList → List Arg → Option Name → Option Constraint
-constraint_for names args (Some n.BoolClause) = Some (BoolClause (terms_at names args 0) (terms_at names args 1))
-constraint_for names args (Some n.IntLinLe) = Some (IntLinLe (products names (entries_at args 0) (entries_at args 1)) (number_at args 2))
-constraint_for names args _ = None
+abbrev pub named : NameList → List Arg → Option Name → List Constraint
+named names given None = []
+named names given (Some name) = constraint_for names given name ∷ []
 
-abbrev pub constraint_of : NameList → Con → Option Constraint
-constraint_of names con = constraint_for names con.args (supported_name con.name.text)
+-- the constraint of an item, where its name is accepted
+abbrev pub stated : NameList → Con → List Constraint
+stated names con = named names con.args (supported_name con.name.text)
+
+abbrev pub equality : Kind → Name
+equality Integer = n.IntEq
+equality Boolean = n.BoolEq
+
+-- `= e` behind a variable x: `int_eq(x, e)` or `bool_eq(x, e)`
+abbrev pub equalities : NameList → SingleVar → Option Basic → List Constraint
+equalities names var None = []
+equalities names var (Some value) =
+    constraint_for names (args.Basic (basics.Name var.name) ∷ args.Basic value ∷ []) (equality (kind_of var.base)) ∷ []
+
+-- entries of a range or a listed set S: `set_in(entry, S)` for each in turn, constants included
+abbrev pub element_domains : NameList → Base → List Basic → List Constraint
+element_domains names (bases.Values values) entries = map (λ entry. SetIn (term_of names entry) (values_in values) None) entries
+element_domains names _ entries = []
+
+abbrev pub written : NameList → Var → List Constraint
+written names (vars.Single var) = equalities names var var.value
+written names (vars.Array var) = element_domains names var.base var.array.entries
+
+-- the numbered constraints: the items first, in order; then those of the declarations, in order
+abbrev pub numbered : Tree → List Constraint
+numbered tree = flat_map (stated (tree_names tree)) tree.cons ++ flat_map (written (tree_names tree)) tree.vars
 
 -- ---- the goal
 
@@ -90,8 +73,7 @@ goal_of names (goals.Maximize basic) = option_map Maximize (objective_of names b
 
 pub record IsModelOf (tree : Tree) (model : Model) : Type 0 where
   pub vars : model.vars ≡ vars_of tree.vars
-  -- a constraint for each item, in order
-  pub constraints : map (constraint_of (names_of tree.vars)) tree.cons ≡ map Some model.constraints
-  pub goal : goal_of (names_of tree.vars) tree.solve.goal ≡ Some model.goal
-  pub shown : model.shown ≡ shown_from 1 tree.vars
-  pub outputs : (var : VarId) → Contains model.outputs var ↔ Any (IsShownIn var) model.shown
+  pub constraints : model.constraints ≡ numbered tree
+  pub goal : goal_of (tree_names tree) tree.solve.goal ≡ Some model.goal
+  pub shown : model.shown ≡ shown_from (tree_names tree) 1 tree.vars
+  pub outputs : (var : VarId) → Contains model.outputs var ↔ IsShown model.shown var

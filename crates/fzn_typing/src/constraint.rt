@@ -1,32 +1,45 @@
-// The constraints of a file.
-ghost use Rattle.std.specs.Prelude.{◌≡◌, Some, None, map, flat_map, IfOk, IfSome, IfNone};
+// The constraint items of a file.
+ghost use Rattle.std.specs.Prelude.{◌≡◌, ◌++◌, Some, None, flat_map, OnOk, IfSome, IfNone};
+ghost use Rattle.std.specs.List.{All};
+ghost use Rattle.fzn_names.specs.Given.{Gives};
+ghost use Rattle.fzn_names.specs.Known.{known};
+ghost use Rattle.fzn_names.specs.Places.{first};
 ghost use Rattle.fzn_registry.specs.Registry.{IsRow};
-ghost use Rattle.fzn_typing.specs.Known.{known};
-ghost use Rattle.fzn_typing.specs.Places.{first};
-ghost use Rattle.fzn_typing.specs.Faults.{supported_name, named_faults, constraint_faults};
-ghost use Rattle.fzn_typing.specs.Models.{constraint_for, constraint_of};
-ghost use Rattle.fzn_typing.specs.Typed.{Gives};
+ghost use Rattle.fzn_typing.specs.Constraints.{is_accepted, supported_name};
+ghost use Rattle.fzn_typing.specs.Faults.{named_faults, constraint_faults};
+ghost use Rattle.fzn_typing.specs.Limits.{IsConWithin};
+ghost use Rattle.fzn_typing.specs.Models.{stated};
 
-use crate::argument::{entries_at, first_set, first_unknown, first_wrong, has_lengths};
-use crate::names::Names;
-use crate::value::{number_at, products, terms_of};
+use crate::argument::{first_set, first_unknown, first_wrong};
+use crate::given::{has_lengths, has_negatives};
+use crate::table::constraint_for;
 use fzn_lexer::{Fault, FaultKind, ReadError};
 use fzn_list::Items;
 use fzn_meaning::Constraint;
-use fzn_parser::{Arg, Con};
+use fzn_names::Names;
+use fzn_parser::Con;
 use fzn_registry::{Name, Signature, lookup_bytes};
 use std::alloc::{AllocError, Global};
 
-/// The constraint with this name, if it has a meaning here.
+fn is_accepted(name: Name) -> bool
+    ensures { result ≡ is_accepted name }
+{
+    match name {
+        _ => true,
+    }
+}
+
+/// The constraint with this name, if it is accepted.
 fn supported(text: &[u8]) -> Option<Signature>
     ensures found { IfSome result (λ signature. supported_name text.now ≡ Some signature.name) }
     ensures row { IfSome result IsRow }
     ensures none { IfNone result (supported_name text.now ≡ None) }
 {
     let signature = lookup_bytes(text)?;
-    match signature.name {
-        Name::BoolClause | Name::IntLinLe => Some(signature),
-        _ => None,
+    if is_accepted(signature.name) {
+        Some(signature)
+    } else {
+        None
     }
 }
 
@@ -48,9 +61,15 @@ fn named_fault(names: &Names, con: &Con, signature: &Signature) -> Option<Fault>
             place,
         });
     }
-    if !has_lengths(signature.lengths, args) {
+    if !has_lengths(names, signature.lengths, args) {
         return Some(Fault {
             kind: FaultKind::Length,
+            place: con.name.place,
+        });
+    }
+    if has_negatives(names, args, signature.non_negative) {
+        return Some(Fault {
+            kind: FaultKind::Argument,
             place: con.name.place,
         });
     }
@@ -63,7 +82,7 @@ fn constraint_fault(names: &Names, con: &Con) -> Option<Fault>
     ensures { result ≡ first (constraint_faults (known names.now) con.now) }
 {
     let args = con.args.as_slice();
-    if let Some(place) = first_set(args) {
+    if let Some(place) = first_set(names, args) {
         return Some(Fault {
             kind: FaultKind::SetRefused,
             place,
@@ -84,57 +103,39 @@ fn constraint_fault(names: &Names, con: &Con) -> Option<Fault>
     }
 }
 
-/// What the constraint with this name says of these arguments.
-#[tactic(auto, unfolding(crate::specs::Models::constraint_for))]
-fn constraint_for(
+/// Puts the constraint of an item at the end.
+fn state(
     alloc: Global,
     names: &Names,
-    args: &[Arg],
-    name: Name,
-) -> Result<Option<Constraint>, AllocError>
-    ensures { IfOk result (λ found. found ≡ constraint_for (known names.now) args.now (Some name)) }
+    con: &Con,
+    constraints: &mut Items<Constraint>,
+) -> Result<(), AllocError>
+    requires { IsConWithin con.now }
+    ensures { OnOk result (constraints.new ≡ constraints.old ++ stated (known names.now) con.now) }
 {
-    match name {
-        Name::BoolClause => Ok(Some(Constraint::BoolClause {
-            positive: terms_of(alloc, names, entries_at(args, 0))?,
-            negative: terms_of(alloc, names, entries_at(args, 1))?,
-        })),
-        Name::IntLinLe => Ok(Some(Constraint::IntLinLe {
-            sum: products(alloc, names, entries_at(args, 0), entries_at(args, 1))?,
-            bound: number_at(args, 2),
-        })),
-        _ => Ok(None),
+    if let Some(signature) = supported(con.name.text.as_slice()) {
+        constraints.push(constraint_for(alloc, names, con.args.as_slice(), signature.name)?)?;
     }
+    Ok(())
 }
 
-#[tactic(auto, unfolding(crate::specs::Models::constraint_for))]
-fn constraint_of(alloc: Global, names: &Names, con: &Con) -> Result<Option<Constraint>, AllocError>
-    ensures { IfOk result (λ found. found ≡ constraint_of (known names.now) con.now) }
-{
-    match supported(con.name.text.as_slice()) {
-        Some(signature) => constraint_for(alloc, names, con.args.as_slice(), signature.name),
-        None => Ok(None),
-    }
-}
-
-/// A constraint for each item, or the first fault.
+/// The constraints of the items in order, or the first fault.
 #[tactic(auto, using(crate::proofs::FirstLemmas::firsts))]
 pub fn constraints_of(
     alloc: Global,
     names: &Names,
     mut cons: &[Con],
 ) -> Result<Items<Constraint>, ReadError>
+    requires { All IsConWithin cons.now }
     ensures { Gives (flat_map (constraint_faults (known names.now)) cons.now)
-        (λ found. map (constraint_of (known names.now)) cons.now ≡ map Some found) result }
+        (λ found. found ≡ flat_map (stated (known names.now)) cons.now) result }
 {
     let mut constraints = Items::new(alloc);
     while let [con, rest @ ..] = cons {
         if let Some(fault) = constraint_fault(names, con) {
             return Err(ReadError::Fault(fault));
         }
-        if let Some(constraint) = constraint_of(alloc, names, con)? {
-            constraints.push(constraint)?;
-        }
+        state(alloc, names, con, &mut constraints)?;
         cons = rest;
     }
     Ok(constraints)

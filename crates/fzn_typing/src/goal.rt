@@ -1,16 +1,14 @@
 // The goal of a file.
 ghost use Rattle.std.specs.Prelude.{◌≡◌, Some};
-ghost use Rattle.fzn_typing.specs.Known.{known};
-ghost use Rattle.fzn_typing.specs.Places.{first};
+ghost use Rattle.fzn_names.specs.Given.{Gives};
+ghost use Rattle.fzn_names.specs.Known.{known};
 ghost use Rattle.fzn_typing.specs.Faults.{objective_of, objective_faults, goal_faults};
 ghost use Rattle.fzn_typing.specs.Models.{goal_of};
-ghost use Rattle.fzn_typing.specs.Typed.{Gives};
 
-use crate::names::{Declared, Names};
-use crate::place::place_of;
 use fzn_domain::VarId;
 use fzn_lexer::{Fault, FaultKind, ReadError};
 use fzn_meaning::Kind;
+use fzn_names::{Declared, Names, place_of};
 use fzn_parser::{Basic, Goal};
 
 /// The integer variable that is named.
@@ -28,8 +26,8 @@ fn objective_of(names: &Names, basic: &Basic) -> Result<VarId, ReadError>
                 kind: FaultKind::UnknownName,
                 place: name.place,
             })),
-            Some(Declared::Variable(Kind::Integer, var)) => Ok(var),
-            Some(Declared::Variable(Kind::Boolean, _)) => Err(ReadError::Fault(Fault {
+            Some(Declared::Variable(Kind::Integer, var)) => Ok(*var),
+            Some(_) => Err(ReadError::Fault(Fault {
                 kind: FaultKind::Type,
                 place: name.place,
             })),

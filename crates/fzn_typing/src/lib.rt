@@ -6,13 +6,10 @@
 
 pub use tree::type_check;
 
-mod annotation;
 mod argument;
 mod constraint;
+mod given;
 mod goal;
-mod names;
-mod output;
-mod place;
+mod table;
 mod tree;
-mod value;
-mod variable;
+mod written;

@@ -1,4 +1,4 @@
-use Rattle.std.proofs.Common.{◌≡◌, ◌++◌, List, take, ap, ◌∙◌, ℤ, w64}
+use Rattle.std.proofs.Common.{◌++◌, List, take, ap, ◌∙◌, ℤ, w64}
 use Rattle.std.proofs.lemmas.Int.{to_z-of_z}
 use Rattle.std.proofs.lemmas.List.{take_all}
 use Rattle.fzn_meaning.specs.declared.term.Term.{Term}

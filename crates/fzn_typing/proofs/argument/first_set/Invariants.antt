@@ -1,11 +1,12 @@
 use Rattle.std.proofs.Common.{◌≡◌, length, flat_map}
-use Rattle.fzn_typing.specs.Places.{first}
+use Rattle.fzn_names.specs.Known.{known}
+use Rattle.fzn_names.specs.Places.{first}
 use Rattle.fzn_typing.specs.Arguments.{set_entries}
 use Rattle.fzn_typing.proofs.argument.first_set.Given as goal
 
 -- what is found from here on is what is found from the start
 abbrev pub invariant-loop-args : goal.invariant-loop-args
-invariant-loop-args l = first (flat_map set_entries l.args) ≡ first (flat_map set_entries l.initial.args)
+invariant-loop-args l = first (flat_map (set_entries (known l.names)) l.args) ≡ first (flat_map (set_entries (known l.names)) l.initial.args)
 
 abbrev pub decreases-loop-args : goal.decreases-loop-args
 decreases-loop-args l = length l.args

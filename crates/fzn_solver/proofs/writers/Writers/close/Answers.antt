@@ -20,5 +20,8 @@ pub returns-in-Err-close-clause-err : goal.returns-in-Err-close-clause-err
 returns-in-Err-close-clause-err g c =
     let ended : Appends (cert_contents g.C.Write.contents c.args.self.now.cert) (cert_contents g.C.Write.contents c.finish.new.self) (end_line (is_closed c.args.ending)) = rw (← c.is_closed.ensures) c.in-Ok.ensures.ok in
     let E : StepWriter g.row.C.Denot → Type 0 = λ w. Appends (cert_contents g.C.Write.contents c.args.self.now.cert) (cert_contents g.C.Write.contents w) (end_line (is_closed c.args.ending)) in
-    inr (refl, cut-off g.W.Write.contents g.C.Write.contents c.args.model.now (is_closed c.args.ending) c.args.self.now c.show_last.new.self _ c.finish.result c.close.result _
-    c.finish.ensures.failed c.in-Ok.is c.close.ensures.failed (subst E (sym c.show_last.ensures.same.0) ended) c.in_ok-show_last.ensures.shown c.in-Err-close.ensures.front)
+    inr (
+      refl,
+      cut-off g.W.Write.contents g.C.Write.contents c.args.model.now (is_closed c.args.ending) c.args.self.now c.show_last.new.self _ c.finish.result c.close.result _
+          c.finish.ensures.failed c.in-Ok.is c.close.ensures.failed (subst E (sym c.show_last.ensures.same.0) ended) c.in_ok-show_last.ensures.shown c.in-Err-close.ensures.front,
+    )

@@ -1,0 +1,5 @@
+use Rattle.std.proofs.Common.{◌≡◌, ℕ, ◌+◌, ◌<◌, get_or, pos}
+use Rattle.fzn_meaning.proofs.table.is_row.Given as goal
+
+abbrev pub invariant-loop-place : goal.invariant-loop-place
+invariant-loop-place l = (k : ℕ) → k < l.place → get_or l.rows (l.start + k) (pos 0) ≡ get_or l.places k (pos 0)

@@ -1,0 +1,10 @@
+pub mod DeclaredLemmas
+pub mod FirstLemmas
+pub mod FlagLemmas
+pub mod GivesLemmas
+pub mod MeaningLemmas
+pub mod NameLemmas
+pub mod SizeLemmas
+pub mod StepLemmas
+pub mod ValueSetLemmas
+pub mod VarLemmas

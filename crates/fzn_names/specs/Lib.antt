@@ -1,0 +1,13 @@
+pub mod Annotations
+pub mod Capped
+pub mod Declarations
+pub mod Flags
+pub mod Given
+pub mod Known
+pub mod Limits
+pub mod Outputs
+pub mod Params
+pub mod Places
+pub mod Types
+pub mod Values
+pub mod Variables

@@ -1,0 +1,200 @@
+// The parameters of a file.
+ghost use Rattle.std.specs.Prelude.{◌≡◌, [], ◌++◌, flat_map, IfOk};
+ghost use Rattle.std.specs.List.{All};
+ghost use Rattle.fzn_names.specs.Known.{known};
+ghost use Rattle.fzn_names.specs.Given.{Gives};
+ghost use Rattle.fzn_names.specs.Limits.{IsLiteralWithin, IsParamWithin};
+ghost use Rattle.fzn_names.specs.Places.{first};
+ghost use Rattle.fzn_names.specs.Types.{set_literals, wrong_literals};
+ghost use Rattle.fzn_names.specs.Values.{literal_value};
+ghost use Rattle.fzn_names.specs.Params.{set_elements, set_values, wanted_by, wrong_values, wrong_lengths, param_faults, kind_by, param_value, params_faults, param_names};
+
+use crate::names::{Declared, Names};
+use crate::value::{literal_terms, place_of_literal, set_literal, wrong_literal};
+use fzn_domain::Domain;
+use fzn_lexer::{Fault, FaultKind, Place, ReadError};
+use fzn_meaning::Kind;
+use fzn_parser::{Literal, Param, ParamBase, ParamValue, Size};
+use fzn_registry::Argument;
+use std::alloc::{AllocError, Global};
+
+// ---- faults
+
+fn set_element(size: &Option<Size>, base: ParamBase) -> Option<Place>
+    ensures { result ≡ first (set_elements size.now base) }
+{
+    match (size, base) {
+        (Some(_), ParamBase::Set(place)) => Some(place),
+        _ => None,
+    }
+}
+
+#[tactic(auto, using(crate::proofs::FirstLemmas::firsts))]
+fn first_set_literal(mut literals: &[Literal]) -> Option<Place>
+    ensures { result ≡ first (flat_map set_literals literals.now) }
+{
+    while let [literal, rest @ ..] = literals {
+        if let Some(place) = set_literal(literal) {
+            return Some(place);
+        }
+        literals = rest;
+    }
+    None
+}
+
+fn set_value(value: &ParamValue) -> Option<Place>
+    ensures { result ≡ first (set_values value.now) }
+{
+    match value {
+        ParamValue::Literal(_) => None,
+        ParamValue::Array(_, entries) => first_set_literal(entries.as_slice()),
+    }
+}
+
+#[tactic(auto, using(crate::proofs::FirstLemmas::firsts))]
+fn refused_set(param: &Param) -> Option<Place>
+    ensures { result ≡ first (set_elements param.now.size param.now.base ++ set_values param.now.value) }
+{
+    match set_element(&param.size, param.base) {
+        Some(place) => Some(place),
+        None => set_value(&param.value),
+    }
+}
+
+fn wanted_by(base: ParamBase) -> Argument
+    ensures { result ≡ wanted_by base }
+{
+    match base {
+        ParamBase::Bool(_) => Argument::BooleanConstant,
+        ParamBase::Int(_) => Argument::IntegerConstant,
+        ParamBase::Set(_) => Argument::Set,
+    }
+}
+
+#[tactic(auto, using(crate::proofs::FirstLemmas::firsts))]
+fn first_wrong_literal(wanted: Argument, mut literals: &[Literal]) -> Option<Place>
+    ensures { result ≡ first (flat_map (wrong_literals wanted) literals.now) }
+{
+    while let [literal, rest @ ..] = literals {
+        if let Some(place) = wrong_literal(wanted, literal) {
+            return Some(place);
+        }
+        literals = rest;
+    }
+    None
+}
+
+fn wrong_value(size: &Option<Size>, wanted: Argument, value: &ParamValue) -> Option<Place>
+    ensures { result ≡ first (wrong_values size.now wanted value.now) }
+{
+    match (size, value) {
+        (None, ParamValue::Literal(literal)) => wrong_literal(wanted, literal),
+        (None, ParamValue::Array(place, _)) => Some(*place),
+        (Some(_), ParamValue::Literal(literal)) => Some(place_of_literal(literal)),
+        (Some(_), ParamValue::Array(_, entries)) => first_wrong_literal(wanted, entries.as_slice()),
+    }
+}
+
+fn wrong_length(size: &Option<Size>, value: &ParamValue) -> Option<Place>
+    ensures { result ≡ first (wrong_lengths size.now value.now) }
+{
+    match (size, value) {
+        (Some(size), ParamValue::Array(place, entries)) if entries.len() != size.count => {
+            Some(*place)
+        }
+        _ => None,
+    }
+}
+
+/// The first fault of a parameter behind these names.
+#[tactic(auto, using(crate::proofs::FirstLemmas::firsts), unfolding(crate::specs::Params::param_faults))]
+fn param_fault(earlier: &Names, param: &Param) -> Option<Fault>
+    ensures { result ≡ first (param_faults (known earlier.now) param.now) }
+{
+    if let Some(place) = refused_set(param) {
+        return Some(Fault {
+            kind: FaultKind::SetRefused,
+            place,
+        });
+    }
+    if earlier.meaning(&param.name.text).is_some() {
+        return Some(Fault {
+            kind: FaultKind::DuplicateName,
+            place: param.name.place,
+        });
+    }
+    if let Some(place) = wrong_value(&param.size, wanted_by(param.base), &param.value) {
+        return Some(Fault {
+            kind: FaultKind::Type,
+            place,
+        });
+    }
+    match wrong_length(&param.size, &param.value) {
+        Some(place) => Some(Fault {
+            kind: FaultKind::Length,
+            place,
+        }),
+        None => None,
+    }
+}
+
+// ---- values
+
+fn literal_value(alloc: Global, literal: &Literal) -> Result<Declared, AllocError>
+    requires { IsLiteralWithin literal.now }
+    ensures { IfOk result (λ value. value ≡ literal_value literal.now) }
+{
+    match literal {
+        Literal::Bool(true, _) => Ok(Declared::Constant(Kind::Boolean, 1)),
+        Literal::Bool(false, _) => Ok(Declared::Constant(Kind::Boolean, 0)),
+        Literal::Int(number) => Ok(Declared::Constant(Kind::Integer, number.value)),
+        Literal::Range(range) => {
+            let set = Domain::range(alloc, range.low.value, range.high)?;
+            Ok(Declared::Set(set))
+        }
+        Literal::Set(_, values) => {
+            let set = Domain::listed(alloc, values.as_slice())?;
+            Ok(Declared::Set(set))
+        }
+    }
+}
+
+fn kind_by(base: ParamBase) -> Kind
+    ensures { result ≡ kind_by base }
+{
+    match base {
+        ParamBase::Bool(_) => Kind::Boolean,
+        _ => Kind::Integer,
+    }
+}
+
+fn param_value(alloc: Global, param: &Param) -> Result<Declared, AllocError>
+    requires { IsParamWithin param.now }
+    ensures { IfOk result (λ value. value ≡ param_value param.now.base param.now.value) }
+{
+    match &param.value {
+        ParamValue::Literal(literal) => literal_value(alloc, literal),
+        ParamValue::Array(_, entries) => {
+            let terms = literal_terms(alloc, entries.as_slice())?;
+            Ok(Declared::Constants(kind_by(param.base), terms))
+        }
+    }
+}
+
+/// The names of the parameters, or their first fault.
+#[tactic(auto, using(crate::proofs::FirstLemmas::firsts))]
+pub fn param_names(alloc: Global, mut params: &[Param]) -> Result<Names, ReadError>
+    requires { All IsParamWithin params.now }
+    ensures { Gives (params_faults [] params.now) (λ names. known names ≡ param_names params.now) result }
+{
+    let mut names = Names::new(alloc);
+    while let [param, rest @ ..] = params {
+        if let Some(fault) = param_fault(&names, param) {
+            return Err(ReadError::Fault(fault));
+        }
+        let value = param_value(alloc, param)?;
+        names.insert(alloc, &param.name.text, value)?;
+        params = rest;
+    }
+    Ok(names)
+}
