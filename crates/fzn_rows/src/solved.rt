@@ -1,0 +1,96 @@
+use crate::solver_rows::SOLVER_ROWS;
+use fzn_checker::check;
+use fzn_solver::run;
+use fzn_words::options_of;
+use std::alloc::{AllocError, Global};
+use std::str::from_utf8;
+use std::test::Fail;
+
+/// What solving printed and wrote, the line of its fault, and what checking the certificate printed.
+#[derive(Drop)]
+struct Solved {
+    out: Vec<u8>,
+    certificate: Vec<u8>,
+    fault: String,
+    checked: Vec<u8>,
+}
+
+fn solve_and_check(alloc: Global, words: &[&str], model: &str) -> Result<Solved, Fail> {
+    let options = options_of(alloc, words)?;
+    let model = model.as_bytes();
+    let mut out: Vec<u8> = Vec::new(alloc);
+    let mut certificate: Vec<u8> = Vec::new(alloc);
+    let mut checked: Vec<u8> = Vec::new(alloc);
+    let fault = match run(alloc, model, &options, &mut out, &mut certificate) {
+        Ok(_) => {
+            check(
+                alloc,
+                model,
+                certificate.as_slice(),
+                options.all,
+                &mut checked,
+            )?;
+            String::new(alloc)
+        }
+        Err(fault) => format!(in alloc; "{fault}")?,
+    };
+    Ok(Solved {
+        out,
+        certificate,
+        fault,
+        checked,
+    })
+}
+
+#[test]
+fn solver_rows(rt: HostRuntime) -> Result<(), Fail> {
+    for row in &SOLVER_ROWS {
+        let solved = solve_and_check(rt.alloc(), row.words, row.model)?;
+        let out = from_utf8(&solved.out)?;
+        assert_eq!(rt; solved.fault.as_str(), row.fault, "{}", row.name);
+        assert_eq!(rt;
+            solved.checked.as_slice(),
+            solved.out.as_slice(),
+            "{}",
+            row.name
+        );
+        assert_eq!(rt;
+            solved.certificate.is_empty(),
+            row.answers.is_empty(),
+            "{}",
+            row.name
+        );
+        let is_right = row.answers.contains(&out) || out.is_empty() && row.answers.is_empty();
+        assert!(rt; is_right, "{}: {out}", row.name);
+    }
+    Ok(())
+}
+
+/// The file of a thousand variables of 10^9 whose sum is at most 10^9.
+fn large_values(alloc: Global) -> Result<String, AllocError> {
+    let mut text = String::new(alloc);
+    for k in 1..1001u32 {
+        text.push_str(format!(in alloc; "var 1000000000..1000000000: x{k};\n")?.as_str())?;
+    }
+    text.push_str("constraint int_lin_le([1")?;
+    for _ in 2..1001u32 {
+        text.push_str(",1")?;
+    }
+    text.push_str("],[x1")?;
+    for k in 2..1001u32 {
+        text.push_str(format!(in alloc; ",x{k}")?.as_str())?;
+    }
+    text.push_str("],1000000000);\nsolve satisfy;\n")?;
+    Ok(text)
+}
+
+#[test]
+fn thousand_large_values(rt: HostRuntime) -> Result<(), Fail> {
+    let alloc = rt.alloc();
+    let model = large_values(alloc)?;
+    let want = b"=====UNSATISFIABLE=====\n".as_slice();
+    let solved = solve_and_check(alloc, &["m.fzn"], model.as_str())?;
+    assert_eq!(rt; (solved.fault.as_str(), solved.out.as_slice()), ("", want));
+    assert_eq!(rt; solved.checked.as_slice(), want);
+    Ok(())
+}
