@@ -1,5 +1,5 @@
 // A variable with two values, searched by hand.
-ghost use Rattle.std.specs.Prelude.{⊤, tt, ◌≡◌, [], ◌∷◌, List, IfOk, OnOk, pos};
+ghost use Rattle.std.specs.Prelude.{◌≡◌, [], ◌∷◌, List, IfOk, OnOk, pos};
 ghost use Rattle.fzn_cert.specs.declared.step.Step.{Step};
 ghost use Rattle.fzn_meaning.specs.declared.model.Goal.TheVariants.{Satisfy};
 ghost use Rattle.fzn_meaning.specs.declared.model.Model.{Model};
@@ -24,11 +24,11 @@ struct Log {
 impl Sink for Log {
     ghost written = { λ log. log.steps };
 
-    ghost Origin = { ⊤ };
+    ghost Origin = { Unit {0} };
 
     ghost origin = { λ _. tt };
 
-    ghost keeps = { λ _ _. ⊤ };
+    ghost keeps = { λ _ _. Unit {0} };
 
     fn step(&mut self, alloc: Global, _model: &Model, step: &Step) -> Result<(), Fault> {
         if self.steps.len() >= 1000 {
