@@ -1,5 +1,6 @@
 -- What callers may cite: which values a clause leaves, and when it is false or forces a literal.
-use Rattle.std.proofs.Common.{◌≡◌, ◌≢◌, ℕ, zero, suc, ◌-◌, ◌<◌, Bool, true, false, not, cond, List, [], ◌∷◌, ◌++◌, length, length-append, get_or, nat_eq, refl, sym, ap, subst, ◌∙◌, inl, inr, arith, ℤ, All}
+use Rattle.std.proofs.Common.{◌≡◌, ◌≢◌, ℕ, zero, suc, ◌-◌, ◌<◌, Bool, true, false, not, cond, List, [], ◌∷◌, ◌++◌, length, length-append, get_or, nat_eq, refl, sym, ap, subst, ◌∙◌, inl, inr, arith, ℤ, All, ◌≤ℤ◌}
+use Rattle.std.proofs.lemmas.Int.{ints}
 use Rattle.std.proofs.lemmas.Bool.{cases_eq, or_parts}
 use Rattle.std.proofs.lemmas.List.{get_or_append_left}
 use Rattle.std.proofs.lemmas.List.Elements.{All-head, All-tail, All-cons, All-contains, All-get_or, Contains-push, filter-append}
@@ -8,7 +9,7 @@ use Rattle.fzn_domain.specs.declared.literal.Lit.{Lit}
 use Rattle.fzn_domain.specs.Literal.{is_true_at, negated}
 use Rattle.fzn_domain.specs.IntSet.{IntSet, contains, size, no_values, is_possible, kept, least, greatest}
 use Rattle.fzn_domain.specs.Narrow.{IsVariable, IsClauseOver, NoneEmpty, set_of, narrowed, denied, possible_in, is_some_empty}
-use Rattle.fzn_domain.proofs.SetLemmas.{kept_within, is_true_at-negated, member_of_size, contains-least, contains-greatest}
+use Rattle.fzn_domain.proofs.SetLemmas.{kept_within, is_true_at-negated, member_of_size, contains-least, contains-greatest, least_le}
 use Rattle.fzn_domain.proofs.NarrowLemmas.{length-narrowed, set_of-narrowed, other_set-narrowed, length-denied}
 use Rattle.fzn_meaning.specs.declared.term.Term.{Term}
 use Rattle.fzn_meaning.specs.declared.term.Term.TheVariants.{Constant, Variable}
@@ -64,6 +65,14 @@ pub left_of_more : (declared : List IntSet) (clause more : List Lit) (term : Ter
 left_of_more declared clause more (Constant k) v left = left
 left_of_more declared clause more (Variable var) v left = (left.0, All-front (λ (l : Lit). l.var ≡ var → is_true_at l v ≡ false) clause more left.1)
 
+All-back : {X : Type 0} (P : X → Type 0) (xs ys : List X) → All P (xs ++ ys) → All P ys
+All-back P [] ys all = all
+All-back P (x ∷ xs) ys all = All-back P xs ys (All-tail P x (xs ++ ys) all)
+
+pub left_of_later : (declared : List IntSet) (clause more : List Lit) (term : Term) (v : ℤ) → IsLeft declared (clause ++ more) term v → IsLeft declared more term v
+left_of_later declared clause more (Constant k) v left = left
+left_of_later declared clause more (Variable var) v left = (left.0, All-back (λ (l : Lit). l.var ≡ var → is_true_at l v ≡ false) clause more left.1)
+
 -- the last literal of a clause is false at each value that is left
 pub last_fails : (declared : List IntSet) (clause : List Lit) (lit : Lit) (v : ℤ) → IsLeft declared (clause ++ lit ∷ []) (Variable lit.var) v → is_true_at lit v ≡ false
 last_fails declared clause lit v left = All-contains (λ (l : Lit). l.var ≡ lit.var → is_true_at l v ≡ false) (clause ++ lit ∷ []) lit left.1 (Contains-push clause lit) refl
@@ -105,3 +114,11 @@ end_left declared clause (Constant k) b over fits none = flat_cond b k
 end_left declared clause (Variable var) b over fits none =
     let some = nonempty_at (denied declared clause) (var.0 - 1) none (omega (arith, length-denied clause declared)) in
     left_of_denied clause declared var (cond b (greatest (set_of (denied declared clause) var)) (least (set_of (denied declared clause) var))) over (one_end (set_of (denied declared clause) var) b some)
+
+-- the ends of a term stand in order on the denied sets
+pub ends_ordered : (declared : List IntSet) (clause : List Lit) (term : Term) → IsTerm (length declared) term → is_some_empty (denied declared clause) ≡ false → least_value (denied declared clause) term ≤ℤ greatest_value (denied declared clause) term
+ends_ordered declared clause (Constant k) fits none = omega (arith, ints)
+ends_ordered declared clause (Variable var) fits none =
+    let s = set_of (denied declared clause) var in
+    let some = nonempty_at (denied declared clause) (var.0 - 1) none (omega (arith, length-denied clause declared)) in
+    least_le s (greatest s) (one_end s true some)

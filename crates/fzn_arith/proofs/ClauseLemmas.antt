@@ -1,12 +1,14 @@
 -- Why an explanation refutes.
-use Rattle.std.proofs.Common.{◌≡◌, ◌≢◌, ℕ, ◌+◌, ◌<◌, true, false, List, [], ◌∷◌, ◌++◌, length, get_or, sym, ap, subst, ◌∙◌, inl, inr, arith, ℤ, pos, ◌+ℤ◌, ◌*ℤ◌, ◌≤ℤ◌, ◌<ℤ◌, All}
-use Rattle.std.proofs.lemmas.Int.{ints}
+use Rattle.std.proofs.Common.{◌≡◌, ◌≢◌, ℕ, ◌+◌, ◌<◌, true, false, List, [], ◌∷◌, ◌++◌, length, get_or, sym, ap, subst, ◌∙◌, inl, inr, arith, ℤ, pos, ◌+ℤ◌, ◌*ℤ◌, ◌≤ℤ◌, ◌<ℤ◌, ◌*◌, ◌≤◌, ◌-ℤ◌, unsigned_abs, FitsSigned, All}
+use Rattle.std.specs.Int.{w128}
+use Rattle.std.proofs.lemmas.Int.{ints, fits_signed_from_abs}
 use Rattle.std.proofs.lemmas.Bool.{cases_eq}
 use Rattle.std.proofs.lemmas.List.{get_or_default}
-use Rattle.std.proofs.lemmas.List.Elements.{All-push}
+use Rattle.std.proofs.lemmas.List.Elements.{All-push, All-append, filter-append}
 use Rattle.fzn_domain.specs.declared.literal.VarId.{VarId}
 use Rattle.fzn_domain.specs.declared.literal.Lit.{Lit}
-use Rattle.fzn_domain.specs.Narrow.{IsVariable}
+use Rattle.fzn_domain.specs.IntSet.{IntSet, is_possible}
+use Rattle.fzn_domain.specs.Narrow.{IsVariable, set_of, possible_in}
 use Rattle.fzn_meaning.specs.declared.term.Term.{Term}
 use Rattle.fzn_meaning.specs.declared.term.Term.TheVariants.{Variable}
 use Rattle.fzn_meaning.specs.declared.term.Place.{Place}
@@ -14,9 +16,12 @@ use Rattle.fzn_meaning.specs.Term.{IsTerm, IsPlace, total_by}
 use Rattle.fzn_rules.specs.Linear.{low_product, least_sum}
 use Rattle.fzn_trail.specs.Levels.{Levels}
 use Rattle.fzn_arith.specs.Inference.{IsWritable}
-use Rattle.fzn_arith.specs.Explained.{IsLeft, IsExplained, IsFloor, IsForced, IsExplanation, IsRefutation}
+use Rattle.fzn_arith.specs.Explained.{IsLeft, IsExplained, IsFloor, IsForced, IsExplanation}
+use Rattle.fzn_arith.specs.Opposite.{opposites}
+use Rattle.fzn_arith.specs.Refuted.{IsConflict, IsRefutation}
+use Rattle.fzn_meaning.specs.declared.relation.Comparison.TheVariants.{AtMost, NotEqual}
 use Rattle.fzn_arith.proofs.SumLemmas.{total_le, total_lt_at}
-use Rattle.fzn_arith.proofs.CallerLemmas.{left_of_more, last_fails, none_left}
+use Rattle.fzn_arith.proofs.CallerLemmas.{left_of_more, left_of_later, last_fails, none_left}
 
 -- ---- the loop that explains
 
@@ -55,16 +60,19 @@ explanation_push trail places i except clause d lit in_places fits before floor 
 
 -- ---- refutations
 
+pub fits_sum : (z : ℤ) → unsigned_abs z ≤ 200000 * 1000000000000000000 → FitsSigned w128 z
+fits_sum z h = fits_signed_from_abs w128 z (omega arith)
+
 lt_le : (a b c : ℤ) → a <ℤ b → b ≤ℤ c → a <ℤ c
 lt_le a b c h k = omega (arith, ints)
 
 -- where the least sum exceeds the bound, an explanation of every place refutes
-pub conflict : (trail : Levels) (places : List Place) (bound : ℤ) (clause : List Lit) → bound <ℤ least_sum trail.sets places → IsExplanation trail places (length places) (length places) clause → IsRefutation trail places bound clause
+pub conflict : (trail : Levels) (places : List Place) (bound : ℤ) (clause : List Lit) → bound <ℤ least_sum trail.sets places → IsExplanation trail places (length places) (length places) clause → IsConflict trail AtMost places bound clause
 conflict trail places bound clause exceeds explanation = record {
   over = explanation.over;
   writable = explanation.writable;
-  forces = inl explanation.impossible;
-  exceeds = λ choice left.
+  impossible = explanation.impossible;
+  rules_out = λ choice left.
       lt_le bound (least_sum trail.sets places) (total_by (λ (p : Place). p.coefficient *ℤ choice p) places) exceeds
       (total_le (low_product trail.sets) (λ (p : Place). p.coefficient *ℤ choice p) places (λ k d below.
       explanation.explained k d below (λ e. omega arith) (choice (get_or places k d)) (left k d below)));
@@ -74,12 +82,12 @@ le_of_more : (a b : ℤ) (s : ℕ) → (a +ℤ pos s) <ℤ b → a ≤ℤ b
 le_of_more a b s h = omega (arith, ints)
 
 -- where one place gives more than the slack allows without its literal, the explanation of the others with the literal refutes
-pub forcing : (trail : Levels) (places : List Place) (bound : ℤ) (slack : ℕ) (clause : List Lit) (j : ℕ) (d : Place) (lit : Lit) → bound ≡ least_sum trail.sets places +ℤ pos slack → j < length places → IsPlace (length trail.declared) (get_or places j d) → IsForced trail (get_or places j d) slack lit → IsExplanation trail places (length places) j clause → IsRefutation trail places bound (clause ++ lit ∷ [])
+pub forcing : (trail : Levels) (places : List Place) (bound : ℤ) (slack : ℕ) (clause : List Lit) (j : ℕ) (d : Place) (lit : Lit) → bound ≡ least_sum trail.sets places +ℤ pos slack → j < length places → IsPlace (length trail.declared) (get_or places j d) → IsForced trail (get_or places j d) slack lit → IsExplanation trail places (length places) j clause → IsRefutation trail AtMost places bound (clause ++ lit ∷ [])
 forcing trail places bound slack clause j d lit bound_is in_places fits forced explanation = record {
   over = All-push (λ (l : Lit). IsVariable (length trail.declared) l.var) clause lit explanation.over (variable_of_place (length trail.declared) (get_or places j d) lit.var fits forced.of_place);
   writable = All-push IsWritable clause lit explanation.writable forced.writable;
   forces = inr (lit, record { only = none_left trail.sets clause lit true explanation.impossible forced.possible; not_yet_true = forced.not_yet_true });
-  exceeds = λ choice left.
+  rules_out = λ choice left.
       let give = λ (p : Place). p.coefficient *ℤ choice p in
       let there : (low_product trail.sets (get_or places j d) +ℤ pos slack) <ℤ give (get_or places j d) =
       forced.exceeds (choice (get_or places j d)) (last_fails trail.declared clause lit (choice (get_or places j d))
@@ -92,3 +100,24 @@ forcing trail places bound slack clause j d lit bound_is in_places fits forced e
       ] in
       subst (λ (b : ℤ). b <ℤ total_by give places) (sym bound_is) (total_lt_at (low_product trail.sets) give places j d (pos slack) in_places each there);
 }
+
+both_left : (sets : List IntSet) (front back : List Lit) → possible_in sets front ≡ [] → possible_in sets back ≡ [] → possible_in sets (front ++ back) ≡ []
+both_left sets front back none none_too =
+    filter-append (λ (l : Lit). is_possible (set_of sets l.var) l) front back
+    ∙ ap (λ (xs : List Lit). xs ++ possible_in sets back) none
+    ∙ none_too
+
+-- where both ends are the bound, explanations of every place and of every opposite place refute together
+pub conflict_at_both : (trail : Levels) (places : List Place) (bound : ℤ) (front back : List Lit) → (bound -ℤ pos 1) <ℤ least_sum trail.sets places → ((pos 0 -ℤ bound) -ℤ pos 1) <ℤ least_sum trail.sets (opposites places) → IsExplanation trail places (length places) (length places) front → IsExplanation trail (opposites places) (length (opposites places)) (length (opposites places)) back → IsConflict trail NotEqual places bound (front ++ back)
+conflict_at_both trail places bound front back up down first second =
+    let a = conflict trail places (bound -ℤ pos 1) front up first in
+    let b = conflict trail (opposites places) ((pos 0 -ℤ bound) -ℤ pos 1) back down second in
+    record {
+      over = All-append (λ (l : Lit). IsVariable (length trail.declared) l.var) front back a.over b.over;
+      writable = All-append IsWritable front back a.writable b.writable;
+      impossible = both_left trail.sets front back a.impossible b.impossible;
+      rules_out = (
+        λ choice left. a.rules_out choice (λ k d below. left_of_more trail.declared front back (get_or places k d).term _ (left k d below)),
+        λ choice left. b.rules_out choice (λ k d below. left_of_later trail.declared front back (get_or (opposites places) k d).term _ (left k d below)),
+      );
+    }

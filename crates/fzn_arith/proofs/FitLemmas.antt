@@ -1,5 +1,5 @@
 -- The form of a constraint that a model may have fits.
-use Rattle.std.proofs.Common.{ℕ, ◌≤◌, List, [], ◌∷◌, ◌++◌, length, length-append, subst, arith, ℤ, pos, negsuc, ◌-ℤ◌, unsigned_abs, All, Option, IfSome}
+use Rattle.std.proofs.Common.{◌≡◌, ℕ, ◌≤◌, List, [], ◌∷◌, ◌++◌, length, length-append, subst, sym, ap, ◌∙◌, arith, ℤ, pos, negsuc, ◌-ℤ◌, unsigned_abs, All, Option, IfSome}
 use Rattle.std.proofs.lemmas.Int.{ints}
 use Rattle.std.proofs.lemmas.List.{length-map}
 use Rattle.std.proofs.lemmas.List.Elements.{All-append, All-from_recursion}
@@ -16,7 +16,11 @@ use Rattle.fzn_meaning.specs.Term.{IsTerm, IsPlace}
 use Rattle.fzn_meaning.specs.Meaning.{IsWellFormed}
 use Rattle.fzn_rules.specs.Form.{Form, weighted, difference, bound_of, passing_bound, form_of}
 use Rattle.fzn_arith.specs.declared.form.SumForm.{SumForm}
-use Rattle.fzn_arith.specs.Kinds.{form_in, IsFormOf, Fits}
+use Rattle.fzn_meaning.specs.declared.relation.Comparison.{Comparison}
+use Rattle.fzn_meaning.specs.declared.relation.Comparison.TheVariants.{AtMost, Equal, NotEqual}
+use Rattle.fzn_arith.specs.Opposite.{opposites, other_bound, opposite_form}
+use Rattle.fzn_arith.specs.Kinds.{form_in, IsFormOf, Fits, IsReady}
+use Rattle.fzn_arith.proofs.OppositeLemmas.{opposites_fit, opposites-twice, length-opposites}
 use Rattle.fzn_arith.proofs.MadeLemmas.{each_fits, clause_fits, clause_length}
 
 difference_fits : (count : ℕ) (a b : Term) → IsTerm count a → IsTerm count b → All (IsPlace count) (difference a b)
@@ -95,3 +99,30 @@ well_fits count _ well = tt
 
 pub fits_of : (count : ℕ) (c : Constraint) (sum : SumForm) → IsFormOf c sum → IsWellFormed count c → Fits count (form_in sum)
 fits_of count c sum same well = subst (λ (f : Option Form). IfSome f (Fits count)) same (well_fits count c well)
+
+-- ---- with its opposite
+
+small_other : (comparison : Comparison) (bound : ℤ) → unsigned_abs bound ≤ 1000000000 → unsigned_abs (other_bound comparison bound) ≤ 1000000001
+small_other AtMost bound h = grind (arith, ints)
+small_other Equal bound h = grind (arith, ints)
+small_other NotEqual bound h = grind (arith, ints)
+
+pub ready_of : (count : ℕ) (sum opposite : SumForm) → Fits count (form_in sum) → form_in opposite ≡ opposite_form (form_in sum) → IsReady count sum opposite
+ready_of count sum opposite fits same =
+    let places : opposite.places ≡ opposites sum.places = ap (λ (f : Form). f.places) same in
+    let bound : opposite.bound ≡ other_bound sum.comparison sum.bound = ap (λ (f : Form). f.bound) same in
+    let all = subst (λ (ps : List Place). All (IsPlace count) ps) (sym places) (opposites_fit count sum.places fits.places_fit) in
+    let few : length opposite.places ≤ 200000 = let short = fits.short in let same_length = ap (λ (ps : List Place). length ps) places in omega (arith, length-opposites sum.places) in
+    record {
+      on = record { places_fit = fits.places_fit; opposite_fit = all; short = fits.short; opposite_short = few; opposite_is = places; bounded = let h = fits.bounded in omega arith };
+      off = record {
+        places_fit = all;
+        opposite_fit = fits.places_fit;
+        short = few;
+        opposite_short = fits.short;
+        opposite_is = sym (ap opposites places ∙ opposites-twice sum.places);
+        bounded = subst (λ (b : ℤ). unsigned_abs b ≤ 1000000001) (sym bound) (small_other sum.comparison sum.bound fits.bounded);
+      };
+      switch_fits = fits.switch_fits;
+      opposite_is = same;
+    }

@@ -1,8 +1,8 @@
--- What a refutation and its absence say of a constraint.
-use Rattle.std.proofs.Common.{◌≡◌, ℕ, ◌-◌, ◌⊎◌, Bool, true, cond, List, length, get_or, refl, sym, ap, ap₂, subst, ◌∙◌, inl, inr, arith, ℤ, pos, ◌*ℤ◌, ◌≤ℤ◌, ◌<ℤ◌, int_lt, All, Option, Some, None, IfSome, IfNone, IsSomeAnd}
+-- What a found clause and its absence say of a constraint.
+use Rattle.std.proofs.Common.{◌≡◌, ℕ, ◌-◌, ◌<◌, Bool, true, false, cond, List, [], ◌∷◌, length, get_or, refl, sym, ap, subst, ◌∙◌, inl, inr, arith, ℤ, pos, ◌-ℤ◌, ◌*ℤ◌, ◌≤ℤ◌, int_lt, All, Option, Some, None, IfSome, IsSomeAnd, MatchOption}
 use Rattle.std.proofs.lemmas.Int.{ints}
 use Rattle.std.proofs.lemmas.Bool.{cases_Bool}
-use Rattle.std.proofs.lemmas.List.Elements.{All-nil}
+use Rattle.std.proofs.lemmas.List.Elements.{All-nil, recursion_from_All}
 use Rattle.fzn_domain.specs.declared.literal.Lit.{Lit}
 use Rattle.fzn_domain.specs.IntSet.{IntSet, contains, size, least, greatest}
 use Rattle.fzn_domain.specs.Narrow.{IsWithin, value_of, set_of, denied, is_some_empty}
@@ -10,59 +10,46 @@ use Rattle.fzn_domain.proofs.SetLemmas.{only_member}
 use Rattle.fzn_meaning.specs.declared.term.Term.{Term}
 use Rattle.fzn_meaning.specs.declared.term.Term.TheVariants.{Constant, Variable}
 use Rattle.fzn_meaning.specs.declared.term.Place.{Place}
+use Rattle.fzn_meaning.specs.declared.relation.Comparison.{Comparison}
+use Rattle.fzn_meaning.specs.declared.relation.Comparison.TheVariants.{AtMost, Equal, NotEqual}
+use Rattle.fzn_meaning.specs.declared.arithmetic.Operation.TheVariants.{Plus}
 use Rattle.fzn_meaning.specs.declared.constraint.Constraint.{Constraint}
+use Rattle.fzn_meaning.specs.declared.constraint.Constraint.TheVariants as constraint
 use Rattle.fzn_meaning.specs.Term.{IsTerm, IsPlace, term_value, product_at, sum_at}
-use Rattle.fzn_meaning.specs.Meaning.{HasBooleanSets}
+use Rattle.fzn_meaning.specs.Comparisons.{IsSwitched}
+use Rattle.fzn_meaning.specs.Linear.{IsLinear}
+use Rattle.fzn_meaning.specs.Meaning.{HasBooleanSets, HasBooleanValues, booleans_of, switch_value, IsBit, IsSwitch}
 use Rattle.fzn_meaning.proofs.CallerLemmas.{bits-choice}
 use Rattle.fzn_rules.specs.declared.rule.Rule.TheVariants.{Lin}
-use Rattle.fzn_rules.specs.Linear.{low_end, least_value, greatest_value, low_product, least_sum}
-use Rattle.fzn_rules.specs.Form.{Form, form, form_of, IsFormMet}
-use Rattle.fzn_meaning.specs.declared.relation.Comparison.{Comparison}
-use Rattle.fzn_meaning.specs.declared.relation.Comparison.TheVariants.{AtMost}
+use Rattle.fzn_rules.specs.Linear.{least_value, greatest_value, low_product, least_sum, IsFixedTo}
+use Rattle.fzn_rules.specs.Form.{Form, form_of, IsFormMet}
 use Rattle.fzn_rules.specs.Rules.{IsMet}
 use Rattle.fzn_trail.specs.Levels.{Levels}
 use Rattle.fzn_arith.specs.Inference.{AllFixed, IsHint, IsTight, IsInference, IsExhausted}
-use Rattle.fzn_arith.specs.declared.form.SumForm.{SumForm}
-use Rattle.fzn_arith.specs.Kinds.{IsFormOf}
-use Rattle.fzn_arith.specs.Explained.{IsRefutation}
+use Rattle.fzn_arith.specs.Opposite.{opposites, other_comparison, other_bound, opposite_form}
+use Rattle.fzn_arith.specs.Refuted.{IsFound, LeavesSome, LeavesEach, IsLeftAlone}
 use Rattle.fzn_arith.proofs.SumLemmas.{total_le}
-use Rattle.fzn_arith.proofs.CallerLemmas.{end_left, one_end, flat_cond}
+use Rattle.fzn_arith.proofs.CallerLemmas.{one_end, flat_cond}
 use Rattle.fzn_arith.proofs.MeaningLemmas.{FormHolds, form_meets}
+use Rattle.fzn_arith.proofs.OppositeLemmas.{sum_at-opposites, opposites-twice, opposites_fit}
 
--- the sum over the places is at most the bound
-abbrev IsAtMost : List Place → ℤ → Constraint → Type 0
-IsAtMost places bound constraint = form_of constraint ≡ Some (form places AtMost bound None)
+-- ---- a clause was found
 
-pub at_most_of : (constraint : Constraint) (sum : SumForm) → sum.comparison ≡ AtMost → sum.switch ≡ None → IsFormOf constraint sum → IsAtMost sum.places sum.bound constraint
-at_most_of constraint sum comparison switch same = same ∙ ap₂ (λ (c : Comparison) (s : Option Term). Some (form sum.places c sum.bound s)) comparison switch
-
--- ---- refuted on the denied sets
-
--- a refutation is met on the denied sets, if none of them is empty
-refuted : (trail : Levels) (places : List Place) (bound : ℤ) (clause : List Lit) → All (IsPlace (length trail.declared)) places → IsRefutation trail places bound clause → (is_some_empty (denied trail.declared clause) ≡ true) ⊎ (bound <ℤ least_sum (denied trail.declared clause) places)
-unfolding low_product
-refuted trail places bound clause fit refutation = elim (cases_Bool (is_some_empty (denied trail.declared clause))) [
-  | inl empty ↦ inl empty
-  | inr none ↦ inr (refutation.exceeds (low_end (denied trail.declared clause)) (λ k d below.
-      let place = get_or places k d in
-      end_left trail.declared clause place.term (int_lt place.coefficient (pos 0)) refutation.over (fit k d below).0 none))
-]
-
-met_as : (sets : List IntSet) (places : List Place) (bound : ℤ) (constraint : Constraint) → IsAtMost places bound constraint → bound <ℤ least_sum sets places → IsMet constraint sets Lin
+met_as : (sets : List IntSet) (constraint : Constraint) (found : Form) → form_of constraint ≡ Some found → IsFormMet found sets → IsMet constraint sets Lin
 unfolding IsMet
-met_as sets places bound constraint same exceeds = subst (λ (f : Option Form). IsSomeAnd f (λ (form : Form). IsFormMet form sets)) (sym same) exceeds
+met_as sets constraint found same met = subst (λ (f : Option Form). IsSomeAnd f (λ (x : Form). IsFormMet x sets)) (sym same) met
 
-pub at_most_found : (trail : Levels) (places : List Place) (bound : ℤ) (number : ℕ) (clause : List Lit) (constraint : Constraint) → IsAtMost places bound constraint → All (IsPlace (length trail.declared)) places → IsRefutation trail places bound clause → IsInference number constraint trail (record { constraint = number; rule = Lin; clause = clause })
-at_most_found trail places bound number clause constraint same fit refutation = record {
+pub sum_found : (trail : Levels) (found : Form) (number : ℕ) (clause : List Lit) (constraint : Constraint) → form_of constraint ≡ Some found → IsFound trail found clause → IsInference number constraint trail (record { constraint = number; rule = Lin; clause = clause })
+sum_found trail found number clause constraint same there = record {
   of_constraint = refl;
-  over = refutation.over;
-  writable = refutation.writable;
+  over = there.over;
+  writable = there.writable;
   hints = All-nil IsHint;
-  accepted = elim (refuted trail places bound clause fit refutation) [
+  accepted = elim (cases_Bool (is_some_empty (denied trail.declared clause))) [
     | inl empty ↦ inl empty
-    | inr exceeds ↦ inr (met_as (denied trail.declared clause) places bound constraint same exceeds)
+    | inr some ↦ inr (met_as (denied trail.declared clause) constraint found same (there.met some))
   ];
-  forces = refutation.forces;
+  forces = there.forces;
 }
 
 -- ---- all variables fixed
@@ -87,30 +74,88 @@ module _ (sets : List IntSet) (values : List ℤ) (fixed : AllFixed sets) (withi
       le_same (low_product sets place) (product_at values place)
       (ap (λ (x : ℤ). place.coefficient *ℤ x) (term_is place.term (int_lt place.coefficient (pos 0)) (fit k d below).0)))
 
-le_through : (a b c : ℤ) → a ≤ℤ b → b ≤ℤ c → a ≤ℤ c
-le_through a b c h k = omega (arith, ints)
+  -- ---- and none was found
 
-pub at_most_none : (trail : Levels) (places : List Place) (bound : ℤ) (constraint : Constraint) → IsAtMost places bound constraint → HasBooleanSets trail.declared constraint → All (IsPlace (length trail.declared)) places → IsTight trail.sets places bound → IsExhausted constraint trail
-at_most_none trail places bound constraint same booleans fit tight = record {
+  fixed_to : (term : Term) (v : ℤ) → IsTerm (length sets) term → term_value values term ≡ v → IsFixedTo sets term v
+  fixed_to term v fits is = (term_is term false fits ∙ is, term_is term true fits ∙ is)
+
+  leaves_linear : (comparison : Comparison) (places : List Place) (bound s : ℤ) → s ≤ℤ least_sum sets places → (pos 0 -ℤ s) ≤ℤ least_sum sets (opposites places) → LeavesSome sets comparison places bound → IsLinear comparison s bound
+  leaves_linear AtMost places bound s up down leaves = omega (arith, ints)
+  leaves_linear Equal places bound s up down leaves = let a = leaves.0 in let b = leaves.1 in omega (arith, ints)
+  leaves_linear NotEqual places bound s up down leaves = λ same. elim leaves [ inl below ↦ omega (arith, ints) | inr above ↦ omega (arith, ints) ]
+
+  some_of_each : (comparison : Comparison) (places : List Place) (bound : ℤ) → LeavesEach sets comparison places bound → LeavesSome sets comparison places bound
+  some_of_each AtMost places bound leaves = leaves.least
+  some_of_each Equal places bound leaves = leaves
+  some_of_each NotEqual places bound leaves = leaves
+
+  not_linear : (comparison : Comparison) (s bound : ℤ) → IsLinear (other_comparison comparison) (pos 0 -ℤ s) (other_bound comparison bound) → IsLinear comparison s bound → ⊥
+  not_linear AtMost s bound other here = omega (arith, ints)
+  not_linear Equal s bound other here = other (omega (arith, ints))
+  not_linear NotEqual s bound other here = here (omega (arith, ints))
+
+  module _ (comparison : Comparison) (places : List Place) (bound : ℤ) (fit : All (IsPlace (length sets)) places) where
+    up : sum_at values places ≤ℤ least_sum sets places
+    up = fixed_sum places fit
+
+    down : (pos 0 -ℤ sum_at values places) ≤ℤ least_sum sets (opposites places)
+    down =
+        let h = fixed_sum (opposites places) (opposites_fit (length sets) places fit) in
+        let e = sum_at-opposites values places in
+        omega (arith, ints)
+
+    on_side : LeavesSome sets comparison places bound → IsLinear comparison (sum_at values places) bound
+    on_side leaves = leaves_linear comparison places bound (sum_at values places) up down leaves
+
+    off_side : LeavesSome sets (other_comparison comparison) (opposites places) (other_bound comparison bound) → IsLinear comparison (sum_at values places) bound → ⊥
+    off_side leaves =
+        let e : least_sum sets (opposites (opposites places)) ≡ least_sum sets places = ap (least_sum sets) (opposites-twice places) in
+        let u = up in
+        not_linear comparison (sum_at values places) bound
+        (leaves_linear (other_comparison comparison) (opposites places) (other_bound comparison bound) (pos 0 -ℤ sum_at values places) down (omega (arith, ints)) leaves)
+
+    zero_not_one : (v : ℤ) → v ≡ pos 0 → v ≡ pos 1 → ⊥
+    zero_not_one v nought one = omega (arith, ints)
+
+    alone_by : (switch : Option Term) → IsSwitch (length sets) switch → IfSome switch (λ (term : Term). IsBit (term_value values term)) → MatchOption switch (LeavesEach sets comparison places bound) (λ (term : Term). (IsFixedTo sets term (pos 1) → LeavesSome sets comparison places bound) × (IsFixedTo sets term (pos 0) → LeavesSome sets (other_comparison comparison) (opposites places) (other_bound comparison bound))) → IsSwitched (switch_value values switch) (IsLinear comparison (sum_at values places) bound)
+    alone_by None fits bit alone = on_side (some_of_each comparison places bound alone)
+    alone_by (Some term) fits bit alone = elim bit [
+      | inl nought ↦ (
+        λ one. absurd (zero_not_one (term_value values term) nought one),
+        λ here. absurd (off_side (alone.1 (fixed_to term (pos 0) fits nought)) here),
+      )
+      | inr one ↦ (λ _. on_side (alone.0 (fixed_to term (pos 1) fits one)), λ _. one)
+    ]
+
+  alone_holds : (found other : Form) → other ≡ opposite_form found → All (IsPlace (length sets)) found.places → IsSwitch (length sets) found.switch → IfSome found.switch (λ (term : Term). IsBit (term_value values term)) → IsLeftAlone sets found other → FormHolds found values
+  alone_holds found other same fit fits bit alone =
+      alone_by found.comparison found.places found.bound fit found.switch fits bit (subst (λ (f : Form). IsLeftAlone sets found f) same alone)
+
+abbrev TermIsBit : List ℤ → Term → Type 0
+TermIsBit values term = IsBit (term_value values term)
+
+switch_bit : (c : Constraint) (values : List ℤ) → HasBooleanValues values c → IfSome (form_of c) (λ (found : Form). IfSome found.switch (TermIsBit values))
+unfolding form_of booleans_of
+switch_bit (constraint.Compare relation left right (Some switch)) values bits = (recursion_from_All (TermIsBit values) (switch ∷ []) bits).0
+switch_bit (constraint.Linear sum comparison bound (Some switch)) values bits = (recursion_from_All (TermIsBit values) (switch ∷ []) bits).0
+switch_bit (constraint.Gated gate inputs result) values bits = (recursion_from_All (TermIsBit values) (result ∷ inputs) bits).0
+switch_bit (constraint.Arithmetic Plus left right result) values bits = tt
+switch_bit _ values bits = tt
+
+tight_of : (sets : List IntSet) (found other : Form) → IsLeftAlone sets found other → found.comparison ≡ AtMost → found.switch ≡ None → IsTight sets found.places found.bound
+tight_of sets found other alone comparison switch =
+    subst (λ (c : Comparison). LeavesEach sets c found.places found.bound) comparison
+    (subst (λ (s : Option Term). MatchOption s (LeavesEach sets found.comparison found.places found.bound) (λ (term : Term). (IsFixedTo sets term (pos 1) → LeavesSome sets found.comparison found.places found.bound) × (IsFixedTo sets term (pos 0) → LeavesSome sets other.comparison other.places other.bound))) switch alone)
+
+pub sum_alone : (trail : Levels) (found other : Form) (constraint : Constraint) → form_of constraint ≡ Some found → HasBooleanSets trail.declared constraint → other ≡ opposite_form found → All (IsPlace (length trail.declared)) found.places → IsSwitch (length trail.declared) found.switch → IsLeftAlone trail.sets found other → IsExhausted constraint trail
+sum_alone trail found other constraint same booleans opposite_is fit fits alone = record {
   holds = λ fixed values declared within.
       let counts = sym within.one_each ∙ declared.one_each in
-      let here = subst (λ (n : ℕ). All (IsPlace n) places) (sym counts) fit in
-      let sum = le_through _ _ bound (fixed_sum trail.sets values fixed within places here) tight.least in
-      form_meets constraint values (bits-choice trail.declared values constraint declared booleans)
-      (subst (λ (f : Option Form). IsSomeAnd f (λ (x : Form). FormHolds x values)) (sym same) sum);
-  strong = λ form is comparison switch. subst (λ (f : Option Form). IfSome f (λ (form : Form). IsTight trail.sets form.places form.bound)) (sym same ∙ is) tight;
+      let bits = bits-choice trail.declared values constraint declared booleans in
+      let bit = subst (λ (f : Option Form). IfSome f (λ (x : Form). IfSome x.switch (TermIsBit values))) same (switch_bit constraint values bits) in
+      let here = subst (λ (n : ℕ). All (IsPlace n) found.places) (sym counts) fit in
+      let switch_here = subst (λ (n : ℕ). IsSwitch n found.switch) (sym counts) fits in
+      let holds = alone_holds trail.sets values fixed within found other opposite_is here switch_here bit alone in
+      form_meets constraint values bits (subst (λ (f : Option Form). IsSomeAnd f (λ (x : Form). FormHolds x values)) (sym same) holds);
+  strong = λ asked is. subst (λ (f : Option Form). IfSome f (λ (x : Form). x.comparison ≡ AtMost → x.switch ≡ None → IsTight trail.sets x.places x.bound)) (sym same ∙ is) (tight_of trail.sets found other alone);
 }
-
--- ---- in the words of the calls
-
-pub some_refutation : (trail : Levels) (places named : List Place) (bound stored : ℤ) (found : Option (List Lit)) (clause : List Lit) → found ≡ Some clause → named ≡ places → stored ≡ bound → IfSome found (IsRefutation trail named stored) → IsRefutation trail places bound clause
-some_refutation trail places named bound stored found clause is places_are bound_is h =
-    subst (λ (b : ℤ). IsRefutation trail places b clause) bound_is
-    (subst (λ (ps : List Place). IsRefutation trail ps stored clause) places_are
-    (subst (λ (f : Option (List Lit)). IfSome f (IsRefutation trail named stored)) is h))
-
-pub none_tight : (sets : List IntSet) (places named : List Place) (bound stored : ℤ) (found : Option (List Lit)) → found ≡ None → named ≡ places → stored ≡ bound → IfNone found (IsTight sets named stored) → IsTight sets places bound
-none_tight sets places named bound stored found is places_are bound_is h =
-    subst (λ (b : ℤ). IsTight sets places b) bound_is
-    (subst (λ (ps : List Place). IsTight sets ps stored) places_are
-    (subst (λ (f : Option (List Lit)). IfNone f (IsTight sets named stored)) is h))

@@ -1,5 +1,5 @@
 -- The small models of the tests are ones that a file may ask for, and their trails have no empty set.
-use Rattle.std.proofs.Common.{◌≡◌, ◌↔◌, ℕ, ◌<◌, Bool, true, ◌&&◌, IsTrue, ℤ, pos, ◌≤ℤ◌, int_le, List, [], ◌∷◌, ◌++◌, length, sym, ap, ap₂, subst, ◌∙◌, inl, inr, arith}
+use Rattle.std.proofs.Common.{◌≡◌, ◌↔◌, ℕ, ◌<◌, Bool, true, ◌&&◌, IsTrue, ℤ, pos, ◌≤ℤ◌, int_le, List, [], ◌∷◌, ◌++◌, length, sym, ap, ap₂, subst, ◌∙◌, inl, inr, arith, Some}
 use Rattle.std.specs.List.{All, AllPairs}
 use Rattle.std.specs.Ordering.{int_eq}
 use Rattle.std.proofs.lemmas.Int.{ints}
@@ -14,7 +14,10 @@ use Rattle.fzn_domain.proofs.SetLemmas.{contains-range, size_above_zero}
 use Rattle.fzn_meaning.specs.declared.term.Term.{Term}
 use Rattle.fzn_meaning.specs.declared.term.Term.TheVariants.{Variable}
 use Rattle.fzn_meaning.specs.declared.constraint.Constraint.{Constraint}
-use Rattle.fzn_meaning.specs.declared.constraint.Constraint.TheVariants.{BoolClause}
+use Rattle.fzn_meaning.specs.declared.constraint.Constraint.TheVariants.{BoolClause, BoolNot, BoolToInt, Linear, Gated}
+use Rattle.fzn_meaning.specs.declared.term.Place.{Place}
+use Rattle.fzn_meaning.specs.declared.relation.Comparison.{Comparison}
+use Rattle.fzn_meaning.specs.declared.boolean.Gate.{Gate}
 use Rattle.fzn_meaning.specs.declared.model.Var.{Var}
 use Rattle.fzn_meaning.specs.declared.model.Model.{Model}
 use Rattle.fzn_meaning.specs.Meaning.{IsBit, IsBoolean, HasBooleanSets, booleans_of, IsWellFormed as IsWellFormedConstraint}
@@ -45,6 +48,30 @@ clause_is_boolean positive negative e f =
     let same : positive ++ negative ≡ Variable (record { 0 = 1 }) ∷ Variable (record { 0 = 2 }) ∷ [] = ap₂ (λ xs ys. xs ++ ys) e f in
     subst (λ terms. All (IsBoolean (sets_up_to 1)) terms) (sym same)
     (All-from_recursion (IsBoolean (sets_up_to 1)) (Variable (record { 0 = 1 }) ∷ Variable (record { 0 = 2 }) ∷ []) (bit_in_range, (bit_in_range, tt)))
+
+abbrev first : Term
+first = Variable (record { 0 = 1 })
+
+abbrev second : Term
+second = Variable (record { 0 = 2 })
+
+pub not_is_boolean : HasBooleanSets (sets_up_to 1) (BoolNot first second)
+unfolding booleans_of
+not_is_boolean = All-from_recursion (IsBoolean (sets_up_to 1)) (first ∷ second ∷ []) (bit_in_range, (bit_in_range, tt))
+
+pub number_is_boolean : HasBooleanSets (sets_up_to 1) (BoolToInt first second)
+unfolding booleans_of
+number_is_boolean = All-from_recursion (IsBoolean (sets_up_to 1)) (first ∷ []) (bit_in_range, tt)
+
+pub switch_is_boolean : (sum : List Place) (comparison : Comparison) (bound : ℤ) → HasBooleanSets (sets_up_to 1) (Linear sum comparison bound (Some second))
+unfolding booleans_of
+switch_is_boolean sum comparison bound = All-from_recursion (IsBoolean (sets_up_to 1)) (second ∷ []) (bit_in_range, tt)
+
+pub gate_is_boolean : (gate : Gate) (inputs : List Term) → inputs ≡ first ∷ [] → HasBooleanSets (sets_up_to 1) (Gated gate inputs second)
+unfolding booleans_of
+gate_is_boolean gate inputs is =
+    subst (λ (terms : List Term). All (IsBoolean (sets_up_to 1)) (second ∷ terms)) (sym is)
+    (All-from_recursion (IsBoolean (sets_up_to 1)) (second ∷ first ∷ []) (bit_in_range, (bit_in_range, tt)))
 
 in_limits : (v : ℤ) (greatest : ℕ) → greatest < 256 → pos 0 ≤ℤ v → v ≤ℤ pos greatest → IsInLimits v
 in_limits v greatest small h k = (omega (arith, ints), omega (arith, ints))

@@ -13,4 +13,4 @@ abbrev pub KindIsFor : ArithPropagator → Constraint → Type 0
 KindIsFor (Sum p) constraint = IsFormOf constraint p.form
 
 abbrev pub KindFits : ArithPropagator → List IntSet → Type 0
-KindFits (Sum p) declared = IsReady (length declared) p.form
+KindFits (Sum p) declared = IsReady (length declared) p.form p.opposite

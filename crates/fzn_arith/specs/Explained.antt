@@ -10,7 +10,7 @@ use Rattle.fzn_meaning.specs.declared.term.Term.TheVariants.{Constant, Variable}
 use Rattle.fzn_meaning.specs.declared.term.Place.{Place}
 use Rattle.fzn_rules.specs.Linear.{low_product}
 use Rattle.fzn_trail.specs.Levels.{Levels}
-use Rattle.fzn_trail.specs.Unit.{IsOpen, IsFalseOrUnit}
+use Rattle.fzn_trail.specs.Unit.{IsOpen}
 use Rattle.fzn_meaning.specs.Term.{total_by}
 use Rattle.fzn_arith.specs.declared.at_most.Forced.{Forced}
 use Rattle.fzn_arith.specs.Inference.{IsWritable}
@@ -52,13 +52,6 @@ abbrev pub Exceeds : Levels → List Lit → List Place → ℤ → Type 0
 Exceeds trail clause places bound =
     (choice : Place → ℤ) → All (λ place. IsLeft trail.declared clause place.term (choice place)) places
     → bound <ℤ total_by (λ place. place.coefficient *ℤ choice place) places
-
--- a clause that is false or forces one literal, and refutes that the sum is at most the bound
-pub record IsRefutation (trail : Levels) (places : List Place) (bound : ℤ) (clause : List Lit) : Type 0 where
-  pub over : IsClauseOver (length trail.declared) clause
-  pub writable : All IsWritable clause
-  pub forces : IsFalseOrUnit trail.sets clause
-  pub exceeds : Exceeds trail clause places bound
 
 -- the literal that the place at this index is forced to
 pub record IsForcedAt (trail : Levels) (places : List Place) (slack : ℕ) (forced : Forced) : Type 0 where

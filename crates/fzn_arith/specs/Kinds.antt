@@ -7,6 +7,8 @@ use Rattle.fzn_meaning.specs.Term.{IsPlace}
 use Rattle.fzn_meaning.specs.Meaning.{IsSwitch}
 use Rattle.fzn_rules.specs.Form.{Form, form, form_of}
 use Rattle.fzn_arith.specs.declared.form.SumForm.{SumForm}
+use Rattle.fzn_arith.specs.Opposite.{opposite_form}
+use Rattle.fzn_arith.specs.Refuted.{IsSum}
 
 abbrev pub form_in : SumForm → Form
 form_in sum = form sum.places sum.comparison sum.bound sum.switch
@@ -22,11 +24,9 @@ pub record Fits (count : ℕ) (found : Form) : Type 0 where
   pub bounded : unsigned_abs found.bound ≤ 1000000000
   pub switch_fits : IsSwitch count found.switch
 
--- the sum is at most its bound, without a switch
-abbrev pub HasPropagator : Constraint → Type 0
-HasPropagator constraint = IsSomeAnd (form_of constraint) (λ found. (found.comparison ≡ AtMost) × (found.switch ≡ None))
-
-pub record IsReady (count : ℕ) (sum : SumForm) : Type 0 where
-  pub fits : Fits count (form_in sum)
-  pub comparison : sum.comparison ≡ AtMost
-  pub switch : sum.switch ≡ None
+-- a form and the one that holds exactly where it does not
+pub record IsReady (count : ℕ) (sum opposite : SumForm) : Type 0 where
+  pub on : IsSum count sum opposite.places
+  pub off : IsSum count opposite sum.places
+  pub switch_fits : IsSwitch count sum.switch
+  pub opposite_is : form_in opposite ≡ opposite_form (form_in sum)

@@ -3,8 +3,11 @@ ghost use Rattle.std.specs.Prelude.{◌≡◌, ℕ, ◌<◌, ◌≤◌, ◌≤�
 ghost use Rattle.std.specs.List.{All};
 ghost use Rattle.fzn_domain.specs.Narrow.{NoneEmpty};
 ghost use Rattle.fzn_meaning.specs.Term.{IsPlace};
+ghost use Rattle.fzn_rules.specs.Linear.{least_sum};
 ghost use Rattle.fzn_arith.specs.Inference.{IsTight, spread};
-ghost use Rattle.fzn_arith.specs.Explained.{IsExplained, IsFloor, IsForced, IsForcedAt, IsExplanation, IsRefutation};
+ghost use Rattle.fzn_meaning.specs.declared.relation.Comparison.TheVariants as sum;
+ghost use Rattle.fzn_arith.specs.Explained.{IsExplained, IsFloor, IsForced, IsForcedAt, IsExplanation};
+ghost use Rattle.fzn_arith.specs.Refuted.{IsConflict, IsRefutation};
 
 use crate::ends::least_sum;
 use fzn_domain::{Lit, Memory, Op};
@@ -107,7 +110,7 @@ fn first_forced(trail: &Trail, places: &[Place], slack: u128) -> Option<Forced>
 }
 
 /// A clause that is false on the trail and says that all places but one gave no less.
-fn explain(
+pub fn explain(
     alloc: Global,
     trail: &Trail,
     places: &[Place],
@@ -128,6 +131,27 @@ fn explain(
     Ok(clause)
 }
 
+/// A clause that is false, where the least sum exceeds the bound.
+pub fn conflict_at_most(
+    alloc: Global,
+    trail: &Trail,
+    places: &[Place],
+    bound: i64,
+) -> Result<Option<Items<Lit>>, Memory>
+    requires places { All (IsPlace (length trail.now.declared)) places.now }
+    requires short { length places.now ≤ 200000 }
+    requires filled { NoneEmpty trail.now.sets }
+    ensures found { IfOk result (λ found. IfSome found (IsConflict trail.now sum.AtMost places.now bound)) }
+    ensures none { IfOk result (λ found. IfNone found (least_sum trail.now.sets places.now ≤ℤ bound)) }
+{
+    let least = least_sum(trail, places);
+    if least <= i128::from(bound) {
+        return Ok(None);
+    }
+    let clause = explain(alloc, trail, places, places.len())?;
+    Ok(Some(clause))
+}
+
 /// A clause that refutes that the sum is at most the bound, and is false or forces one literal on the trail.
 pub fn refute_at_most(
     alloc: Global,
@@ -138,7 +162,7 @@ pub fn refute_at_most(
     requires places { All (IsPlace (length trail.now.declared)) places.now }
     requires short { length places.now ≤ 200000 }
     requires filled { NoneEmpty trail.now.sets }
-    ensures found { IfOk result (λ found. IfSome found (IsRefutation trail.now places.now bound)) }
+    ensures found { IfOk result (λ found. IfSome found (IsRefutation trail.now sum.AtMost places.now bound)) }
     ensures none { IfOk result (λ found. IfNone found (IsTight trail.now.sets places.now bound)) }
 {
     let least = least_sum(trail, places);

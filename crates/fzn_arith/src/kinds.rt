@@ -1,16 +1,17 @@
 // One type for all kinds of propagators of this crate, and which constraint gets which.
-ghost use Rattle.std.specs.Prelude.{◌≡◌, ◌-◌, ◌≤◌, length, IfOk, IfSome, IfNone, slice_index_or};
+ghost use Rattle.std.specs.Prelude.{◌≡◌, ◌-◌, ◌≤◌, length, IfOk, IfSome, IfNone, None, slice_index_or};
 ghost use Rattle.fzn_meaning.specs.declared.constraint.Constraint.{Constraint};
 ghost use Rattle.fzn_meaning.specs.Solutions.{declared_sets};
 ghost use Rattle.fzn_meaning.specs.WellFormed.{IsWellFormed};
+ghost use Rattle.fzn_rules.specs.Form.{form_of};
 ghost use Rattle.fzn_arith.specs.AnyKind.{kind_number, KindIsFor, KindFits};
-ghost use Rattle.fzn_arith.specs.Kinds.{HasPropagator};
 
 use crate::form::form_of;
+use crate::opposite::opposite_of;
 use crate::propagator::{Inference, Propagator};
 use crate::sum::SumPropagator;
 use fzn_domain::Memory;
-use fzn_meaning::{Comparison, Model};
+use fzn_meaning::Model;
 use fzn_trail::Trail;
 use std::alloc::Global;
 
@@ -45,15 +46,16 @@ pub fn propagator_of(
     ensures number { IfOk result (λ found. IfSome found (λ propagator. kind_number propagator ≡ c)) }
     ensures is_for { IfOk result (λ found. IfSome found (λ propagator. (default : Constraint) → KindIsFor propagator (slice_index_or model.now.constraints (c - 1) default))) }
     ensures fits { IfOk result (λ found. IfSome found (λ propagator. KindFits propagator (declared_sets model.now.vars))) }
-    ensures none { IfOk result (λ found. IfNone found ((default : Constraint) → HasPropagator (slice_index_or model.now.constraints (c - 1) default) → ⊥)) }
+    ensures none { IfOk result (λ found. IfNone found ((default : Constraint) → form_of (slice_index_or model.now.constraints (c - 1) default) ≡ None)) }
 {
     let constraint = &model.constraints.as_slice()[c - 1];
     let Some(form) = form_of(alloc, model, constraint)? else {
         return Ok(None);
     };
-    if form.comparison != Comparison::AtMost || form.switch.is_some() {
-        return Ok(None);
-    }
-    let number = c as u64;
-    Ok(Some(ArithPropagator::Sum(SumPropagator { number, form })))
+    let opposite = opposite_of(alloc, &form)?;
+    Ok(Some(ArithPropagator::Sum(SumPropagator {
+        number: c as u64,
+        form,
+        opposite,
+    })))
 }

@@ -11,9 +11,12 @@ pub use propagator::{Inference, Propagator};
 mod at_most;
 mod ends;
 mod form;
+mod guard;
 mod kinds;
+mod opposite;
 
 mod propagator;
+mod refute;
 mod sum;
 #[cfg(test)]
 mod tests;

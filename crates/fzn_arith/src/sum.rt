@@ -1,20 +1,45 @@
 // The propagator of a sum.
-ghost use Rattle.std.specs.Prelude.{length};
-ghost use Rattle.fzn_arith.specs.Kinds.{IsFormOf, IsReady};
+ghost use Rattle.std.specs.Prelude.{length, IfOk, IfSome, IfNone};
+ghost use Rattle.fzn_domain.specs.Narrow.{NoneEmpty};
+ghost use Rattle.fzn_arith.specs.Kinds.{form_in, IsFormOf, IsReady};
+ghost use Rattle.fzn_arith.specs.Refuted.{IsFound, IsLeftAlone};
 
-use crate::at_most::refute_at_most;
 use crate::form::SumForm;
+use crate::guard::guarded;
 use crate::propagator::{Inference, Propagator};
-use fzn_domain::Memory;
+use crate::refute::refute;
+use fzn_domain::{Lit, Memory};
+use fzn_list::Items;
 use fzn_rules::Rule;
 use fzn_trail::Trail;
 use std::alloc::Global;
 
-/// The sum of a constraint's form compares so with its bound.
+/// The sum of a constraint's form compares so with its bound, and the opposite form does not.
 #[derive(Debug, Drop)]
 pub struct SumPropagator {
     pub number: u64,
     pub form: SumForm,
+    pub opposite: SumForm,
+}
+
+impl SumPropagator {
+    /// The clause of an inference.
+    fn find(&self, alloc: Global, trail: &Trail) -> Result<Option<Items<Lit>>, Memory>
+        requires ready { IsReady (length trail.now.declared) self.now.form self.now.opposite }
+        requires filled { NoneEmpty trail.now.sets }
+        ensures found { IfOk result (λ found. IfSome found (IsFound trail.now (form_in self.now.form))) }
+        ensures none { IfOk result (λ found. IfNone found (IsLeftAlone trail.now.sets (form_in self.now.form) (form_in self.now.opposite))) }
+    {
+        let on = self.form.places.as_slice();
+        let off = self.opposite.places.as_slice();
+        let Some(switch) = self.form.switch else {
+            return refute(alloc, trail, &self.form, off);
+        };
+        if let Some(clause) = guarded(alloc, trail, switch, 1, &self.form, off)? {
+            return Ok(Some(clause));
+        }
+        guarded(alloc, trail, switch, 0, &self.opposite, on)
+    }
 }
 
 impl Propagator for SumPropagator {
@@ -22,11 +47,10 @@ impl Propagator for SumPropagator {
 
     ghost is_for = { λ propagator constraint. IsFormOf constraint propagator.form };
 
-    ghost fits = { λ propagator declared. IsReady (length declared) propagator.form };
+    ghost fits = { λ propagator declared. IsReady (length declared) propagator.form propagator.opposite };
 
     fn propagate(&self, alloc: Global, trail: &Trail) -> Result<Option<Inference>, Memory> {
-        let places = self.form.places.as_slice();
-        let Some(clause) = refute_at_most(alloc, trail, places, self.form.bound)? else {
+        let Some(clause) = self.find(alloc, trail)? else {
             return Ok(None);
         };
         Ok(Some(Inference {

@@ -9,7 +9,9 @@ ghost use Rattle.fzn_meaning.specs.WellFormed.{IsWellFormed};
 use super::*;
 use fzn_domain::{Domain, Lit, Memory, Op, VarId};
 use fzn_list::{Items, Text};
-use fzn_meaning::{Comparison, Constraint, Goal, Kind, Model, Place, Term, Var, holds};
+use fzn_meaning::{
+    Comparison, Constraint, Gate, Goal, Kind, Model, Operation, Place, Relation, Term, Var, holds,
+};
 use fzn_rules::Rule;
 use fzn_trail::{Reason, Trail};
 use std::alloc::Global;
@@ -32,25 +34,116 @@ fn two<T: Drop>(alloc: Global, first: T, second: T) -> Result<Items<T>, Memory>
     Ok(items)
 }
 
-/// a x + b y <= bound
+/// a x + b y compared with the bound.
 #[tactic(auto, unfolding(fzn_meaning::specs::Meaning::IsWellFormed, fzn_meaning::specs::Meaning::booleans_of))]
-fn sum_of(alloc: Global, a: i16, b: i16, bound: i16) -> Result<Constraint, Memory>
+fn sum_of(
+    alloc: Global,
+    a: i16,
+    b: i16,
+    comparison: Comparison,
+    bound: i16,
+) -> Result<Constraint, Memory>
     ensures well_formed { IfOk result (IsWellFormedConstraint 2) }
     ensures boolean { (sets : List IntSet) → IfOk result (HasBooleanSets sets) }
 {
-    let x = Place {
+    let first = Place {
         coefficient: i64::from(a),
         term: Term::Variable(VarId(1)),
     };
-    let y = Place {
+    let second = Place {
         coefficient: i64::from(b),
         term: Term::Variable(VarId(2)),
     };
     Ok(Constraint::Linear {
-        sum: two(alloc, x, y)?,
-        comparison: Comparison::AtMost,
+        sum: two(alloc, first, second)?,
+        comparison,
         bound: i64::from(bound),
         switch: None,
+    })
+}
+
+/// y is 1 exactly where a x compares so with the bound.
+#[tactic(auto, unfolding(fzn_meaning::specs::Meaning::IsWellFormed, fzn_meaning::specs::Meaning::booleans_of))]
+fn switched_sum(
+    alloc: Global,
+    a: i16,
+    comparison: Comparison,
+    bound: i16,
+) -> Result<Constraint, Memory>
+    ensures well_formed { IfOk result (IsWellFormedConstraint 2) }
+    ensures boolean { IfOk result (HasBooleanSets (range (pos 0) (pos 1) ∷ range (pos 0) (pos 1) ∷ [])) }
+{
+    let place = Place {
+        coefficient: i64::from(a),
+        term: Term::Variable(VarId(1)),
+    };
+    Ok(Constraint::Linear {
+        sum: one(alloc, place)?,
+        comparison,
+        bound: i64::from(bound),
+        switch: Some(Term::Variable(VarId(2))),
+    })
+}
+
+#[tactic(auto, unfolding(fzn_meaning::specs::Meaning::IsWellFormed, fzn_meaning::specs::Meaning::booleans_of))]
+fn compared(relation: Relation) -> Constraint
+    ensures well_formed { IsWellFormedConstraint 2 result }
+    ensures boolean { (sets : List IntSet) → HasBooleanSets sets result }
+{
+    Constraint::Compare {
+        relation,
+        left: Term::Variable(VarId(1)),
+        right: Term::Variable(VarId(2)),
+        switch: None,
+    }
+}
+
+/// x + y is the number.
+#[tactic(auto, unfolding(fzn_meaning::specs::Meaning::IsWellFormed, fzn_meaning::specs::Meaning::booleans_of))]
+fn plus(total: i16) -> Constraint
+    ensures well_formed { IsWellFormedConstraint 2 result }
+    ensures boolean { (sets : List IntSet) → HasBooleanSets sets result }
+{
+    Constraint::Arithmetic {
+        operation: Operation::Plus,
+        left: Term::Variable(VarId(1)),
+        right: Term::Variable(VarId(2)),
+        result: Term::Constant(i64::from(total)),
+    }
+}
+
+#[tactic(auto, unfolding(fzn_meaning::specs::Meaning::IsWellFormed, fzn_meaning::specs::Meaning::booleans_of))]
+fn differing() -> Constraint
+    ensures well_formed { IsWellFormedConstraint 2 result }
+    ensures boolean { HasBooleanSets (range (pos 0) (pos 1) ∷ range (pos 0) (pos 1) ∷ []) result }
+{
+    Constraint::BoolNot {
+        left: Term::Variable(VarId(1)),
+        right: Term::Variable(VarId(2)),
+    }
+}
+
+#[tactic(auto, unfolding(fzn_meaning::specs::Meaning::IsWellFormed, fzn_meaning::specs::Meaning::booleans_of))]
+fn as_number() -> Constraint
+    ensures well_formed { IsWellFormedConstraint 2 result }
+    ensures boolean { HasBooleanSets (range (pos 0) (pos 1) ∷ range (pos 0) (pos 1) ∷ []) result }
+{
+    Constraint::BoolToInt {
+        boolean: Term::Variable(VarId(1)),
+        integer: Term::Variable(VarId(2)),
+    }
+}
+
+/// y is 1 exactly where the gate passes on x.
+#[tactic(auto, unfolding(fzn_meaning::specs::Meaning::IsWellFormed, fzn_meaning::specs::Meaning::booleans_of))]
+fn gate(alloc: Global, gate: Gate) -> Result<Constraint, Memory>
+    ensures well_formed { IfOk result (IsWellFormedConstraint 2) }
+    ensures boolean { IfOk result (HasBooleanSets (range (pos 0) (pos 1) ∷ range (pos 0) (pos 1) ∷ [])) }
+{
+    Ok(Constraint::Gated {
+        gate,
+        inputs: one(alloc, Term::Variable(VarId(1)))?,
+        result: Term::Variable(VarId(2)),
     })
 }
 
@@ -237,7 +330,7 @@ fn sums_at_most(rt: HostRuntime) -> Result<(), Fail> {
         (1, 1, 20, (0, 10), (0, 10), [].as_slice()),
         (2, -3, -13, (1, 1), (5, 5), [].as_slice()),
     ] {
-        let model = model_of(alloc, 10, sum_of(alloc, a, b, bound)?)?;
+        let model = model_of(alloc, 10, sum_of(alloc, a, b, Comparison::AtMost, bound)?)?;
         let found = answer(alloc, 10, &model, x, y)?;
         assert_eq!(rt; clause_of(&found), clause, "{a} {b} {bound} at {x:?} {y:?}");
     }
@@ -277,33 +370,176 @@ fn clauses(rt: HostRuntime) -> Result<(), Fail> {
     Ok(())
 }
 
-/// Whether nothing is inferred at these values exactly where they meet the sum that is the model's constraint.
+#[test]
+fn sums_equal(rt: HostRuntime) -> Result<(), Fail> {
+    let alloc = rt.alloc();
+    for (a, b, comparison, bound, from_to, clause) in [
+        // coefficients, how it compares, bound, x and y from and to, the clause
+        (
+            1,
+            1,
+            Comparison::Equal,
+            8,
+            ((6, 10), (0, 10)),
+            [lit(1, Op::AtMost, 8)].as_slice(),
+        ),
+        (
+            1,
+            1,
+            Comparison::Equal,
+            20,
+            ((0, 10), (0, 10)),
+            [lit(1, Op::AtLeast, 10)].as_slice(),
+        ),
+        (
+            1,
+            -1,
+            Comparison::NotEqual,
+            0,
+            ((3, 3), (3, 3)),
+            [
+                lit(1, Op::AtMost, 2),
+                lit(2, Op::AtLeast, 4),
+                lit(1, Op::AtLeast, 4),
+                lit(2, Op::AtMost, 2),
+            ]
+            .as_slice(),
+        ),
+        // nothing
+        (1, -1, Comparison::NotEqual, 1, ((3, 3), (3, 3)), [].as_slice()),
+        (1, 1, Comparison::Equal, 6, ((3, 3), (3, 3)), [].as_slice()),
+    ] {
+        let model = model_of(alloc, 10, sum_of(alloc, a, b, comparison, bound)?)?;
+        let found = answer(alloc, 10, &model, from_to.0, from_to.1)?;
+        assert_eq!(rt; clause_of(&found), clause, "{a} {b} {bound} at {from_to:?}");
+    }
+    Ok(())
+}
+
+#[test]
+fn switches(rt: HostRuntime) -> Result<(), Fail> {
+    let alloc = rt.alloc();
+    // y is 1 exactly where x is at most 0
+    let model = model_of(alloc, 1, switched_sum(alloc, 1, Comparison::AtMost, 0)?)?;
+    for (x, y, clause) in [
+        // x from and to, y from and to, the clause
+        ((0, 1), (0, 1), [].as_slice()),
+        ((0, 0), (1, 1), [].as_slice()),
+        (
+            (1, 1),
+            (0, 1),
+            [lit(1, Op::AtMost, 0), lit(2, Op::NotEqual, 1)].as_slice(),
+        ),
+        (
+            (0, 0),
+            (0, 1),
+            [lit(1, Op::AtLeast, 1), lit(2, Op::NotEqual, 0)].as_slice(),
+        ),
+        (
+            (0, 1),
+            (1, 1),
+            [lit(1, Op::AtMost, 0), lit(2, Op::NotEqual, 1)].as_slice(),
+        ),
+        (
+            (0, 1),
+            (0, 0),
+            [lit(1, Op::AtLeast, 1), lit(2, Op::NotEqual, 0)].as_slice(),
+        ),
+    ] {
+        let found = answer(alloc, 1, &model, x, y)?;
+        assert_eq!(rt; clause_of(&found), clause, "{x:?} {y:?}");
+    }
+    Ok(())
+}
+
+/// Whether nothing is inferred at these values exactly where they meet the constraint, the same as the model's.
 fn agrees(
     alloc: Global,
+    greatest: u8,
     model: &Model,
-    sum: (i16, i16, i16),
+    constraint: &Constraint,
     x: i64,
     y: i64,
 ) -> Result<bool, Memory>
     requires well_formed { IsWellFormed model.now }
     requires one { length model.now.constraints ≡ 1 }
-    requires sets { declared_sets model.now.vars ≡ range (pos 0) (pos 4) ∷ range (pos 0) (pos 4) ∷ [] }
+    requires sets { declared_sets model.now.vars ≡ range (pos 0) (pos greatest) ∷ range (pos 0) (pos greatest) ∷ [] }
+    requires constraint { IsWellFormedConstraint 2 constraint.now }
 {
-    let constraint = sum_of(alloc, sum.0, sum.1, sum.2)?;
-    let found = answer(alloc, 4, model, (x, x), (y, y))?;
-    Ok(found.is_none() == holds(&constraint, &[x, y]))
+    let found = answer(alloc, greatest, model, (x, x), (y, y))?;
+    Ok(found.is_none() == holds(constraint, &[x, y]))
 }
 
 #[test]
-fn nothing_where_it_holds(rt: HostRuntime) -> Result<(), Fail> {
+fn nothing_where_a_sum_holds(rt: HostRuntime) -> Result<(), Fail> {
     let alloc = rt.alloc();
     for (a, b, bound) in [(1, 1, 4), (2, -3, -3), (-1, -2, -5), (0, 3, 0)] {
-        let model = model_of(alloc, 4, sum_of(alloc, a, b, bound)?)?;
-        for i in 0..25 {
-            let (x, y) = (i / 5, i % 5);
-            let agrees = agrees(alloc, &model, (a, b, bound), x, y)?;
-            assert!(rt; agrees, "{a} {b} {bound} at {x} {y}");
+        for comparison in [Comparison::AtMost, Comparison::Equal, Comparison::NotEqual] {
+            let model = model_of(alloc, 4, sum_of(alloc, a, b, comparison, bound)?)?;
+            for i in 0..25 {
+                let constraint = sum_of(alloc, a, b, comparison, bound)?;
+                let agrees = agrees(alloc, 4, &model, &constraint, i / 5, i % 5)?;
+                assert!(rt; agrees, "{a} {b} {comparison:?} {bound} at {i}");
+            }
         }
+    }
+    Ok(())
+}
+
+#[test]
+fn nothing_where_terms_compare(rt: HostRuntime) -> Result<(), Fail> {
+    let alloc = rt.alloc();
+    for relation in [
+        Relation::Equal,
+        Relation::NotEqual,
+        Relation::AtMost,
+        Relation::Below,
+    ] {
+        let model = model_of(alloc, 4, compared(relation))?;
+        for i in 0..25 {
+            let agrees = agrees(alloc, 4, &model, &compared(relation), i / 5, i % 5)?;
+            assert!(rt; agrees, "{relation:?} at {i}");
+        }
+    }
+    let model = model_of(alloc, 4, plus(5))?;
+    for i in 0..25 {
+        let agrees = agrees(alloc, 4, &model, &plus(5), i / 5, i % 5)?;
+        assert!(rt; agrees, "plus at {i}");
+    }
+    Ok(())
+}
+
+#[test]
+fn nothing_where_a_switch_is_right(rt: HostRuntime) -> Result<(), Fail> {
+    let alloc = rt.alloc();
+    for (a, bound) in [(1, 0), (-1, -1), (2, 1), (3, 3)] {
+        for comparison in [Comparison::AtMost, Comparison::Equal, Comparison::NotEqual] {
+            let model = model_of(alloc, 1, switched_sum(alloc, a, comparison, bound)?)?;
+            for i in 0..4 {
+                let constraint = switched_sum(alloc, a, comparison, bound)?;
+                let agrees = agrees(alloc, 1, &model, &constraint, i / 2, i % 2)?;
+                assert!(rt; agrees, "{a} {comparison:?} {bound} at {i}");
+            }
+        }
+    }
+    Ok(())
+}
+
+#[test]
+fn nothing_where_bits_are_right(rt: HostRuntime) -> Result<(), Fail> {
+    let alloc = rt.alloc();
+    let not = model_of(alloc, 1, differing())?;
+    let number = model_of(alloc, 1, as_number())?;
+    let clause = model_of(alloc, 1, x_or_not_y(alloc)?)?;
+    let and = model_of(alloc, 1, gate(alloc, Gate::And)?)?;
+    let or = model_of(alloc, 1, gate(alloc, Gate::Or)?)?;
+    for i in 0..4 {
+        let (x, y) = (i / 2, i % 2);
+        assert!(rt; agrees(alloc, 1, &not, &differing(), x, y)?, "not at {x} {y}");
+        assert!(rt; agrees(alloc, 1, &number, &as_number(), x, y)?, "number at {x} {y}");
+        assert!(rt; agrees(alloc, 1, &clause, &x_or_not_y(alloc)?, x, y)?, "clause at {x} {y}");
+        assert!(rt; agrees(alloc, 1, &and, &gate(alloc, Gate::And)?, x, y)?, "and at {x} {y}");
+        assert!(rt; agrees(alloc, 1, &or, &gate(alloc, Gate::Or)?, x, y)?, "or at {x} {y}");
     }
     Ok(())
 }

@@ -1,14 +1,14 @@
 -- Which propagators stand for a model, and which constraint has none.
-use Rattle.std.specs.Prelude.{◌≡◌, ℕ, ◌+◌, ◌-◌, ◌<◌, ◌≤◌, length, slice_index_or}
+use Rattle.std.specs.Prelude.{◌≡◌, ℕ, ◌+◌, ◌-◌, ◌<◌, ◌≤◌, length, slice_index_or, None}
 use Rattle.std.specs.List.{All}
 use Rattle.fzn_meaning.specs.declared.constraint.Constraint.{Constraint}
 use Rattle.fzn_meaning.specs.declared.model.Model.{Model}
 use Rattle.fzn_meaning.specs.Meaning.{HasBooleanSets, longest}
 use Rattle.fzn_meaning.specs.Solutions.{declared_sets}
+use Rattle.fzn_rules.specs.Form.{form_of}
 use Rattle.fzn_cert.specs.Accepted.{IsConstraintNumber}
 use Rattle.fzn_arith.specs.declared.kinds.ArithPropagator.{ArithPropagator}
 use Rattle.fzn_arith.specs.AnyKind.{kind_number, KindIsFor, KindFits}
-use Rattle.fzn_arith.specs.Kinds.{HasPropagator}
 use Rattle.fzn_propagators.specs.declared.lacking.Lacking.{Lacking}
 use Rattle.fzn_propagators.specs.declared.lacking.Lacking.TheVariants.{Memory, Propagator}
 use Rattle.fzn_propagators.specs.declared.propagators.Propagators.{Propagators}
@@ -30,10 +30,10 @@ pub record AreFor (propagators : Propagators) (model : Model) : Type 0 where
   pub few_vars : length model.vars ≤ longest
   pub few_constraints : length model.constraints ≤ longest
 
--- no propagator is for the constraint of this number
+-- a constraint of this number that has no form has no propagator
 abbrev pub Lacks : Model → Lacking → Type 0
 Lacks model Memory = Unit {0}
-Lacks model (Propagator c) = IsConstraintNumber model c × ((default : Constraint) → HasPropagator (slice_index_or model.constraints (c - 1) default) → ⊥)
+Lacks model (Propagator c) = IsConstraintNumber model c × ((default : Constraint) → form_of (slice_index_or model.constraints (c - 1) default) ≡ None)
 
 -- some propagator is for each constraint before it
 abbrev pub IsFirst : Model → Lacking → Type 0

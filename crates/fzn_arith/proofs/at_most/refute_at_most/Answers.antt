@@ -6,18 +6,18 @@ use Rattle.fzn_domain.specs.declared.literal.Lit.{Lit}
 use Rattle.fzn_meaning.specs.declared.term.Place.{Place}
 use Rattle.fzn_meaning.specs.declared.term.Term.TheVariants.{Constant}
 use Rattle.fzn_meaning.specs.Term.{IsPlace}
-use Rattle.fzn_arith.specs.Explained.{IsRefutation}
-use Rattle.fzn_arith.proofs.ClauseLemmas.{conflict, forcing}
+use Rattle.fzn_arith.specs.Refuted.{IsRefutation}
+use Rattle.fzn_meaning.specs.declared.relation.Comparison.TheVariants.{AtMost}
+use Rattle.fzn_arith.proofs.RefuteLemmas.{refutation_of}
+use Rattle.fzn_arith.proofs.ClauseLemmas.{fits_sum, conflict, forcing}
 use Rattle.fzn_arith.proofs.at_most.refute_at_most.Goals as goal
-
-fits_sum : (z : ℤ) → unsigned_abs z ≤ 200000 * 1000000000000000000 → FitsSigned w128 z
-fits_sum z h = fits_signed_from_abs w128 z (omega arith)
 
 pub returns-then-least-bound-clause-found : goal.returns-then-least-bound-clause-found
 returns-then-least-bound-clause-found c =
     let fits = fits_sum c.least_sum-least.result c.least_sum-least.ensures.bounded in
     let above : c.args.bound <ℤ c.least_sum-least.result = let f = c.from-bound.ensures in grind (arith, ints, to_z-of_z) in
-    conflict c.args.trail.now c.args.places.now c.args.bound c.in_ok-clause.clause (subst (λ (z : ℤ). c.args.bound <ℤ z) c.least_sum-least.ensures.value above) c.in_ok-clause.ensures
+    refutation_of c.args.trail.now AtMost c.args.places.now c.args.bound c.in_ok-clause.clause
+    (conflict c.args.trail.now c.args.places.now c.args.bound c.in_ok-clause.clause (subst (λ (z : ℤ). c.args.bound <ℤ z) c.least_sum-least.ensures.value above) c.in_ok-clause.ensures)
 
 spread_fits : (least bound spread_of : ℤ) (slack : ℕ) → bound ≡ least +ℤ pos slack → spread_of ≤ℤ pos slack → (least +ℤ spread_of) ≤ℤ bound
 spread_fits least bound spread_of slack e h = omega (arith, ints)
@@ -54,6 +54,6 @@ returns-clause-found c =
     let forced = c.in-Some.ensures.found in
     let slack = slack_of c.args.bound c.from-bound.result c.least_sum-least.result c.ranges.bound c.from-bound.ensures c.least_sum-least.ensures.bounded c.if-least-bound.false in
     let slack_is = slack ∙ ap (λ (z : ℤ). z +ℤ pos (unsigned_abs (to_z w128 (of_z w128 (to_z w128 (of_z w128 c.from-bound.result) -ℤ to_z w128 (of_z w128 c.least_sum-least.result)))))) c.least_sum-least.ensures.value in
-    subst (λ (xs : List Lit). IsRefutation c.args.trail.now c.args.places.now c.args.bound xs) (sym c.in_ok-push.ensures.ok)
+    subst (λ (xs : List Lit). IsRefutation c.args.trail.now AtMost c.args.places.now c.args.bound xs) (sym c.in_ok-push.ensures.ok)
     (forcing c.args.trail.now c.args.places.now c.args.bound _ c.in_ok-clause-2.clause c.in-Some.forced.place at c.in-Some.forced.lit slack_is forced.in_places
     (All-get_or (IsPlace (length c.args.trail.now.declared)) c.args.places.now c.in-Some.forced.place at forced.in_places c.requires.places) (forced.literal at) c.in_ok-clause-2.ensures)

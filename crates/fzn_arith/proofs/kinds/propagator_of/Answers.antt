@@ -1,13 +1,22 @@
-use Rattle.std.proofs.Common.{rules, arith, ◌-◌, ◌<◌, ℕ, length, sym, subst}
-use Rattle.std.proofs.lemmas.Grind.{common_steps}
+use Rattle.std.proofs.Common.{arith, ◌-◌, ◌<◌, ℕ, length, sym, subst}
 use Rattle.std.proofs.lemmas.List.{length-map}
 use Rattle.fzn_meaning.specs.declared.constraint.Constraint.{Constraint}
 use Rattle.fzn_meaning.specs.declared.model.Var.{Var}
 use Rattle.fzn_meaning.specs.Meaning.{IsWellFormed}
-use Rattle.fzn_arith.specs.Kinds.{form_in, Fits}
+use Rattle.fzn_arith.specs.Kinds.{IsReady}
 use Rattle.fzn_arith.proofs.MadeLemmas.{element_is, some_form}
-use Rattle.fzn_arith.proofs.FitLemmas.{fits_of}
+use Rattle.fzn_arith.proofs.FitLemmas.{fits_of, ready_of}
 use Rattle.fzn_arith.proofs.kinds.propagator_of.Goals as goal
+
+pub opposite_of-requires : goal.opposite_of-requires
+opposite_of-requires c =
+    let range = c.requires.number in
+    let below : c.args.c - 1 < length c.args.model.now.constraints = omega arith in
+    let same = element_is c.args.model.now.constraints _ (c.args.c - 1) c.index-as_slice-c.result c.index-as_slice-c.result c.as_slice.ensures c.index-as_slice-c.is below in
+    let well = subst (λ (x : Constraint). IsWellFormed (length c.args.model.now.vars) x) same (c.requires.model.constraints (c.args.c - 1) c.index-as_slice-c.result below) in
+    let form = some_form c.index-as_slice-c.result c.in_ok-form.field-0 c.in-Some.form c.in-Some.is c.in_ok-form.ensures.found in
+    let fits = fits_of (length c.args.model.now.vars) c.index-as_slice-c.result c.in-Some.form form well in
+    record { places = λ k d inside. (fits.places_fit k d inside).1; bounded = fits.bounded }
 
 pub returns-clause-fits : goal.returns-clause-fits
 returns-clause-fits c =
@@ -16,8 +25,6 @@ returns-clause-fits c =
     let same = element_is c.args.model.now.constraints _ (c.args.c - 1) c.index-as_slice-c.result c.index-as_slice-c.result c.as_slice.ensures c.index-as_slice-c.is below in
     let well = subst (λ (x : Constraint). IsWellFormed (length c.args.model.now.vars) x) same (c.requires.model.constraints (c.args.c - 1) c.index-as_slice-c.result below) in
     let form = some_form c.index-as_slice-c.result c.in_ok-form.field-0 c.in-Some.form c.in-Some.is c.in_ok-form.ensures.found in
-    record {
-      fits = subst (λ (n : ℕ). Fits n (form_in c.in-Some.form)) (sym (length-map c.args.model.now.vars (λ (var : Var). var.domain))) (fits_of (length c.args.model.now.vars) c.index-as_slice-c.result c.in-Some.form form well);
-      comparison = first_of (search rules, grind (arith, common_steps), cc);
-      switch = first_of (search rules, grind (arith, common_steps), cc);
-    }
+    let fits = fits_of (length c.args.model.now.vars) c.index-as_slice-c.result c.in-Some.form form well in
+    subst (λ (n : ℕ). IsReady n c.in-Some.form c.in_ok-opposite.opposite) (sym (length-map c.args.model.now.vars (λ (var : Var). var.domain)))
+    (ready_of (length c.args.model.now.vars) c.in-Some.form c.in_ok-opposite.opposite fits c.in_ok-opposite.ensures)

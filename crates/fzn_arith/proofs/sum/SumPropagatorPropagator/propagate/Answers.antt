@@ -1,24 +1,22 @@
-use Rattle.std.proofs.Common.{rules, w64, FitsSigned}
-use Rattle.std.proofs.lemmas.Int.{to_z-of_z}
-use Rattle.fzn_arith.proofs.FormLemmas.{at_most_of, at_most_found, at_most_none, some_refutation, none_tight}
+use Rattle.std.proofs.Common.{rules, Option, List, subst, IfSome, IfNone}
+use Rattle.fzn_domain.specs.declared.literal.Lit.{Lit}
+use Rattle.fzn_arith.specs.Kinds.{form_in}
+use Rattle.fzn_arith.specs.Refuted.{IsFound, IsLeftAlone}
+use Rattle.fzn_arith.proofs.FormLemmas.{sum_found, sum_alone}
 use Rattle.fzn_arith.proofs.sum.SumPropagatorPropagator.propagate.Goals as goal
 
 pub returns-in_default-clause-none : goal.returns-in_default-clause-none
 returns-in_default-clause-none c =
-    let fits : FitsSigned w64 c.args.self.now.form.bound = search rules in
-    let bound_is = to_z-of_z w64 c.args.self.now.form.bound fits in
     let ready = c.requires.fits in
+    let form = form_in c.args.self.now.form in
+    let other = form_in c.args.self.now.opposite in
+    let alone = subst (λ (f : Option (List Lit)). IfNone f (IsLeftAlone c.args.trail.now.sets form other)) c.in_default.is c.in_ok-clause.ensures.none in
     λ constraint same booleans.
-    at_most_none c.args.trail.now c.args.self.now.form.places c.args.self.now.form.bound constraint
-    (at_most_of constraint c.args.self.now.form ready.comparison ready.switch same) booleans ready.fits.places_fit
-    (none_tight c.args.trail.now.sets _ _ _ _ c.in_ok-clause.field-0 c.in_default.is c.as_slice-places.ensures bound_is c.in_ok-clause.ensures.none)
+    sum_alone c.args.trail.now form other constraint same booleans ready.opposite_is ready.on.places_fit ready.switch_fits alone
 
 pub returns-clause-found : goal.returns-clause-found
 returns-clause-found c =
-    let fits : FitsSigned w64 c.args.self.now.form.bound = search rules in
-    let bound_is = to_z-of_z w64 c.args.self.now.form.bound fits in
-    let ready = c.requires.fits in
+    let form = form_in c.args.self.now.form in
+    let found = subst (λ (f : Option (List Lit)). IfSome f (IsFound c.args.trail.now form)) c.in-Some.is c.in_ok-clause.ensures.found in
     λ constraint same.
-    at_most_found c.args.trail.now c.args.self.now.form.places c.args.self.now.form.bound c.args.self.now.number c.in-Some.clause constraint
-    (at_most_of constraint c.args.self.now.form ready.comparison ready.switch same) ready.fits.places_fit
-    (some_refutation c.args.trail.now _ _ _ _ c.in_ok-clause.field-0 c.in-Some.clause c.in-Some.is c.as_slice-places.ensures bound_is c.in_ok-clause.ensures.found)
+    sum_found c.args.trail.now form c.args.self.now.number c.in-Some.clause constraint same found
