@@ -63,7 +63,7 @@ fn two_to_four(alloc: Global) -> Result<Domain, Memory>
     ensures { IfOk result IsLimited }
 {
     let set = Domain::range(alloc, 2, 4)?;
-    let _ = set.is_empty();
+    let _ = set.is_empty(); // It says that the values are within the limits.
     Ok(set)
 }
 

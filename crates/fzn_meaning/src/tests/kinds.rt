@@ -337,7 +337,6 @@ fn booleans(rt: HostRuntime) {
 
 #[test]
 fn gates(rt: HostRuntime) -> Result<(), Fail> {
-    let _ = 0u8;
     for (gate, last, meeting) in [
         (Gate::And, 2, "000 010 100 111"),
         (Gate::Or, 2, "000 011 101 111"),
