@@ -122,8 +122,8 @@ off trail found switch clause is fits fit guarded = record {
       (inr (
         fixed_switch trail clause guarded.refutes.over some switch (pos 0) fits guarded.one_left,
         all_compare found.comparison (least_sum sets found.places) (greatest_sum sets found.places) (least_sum sets (opposites found.places)) (greatest_sum sets (opposites found.places)) found.bound
-        (least_sum-opposites sets found.places) (greatest_sum-opposites sets found.places)
-        (none_compares trail clause guarded.refutes.over some (other_comparison found.comparison) (opposites found.places) (other_bound found.comparison found.bound) (opposites_fit (length trail.declared) found.places fit) guarded.refutes.rules_out),
+            (least_sum-opposites sets found.places) (greatest_sum-opposites sets found.places)
+            (none_compares trail clause guarded.refutes.over some (other_comparison found.comparison) (opposites found.places) (other_bound found.comparison found.bound) (opposites_fit (length trail.declared) found.places fit) guarded.refutes.rules_out),
       ));
 }
 

@@ -14,7 +14,6 @@ mod form;
 mod guard;
 mod kinds;
 mod opposite;
-
 mod propagator;
 mod refute;
 mod sum;

@@ -406,7 +406,14 @@ fn sums_equal(rt: HostRuntime) -> Result<(), Fail> {
             .as_slice(),
         ),
         // nothing
-        (1, -1, Comparison::NotEqual, 1, ((3, 3), (3, 3)), [].as_slice()),
+        (
+            1,
+            -1,
+            Comparison::NotEqual,
+            1,
+            ((3, 3), (3, 3)),
+            [].as_slice(),
+        ),
         (1, 1, Comparison::Equal, 6, ((3, 3), (3, 3)), [].as_slice()),
     ] {
         let model = model_of(alloc, 10, sum_of(alloc, a, b, comparison, bound)?)?;
@@ -535,11 +542,26 @@ fn nothing_where_bits_are_right(rt: HostRuntime) -> Result<(), Fail> {
     let or = model_of(alloc, 1, gate(alloc, Gate::Or)?)?;
     for i in 0..4 {
         let (x, y) = (i / 2, i % 2);
-        assert!(rt; agrees(alloc, 1, &not, &differing(), x, y)?, "not at {x} {y}");
-        assert!(rt; agrees(alloc, 1, &number, &as_number(), x, y)?, "number at {x} {y}");
-        assert!(rt; agrees(alloc, 1, &clause, &x_or_not_y(alloc)?, x, y)?, "clause at {x} {y}");
-        assert!(rt; agrees(alloc, 1, &and, &gate(alloc, Gate::And)?, x, y)?, "and at {x} {y}");
-        assert!(rt; agrees(alloc, 1, &or, &gate(alloc, Gate::Or)?, x, y)?, "or at {x} {y}");
+        assert!(rt;
+            agrees(alloc, 1, &not, &differing(), x, y)?,
+            "not at {x} {y}"
+        );
+        assert!(rt;
+            agrees(alloc, 1, &number, &as_number(), x, y)?,
+            "number at {x} {y}"
+        );
+        assert!(rt;
+            agrees(alloc, 1, &clause, &x_or_not_y(alloc)?, x, y)?,
+            "clause at {x} {y}"
+        );
+        assert!(rt;
+            agrees(alloc, 1, &and, &gate(alloc, Gate::And)?, x, y)?,
+            "and at {x} {y}"
+        );
+        assert!(rt;
+            agrees(alloc, 1, &or, &gate(alloc, Gate::Or)?, x, y)?,
+            "or at {x} {y}"
+        );
     }
     Ok(())
 }
