@@ -1,27 +1,25 @@
 -- Why an explanation refutes.
-use Rattle.std.proofs.Common.{◌≡◌, ◌≢◌, ℕ, ◌+◌, ◌<◌, true, false, List, [], ◌∷◌, ◌++◌, length, get_or, sym, ap, subst, ◌∙◌, inl, inr, arith, ℤ, pos, ◌+ℤ◌, ◌*ℤ◌, ◌≤ℤ◌, ◌<ℤ◌, ◌*◌, ◌≤◌, ◌-ℤ◌, unsigned_abs, FitsSigned, All}
+use Rattle.std.proofs.Common.{◌≡◌, ◌≢◌, ℕ, ◌+◌, ◌<◌, true, false, List, [], ◌∷◌, ◌++◌, length, get_or, sym, ap, subst, ◌∙◌, inl, inr, arith, ℤ, pos, ◌+ℤ◌, ◌*ℤ◌, ◌≤ℤ◌, ◌<ℤ◌, ◌*◌, ◌≤◌, unsigned_abs, FitsSigned, All}
 use Rattle.std.specs.Int.{w128}
 use Rattle.std.proofs.lemmas.Int.{ints, fits_signed_from_abs}
 use Rattle.std.proofs.lemmas.Bool.{cases_eq}
 use Rattle.std.proofs.lemmas.List.{get_or_default}
-use Rattle.std.proofs.lemmas.List.Elements.{All-push, All-append, filter-append}
+use Rattle.std.proofs.lemmas.List.Elements.{All-push}
 use Rattle.fzn_domain.specs.declared.literal.VarId.{VarId}
 use Rattle.fzn_domain.specs.declared.literal.Lit.{Lit}
-use Rattle.fzn_domain.specs.IntSet.{IntSet, is_possible}
-use Rattle.fzn_domain.specs.Narrow.{IsVariable, set_of, possible_in}
+use Rattle.fzn_domain.specs.Narrow.{IsVariable}
 use Rattle.fzn_meaning.specs.declared.term.Term.{Term}
 use Rattle.fzn_meaning.specs.declared.term.Term.TheVariants.{Variable}
 use Rattle.fzn_meaning.specs.declared.term.Place.{Place}
 use Rattle.fzn_meaning.specs.Term.{IsTerm, IsPlace, total_by}
-use Rattle.fzn_rules.specs.Linear.{low_product, least_sum}
+use Rattle.fzn_builtin_rules.specs.Linear.{low_product, least_sum}
 use Rattle.fzn_trail.specs.Levels.{Levels}
 use Rattle.fzn_arith.specs.Inference.{IsWritable}
 use Rattle.fzn_arith.specs.Explained.{IsLeft, IsExplained, IsFloor, IsForced, IsExplanation}
-use Rattle.fzn_arith.specs.Opposite.{opposites}
 use Rattle.fzn_arith.specs.Refuted.{IsConflict, IsRefutation}
-use Rattle.fzn_meaning.specs.declared.relation.Comparison.TheVariants.{AtMost, NotEqual}
+use Rattle.fzn_meaning.specs.declared.relation.Comparison.TheVariants.{AtMost}
 use Rattle.fzn_arith.proofs.SumLemmas.{total_le, total_lt_at}
-use Rattle.fzn_arith.proofs.CallerLemmas.{left_of_more, left_of_later, last_fails, none_left}
+use Rattle.fzn_arith.proofs.CallerLemmas.{left_of_more, last_fails, none_left}
 
 -- ---- the loop that explains
 
@@ -100,24 +98,3 @@ forcing trail places bound slack clause j d lit bound_is in_places fits forced e
       ] in
       subst (λ (b : ℤ). b <ℤ total_by give places) (sym bound_is) (total_lt_at (low_product trail.sets) give places j d (pos slack) in_places each there);
 }
-
-both_left : (sets : List IntSet) (front back : List Lit) → possible_in sets front ≡ [] → possible_in sets back ≡ [] → possible_in sets (front ++ back) ≡ []
-both_left sets front back none none_too =
-    filter-append (λ (l : Lit). is_possible (set_of sets l.var) l) front back
-    ∙ ap (λ (xs : List Lit). xs ++ possible_in sets back) none
-    ∙ none_too
-
--- where both ends are the bound, explanations of every place and of every opposite place refute together
-pub conflict_at_both : (trail : Levels) (places : List Place) (bound : ℤ) (front back : List Lit) → (bound -ℤ pos 1) <ℤ least_sum trail.sets places → ((pos 0 -ℤ bound) -ℤ pos 1) <ℤ least_sum trail.sets (opposites places) → IsExplanation trail places (length places) (length places) front → IsExplanation trail (opposites places) (length (opposites places)) (length (opposites places)) back → IsConflict trail NotEqual places bound (front ++ back)
-conflict_at_both trail places bound front back up down first second =
-    let a = conflict trail places (bound -ℤ pos 1) front up first in
-    let b = conflict trail (opposites places) ((pos 0 -ℤ bound) -ℤ pos 1) back down second in
-    record {
-      over = All-append (λ (l : Lit). IsVariable (length trail.declared) l.var) front back a.over b.over;
-      writable = All-append IsWritable front back a.writable b.writable;
-      impossible = both_left trail.sets front back a.impossible b.impossible;
-      rules_out = (
-        λ choice left. a.rules_out choice (λ k d below. left_of_more trail.declared front back (get_or places k d).term _ (left k d below)),
-        λ choice left. b.rules_out choice (λ k d below. left_of_later trail.declared front back (get_or (opposites places) k d).term _ (left k d below)),
-      );
-    }

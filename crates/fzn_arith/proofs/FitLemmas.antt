@@ -14,7 +14,7 @@ use Rattle.fzn_meaning.specs.declared.constraint.Constraint.{Constraint}
 use Rattle.fzn_meaning.specs.declared.constraint.Constraint.TheVariants as constraint
 use Rattle.fzn_meaning.specs.Term.{IsTerm, IsPlace}
 use Rattle.fzn_meaning.specs.Meaning.{IsWellFormed}
-use Rattle.fzn_rules.specs.Form.{Form, weighted, difference, bound_of, passing_bound, form_of}
+use Rattle.fzn_builtin_rules.specs.Form.{Form, weighted, difference, bound_of, passing_bound, form_of}
 use Rattle.fzn_arith.specs.declared.form.SumForm.{SumForm}
 use Rattle.fzn_meaning.specs.declared.relation.Comparison.{Comparison}
 use Rattle.fzn_meaning.specs.declared.relation.Comparison.TheVariants.{AtMost, Equal, NotEqual}

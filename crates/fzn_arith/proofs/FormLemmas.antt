@@ -1,5 +1,5 @@
 -- What a found clause and its absence say of a constraint.
-use Rattle.std.proofs.Common.{◌≡◌, ℕ, ◌-◌, ◌<◌, Bool, true, false, cond, List, [], ◌∷◌, length, get_or, refl, sym, ap, subst, ◌∙◌, inl, inr, arith, ℤ, pos, ◌-ℤ◌, ◌*ℤ◌, ◌≤ℤ◌, int_lt, All, Option, Some, None, IfSome, IsSomeAnd, MatchOption}
+use Rattle.std.proofs.Common.{◌≡◌, ℕ, ◌-◌, Bool, true, false, cond, List, [], ◌∷◌, length, get_or, refl, sym, ap, subst, ◌∙◌, inl, inr, arith, ℤ, pos, ◌-ℤ◌, ◌*ℤ◌, ◌≤ℤ◌, int_lt, All, Option, Some, None, IfSome, IsSomeAnd, MatchOption}
 use Rattle.std.proofs.lemmas.Int.{ints}
 use Rattle.std.proofs.lemmas.Bool.{cases_Bool}
 use Rattle.std.proofs.lemmas.List.Elements.{All-nil, recursion_from_All}
@@ -21,14 +21,17 @@ use Rattle.fzn_meaning.specs.Linear.{IsLinear}
 use Rattle.fzn_meaning.specs.Meaning.{HasBooleanSets, HasBooleanValues, booleans_of, switch_value, IsBit, IsSwitch}
 use Rattle.fzn_meaning.proofs.CallerLemmas.{bits-choice}
 use Rattle.fzn_rules.specs.declared.rule.Rule.TheVariants.{Lin}
-use Rattle.fzn_rules.specs.Linear.{least_value, greatest_value, low_product, least_sum, IsFixedTo}
-use Rattle.fzn_rules.specs.Form.{Form, form_of, IsFormMet}
+use Rattle.fzn_state.specs.Terms.{least_value, greatest_value, IsFixedTo}
+use Rattle.fzn_builtin_rules.specs.Linear.{low_product, least_sum}
+use Rattle.fzn_builtin_rules.specs.Form.{Form, form, form_of, IsFormMet}
 use Rattle.fzn_rules.specs.Rules.{IsMet}
 use Rattle.fzn_trail.specs.Levels.{Levels}
 use Rattle.fzn_arith.specs.Inference.{AllFixed, IsHint, IsTight, IsInference, IsExhausted}
 use Rattle.fzn_arith.specs.Opposite.{opposites, other_comparison, other_bound, opposite_form}
+use Rattle.fzn_arith.specs.Barred.{IsToDiffer, LeavesNoBarred}
 use Rattle.fzn_arith.specs.Refuted.{IsFound, LeavesSome, LeavesEach, IsLeftAlone}
 use Rattle.fzn_arith.proofs.SumLemmas.{total_le}
+use Rattle.fzn_arith.proofs.BarredLemmas.{none_barred_opposites}
 use Rattle.fzn_arith.proofs.CallerLemmas.{one_end, flat_cond}
 use Rattle.fzn_arith.proofs.MeaningLemmas.{FormHolds, form_meets}
 use Rattle.fzn_arith.proofs.OppositeLemmas.{sum_at-opposites, opposites-twice, opposites_fit}
@@ -87,7 +90,7 @@ module _ (sets : List IntSet) (values : List ℤ) (fixed : AllFixed sets) (withi
   some_of_each : (comparison : Comparison) (places : List Place) (bound : ℤ) → LeavesEach sets comparison places bound → LeavesSome sets comparison places bound
   some_of_each AtMost places bound leaves = leaves.least
   some_of_each Equal places bound leaves = leaves
-  some_of_each NotEqual places bound leaves = leaves
+  some_of_each NotEqual places bound leaves = leaves.0
 
   not_linear : (comparison : Comparison) (s bound : ℤ) → IsLinear (other_comparison comparison) (pos 0 -ℤ s) (other_bound comparison bound) → IsLinear comparison s bound → ⊥
   not_linear AtMost s bound other here = omega (arith, ints)
@@ -117,14 +120,14 @@ module _ (sets : List IntSet) (values : List ℤ) (fixed : AllFixed sets) (withi
     zero_not_one : (v : ℤ) → v ≡ pos 0 → v ≡ pos 1 → ⊥
     zero_not_one v nought one = omega (arith, ints)
 
-    alone_by : (switch : Option Term) → IsSwitch (length sets) switch → IfSome switch (λ (term : Term). IsBit (term_value values term)) → MatchOption switch (LeavesEach sets comparison places bound) (λ (term : Term). (IsFixedTo sets term (pos 1) → LeavesSome sets comparison places bound) × (IsFixedTo sets term (pos 0) → LeavesSome sets (other_comparison comparison) (opposites places) (other_bound comparison bound))) → IsSwitched (switch_value values switch) (IsLinear comparison (sum_at values places) bound)
+    alone_by : (switch : Option Term) → IsSwitch (length sets) switch → IfSome switch (λ (term : Term). IsBit (term_value values term)) → MatchOption switch (LeavesEach sets comparison places bound) (λ (term : Term). (IsFixedTo sets term (pos 1) → LeavesEach sets comparison places bound) × (IsFixedTo sets term (pos 0) → LeavesEach sets (other_comparison comparison) (opposites places) (other_bound comparison bound))) → IsSwitched (switch_value values switch) (IsLinear comparison (sum_at values places) bound)
     alone_by None fits bit alone = on_side (some_of_each comparison places bound alone)
     alone_by (Some term) fits bit alone = elim bit [
       | inl nought ↦ (
         λ one. absurd (zero_not_one (term_value values term) nought one),
-        λ here. absurd (off_side (alone.1 (fixed_to term (pos 0) fits nought)) here),
+        λ here. absurd (off_side (some_of_each (other_comparison comparison) (opposites places) (other_bound comparison bound) (alone.1 (fixed_to term (pos 0) fits nought))) here),
       )
-      | inr one ↦ (λ _. on_side (alone.0 (fixed_to term (pos 1) fits one)), λ _. one)
+      | inr one ↦ (λ _. on_side (some_of_each comparison places bound (alone.0 (fixed_to term (pos 1) fits one))), λ _. one)
     ]
 
   alone_holds : (found other : Form) → other ≡ opposite_form found → All (IsPlace (length sets)) found.places → IsSwitch (length sets) found.switch → IfSome found.switch (λ (term : Term). IsBit (term_value values term)) → IsLeftAlone sets found other → FormHolds found values
@@ -145,7 +148,20 @@ switch_bit _ values bits = tt
 tight_of : (sets : List IntSet) (found other : Form) → IsLeftAlone sets found other → found.comparison ≡ AtMost → found.switch ≡ None → IsTight sets found.places found.bound
 tight_of sets found other alone comparison switch =
     subst (λ (c : Comparison). LeavesEach sets c found.places found.bound) comparison
-    (subst (λ (s : Option Term). MatchOption s (LeavesEach sets found.comparison found.places found.bound) (λ (term : Term). (IsFixedTo sets term (pos 1) → LeavesSome sets found.comparison found.places found.bound) × (IsFixedTo sets term (pos 0) → LeavesSome sets other.comparison other.places other.bound))) switch alone)
+    (subst (λ (s : Option Term). MatchOption s (LeavesEach sets found.comparison found.places found.bound) (λ (term : Term). (IsFixedTo sets term (pos 1) → LeavesEach sets found.comparison found.places found.bound) × (IsFixedTo sets term (pos 0) → LeavesEach sets other.comparison other.places other.bound))) switch alone)
+
+-- ---- no value that is barred
+
+none_barred_by : (sets : List IntSet) (comparison : Comparison) (places : List Place) (bound : ℤ) (switch : Option Term) → IsToDiffer sets (form places comparison bound switch) → MatchOption switch (LeavesEach sets comparison places bound) (λ (term : Term). (IsFixedTo sets term (pos 1) → LeavesEach sets comparison places bound) × (IsFixedTo sets term (pos 0) → LeavesEach sets (other_comparison comparison) (opposites places) (other_bound comparison bound))) → LeavesNoBarred sets places bound
+none_barred_by sets comparison places bound None differ alone = (subst (λ (c : Comparison). LeavesEach sets c places bound) differ alone).1
+none_barred_by sets comparison places bound (Some term) (inl on) alone = (subst (λ (c : Comparison). LeavesEach sets c places bound) on.1 (alone.0 on.0)).1
+none_barred_by sets comparison places bound (Some term) (inr off) alone =
+    none_barred_opposites sets places bound
+    (subst (λ (c : Comparison). LeavesEach sets (other_comparison c) (opposites places) (other_bound c bound)) off.1 (alone.1 off.0)).1
+
+none_barred_of : (sets : List IntSet) (found other : Form) → other ≡ opposite_form found → IsLeftAlone sets found other → IsToDiffer sets found → LeavesNoBarred sets found.places found.bound
+none_barred_of sets found other same alone differ =
+    none_barred_by sets found.comparison found.places found.bound found.switch differ (subst (λ (f : Form). IsLeftAlone sets found f) same alone)
 
 pub sum_alone : (trail : Levels) (found other : Form) (constraint : Constraint) → form_of constraint ≡ Some found → HasBooleanSets trail.declared constraint → other ≡ opposite_form found → All (IsPlace (length trail.declared)) found.places → IsSwitch (length trail.declared) found.switch → IsLeftAlone trail.sets found other → IsExhausted constraint trail
 sum_alone trail found other constraint same booleans opposite_is fit fits alone = record {
@@ -158,4 +174,5 @@ sum_alone trail found other constraint same booleans opposite_is fit fits alone 
       let holds = alone_holds trail.sets values fixed within found other opposite_is here switch_here bit alone in
       form_meets constraint values bits (subst (λ (f : Option Form). IsSomeAnd f (λ (x : Form). FormHolds x values)) (sym same) holds);
   strong = λ asked is. subst (λ (f : Option Form). IfSome f (λ (x : Form). x.comparison ≡ AtMost → x.switch ≡ None → IsTight trail.sets x.places x.bound)) (sym same ∙ is) (tight_of trail.sets found other alone);
+  none_barred = λ asked is. subst (λ (f : Option Form). IfSome f (λ (x : Form). IsToDiffer trail.sets x → LeavesNoBarred trail.sets x.places x.bound)) (sym same ∙ is) (none_barred_of trail.sets found other opposite_is alone);
 }

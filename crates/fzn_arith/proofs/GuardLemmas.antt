@@ -1,19 +1,13 @@
 -- A clause and the literal that its switch has another value.
-use Rattle.std.proofs.Common.{◌≡◌, ◌≢◌, ◌<◌, Bool, true, false, not, cond, List, [], ◌∷◌, ◌++◌, length, refl, sym, ap, subst, ◌∙◌, inl, inr, arith, ℤ, pos, ◌-ℤ◌, ◌≤◌, ◌≤ℤ◌, unsigned_abs, Result, Option, IfOk, IfSome}
-use Rattle.std.specs.Ordering.{int_eq}
+use Rattle.std.proofs.Common.{◌≡◌, ◌≢◌, ◌<◌, Bool, true, cond, List, [], ◌∷◌, ◌++◌, length, ap, subst, ◌∙◌, inl, inr, arith, ℤ, pos, ◌-ℤ◌, ◌≤◌, unsigned_abs, Result, Option, IfOk, IfSome}
 use Rattle.std.proofs.lemmas.Int.{ints}
-use Rattle.std.proofs.lemmas.Bool.{cases_Bool}
 use Rattle.std.proofs.lemmas.List.Elements.{All-push, filter-append}
 use Rattle.std.proofs.lemmas.List.{append-nil}
 use Rattle.std.proofs.lemmas.Result.{IfOk-weaker}
 use Rattle.std.proofs.lemmas.Option.{IfSome_then}
 use Rattle.fzn_domain.specs.declared.literal.Lit.{Lit}
-use Rattle.fzn_domain.specs.declared.literal.Op.{Op}
-use Rattle.fzn_domain.specs.declared.literal.Op.TheVariants.{NotEqual}
-use Rattle.fzn_domain.specs.Literal.{compares, is_true_at, negated}
-use Rattle.fzn_domain.specs.IntSet.{IntSet, contains, size, is_possible, least, greatest}
+use Rattle.fzn_domain.specs.IntSet.{contains, size, is_possible, least, greatest}
 use Rattle.fzn_domain.specs.Narrow.{IsVariable, set_of, possible_in}
-use Rattle.fzn_domain.proofs.SetLemmas.{least_le, le_greatest, possible_when, impossible_when, is_true_at-negated}
 use Rattle.fzn_meaning.specs.declared.term.Term.TheVariants.{Variable}
 use Rattle.fzn_meaning.specs.declared.term.Place.{Place}
 use Rattle.fzn_meaning.specs.declared.relation.Comparison.{Comparison}
@@ -23,29 +17,9 @@ use Rattle.fzn_trail.specs.Unit.{IsFalseOrUnit}
 use Rattle.fzn_arith.specs.Inference.{IsWritable}
 use Rattle.fzn_arith.specs.Opposite.{opposites}
 use Rattle.fzn_arith.specs.Refuted.{IsConflict, IsRefutation, IsGuard, IsGuarded}
-use Rattle.fzn_arith.proofs.CallerLemmas.{one_end, last_fails, none_left}
+use Rattle.fzn_arith.proofs.CallerLemmas.{last_fails, none_left}
+use Rattle.fzn_arith.proofs.DiffersLemmas.{value_where_false, denied_one, denied_some, may_fail}
 use Rattle.fzn_arith.proofs.RefuteLemmas.{rules_out-more, refutation_of}
-
--- ---- the literal at a value
-
-differs_not : (v k : ℤ) → v ≡ k → not (int_eq v k) ≡ false
-differs_not v k e = grind (arith, ints)
-
-differs : (v k : ℤ) → int_eq v k ≡ false → not (int_eq v k) ≡ true
-differs v k e = ap not e
-
-same_value : (v k : ℤ) → not (int_eq v k) ≡ false → v ≡ k
-same_value v k e = grind (arith, ints)
-
-module _ (lit : Lit) (denies : lit.op ≡ NotEqual) where
-  at : (v : ℤ) → is_true_at lit v ≡ not (int_eq v lit.value)
-  at v = ap (λ (o : Op). compares o v lit.value) denies
-
-  fails_at : (v : ℤ) → v ≡ lit.value → is_true_at lit v ≡ false
-  fails_at v e = at v ∙ differs_not v lit.value e
-
-  value_where_false : (v : ℤ) → is_true_at lit v ≡ false → v ≡ lit.value
-  value_where_false v h = same_value v lit.value (sym (at v) ∙ h)
 
 -- ---- one more literal
 
@@ -66,19 +40,10 @@ module _ (trail : Levels) (lit : Lit) (comparison : Comparison) (places : List P
 
   -- the switch has that one value
   module _ (fixed : least (set_of trail.sets lit.var) ≡ greatest (set_of trail.sets lit.var)) (is : least (set_of trail.sets lit.var) ≡ lit.value) where
-    only_value : (v : ℤ) → contains (set_of trail.sets lit.var) v ≡ true → v ≡ lit.value
-    only_value v h =
-        let low = least_le (set_of trail.sets lit.var) v h in
-        let high = le_greatest (set_of trail.sets lit.var) v h in
-        omega (arith, ints)
-
-    impossible : is_possible (set_of trail.sets lit.var) lit ≡ false
-    impossible = impossible_when (set_of trail.sets lit.var) lit (λ v h. fails_at lit guard.denies v (only_value v h))
-
     same_left : possible_in trail.sets (clause ++ lit ∷ []) ≡ possible_in trail.sets clause
     same_left =
         filter-append (λ (l : Lit). is_possible (set_of trail.sets l.var) l) clause (lit ∷ [])
-        ∙ ap (λ (b : Bool). possible_in trail.sets clause ++ cond b (lit ∷ []) []) impossible
+        ∙ ap (λ (b : Bool). possible_in trail.sets clause ++ cond b (lit ∷ []) []) (denied_one lit guard.denies (set_of trail.sets lit.var) fixed is)
         ∙ append-nil (possible_in trail.sets clause)
 
     pub guarded_fixed : IsRefutation trail comparison places bound clause → IsGuarded trail (Variable lit.var) lit.value comparison places bound (clause ++ lit ∷ [])
@@ -89,31 +54,16 @@ module _ (trail : Levels) (lit : Lit) (comparison : Comparison) (places : List P
 
   -- the switch has that value and others
   module _ (filled : 0 < size (set_of trail.sets lit.var)) (open_set : least (set_of trail.sets lit.var) ≢ greatest (set_of trail.sets lit.var)) (there : contains (set_of trail.sets lit.var) lit.value ≡ true) where
-    true_at : (v : ℤ) → int_eq v lit.value ≡ false → is_true_at lit v ≡ true
-    true_at v h = at lit guard.denies v ∙ differs v lit.value h
-
-    equal_of : (v k : ℤ) → int_eq v k ≡ true → v ≡ k
-    equal_of v k h = grind (arith, ints)
-
-    apart_of_equal : (v : ℤ) → v ≡ lit.value → (v ≡ greatest (set_of trail.sets lit.var) → ⊥) → int_eq (greatest (set_of trail.sets lit.var)) lit.value ≡ false
-    apart_of_equal v e apart = elim (cases_Bool (int_eq (greatest (set_of trail.sets lit.var)) lit.value)) [
-      | inl same ↦ absurd (apart (e ∙ sym (equal_of _ _ same)))
-      | inr other ↦ other
-    ]
-
-    possible : is_possible (set_of trail.sets lit.var) lit ≡ true
-    possible = elim (cases_Bool (int_eq (least (set_of trail.sets lit.var)) lit.value)) [
-      | inl same ↦ possible_when (set_of trail.sets lit.var) lit (greatest (set_of trail.sets lit.var)) (one_end (set_of trail.sets lit.var) true filled) (true_at _ (apart_of_equal _ (equal_of _ _ same) open_set))
-      | inr other ↦ possible_when (set_of trail.sets lit.var) lit (least (set_of trail.sets lit.var)) (one_end (set_of trail.sets lit.var) false filled) (true_at _ other)
-    ]
-
-    may_fail : is_possible (set_of trail.sets lit.var) (negated lit) ≡ true
-    may_fail = possible_when (set_of trail.sets lit.var) (negated lit) lit.value there (is_true_at-negated lit lit.value ∙ ap not (fails_at lit guard.denies lit.value refl))
-
     pub guarded_open : IsConflict trail comparison places bound clause → IsGuarded trail (Variable lit.var) lit.value comparison places bound (clause ++ lit ∷ [])
     guarded_open conflict =
         with_guard (refutation_of trail comparison places bound clause conflict)
-        (inr (lit, record { only = none_left trail.sets clause lit true conflict.impossible possible; not_yet_true = may_fail }))
+        (inr (
+          lit,
+          record {
+            only = none_left trail.sets clause lit true conflict.impossible (denied_some lit guard.denies (set_of trail.sets lit.var) filled open_set);
+            not_yet_true = may_fail lit guard.denies (set_of trail.sets lit.var) there;
+          },
+        ))
 
 -- ---- the opposite sum, in the words of the calls
 

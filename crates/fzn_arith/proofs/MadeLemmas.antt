@@ -6,7 +6,7 @@ use Rattle.fzn_meaning.specs.declared.term.Term.{Term}
 use Rattle.fzn_meaning.specs.declared.term.Place.{Place}
 use Rattle.fzn_meaning.specs.declared.constraint.Constraint.{Constraint}
 use Rattle.fzn_meaning.specs.Term.{IsTerm, IsPlace}
-use Rattle.fzn_rules.specs.Form.{each_with}
+use Rattle.fzn_builtin_rules.specs.Form.{each_with}
 use Rattle.fzn_arith.specs.declared.form.SumForm.{SumForm}
 use Rattle.fzn_arith.specs.Kinds.{IsFormOf}
 

@@ -1,5 +1,5 @@
 -- The opposite places give the negative sum.
-use Rattle.std.proofs.Common.{◌≡◌, ℕ, zero, suc, ◌≤◌, Bool, true, false, cond, List, [], ◌∷◌, length, map, refl, sym, ap, ap₂, ◌∙◌, arith, ℤ, pos, negsuc, ◌-ℤ◌, ◌*ℤ◌, unsigned_abs, int_lt, All}
+use Rattle.std.proofs.Common.{◌≡◌, ℕ, zero, suc, ◌≤◌, Bool, true, false, cond, List, [], ◌∷◌, length, refl, sym, ap, ap₂, ◌∙◌, arith, ℤ, pos, negsuc, ◌-ℤ◌, ◌*ℤ◌, unsigned_abs, int_lt, All}
 use Rattle.std.proofs.lemmas.Int.{ints}
 use Rattle.std.proofs.lemmas.List.{length-map}
 use Rattle.std.proofs.lemmas.List.Elements.{All-map, All-weaker}
@@ -7,7 +7,8 @@ use Rattle.std.proofs.Math.IntN.{zero-*ℤ, pos-*ℤ-pos, pos-*ℤ-negsuc, negsu
 use Rattle.fzn_domain.specs.IntSet.{IntSet}
 use Rattle.fzn_meaning.specs.declared.term.Place.{Place}
 use Rattle.fzn_meaning.specs.Term.{term_value, IsPlace, product_at, sum_at, total_by}
-use Rattle.fzn_rules.specs.Linear.{least_value, greatest_value, low_product, high_product, least_sum, greatest_sum}
+use Rattle.fzn_state.specs.Terms.{least_value, greatest_value}
+use Rattle.fzn_builtin_rules.specs.Linear.{low_product, high_product, least_sum, greatest_sum}
 use Rattle.fzn_arith.specs.Opposite.{opposite, opposites}
 use Rattle.fzn_arith.proofs.SumLemmas.{total_by-cons}
 
@@ -20,7 +21,7 @@ neg_suc n (negsuc m) = let a = negsuc-*ℤ-negsuc n m in let b = pos-*ℤ-negsuc
 no_times : (a x : ℤ) → a ≡ pos 0 → a *ℤ x ≡ pos 0
 no_times a x e = ap (λ (c : ℤ). c *ℤ x) e ∙ zero-*ℤ x
 
-neg_times : (c x : ℤ) → (pos 0 -ℤ c) *ℤ x ≡ pos 0 -ℤ c *ℤ x
+pub neg_times : (c x : ℤ) → (pos 0 -ℤ c) *ℤ x ≡ pos 0 -ℤ c *ℤ x
 neg_times (pos zero) x =
     let e : pos 0 -ℤ pos 0 ≡ pos 0 = omega (arith, ints) in
     let a = no_times (pos 0 -ℤ pos 0) x e in
@@ -59,13 +60,13 @@ end_of (negsuc n) low high =
     let f : int_lt (negsuc n) (pos 0) ≡ true = grind (arith, ints) in
     end_by (negsuc n) low high false true e f refl
 
-low_product-opposite : (sets : List IntSet) (place : Place) → low_product sets (opposite place) ≡ pos 0 -ℤ high_product sets place
+pub low_product-opposite : (sets : List IntSet) (place : Place) → low_product sets (opposite place) ≡ pos 0 -ℤ high_product sets place
 unfolding low_product high_product
 low_product-opposite sets place = end_of place.coefficient (least_value sets place.term) (greatest_value sets place.term)
 
 -- ---- sums
 
-total-opposites : (f g : Place → ℤ) → ((place : Place) → f (opposite place) ≡ pos 0 -ℤ g place) → (places : List Place) → total_by f (opposites places) ≡ pos 0 -ℤ total_by g places
+pub total-opposites : (f g : Place → ℤ) → ((place : Place) → f (opposite place) ≡ pos 0 -ℤ g place) → (places : List Place) → total_by f (opposites places) ≡ pos 0 -ℤ total_by g places
 total-opposites f g each [] = omega (arith, ints)
 total-opposites f g each (p ∷ places) =
     let rest = total-opposites f g each places in
@@ -82,7 +83,7 @@ sum_at-opposites values places = total-opposites (product_at values) (product_at
 
 -- ---- twice
 
-opposite-twice : (place : Place) → opposite (opposite place) ≡ place
+pub opposite-twice : (place : Place) → opposite (opposite place) ≡ place
 opposite-twice place =
     let e : pos 0 -ℤ (pos 0 -ℤ place.coefficient) ≡ place.coefficient = omega (arith, ints) in
     ap (λ (c : ℤ). record { coefficient = c; term = place.term }) e

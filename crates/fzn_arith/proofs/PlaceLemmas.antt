@@ -11,7 +11,8 @@ use Rattle.fzn_domain.proofs.SetLemmas.{member_of_size, size_above_zero, least_l
 use Rattle.fzn_meaning.specs.declared.term.Term.{Term}
 use Rattle.fzn_meaning.specs.declared.term.Term.TheVariants.{Constant, Variable}
 use Rattle.fzn_meaning.specs.declared.term.Place.{Place}
-use Rattle.fzn_rules.specs.Linear.{least_value, greatest_value, low_end, high_end, low_product, high_product}
+use Rattle.fzn_state.specs.Terms.{least_value, greatest_value}
+use Rattle.fzn_builtin_rules.specs.Linear.{low_end, high_end, low_product, high_product}
 use Rattle.fzn_trail.specs.Levels.{Levels}
 use Rattle.fzn_arith.specs.Inference.{spread}
 use Rattle.fzn_arith.specs.Explained.{IsLeft, IsExplained, IsFloor, IsForced}
@@ -65,7 +66,7 @@ top_down sets place var low sign of is = at_times place.coefficient _ _ low (hig
 
 -- ---- no literal is wanted
 
-both_signs : {P : Type 0} (c : ℤ) → (pos 0 ≤ℤ c → P) → (c <ℤ pos 0 → P) → P
+pub both_signs : {P : Type 0} (c : ℤ) → (pos 0 ≤ℤ c → P) → (c <ℤ pos 0 → P) → P
 both_signs (pos n) up down = up (omega (arith, ints))
 both_signs (negsuc m) up down = down (omega (arith, ints))
 

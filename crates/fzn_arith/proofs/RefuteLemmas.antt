@@ -1,16 +1,16 @@
 -- What a refutation says of the denied sets: the form is met there by the rule.
-use Rattle.std.proofs.Common.{◌≡◌, ◌⊎◌, true, false, List, ◌++◌, length, get_or, sym, ap, ap₂, subst, ◌∙◌, inl, inr, arith, ℤ, pos, ◌-ℤ◌, ◌≤ℤ◌, ◌<ℤ◌, int_lt, cond, negsuc, ◌*ℤ◌, All, Option, Some, None}
+use Rattle.std.proofs.Common.{◌≡◌, true, false, List, ◌++◌, length, get_or, sym, subst, inl, inr, arith, ℤ, pos, ◌-ℤ◌, ◌≤ℤ◌, ◌<ℤ◌, int_lt, cond, negsuc, ◌*ℤ◌, All, Option, Some, None}
 use Rattle.std.proofs.lemmas.Int.{ints}
 use Rattle.fzn_domain.specs.declared.literal.Lit.{Lit}
-use Rattle.fzn_domain.specs.IntSet.{IntSet}
 use Rattle.fzn_domain.specs.Narrow.{IsClauseOver, denied, is_some_empty}
 use Rattle.fzn_meaning.specs.declared.term.Term.{Term}
 use Rattle.fzn_meaning.specs.declared.term.Place.{Place}
 use Rattle.fzn_meaning.specs.declared.relation.Comparison.{Comparison}
 use Rattle.fzn_meaning.specs.declared.relation.Comparison.TheVariants.{AtMost, Equal, NotEqual}
 use Rattle.fzn_meaning.specs.Term.{IsTerm, IsPlace}
-use Rattle.fzn_rules.specs.Linear.{low_end, low_product, high_product, least_sum, greatest_sum, IsFixedTo, NoneCompares, AllCompare, IsExcluded}
-use Rattle.fzn_rules.specs.Form.{Form, form, IsFormMet}
+use Rattle.fzn_state.specs.Terms.{IsFixedTo}
+use Rattle.fzn_builtin_rules.specs.Linear.{low_end, low_product, high_product, least_sum, greatest_sum, NoneCompares, AllCompare, IsExcluded}
+use Rattle.fzn_builtin_rules.specs.Form.{Form}
 use Rattle.fzn_trail.specs.Levels.{Levels}
 use Rattle.fzn_arith.specs.Explained.{IsLeft, Exceeds}
 use Rattle.fzn_arith.specs.Opposite.{opposites, other_comparison, other_bound, opposite_form}

@@ -1,5 +1,5 @@
 -- Sums over places, compared place by place.
-use Rattle.std.proofs.Common.{◌≡◌, ℕ, zero, suc, ◌<◌, List, [], ◌∷◌, ◌++◌, length, get_or, ◌∙◌, arith, ℤ, pos, ◌+ℤ◌, ◌≤ℤ◌, ◌<ℤ◌, All}
+use Rattle.std.proofs.Common.{◌≡◌, ◌≢◌, ℕ, zero, suc, ◌<◌, List, [], ◌∷◌, ◌++◌, length, get_or, refl, ◌∙◌, arith, ℤ, pos, ◌+ℤ◌, ◌-ℤ◌, ◌≤ℤ◌, ◌<ℤ◌, All}
 use Rattle.std.specs.List.{fold}
 use Rattle.std.proofs.lemmas.Int.{ints}
 use Rattle.std.proofs.lemmas.List.Elements.{All-head, All-tail}
@@ -61,3 +61,28 @@ module _ (f : Place → ℤ) where
 
   pub total_by-append : (front back : List Place) → total_by f (front ++ back) ≡ total_by f front +ℤ total_by f back
   total_by-append front back = fold-append (λ (sum : ℤ) (place : Place). sum +ℤ f place) (pos 0) front back ∙ total_from (total_by f front) back
+
+-- ---- sums that differ at one place
+
+pub total_same : (f g : Place → ℤ) (places : List Place) → All (λ (p : Place). f p ≡ g p) places → total_by f places ≡ total_by g places
+total_same f g [] each = refl
+total_same f g (p ∷ places) each =
+    let first = All-head (λ (p : Place). f p ≡ g p) p places each in
+    let rest = total_same f g places (All-tail (λ (p : Place). f p ≡ g p) p places each) in
+    let a = total_by-cons f p places in
+    let b = total_by-cons g p places in
+    omega (arith, ints)
+
+pub total_but : (f g : Place → ℤ) (places : List Place) (j : ℕ) (d : Place) → j < length places → ((k : ℕ) (e : Place) → k < length places → k ≢ j → f (get_or places k e) ≡ g (get_or places k e)) → total_by g places ≡ (total_by f places -ℤ f (get_or places j d)) +ℤ g (get_or places j d)
+total_but f g [] j d in_places others = absurd (omega arith)
+total_but f g (p ∷ places) zero d in_places others =
+    let rest = total_same f g places (λ k e below. others (suc k) e (omega arith) (λ same. absurd (omega arith))) in
+    let a = total_by-cons f p places in
+    let b = total_by-cons g p places in
+    omega (arith, ints)
+total_but f g (p ∷ places) (suc j) d in_places others =
+    let first = others 0 p (omega arith) (λ same. absurd (omega arith)) in
+    let rest = total_but f g places j d (omega arith) (λ k e below apart. others (suc k) e (omega arith) (λ same. apart (omega arith))) in
+    let a = total_by-cons f p places in
+    let b = total_by-cons g p places in
+    omega (arith, ints)

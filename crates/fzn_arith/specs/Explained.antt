@@ -8,7 +8,7 @@ use Rattle.fzn_domain.specs.Narrow.{IsClauseOver, set_of, possible_in}
 use Rattle.fzn_meaning.specs.declared.term.Term.{Term}
 use Rattle.fzn_meaning.specs.declared.term.Term.TheVariants.{Constant, Variable}
 use Rattle.fzn_meaning.specs.declared.term.Place.{Place}
-use Rattle.fzn_rules.specs.Linear.{low_product}
+use Rattle.fzn_builtin_rules.specs.Linear.{low_product}
 use Rattle.fzn_trail.specs.Levels.{Levels}
 use Rattle.fzn_trail.specs.Unit.{IsOpen}
 use Rattle.fzn_meaning.specs.Term.{total_by}

@@ -11,12 +11,13 @@ use Rattle.fzn_meaning.specs.Meaning.{Meets, HasBooleanSets}
 use Rattle.fzn_rules.specs.declared.rule.Rule.{Rule}
 use Rattle.fzn_rules.specs.declared.rule.Rule.TheVariants.{Lin, Rows, Box, Fixed, Enum, Hall, Load, Energy, Cut, Pair}
 use Rattle.fzn_meaning.specs.declared.relation.Comparison.TheVariants.{AtMost}
-use Rattle.fzn_rules.specs.Linear.{least_sum, low_product, high_product}
-use Rattle.fzn_rules.specs.Form.{Form, form_of}
+use Rattle.fzn_builtin_rules.specs.Linear.{least_sum, low_product, high_product}
+use Rattle.fzn_builtin_rules.specs.Form.{Form, form_of}
 use Rattle.fzn_rules.specs.Rules.{IsAcceptedBy}
 use Rattle.fzn_trail.specs.Levels.{Levels}
 use Rattle.fzn_trail.specs.Unit.{IsFalseOrUnit}
 use Rattle.fzn_arith.specs.declared.propagator.Inference.{Inference}
+use Rattle.fzn_arith.specs.Barred.{LeavesNoBarred, IsToDiffer}
 
 -- the numbers that a literal of a certificate may have
 abbrev pub IsWritable : Lit → Type 0
@@ -69,6 +70,10 @@ abbrev pub HasStrength : Constraint → List IntSet → Type 0
 HasStrength constraint sets =
     (form : Form) → form_of constraint ≡ Some form → form.comparison ≡ AtMost → form.switch ≡ None → IsTight sets form.places form.bound
 
+-- the strength that is promised of a sum that is not to be a number
+abbrev pub HasNoBarred : Constraint → List IntSet → Type 0
+HasNoBarred constraint sets = (form : Form) → form_of constraint ≡ Some form → IsToDiffer sets form → LeavesNoBarred sets form.places form.bound
+
 -- each variable has one value
 abbrev pub AllFixed : List IntSet → Type 0
 AllFixed sets = All (λ s. size s ≡ 1) sets
@@ -77,6 +82,7 @@ AllFixed sets = All (λ s. size s ≡ 1) sets
 pub record IsExhausted (constraint : Constraint) (trail : Levels) : Type 0 where
   pub holds : AllFixed trail.sets → (values : List ℤ) → IsWithin trail.declared values → IsWithin trail.sets values → Meets constraint values
   pub strong : HasStrength constraint trail.sets
+  pub none_barred : HasNoBarred constraint trail.sets
 
 -- so of each of these constraints whose Boolean terms are declared so
 abbrev pub AreExhausted : (Constraint → Type 0) → Levels → Type 0

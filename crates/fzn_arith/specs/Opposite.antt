@@ -3,7 +3,7 @@ use Rattle.std.specs.Prelude.{ℤ, pos, ◌-ℤ◌, List, map}
 use Rattle.fzn_meaning.specs.declared.term.Place.{Place}
 use Rattle.fzn_meaning.specs.declared.relation.Comparison.{Comparison}
 use Rattle.fzn_meaning.specs.declared.relation.Comparison.TheVariants.{AtMost, Equal, NotEqual}
-use Rattle.fzn_rules.specs.Form.{Form, form}
+use Rattle.fzn_builtin_rules.specs.Form.{Form, form}
 
 -- the place gives the negative of what it gave
 abbrev pub opposite : Place → Place

@@ -1,5 +1,5 @@
 -- What a clause rules out of a sum that compares with a bound, and what it means that none is found.
-use Rattle.std.specs.Prelude.{◌≡◌, ◌⊎◌, ℕ, ◌≤◌, ℤ, pos, ◌-ℤ◌, ◌<ℤ◌, ◌≤ℤ◌, List, [], length, unsigned_abs, Option, MatchOption, false}
+use Rattle.std.specs.Prelude.{◌≡◌, ◌⊎◌, ℕ, ◌≤◌, ℤ, pos, ◌-ℤ◌, ◌<ℤ◌, ◌≤ℤ◌, List, [], length, unsigned_abs, MatchOption, false}
 use Rattle.std.specs.List.{All}
 use Rattle.fzn_domain.specs.declared.literal.Lit.{Lit}
 use Rattle.fzn_domain.specs.declared.literal.Op.TheVariants as op
@@ -10,13 +10,15 @@ use Rattle.fzn_meaning.specs.declared.term.Place.{Place}
 use Rattle.fzn_meaning.specs.declared.relation.Comparison.{Comparison}
 use Rattle.fzn_meaning.specs.declared.relation.Comparison.TheVariants.{AtMost, Equal, NotEqual}
 use Rattle.fzn_meaning.specs.Term.{IsPlace}
-use Rattle.fzn_rules.specs.Form.{Form, IsFormMet}
-use Rattle.fzn_rules.specs.Linear.{least_sum, IsFixedTo}
+use Rattle.fzn_builtin_rules.specs.Form.{Form, IsFormMet}
+use Rattle.fzn_state.specs.Terms.{IsFixedTo}
+use Rattle.fzn_builtin_rules.specs.Linear.{least_sum}
 use Rattle.fzn_trail.specs.Levels.{Levels}
 use Rattle.fzn_trail.specs.Unit.{IsFalseOrUnit}
 use Rattle.fzn_arith.specs.declared.form.SumForm.{SumForm}
 use Rattle.fzn_arith.specs.Explained.{IsLeft, Exceeds}
 use Rattle.fzn_arith.specs.Inference.{IsWritable, IsTight}
+use Rattle.fzn_arith.specs.Barred.{LeavesNoBarred}
 use Rattle.fzn_arith.specs.Opposite.{opposites}
 
 -- a sum over some of this many variables, with its opposite places
@@ -59,11 +61,12 @@ LeavesSome sets AtMost places bound = least_sum sets places ≤ℤ bound
 LeavesSome sets Equal places bound = (least_sum sets places ≤ℤ bound) × (least_sum sets (opposites places) ≤ℤ (pos 0 -ℤ bound))
 LeavesSome sets NotEqual places bound = (least_sum sets places <ℤ bound) ⊎ (least_sum sets (opposites places) <ℤ (pos 0 -ℤ bound))
 
--- so, and with any one place at its other end where the sum is to be at most the bound
+-- so, and with any one place at its other end where the sum is to be at most the bound, and with no values that it bars where it is not
+-- to be the bound
 abbrev pub LeavesEach : List IntSet → Comparison → List Place → ℤ → Type 0
 LeavesEach sets AtMost places bound = IsTight sets places bound
 LeavesEach sets Equal places bound = LeavesSome sets Equal places bound
-LeavesEach sets NotEqual places bound = LeavesSome sets NotEqual places bound
+LeavesEach sets NotEqual places bound = LeavesSome sets NotEqual places bound × LeavesNoBarred sets places bound
 
 -- a clause that is false or forces one literal, and on whose denied sets the form is met by the rule
 pub record IsFound (trail : Levels) (found : Form) (clause : List Lit) : Type 0 where
@@ -75,7 +78,7 @@ pub record IsFound (trail : Levels) (found : Form) (clause : List Lit) : Type 0 
 -- no clause is found: where there is a switch, the form on its side is left
 abbrev pub IsLeftAlone : List IntSet → Form → Form → Type 0
 IsLeftAlone sets found other = MatchOption found.switch (LeavesEach sets found.comparison found.places found.bound) (λ term.
-    (IsFixedTo sets term (pos 1) → LeavesSome sets found.comparison found.places found.bound) × (IsFixedTo sets term (pos 0) → LeavesSome sets other.comparison other.places other.bound))
+    (IsFixedTo sets term (pos 1) → LeavesEach sets found.comparison found.places found.bound) × (IsFixedTo sets term (pos 0) → LeavesEach sets other.comparison other.places other.bound))
 
 -- a literal that says that a switch is not 0, or not 1
 pub record IsGuard (trail : Levels) (lit : Lit) : Type 0 where

@@ -3,7 +3,7 @@ ghost use Rattle.std.specs.Prelude.{◌≡◌, ℕ, ◌<◌, ◌≤◌, ◌≤�
 ghost use Rattle.std.specs.List.{All};
 ghost use Rattle.fzn_domain.specs.Narrow.{NoneEmpty};
 ghost use Rattle.fzn_meaning.specs.Term.{IsPlace};
-ghost use Rattle.fzn_rules.specs.Linear.{least_sum};
+ghost use Rattle.fzn_builtin_rules.specs.Linear.{least_sum};
 ghost use Rattle.fzn_arith.specs.Inference.{IsTight, spread};
 ghost use Rattle.fzn_meaning.specs.declared.relation.Comparison.TheVariants as sum;
 ghost use Rattle.fzn_arith.specs.Explained.{IsExplained, IsFloor, IsForced, IsForcedAt, IsExplanation};
@@ -110,7 +110,7 @@ fn first_forced(trail: &Trail, places: &[Place], slack: u128) -> Option<Forced>
 }
 
 /// A clause that is false on the trail and says that all places but one gave no less.
-pub fn explain(
+fn explain(
     alloc: Global,
     trail: &Trail,
     places: &[Place],

@@ -4,7 +4,8 @@ ghost use Rattle.std.specs.List.{All};
 ghost use Rattle.fzn_domain.specs.Limits.{IsInLimits};
 ghost use Rattle.fzn_domain.specs.Narrow.{NoneEmpty};
 ghost use Rattle.fzn_meaning.specs.Term.{IsTerm, IsPlace};
-ghost use Rattle.fzn_rules.specs.Linear.{least_value, greatest_value, low_end, low_product, least_sum};
+ghost use Rattle.fzn_state.specs.Terms.{least_value, greatest_value};
+ghost use Rattle.fzn_builtin_rules.specs.Linear.{low_end, low_product, least_sum};
 
 use fzn_meaning::{Place, Term};
 use fzn_trail::Trail;
@@ -50,7 +51,7 @@ pub fn low_end(trail: &Trail, place: Place) -> i64
 }
 
 /// The least that a place gives.
-#[tactic(auto, unfolding(fzn_rules::specs::Linear::low_product))]
+#[tactic(auto, unfolding(fzn_builtin_rules::specs::Linear::low_product))]
 pub fn low_product(trail: &Trail, place: Place) -> i128
     requires place { IsPlace (length trail.now.declared) place }
     requires filled { NoneEmpty trail.now.sets }

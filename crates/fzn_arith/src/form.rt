@@ -2,7 +2,7 @@
 ghost use Rattle.std.specs.Prelude.{◌≡◌, ◌≤◌, ◌++◌, [], ◌∷◌, pos, negsuc, length, IfOk, IfNone, IfSome, OnOk, Some, None};
 ghost use Rattle.fzn_meaning.specs.Meaning.{IsWellFormed};
 ghost use Rattle.fzn_meaning.specs.declared.relation.Comparison.TheVariants as sum;
-ghost use Rattle.fzn_rules.specs.Form.{form_of, weighted, each_with, difference, comparison_of, bound_of, passing_bound};
+ghost use Rattle.fzn_builtin_rules.specs.Form.{form_of, weighted, each_with, difference, comparison_of, bound_of, passing_bound};
 ghost use Rattle.fzn_arith.specs.Kinds.{IsFormOf};
 
 use fzn_domain::Memory;
@@ -20,7 +20,7 @@ pub struct SumForm {
 }
 
 /// The form of the constraint, where it has one.
-#[tactic(auto, unfolding(fzn_rules::specs::Form::form_of, fzn_meaning::specs::Meaning::IsWellFormed))]
+#[tactic(auto, unfolding(fzn_builtin_rules::specs::Form::form_of, fzn_meaning::specs::Meaning::IsWellFormed))]
 pub fn form_of(
     alloc: Global,
     _model: &Model,

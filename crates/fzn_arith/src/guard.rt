@@ -4,8 +4,8 @@ ghost use Rattle.fzn_domain.specs.IntSet.{least, greatest};
 ghost use Rattle.fzn_domain.specs.Narrow.{set_of, NoneEmpty};
 ghost use Rattle.fzn_meaning.specs.declared.term.Term.TheVariants.{Variable};
 ghost use Rattle.fzn_meaning.specs.Term.{IsTerm};
-ghost use Rattle.fzn_rules.specs.Linear.{IsFixedTo};
-ghost use Rattle.fzn_arith.specs.Refuted.{IsSum, IsGuard, IsGuarded, LeavesSome};
+ghost use Rattle.fzn_state.specs.Terms.{IsFixedTo};
+ghost use Rattle.fzn_arith.specs.Refuted.{IsSum, IsGuard, IsGuarded, LeavesEach};
 
 use crate::form::SumForm;
 use crate::refute::{conflict, refute};
@@ -29,7 +29,7 @@ pub fn guarded(
     requires sum { IsSum (length trail.now.declared) sum.now opposite.now }
     requires filled { NoneEmpty trail.now.sets }
     ensures found { IfOk result (λ found. IfSome found (IsGuarded trail.now switch value sum.now.comparison sum.now.places sum.now.bound)) }
-    ensures none { IfOk result (λ found. IfNone found (IsFixedTo trail.now.sets switch value → LeavesSome trail.now.sets sum.now.comparison sum.now.places sum.now.bound)) }
+    ensures none { IfOk result (λ found. IfNone found (IsFixedTo trail.now.sets switch value → LeavesEach trail.now.sets sum.now.comparison sum.now.places sum.now.bound)) }
 {
     match switch {
         Term::Constant(k) => {
@@ -66,7 +66,7 @@ fn when_fixed(
     requires sum { IsSum (length trail.now.declared) sum.now opposite.now }
     requires filled { NoneEmpty trail.now.sets }
     ensures found { IfOk result (λ found. IfSome found (IsGuarded trail.now (Variable lit.var) lit.value sum.now.comparison sum.now.places sum.now.bound)) }
-    ensures none { IfOk result (λ found. IfNone found (IsFixedTo trail.now.sets (Variable lit.var) lit.value → LeavesSome trail.now.sets sum.now.comparison sum.now.places sum.now.bound)) }
+    ensures none { IfOk result (λ found. IfNone found (IsFixedTo trail.now.sets (Variable lit.var) lit.value → LeavesEach trail.now.sets sum.now.comparison sum.now.places sum.now.bound)) }
 {
     if trail.domain(lit.var).min() != lit.value {
         return Ok(None);

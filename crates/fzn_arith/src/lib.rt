@@ -13,6 +13,7 @@ mod ends;
 mod form;
 mod guard;
 mod kinds;
+mod not_equal;
 mod opposite;
 mod propagator;
 mod refute;

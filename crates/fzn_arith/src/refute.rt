@@ -1,12 +1,12 @@
 // What follows from a sum that compares with a bound.
-ghost use Rattle.std.specs.Prelude.{◌≡◌, ◌++◌, length, IfOk, IfSome, IfNone, OnOk};
+ghost use Rattle.std.specs.Prelude.{length, IfOk, IfSome, IfNone};
 ghost use Rattle.fzn_domain.specs.Narrow.{NoneEmpty};
 ghost use Rattle.fzn_meaning.specs.declared.relation.Comparison.TheVariants as compares;
 ghost use Rattle.fzn_arith.specs.Refuted.{IsSum, IsConflict, IsRefutation, LeavesSome, LeavesEach};
 
-use crate::at_most::{conflict_at_most, explain, refute_at_most};
-use crate::ends::least_sum;
+use crate::at_most::{conflict_at_most, refute_at_most};
 use crate::form::SumForm;
+use crate::not_equal::{conflict_not_equal, refute_not_equal};
 use fzn_domain::{Lit, Memory};
 use fzn_list::Items;
 use fzn_meaning::{Comparison, Place};
@@ -28,7 +28,7 @@ pub fn conflict(
     match sum.comparison {
         Comparison::AtMost => conflict_at_most(alloc, trail, sum.places.as_slice(), sum.bound),
         Comparison::Equal => conflict_equal(alloc, trail, sum, opposite),
-        Comparison::NotEqual => conflict_not_equal(alloc, trail, sum, opposite),
+        Comparison::NotEqual => conflict_not_equal(alloc, trail, sum.places.as_slice(), sum.bound),
     }
 }
 
@@ -47,7 +47,7 @@ pub fn refute(
     match sum.comparison {
         Comparison::AtMost => refute_at_most(alloc, trail, sum.places.as_slice(), sum.bound),
         Comparison::Equal => refute_equal(alloc, trail, sum, opposite),
-        Comparison::NotEqual => conflict_not_equal(alloc, trail, sum, opposite),
+        Comparison::NotEqual => refute_not_equal(alloc, trail, sum.places.as_slice(), sum.bound),
     }
 }
 
@@ -85,36 +85,4 @@ fn refute_equal(
         return Ok(Some(clause));
     }
     refute_at_most(alloc, trail, opposite, -sum.bound)
-}
-
-/// A clause that is false, where both ends of the sum are the bound.
-fn conflict_not_equal(
-    alloc: Global,
-    trail: &Trail,
-    sum: &SumForm,
-    opposite: &[Place],
-) -> Result<Option<Items<Lit>>, Memory>
-    requires sum { IsSum (length trail.now.declared) sum.now opposite.now }
-    requires filled { NoneEmpty trail.now.sets }
-    ensures found { IfOk result (λ found. IfSome found (IsConflict trail.now compares.NotEqual sum.now.places sum.now.bound)) }
-    ensures none { IfOk result (λ found. IfNone found (LeavesSome trail.now.sets compares.NotEqual sum.now.places sum.now.bound)) }
-{
-    let places = sum.places.as_slice();
-    let bound = i128::from(sum.bound);
-    if least_sum(trail, places) < bound || least_sum(trail, opposite) < -bound {
-        return Ok(None);
-    }
-    let mut clause = explain(alloc, trail, places, places.len())?;
-    let other = explain(alloc, trail, opposite, opposite.len())?;
-    push_all(&mut clause, other.as_slice())?;
-    Ok(Some(clause))
-}
-
-fn push_all(clause: &mut Items<Lit>, lits: &[Lit]) -> Result<(), Memory>
-    ensures { OnOk result (clause.new ≡ clause.old ++ lits.now) }
-{
-    for lit in lits {
-        clause.push(*lit)?;
-    }
-    Ok(())
 }

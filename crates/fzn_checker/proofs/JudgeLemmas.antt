@@ -13,7 +13,7 @@ use Rattle.fzn_meaning.specs.Solutions.{declared_sets}
 use Rattle.fzn_meaning.specs.WellFormed.{IsWellFormed}
 use Rattle.fzn_rules.specs.declared.rule.Rule.{Rule}
 use Rattle.fzn_rules.specs.Rules.{IsMet}
-use Rattle.fzn_rules.specs.State.{Sets, start}
+use Rattle.fzn_state.specs.State.{Sets, start}
 use Rattle.fzn_cert.specs.Accepted.{denying, IsTrivial, IsRuleMet}
 
 -- the sets of a state that began with the declared ones, after a clause was denied

@@ -1,6 +1,7 @@
 mod AnswerLaws
 mod ChainLemmas
 mod FaultLaws
+mod GivenLemmas
 mod JudgeLemmas
 mod OrderLemmas
 mod StandingLaws

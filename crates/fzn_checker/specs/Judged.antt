@@ -6,7 +6,7 @@ use Rattle.fzn_domain.specs.Narrow.{ChainOutcome, accepted, not_unit, no_conflic
 use Rattle.fzn_meaning.specs.declared.model.Model.{Model}
 use Rattle.fzn_meaning.specs.Solutions.{declared_sets}
 use Rattle.fzn_meaning.specs.WellFormed.{IsWellFormed}
-use Rattle.fzn_rules.specs.State.{Sets, start}
+use Rattle.fzn_state.specs.State.{Sets, start}
 use Rattle.fzn_cert.specs.declared.step.Step.{Step}
 use Rattle.fzn_cert.specs.declared.step.Step.TheVariants.{Infer, Resolve, Solution, Delete}
 use Rattle.fzn_cert.specs.declared.refusal.Refusal.{Refusal}

@@ -6,6 +6,7 @@ ghost use Rattle.fzn_cert.specs.Verdict.{accepted, VerdictOn};
 ghost use Rattle.fzn_checker.specs.Checked.{IsFaultWhere};
 
 use crate::fault::CheckFault;
+use crate::given::Given;
 use crate::history::History;
 use crate::next::next_step;
 use crate::steps::take_step;
@@ -61,9 +62,19 @@ pub fn check_certificate<C: Read + Drop>(
     let mut state = State::new(alloc, domains_of(alloc, model.vars.as_slice())?);
     let has_empty = state.has_empty();
     let mut history = History::new(alloc);
+    let mut given = Given::new(alloc);
     let mut line = 3;
     while let Some(step) = next_step(alloc, model, &history, line, &mut reader)? {
-        if let Some(refusal) = take_step(alloc, model, &mut history, &mut state, has_empty, step)? {
+        let refusal = take_step(
+            alloc,
+            model,
+            &mut history,
+            &mut given,
+            &mut state,
+            has_empty,
+            step,
+        )?;
+        if let Some(refusal) = refusal {
             return Err(CheckFault::Refused { line, refusal });
         }
         line += 1;

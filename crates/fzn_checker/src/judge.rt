@@ -5,49 +5,58 @@ ghost use Rattle.fzn_domain.specs.Narrow.{IsClauseOver, is_some_empty};
 ghost use Rattle.fzn_meaning.specs.declared.model.Model.{Model};
 ghost use Rattle.fzn_meaning.specs.Solutions.{declared_sets};
 ghost use Rattle.fzn_meaning.specs.WellFormed.{IsWellFormed};
-ghost use Rattle.fzn_rules.specs.State.{start};
+ghost use Rattle.fzn_state.specs.State.{start};
 ghost use Rattle.fzn_cert.specs.declared.step.Step.TheVariants.{Infer, Resolve, Solution, Delete};
 ghost use Rattle.fzn_cert.specs.Past.{Past};
 ghost use Rattle.fzn_cert.specs.Accepted.{IsJudged};
 ghost use Rattle.fzn_cert.specs.Sound.{IsSound};
+ghost use Rattle.fzn_checker.specs.Given.{AreGiven};
 ghost use Rattle.fzn_checker.specs.Judged.{IsReady, IsBound, HasBounds};
 
 use crate::chain::{are_held, deny, follow};
+use crate::given::Given;
 use crate::history::History;
 use crate::solution::passes_cuts;
 use fzn_cert::{Refusal, Step};
 use fzn_domain::{Lit, Memory};
 use fzn_meaning::{Model, is_solution};
 use fzn_rules::{Rule, State, refutes};
+use std::alloc::Global;
 
 /// What is wrong with a step after those before it, and none where it is accepted. The state has the declared sets before and after;
 /// `has_empty` tells whether one of them is empty.
 pub fn fault_of(
+    alloc: Global,
     model: &Model,
     history: &History,
+    given: &Given,
     state: &mut State,
     has_empty: bool,
     step: &Step,
 ) -> Result<Option<Refusal>, Memory>
     requires ready { IsReady model.now history.now state.old has_empty }
+    requires given { AreGiven model.now history.now.solutions given.now }
     requires bounds { HasBounds step.now }
     ensures judged { IfOk result (IsJudged model.now history.now step.now) }
     ensures same { state.new ≡ state.old }
 {
-    let judged = judge_on(model, history, state, has_empty, step);
+    let judged = judge_on(alloc, model, history, given, state, has_empty, step);
     state.restore();
     judged
 }
 
 // Leaves the sets narrowed.
 fn judge_on(
+    alloc: Global,
     model: &Model,
     history: &History,
+    given: &Given,
     state: &mut State,
     has_empty: bool,
     step: &Step,
 ) -> Result<Option<Refusal>, Memory>
     requires ready { IsReady model.now history.now state.old has_empty }
+    requires given { AreGiven model.now history.now.solutions given.now }
     requires bounds { HasBounds step.now }
     ensures judged { IfOk result (IsJudged model.now history.now step.now) }
     ensures declared { state.new.declared ≡ state.old.declared }
@@ -73,7 +82,7 @@ fn judge_on(
             clause.as_slice(),
             ids.as_slice(),
         ),
-        Step::Solution(values) => Ok(judge_solution(model, history, values.as_slice())),
+        Step::Solution(values) => judge_solution(alloc, model, history, given, values.as_slice()),
         Step::Delete { ids } => Ok(judge_delete(history, ids.as_slice())),
     }
 }
@@ -142,18 +151,25 @@ fn judge_resolve(
     follow(history, state, ids)
 }
 
-fn judge_solution(model: &Model, history: &History, values: &[i64]) -> Option<Refusal>
+fn judge_solution(
+    alloc: Global,
+    model: &Model,
+    history: &History,
+    given: &Given,
+    values: &[i64],
+) -> Result<Option<Refusal>, Memory>
     requires model { IsWellFormed model.now }
     requires history { IsSound model.now history.now }
-    ensures { IsJudged model.now history.now (Solution values.now) result }
+    requires given { AreGiven model.now history.now.solutions given.now }
+    ensures { IfOk result (IsJudged model.now history.now (Solution values.now)) }
 {
     if !is_solution(model, values) {
-        return Some(Refusal::NotASolution);
+        return Ok(Some(Refusal::NotASolution));
     }
-    if !passes_cuts(model, history.solutions(), values) {
-        return Some(Refusal::CutByEarlier);
+    if !passes_cuts(alloc, model, history.solutions(), given, values)? {
+        return Ok(Some(Refusal::CutByEarlier));
     }
-    None
+    Ok(None)
 }
 
 fn judge_delete(history: &History, ids: &[u64]) -> Option<Refusal>

@@ -8,6 +8,7 @@
 pub use answer::check;
 pub use certificate::{Accepted, Verdict, check_certificate};
 pub use fault::CheckFault;
+pub use given::Given;
 pub use history::History;
 pub use judge::fault_of;
 pub use steps::take_step;
@@ -16,6 +17,7 @@ mod answer;
 mod certificate;
 mod chain;
 mod fault;
+mod given;
 mod history;
 mod judge;
 mod next;

@@ -3,10 +3,13 @@ ghost use Rattle.std.specs.Prelude.{◌≡◌, None, IfOk, OnOk};
 ghost use Rattle.fzn_meaning.specs.WellFormed.{IsWellFormed};
 ghost use Rattle.fzn_cert.specs.Accepted.{IsAccepted, IsJudged, after};
 ghost use Rattle.fzn_cert.specs.Sound.{IsSound};
+ghost use Rattle.fzn_checker.specs.Given.{AreGiven};
 ghost use Rattle.fzn_checker.specs.Judged.{IsReady, HasBounds};
 
+use crate::given::Given;
 use crate::history::History;
 use crate::judge::fault_of;
+use crate::solution::note;
 use fzn_cert::{Refusal, Step};
 use fzn_domain::Memory;
 use fzn_meaning::{Model, cut};
@@ -18,35 +21,47 @@ pub fn take_step(
     alloc: Global,
     model: &Model,
     history: &mut History,
+    given: &mut Given,
     state: &mut State,
     has_empty: bool,
     step: Step,
 ) -> Result<Option<Refusal>, Memory>
     requires ready { IsReady model.now history.old state.old has_empty }
+    requires given { AreGiven model.now history.old.solutions given.old }
     requires bounds { HasBounds step }
     ensures judged { IfOk result (IsJudged model.now history.old step) }
     ensures after { IfOk result (λ fault. fault ≡ None → history.new ≡ after model.now history.old step) }
     ensures sound { IfOk result (λ fault. fault ≡ None → IsSound model.now history.new) }
+    ensures given { IfOk result (λ fault. fault ≡ None → AreGiven model.now history.new.solutions given.new) }
     ensures same { state.new ≡ state.old }
 {
-    if let Some(fault) = fault_of(model, history, state, has_empty, &step)? {
+    if let Some(fault) = fault_of(alloc, model, history, given, state, has_empty, &step)? {
         return Ok(Some(fault));
     }
-    accept(alloc, model, history, step)?;
+    accept(alloc, model, history, given, step)?;
     Ok(None)
 }
 
 /// Adds an accepted step to the history.
-fn accept(alloc: Global, model: &Model, history: &mut History, step: Step) -> Result<(), Memory>
+fn accept(
+    alloc: Global,
+    model: &Model,
+    history: &mut History,
+    given: &mut Given,
+    step: Step,
+) -> Result<(), Memory>
     requires model { IsWellFormed model.now }
     requires accepted { IsAccepted model.now history.old step }
-    ensures { OnOk result (history.new ≡ after model.now history.old step) }
+    requires given { AreGiven model.now history.old.solutions given.old }
+    ensures after { OnOk result (history.new ≡ after model.now history.old step) }
+    ensures given { OnOk result (AreGiven model.now history.new.solutions given.new) }
 {
     match step {
         Step::Infer { clause, .. } => history.add_clause(clause),
         Step::Resolve { clause, .. } => history.add_clause(clause),
         Step::Solution(values) => {
             let cut = cut(alloc, model, values.as_slice())?;
+            note(alloc, model, given, values.as_slice())?;
             history.add_solution(cut, values)
         }
         Step::Delete { ids } => history.delete(ids.as_slice()),

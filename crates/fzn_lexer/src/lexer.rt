@@ -1,14 +1,16 @@
 //! The tokens of a file.
 
-ghost use Rattle.std.specs.Prelude.{◌≡◌, ◌≤◌, length, take, IfOk};
+ghost use Rattle.std.specs.Prelude.{◌≡◌, ◌≤◌, length, IfOk};
 ghost use Rattle.fzn_lexer.specs.Steps.{StandsNext};
-ghost use Rattle.fzn_lexer.specs.Tokens.{IsKnown, Lexes, EndsInEnd, place_after};
+ghost use Rattle.fzn_lexer.specs.Tokens.{IsKnown, Lexes, EndsInEnd};
 
 use crate::bytes::Class;
 use crate::fault::{Fault, FaultKind, ReadError};
 use crate::gap::gap_len;
-use crate::lexeme::{Refusal, read_lexeme};
-use crate::token::{Kind, Place, Span, Symbol, Token};
+use crate::kept::{Form, Kept};
+use crate::lexeme::read_lexeme;
+use crate::list::TokenList;
+use crate::token::{Place, Symbol};
 use fzn_list::Items;
 use std::alloc::Global;
 
@@ -16,76 +18,63 @@ use std::alloc::Global;
 pub const MAX_FILE: usize = 16_777_216;
 
 /// What stands next in a file.
-#[derive(Debug, Drop)]
+#[derive(Clone, Copy, Debug)]
 pub enum Next {
-    /// A token, and the place behind it.
-    Token(Token, Place),
-    /// The end.
-    End(Token),
+    Token(Kept),
+    End(Kept),
 }
 
-/// What stands next, from a place on where a token may begin.
-fn read_next(alloc: Global, bytes: &[u8], from: usize, place: Place) -> Result<Next, ReadError>
+/// What stands next, from a byte on where a token may begin.
+fn read_next(bytes: &[u8], from: usize) -> Result<Next, Fault>
     requires known { IsKnown bytes.now }
     requires from { from ≤ length bytes.now }
-    requires place { place ≡ place_after (take from bytes.now) }
     ensures { StandsNext bytes.now from result }
 {
-    let rest = &bytes[from..];
-    let gap = gap_len(rest);
-    let start = from + gap;
-    let place = place.behind(&rest[..gap]);
+    let start = from + gap_len(&bytes[from..]);
     if start == bytes.len() {
-        return Ok(Next::End(Token {
-            kind: Kind::Symbol(Symbol::End),
-            span: Span {
-                start,
-                end: start,
-                place,
-            },
+        return Ok(Next::End(Kept {
+            form: Form::Symbol(Symbol::End),
+            start: start as u32,
+            end: start as u32,
         }));
     }
-    let rest = &bytes[start..];
-    match read_lexeme(alloc, rest) {
-        Ok(found) => {
-            let end = start + found.len;
-            let span = Span { start, end, place };
-            let token = Token {
-                kind: found.kind,
-                span,
-            };
-            Ok(Next::Token(token, place.behind(&rest[..found.len])))
-        }
-        Err(Refusal::Memory) => Err(ReadError::Memory),
-        Err(Refusal::Fault(kind)) => Err(ReadError::Fault(Fault { kind, place })),
+    match read_lexeme(&bytes[start..]) {
+        Ok(found) => Ok(Next::Token(Kept {
+            form: found.form,
+            start: start as u32,
+            end: (start + found.len) as u32,
+        })),
+        Err(kind) => Err(Fault {
+            kind,
+            place: Place::START.behind(&bytes[..start]),
+        }),
     }
 }
 
 /// The tokens of a file all of whose bytes may stand in one.
-fn scan(alloc: Global, bytes: &[u8]) -> Result<Items<Token>, ReadError>
+fn scan(alloc: Global, bytes: &[u8]) -> Result<TokenList<'_>, ReadError>
     requires { IsKnown bytes.now }
     ensures { Lexes bytes.now result }
 {
-    let mut tokens = Items::new(alloc);
+    let mut kept = Items::new(alloc);
     let mut from = 0;
-    let mut place = Place::START;
     loop {
-        match read_next(alloc, bytes, from, place)? {
-            Next::Token(token, behind) => {
-                from = token.span.end;
-                place = behind;
-                tokens.push(token)?;
+        match read_next(bytes, from) {
+            Ok(Next::Token(token)) => {
+                from = token.end as usize;
+                kept.push(token)?;
             }
-            Next::End(token) => {
-                tokens.push(token)?;
-                return Ok(tokens);
+            Ok(Next::End(token)) => {
+                kept.push(token)?;
+                return Ok(TokenList::new(bytes, kept));
             }
+            Err(fault) => return Err(ReadError::Fault(fault)),
         }
     }
 }
 
 /// The tokens of a file, or its first fault.
-pub fn tokens(alloc: Global, bytes: &[u8]) -> Result<Items<Token>, ReadError>
+pub fn tokens(alloc: Global, bytes: &[u8]) -> Result<TokenList<'_>, ReadError>
     ensures right { Lexes bytes.now result }
     ensures ends { IfOk result EndsInEnd }
 {

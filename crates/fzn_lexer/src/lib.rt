@@ -1,12 +1,19 @@
 //! From the bytes of a FlatZinc file to its tokens.
+//!
+//! In: bytes. Out: the list of their tokens, each with its place, or the first fault. Proved against `specs/Tokens.antt`: the tokens
+//! are slices of the file, in order, each the longest at its place, with white space and comments between them.
 #![tactic(auto)]
 
 mod bytes;
 mod fault;
 mod gap;
+mod kept;
+mod law;
 mod lexeme;
 mod lexer;
+mod list;
 mod number;
+mod places;
 mod sign;
 mod string;
 mod token;
@@ -14,7 +21,11 @@ mod word;
 
 pub use bytes::Class;
 pub use fault::{Fault, FaultKind, ReadError};
+pub use kept::{Form, Kept, inside};
+pub use law::one_reading;
 pub use lexer::{MAX_FILE, tokens};
+pub use list::{Parts, TokenList};
+pub use places::Places;
 pub use token::{Kind, Place, Span, Symbol, Token};
 
 #[cfg(test)]

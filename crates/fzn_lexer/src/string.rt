@@ -5,23 +5,21 @@ ghost use Rattle.fzn_lexer.specs.Steps.{Reads};
 
 use crate::bytes::inside_len;
 use crate::fault::FaultKind;
-use crate::lexeme::{Lexeme, Refusal};
-use crate::token::Kind;
-use fzn_list::Text;
-use std::alloc::Global;
+use crate::kept::Form;
+use crate::lexeme::Lexeme;
 
 /// The string at the front of the bytes that are left, where a quote stands.
-pub fn string(alloc: Global, rest: &[u8]) -> Result<Lexeme, Refusal>
+pub fn string(rest: &[u8]) -> Result<Lexeme, FaultKind>
     requires some { 0 < length rest.now }
     requires head { slice_index rest.now 0 ≡ 34 }
     ensures { Reads rest.now result }
 {
     let behind = &rest[1..];
     let Some(len) = inside_len(behind) else {
-        return Err(Refusal::Fault(FaultKind::BadToken));
+        return Err(FaultKind::BadToken);
     };
     Ok(Lexeme {
-        kind: Kind::Text(Text::from_slice(alloc, &behind[..len])?),
+        form: Form::Text,
         len: len + 2,
     })
 }

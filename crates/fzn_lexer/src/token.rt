@@ -7,8 +7,8 @@ use fzn_list::Text;
 /// A line and a column, both from 1, the column in bytes.
 #[derive(Clone, Copy, Debug, PartialEq, Eq)]
 pub struct Place {
-    pub line: usize,
-    pub column: usize,
+    pub line: u32,
+    pub column: u32,
 }
 
 impl Place {
@@ -20,8 +20,8 @@ impl Place {
 
     /// The place behind this byte, which stands here.
     fn behind_byte(self, byte: u8) -> Place
-        requires line { self.line + 1 < 2 ^ 64 }
-        requires column { self.column + 1 < 2 ^ 64 }
+        requires line { self.line + 1 < 2 ^ 32 }
+        requires column { self.column + 1 < 2 ^ 32 }
         ensures { result ≡ stepped self byte }
     {
         if byte == b'\n' {
@@ -39,8 +39,8 @@ impl Place {
 
     /// The place behind these bytes, which stand here.
     pub fn behind(self, bytes: &[u8]) -> Place
-        requires line { self.line + length bytes.now < 2 ^ 64 }
-        requires column { self.column + length bytes.now < 2 ^ 64 }
+        requires line { self.line + length bytes.now < 2 ^ 32 }
+        requires column { self.column + length bytes.now < 2 ^ 32 }
         ensures { Moves self bytes.now result }
     {
         let mut place = self;
@@ -104,17 +104,4 @@ pub enum Kind {
 pub struct Token {
     pub kind: Kind,
     pub span: Span,
-}
-
-impl Kind {
-    ghost use Rattle.fzn_lexer.specs.Kinds.{is_symbol};
-
-    pub fn is(&self, symbol: Symbol) -> bool
-        ensures { result ≡ is_symbol symbol self.now }
-    {
-        match self {
-            Kind::Symbol(held) => *held == symbol,
-            _ => false,
-        }
-    }
 }

@@ -9,10 +9,9 @@ ghost use Rattle.fzn_lexer.specs.Steps.{Reads};
 
 use crate::bytes::Class;
 use crate::fault::FaultKind;
-use crate::lexeme::{Lexeme, Refusal};
-use crate::token::{Kind, Symbol};
-use fzn_list::Text;
-use std::alloc::Global;
+use crate::kept::Form;
+use crate::lexeme::Lexeme;
+use crate::token::Symbol;
 
 /// The reserved word that this is.
 fn reserved(word: &[u8]) -> Option<Symbol>
@@ -41,7 +40,7 @@ fn reserved(word: &[u8]) -> Option<Symbol>
 }
 
 /// The word at the front of the bytes that are left, where a letter or `_` stands.
-pub fn word(alloc: Global, rest: &[u8]) -> Result<Lexeme, Refusal>
+pub fn word(rest: &[u8]) -> Result<Lexeme, FaultKind>
     requires some { 0 < length rest.now }
     requires head { begins_word (slice_index rest.now 0) ≡ true }
     ensures { Reads rest.now result }
@@ -49,11 +48,11 @@ pub fn word(alloc: Global, rest: &[u8]) -> Result<Lexeme, Refusal>
     let len = Class::Word.run(rest);
     let text = &rest[..len];
     if text == b"float".as_slice() {
-        return Err(Refusal::Fault(FaultKind::Float));
+        return Err(FaultKind::Float);
     }
-    let kind = match reserved(text) {
-        Some(symbol) => Kind::Symbol(symbol),
-        None => Kind::Name(Text::from_slice(alloc, text)?),
+    let form = match reserved(text) {
+        Some(symbol) => Form::Symbol(symbol),
+        None => Form::Name,
     };
-    Ok(Lexeme { kind, len })
+    Ok(Lexeme { form, len })
 }

@@ -8,4 +8,3 @@ mod InverseLemmas
 pub mod OrderLemmas
 mod ReturnLemmas
 pub mod SumLemmas
-mod TestLemmas

@@ -36,5 +36,3 @@ mod solution_cut;
 mod sum;
 mod table;
 mod term;
-#[cfg(test)]
-mod tests;

@@ -5,7 +5,7 @@ ghost use Rattle.fzn_parser.specs.declared.cursor.Stop.TheVariants.{Memory, Refu
 ghost use Rattle.fzn_parser.specs.Readers.{literal_signs};
 
 use crate::tree::{Int, Name};
-use fzn_lexer::{FaultKind, Kind, Place, Symbol, Token};
+use fzn_lexer::{FaultKind, Form, Kept, Place, Places, Symbol, TokenList, inside};
 use fzn_list::Text;
 use std::alloc::{AllocError, AllocFailed, Global};
 use std::marker::Model;
@@ -53,16 +53,18 @@ fn begins_literal(symbol: Symbol) -> bool
 /// The tokens that are left.
 #[derive(Drop)]
 pub struct Tokens<'a> {
-    rest: &'a [Token],
+    file: Places<'a>,
+    rest: &'a [Kept],
 }
 
 impl<'a> Model for Tokens<'a> {
     ghost use Rattle.std.specs.Prelude.{List};
     ghost use Rattle.fzn_lexer.specs.declared.token.Token.{Token};
+    ghost use Rattle.fzn_lexer.specs.Kept.{tokens_of};
 
     ghost Value = { List Token };
 
-    ghost view = { λ t. t.rest.now };
+    ghost view = { λ t. tokens_of t.file t.rest.now };
 }
 
 impl<'a> Tokens<'a> {
@@ -70,16 +72,14 @@ impl<'a> Tokens<'a> {
     ghost use Rattle.fzn_parser.specs.Reading.{Gives, next_is, over_limit};
     ghost use Rattle.fzn_parser.specs.Readers as read;
 
-    pub fn new(rest: &'a [Token]) -> Tokens<'a>
-        ensures { result ≡ rest.now }
+    pub fn new(tokens: &'a TokenList<'_>) -> Tokens<'a>
+        ensures { result ≡ tokens.now }
     {
-        Tokens { rest }
-    }
-
-    pub fn left(&self) -> usize
-        ensures { result ≡ length self.now }
-    {
-        self.rest.len()
+        let parts = tokens.parts();
+        Tokens {
+            file: parts.file,
+            rest: parts.kept,
+        }
     }
 
     pub fn refuse(&self, kind: FaultKind) -> Stop
@@ -96,7 +96,7 @@ impl<'a> Tokens<'a> {
     {
         match self.rest {
             [] => false,
-            [token, ..] => token.kind.is(symbol),
+            [token, ..] => token.form.is(symbol),
         }
     }
 
@@ -105,7 +105,7 @@ impl<'a> Tokens<'a> {
     {
         match self.rest {
             [] => false,
-            [token, ..] => matches!(token.kind, Kind::Name(_)),
+            [token, ..] => matches!(token.form, Form::Name),
         }
     }
 
@@ -118,7 +118,10 @@ impl<'a> Tokens<'a> {
         let [token, rest @ ..] = self.rest else {
             return Err(self.refuse(FaultKind::Syntax));
         };
-        if !token.kind.is(symbol) {
+        let Form::Symbol(held) = token.form else {
+            return Err(self.refuse(FaultKind::Syntax));
+        };
+        if held != symbol {
             return Err(self.refuse(FaultKind::Syntax));
         }
         self.rest = rest;
@@ -134,11 +137,12 @@ impl<'a> Tokens<'a> {
         let [token, rest @ ..] = self.rest else {
             return Err(self.refuse(FaultKind::Syntax));
         };
-        if !token.kind.is(symbol) {
+        if !token.form.is(symbol) {
             return Err(self.refuse(FaultKind::Syntax));
         }
+        let place = self.file.of(token.start as usize);
         self.rest = rest;
-        Ok(token.span.place)
+        Ok(place)
     }
 
     #[tactic(auto, unfolding(crate::specs::Readers::name))]
@@ -150,15 +154,13 @@ impl<'a> Tokens<'a> {
         let [token, rest @ ..] = self.rest else {
             return Err(self.refuse(FaultKind::Syntax));
         };
-        let Kind::Name(text) = &token.kind else {
+        if token.form != Form::Name {
             return Err(self.refuse(FaultKind::Syntax));
-        };
-        let text = text.copy(alloc)?;
+        }
+        let text = Text::from_slice(alloc, token.text(self.file.bytes()))?;
+        let place = self.file.of(token.start as usize);
         self.rest = rest;
-        Ok(Name {
-            text,
-            place: token.span.place,
-        })
+        Ok(Name { text, place })
     }
 
     pub fn sees_text(&self) -> bool
@@ -166,7 +168,7 @@ impl<'a> Tokens<'a> {
     {
         match self.rest {
             [] => false,
-            [token, ..] => matches!(token.kind, Kind::Text(_)),
+            [token, ..] => matches!(token.form, Form::Text),
         }
     }
 
@@ -175,7 +177,7 @@ impl<'a> Tokens<'a> {
     {
         match self.rest {
             [] => false,
-            [token, ..] => matches!(token.kind, Kind::Int(_)),
+            [token, ..] => matches!(token.form, Form::Int(_)),
         }
     }
 
@@ -185,10 +187,10 @@ impl<'a> Tokens<'a> {
     {
         match self.rest {
             [] => false,
-            [token, ..] => match token.kind {
-                Kind::Symbol(symbol) => begins_literal(symbol),
-                Kind::Int(_) => true,
-                Kind::Name(_) | Kind::Text(_) => false,
+            [token, ..] => match token.form {
+                Form::Symbol(symbol) => begins_literal(symbol),
+                Form::Int(_) => true,
+                Form::Name | Form::Text => false,
             },
         }
     }
@@ -199,10 +201,10 @@ impl<'a> Tokens<'a> {
     {
         match self.rest {
             [] => false,
-            [token, ..] => match token.kind {
-                Kind::Symbol(symbol) => begins_literal(symbol),
-                Kind::Name(_) | Kind::Int(_) => true,
-                Kind::Text(_) => false,
+            [token, ..] => match token.form {
+                Form::Symbol(symbol) => begins_literal(symbol),
+                Form::Name | Form::Int(_) => true,
+                Form::Text => false,
             },
         }
     }
@@ -213,9 +215,9 @@ impl<'a> Tokens<'a> {
     {
         match self.rest {
             [] => false,
-            [token, ..] => match token.kind {
-                Kind::Symbol(symbol) => begins_literal(symbol),
-                Kind::Name(_) | Kind::Int(_) | Kind::Text(_) => true,
+            [token, ..] => match token.form {
+                Form::Symbol(symbol) => begins_literal(symbol),
+                Form::Name | Form::Int(_) | Form::Text => true,
             },
         }
     }
@@ -227,10 +229,10 @@ impl<'a> Tokens<'a> {
         match self.rest {
             [] => false,
             [token, ..] => {
-                token.kind.is(Symbol::Array)
-                    || token.kind.is(Symbol::Bool)
-                    || token.kind.is(Symbol::Int)
-                    || token.kind.is(Symbol::Set)
+                token.form.is(Symbol::Array)
+                    || token.form.is(Symbol::Bool)
+                    || token.form.is(Symbol::Int)
+                    || token.form.is(Symbol::Set)
             }
         }
     }
@@ -241,7 +243,7 @@ impl<'a> Tokens<'a> {
     {
         match self.rest {
             [] => false,
-            [token, ..] => token.kind.is(Symbol::Var) || token.kind.is(Symbol::Array),
+            [token, ..] => token.form.is(Symbol::Var) || token.form.is(Symbol::Array),
         }
     }
 
@@ -265,12 +267,13 @@ impl<'a> Tokens<'a> {
         let [token, rest @ ..] = self.rest else {
             return Err(self.refuse(FaultKind::Syntax));
         };
-        let Kind::Text(text) = &token.kind else {
+        if token.form != Form::Text {
             return Err(self.refuse(FaultKind::Syntax));
-        };
-        let text = text.copy(alloc)?;
+        }
+        let text = Text::from_slice(alloc, inside(token.text(self.file.bytes())))?;
+        let place = self.file.of(token.start as usize);
         self.rest = rest;
-        Ok((text, token.span.place))
+        Ok((text, place))
     }
 
     #[tactic(auto, unfolding(crate::specs::Readers::int))]
@@ -282,13 +285,14 @@ impl<'a> Tokens<'a> {
         let [token, rest @ ..] = self.rest else {
             return Err(self.refuse(FaultKind::Syntax));
         };
-        let Kind::Int(value) = token.kind else {
+        let Form::Int(value) = token.form else {
             return Err(self.refuse(FaultKind::Syntax));
         };
+        let place = self.file.of(token.start as usize);
         self.rest = rest;
         Ok(Int {
-            value,
-            place: token.span.place,
+            value: i64::from(value),
+            place,
         })
     }
 
@@ -302,11 +306,11 @@ impl<'a> Tokens<'a> {
         let [token, rest @ ..] = self.rest else {
             return Err(self.refuse(FaultKind::Syntax));
         };
-        let Kind::Int(value) = token.kind else {
+        let Form::Int(value) = token.form else {
             return Err(self.refuse(FaultKind::Syntax));
         };
         self.rest = rest;
-        Ok(value)
+        Ok(i64::from(value))
     }
 
     /// The number 1.
@@ -319,7 +323,7 @@ impl<'a> Tokens<'a> {
         let [token, rest @ ..] = self.rest else {
             return Err(self.refuse(FaultKind::Syntax));
         };
-        let Kind::Int(value) = token.kind else {
+        let Form::Int(value) = token.form else {
             return Err(self.refuse(FaultKind::Syntax));
         };
         if value != 1 {
@@ -339,7 +343,7 @@ impl<'a> Tokens<'a> {
         let [token, rest @ ..] = self.rest else {
             return Err(self.refuse(FaultKind::Syntax));
         };
-        let Kind::Int(value) = token.kind else {
+        let Form::Int(value) = token.form else {
             return Err(self.refuse(FaultKind::Syntax));
         };
         if value < 0 {

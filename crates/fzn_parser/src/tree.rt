@@ -1,5 +1,6 @@
 //! What a file says, by the cases of the grammar. A part has the place of its first token where a fault may stand there.
 
+use crate::listed::Listed;
 use fzn_lexer::Place;
 use fzn_list::{Items, Text};
 
@@ -29,7 +30,7 @@ pub enum Literal {
     Int(Int),
     Range(Range),
     /// From the place of its brace.
-    Set(Place, Items<i64>),
+    Set(Place, Listed),
 }
 
 #[derive(Debug, Drop)]

@@ -5,6 +5,7 @@ ghost use Rattle.fzn_parser.specs.Reading.{Gives};
 ghost use Rattle.fzn_parser.specs.Readers as spec;
 
 use crate::cursor::{MOST, Stop, Tokens};
+use crate::listed::Listed;
 use crate::lists::{Part, listed};
 use crate::tree::{Arg, Array, Basic, Literal, Range, Values};
 use fzn_lexer::Symbol;
@@ -82,7 +83,8 @@ pub fn literal(alloc: Global, tokens: &mut Tokens<'_>) -> Result<Literal, Stop>
     }
     if tokens.sees(Symbol::OpenBrace) {
         let place = tokens.symbol_place(Symbol::OpenBrace)?;
-        return Ok(Literal::Set(place, listed_values(alloc, tokens)?));
+        let values = listed_values(alloc, tokens)?;
+        return Ok(Literal::Set(place, Listed::new(alloc, values)?));
     }
     numeric(tokens)
 }

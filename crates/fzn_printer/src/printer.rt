@@ -58,6 +58,7 @@ pub struct Printer<'w, W: Write> {
 }
 
 impl<'w, W: Write> Printer<'w, W> {
+    /// Over this writer, with nothing printed.
     pub fn new(out: &'w mut W) -> Printer<'w, W>
         ensures same { contents_of W.contents result ≡ W.contents out.old }
         ensures same_writer { out_name result ≡ out.entry.ghost_name }

@@ -15,9 +15,9 @@ use Rattle.fzn_rules.specs.declared.rule.Rule.{Rule}
 use Rattle.fzn_rules.specs.Rules.{IsMet, IsAcceptedBy}
 use Rattle.fzn_cert.specs.Accepted.{IsTrivial, IsRuleMet}
 use Rattle.fzn_trail.specs.Levels.{Levels, IsNarrower}
-use Rattle.fzn_arith.specs.declared.kinds.ArithPropagator.{ArithPropagator}
+use Rattle.fzn_propagators.specs.declared.kinds.AnyPropagator.{AnyPropagator}
 use Rattle.fzn_arith.specs.declared.propagator.Inference.{Inference as Found}
-use Rattle.fzn_arith.specs.AnyKind.{kind_number, KindIsFor, KindFits}
+use Rattle.fzn_propagators.specs.AnyCrate.{any_number, AnyIsFor, AnyFits}
 use Rattle.fzn_arith.specs.Inference.{IsInferenceOf, AreExhausted, IsInference as IsFound}
 use Rattle.fzn_engine.specs.Inference.{IsInference, IsQuiet}
 use Rattle.fzn_propagators.specs.declared.propagators.Propagators.{Propagators}
@@ -67,30 +67,30 @@ module _ (model : Model) (trail : Levels) (declared : trail.declared ≡ declare
 
   module _ (propagators : Propagators) (are : AreFor propagators model) where
     -- the propagator at place k
-    module _ (items : List ArithPropagator) (same : items ≡ propagators.items) (k : ℕ) (p : ArithPropagator) (at : p ≡ get_or items k p) (below : k < length items) where
+    module _ (items : List AnyPropagator) (same : items ≡ propagators.items) (k : ℕ) (p : AnyPropagator) (at : p ≡ get_or items k p) (below : k < length items) where
       inside : k < length model.constraints
       inside = let count = ap length same in let one_each = are.one_each in omega arith
 
       item : p ≡ get_or propagators.items k p
-      item = at ∙ ap (λ (xs : List ArithPropagator). get_or xs k p) same
+      item = at ∙ ap (λ (xs : List AnyPropagator). get_or xs k p) same
 
       it-is : (constraint : Constraint) → IsPropagatorOf model (k + 1) (get_or model.constraints k constraint) p
-      it-is constraint = subst (λ (q : ArithPropagator). IsPropagatorOf model (k + 1) (get_or model.constraints k constraint) q) (sym item) (are.each k constraint p inside)
+      it-is constraint = subst (λ (q : AnyPropagator). IsPropagatorOf model (k + 1) (get_or model.constraints k constraint) q) (sym item) (are.each k constraint p inside)
 
       some_constraint : Constraint
       some_constraint = some_member model.constraints k inside
 
-      pub fits-trail : KindFits p trail.declared
-      fits-trail = subst (KindFits p) (sym declared) (it-is some_constraint).fits
+      pub fits-trail : AnyFits p trail.declared
+      fits-trail = subst (AnyFits p) (sym declared) (it-is some_constraint).fits
 
-      pub found-inference : (found : Found) → IsInferenceOf (kind_number p) (KindIsFor p) trail found → IsInference model trail (record { constraint = found.constraint; rule = found.rule; clause = found.clause })
+      pub found-inference : (found : Found) → IsInferenceOf (any_number p) (AnyIsFor p) trail found → IsInference model trail (record { constraint = found.constraint; rule = found.rule; clause = found.clause })
       found-inference found h =
           let here = it-is some_constraint in
           let constraint = get_or model.constraints k some_constraint in
           inference-at k some_constraint found are.few_vars are.few_constraints inside
           (subst (λ (n : ℕ). IsFound n constraint trail found) here.numbered (h constraint here.is_for))
 
-    pub none-quiet : IsNarrower trail.sets trail.declared → (items : List ArithPropagator) → items ≡ propagators.items → (i : ℕ) → length items ≤ i → AllWithin (λ (p : ArithPropagator). AreExhausted (KindIsFor p) trail) items 0 i → IsQuiet model trail
+    pub none-quiet : IsNarrower trail.sets trail.declared → (items : List AnyPropagator) → items ≡ propagators.items → (i : ℕ) → length items ≤ i → AllWithin (λ (p : AnyPropagator). AreExhausted (AnyIsFor p) trail) items 0 i → IsQuiet model trail
     none-quiet narrower items same i past exhausted fixed values within k constraint inside =
         let count = ap length same in
         let one_each = are.one_each in
@@ -98,5 +98,5 @@ module _ (model : Model) (trail : Levels) (declared : trail.declared ≡ declare
         let p = some_member items k (omega arith) in
         let B : List IntSet → Type 0 = λ sets. HasBooleanSets sets here in
         let boolean : B trail.declared = subst B (sym declared) (are.booleans k constraint inside) in
-        let is_for : KindIsFor (get_or items k p) here = subst (λ (xs : List ArithPropagator). KindIsFor (get_or xs k p) here) (sym same) (are.each k constraint p inside).is_for in
+        let is_for : AnyIsFor (get_or items k p) here = subst (λ (xs : List AnyPropagator). AnyIsFor (get_or xs k p) here) (sym same) (are.each k constraint p inside).is_for in
         (exhausted k p (omega arith) (omega arith) here is_for boolean).holds fixed values (within-declared values narrower within) within

@@ -5,8 +5,8 @@ use Rattle.std.proofs.lemmas.List.{get_or_append_left, get_or_push}
 use Rattle.fzn_meaning.specs.declared.constraint.Constraint.{Constraint}
 use Rattle.fzn_meaning.specs.declared.model.Model.{Model}
 use Rattle.fzn_meaning.specs.Solutions.{declared_sets}
-use Rattle.fzn_arith.specs.declared.kinds.ArithPropagator.{ArithPropagator}
-use Rattle.fzn_arith.specs.AnyKind.{kind_number, KindIsFor, KindFits}
+use Rattle.fzn_propagators.specs.declared.kinds.AnyPropagator.{AnyPropagator}
+use Rattle.fzn_propagators.specs.AnyCrate.{any_number, AnyIsFor, AnyFits}
 use Rattle.fzn_propagators.specs.declared.lacking.Lacking.TheVariants.{Propagator}
 use Rattle.fzn_propagators.specs.Propagators.{IsPropagatorOf, IsFirst}
 
@@ -16,26 +16,26 @@ some_member [] k below = absurd (omega arith)
 some_member (x ∷ xs) k below = x
 
 -- the propagators of the first n constraints
-abbrev pub AreFirst : Model → ℕ → List ArithPropagator → Type 0
+abbrev pub AreFirst : Model → ℕ → List AnyPropagator → Type 0
 AreFirst model n items =
-    (k : ℕ) (constraint : Constraint) (propagator : ArithPropagator) → k < n
+    (k : ℕ) (constraint : Constraint) (propagator : AnyPropagator) → k < n
     → IsPropagatorOf model (k + 1) (get_or model.constraints k constraint) (get_or items k propagator)
 
-module _ (model : Model) (n : ℕ) (earlier : List ArithPropagator) (next : ArithPropagator) where
+module _ (model : Model) (n : ℕ) (earlier : List AnyPropagator) (next : AnyPropagator) where
   -- what is promised of the propagator of constraint n + 1
-  next-is : kind_number next ≡ n + 1 → ((constraint : Constraint) → KindIsFor next (get_or model.constraints (n + 1 - 1) constraint)) → KindFits next (declared_sets model.vars) → (constraint : Constraint) → IsPropagatorOf model (n + 1) (get_or model.constraints n constraint) next
+  next-is : any_number next ≡ n + 1 → ((constraint : Constraint) → AnyIsFor next (get_or model.constraints (n + 1 - 1) constraint)) → AnyFits next (declared_sets model.vars) → (constraint : Constraint) → IsPropagatorOf model (n + 1) (get_or model.constraints n constraint) next
   next-is numbered is_for fits constraint =
       let place : n + 1 - 1 ≡ n = omega arith in record {
         numbered = numbered;
-        is_for = subst (λ (k : ℕ). KindIsFor next (get_or model.constraints k constraint)) place (is_for constraint);
+        is_for = subst (λ (k : ℕ). AnyIsFor next (get_or model.constraints k constraint)) place (is_for constraint);
         fits = fits;
       }
 
   -- one more
-  pub AreFirst-push : (items : List ArithPropagator) → items ≡ earlier ++ next ∷ [] → length earlier ≡ n → AreFirst model n earlier → kind_number next ≡ n + 1 → ((constraint : Constraint) → KindIsFor next (get_or model.constraints (n + 1 - 1) constraint)) → KindFits next (declared_sets model.vars) → AreFirst model (n + 1) items
+  pub AreFirst-push : (items : List AnyPropagator) → items ≡ earlier ++ next ∷ [] → length earlier ≡ n → AreFirst model n earlier → any_number next ≡ n + 1 → ((constraint : Constraint) → AnyIsFor next (get_or model.constraints (n + 1 - 1) constraint)) → AnyFits next (declared_sets model.vars) → AreFirst model (n + 1) items
   AreFirst-push items is count before numbered is_for fits k constraint propagator below =
-      let R : ℕ → ArithPropagator → Type 0 = λ m p. IsPropagatorOf model (m + 1) (get_or model.constraints m constraint) p in
-      let at_k : get_or items k propagator ≡ get_or (earlier ++ next ∷ []) k propagator = ap (λ (xs : List ArithPropagator). get_or xs k propagator) is in
+      let R : ℕ → AnyPropagator → Type 0 = λ m p. IsPropagatorOf model (m + 1) (get_or model.constraints m constraint) p in
+      let at_k : get_or items k propagator ≡ get_or (earlier ++ next ∷ []) k propagator = ap (λ (xs : List AnyPropagator). get_or xs k propagator) is in
       elim (cases_lt k n) [
         | inl inside ↦ subst (R k) (sym (at_k ∙ get_or_append_left earlier (next ∷ []) propagator k (omega arith))) (before k constraint propagator inside)
         | inr past ↦
@@ -44,7 +44,7 @@ module _ (model : Model) (n : ℕ) (earlier : List ArithPropagator) (next : Arit
       ]
 
 -- the constraint after them is the first that has no propagator
-pub AreFirst-lacking : (model : Model) (n : ℕ) (items : List ArithPropagator) → length items ≡ n → AreFirst model n items → (number : ℕ) → number ≡ n + 1 → IsFirst model (Propagator number)
+pub AreFirst-lacking : (model : Model) (n : ℕ) (items : List AnyPropagator) → length items ≡ n → AreFirst model n items → (number : ℕ) → number ≡ n + 1 → IsFirst model (Propagator number)
 AreFirst-lacking model n items count first number is k default below =
     let inside : k < n = omega arith in
     let p = some_member items k (omega arith) in

@@ -1,1 +1,2 @@
+pub mod AnyCrate
 pub mod Propagators

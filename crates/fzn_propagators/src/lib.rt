@@ -5,9 +5,11 @@
 //! `specs/Propagators.antt`: `AreFor` says which propagators stand for a model, and the search's trait `Constraints` what they owe.
 #![tactic(auto)]
 
+pub use kinds::AnyPropagator;
 pub use lacking::Lacking;
 pub use propagators::Propagators;
 
+mod kinds;
 mod lacking;
 mod propagators;
 #[cfg(test)]

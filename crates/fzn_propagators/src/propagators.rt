@@ -3,8 +3,9 @@ ghost use Rattle.std.specs.Prelude.{IfOk, IfErr};
 ghost use Rattle.fzn_meaning.specs.WellFormed.{IsWellFormed};
 ghost use Rattle.fzn_propagators.specs.Propagators.{AreFor, Lacks, IsFirst};
 
+use crate::kinds::{AnyPropagator, propagator_of};
 use crate::lacking::Lacking;
-use fzn_arith::{ArithPropagator, Propagator, propagator_of};
+use fzn_arith::Propagator;
 use fzn_domain::Memory;
 use fzn_engine::{Constraints, Inference};
 use fzn_list::Items;
@@ -15,7 +16,7 @@ use std::alloc::Global;
 /// A propagator for each constraint of a model, in order.
 #[derive(Drop)]
 pub struct Propagators {
-    items: Items<ArithPropagator>,
+    items: Items<AnyPropagator>,
 }
 
 impl Propagators {

@@ -18,8 +18,10 @@ fn model_of(alloc: Global, bytes: &[u8]) -> Result<Model, ReadError>
     ensures right { Reads bytes.now result }
     ensures well_formed { IfOk result IsWellFormed }
 {
-    let tokens = tokens(alloc, bytes)?;
-    let tree = parse(alloc, tokens.as_slice())?;
+    let tree = {
+        let tokens = tokens(alloc, bytes)?;
+        parse(alloc, &tokens)?
+    };
     type_check(alloc, &tree)
 }
 

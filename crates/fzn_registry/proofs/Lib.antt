@@ -1,2 +1,3 @@
 pub mod CallerLemmas
+mod NameLemmas
 mod SpellingLemmas

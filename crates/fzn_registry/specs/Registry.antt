@@ -1,5 +1,5 @@
 -- The constraints: how each is written, and what it is given.
-use Rattle.std.specs.Prelude.{◌≡◌, ℕ, List, [], ◌∷◌, codes}
+use Rattle.std.specs.Prelude.{◌≡◌, ℕ, List, [], ◌∷◌, Option, find, bytes_eq, codes}
 use Rattle.fzn_registry.specs.declared.name.Name.{Name}
 use Rattle.fzn_registry.specs.declared.name.Name.TheVariants as n
 use Rattle.fzn_registry.specs.declared.signature.Argument.{Argument}
@@ -64,6 +64,21 @@ row n.BoolLtReif = (codes "bool_lt_reif", Boolean ∷ Boolean ∷ Boolean ∷ []
 
 unfoldable pub spelling_of : Name → List ℕ
 spelling_of name = (row name).0
+
+-- all names, in the order of the table
+unfoldable pub names : List Name
+names =
+    n.IntEq ∷ n.IntNe ∷ n.IntLe ∷ n.IntLt ∷ n.IntLinEq ∷ n.IntLinLe ∷ n.IntLinNe ∷ n.IntPlus ∷
+    n.IntTimes ∷ n.IntDiv ∷ n.IntMod ∷ n.IntMin ∷ n.IntMax ∷ n.IntAbs ∷ n.ArrayIntMaximum ∷ n.ArrayIntMinimum ∷
+    n.ArrayIntElement ∷ n.ArrayVarIntElement ∷ n.ArrayBoolElement ∷ n.ArrayVarBoolElement ∷ n.SetIn ∷ n.BoolEq ∷ n.BoolLe ∷ n.BoolLt ∷
+    n.BoolNot ∷ n.BoolAnd ∷ n.BoolOr ∷ n.BoolXor ∷ n.ArrayBoolAnd ∷ n.ArrayBoolOr ∷ n.ArrayBoolXor ∷ n.BoolClause ∷
+    n.Bool2Int ∷ n.BoolLinEq ∷ n.BoolLinLe ∷ n.FznAllDifferentInt ∷ n.FznTableInt ∷ n.FznCumulative ∷ n.FznCircuit ∷ n.FznInverse ∷
+    n.IntEqReif ∷ n.IntNeReif ∷ n.IntLeReif ∷ n.IntLtReif ∷ n.IntLinEqReif ∷ n.IntLinLeReif ∷ n.IntLinNeReif ∷ n.SetInReif ∷
+    n.BoolEqReif ∷ n.BoolLeReif ∷ n.BoolLtReif ∷ []
+
+-- the name that is written so
+unfoldable pub name_spelled : List ℕ → Option Name
+name_spelled text = find (λ name. bytes_eq (spelling_of name) text) names
 
 unfoldable pub arguments_of : Name → List Argument
 arguments_of name = (row name).1

@@ -6,7 +6,15 @@
 #![tactic(auto)]
 
 #[cfg(test)]
+mod builtin_rows;
+#[cfg(test)]
+mod pairs;
+#[cfg(test)]
+mod refused;
+#[cfg(test)]
 mod rows;
+#[cfg(test)]
+mod rule_rows;
 #[cfg(test)]
 mod solved;
 #[cfg(test)]

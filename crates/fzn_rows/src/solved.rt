@@ -1,8 +1,11 @@
+use crate::SolverRow;
+use crate::builtin_rows::BUILTIN_ROWS;
 use crate::solver_rows::SOLVER_ROWS;
 use fzn_checker::check;
 use fzn_solver::run;
 use fzn_words::options_of;
 use std::alloc::{AllocError, Global};
+use std::process::Abort;
 use std::str::from_utf8;
 use std::test::Fail;
 
@@ -42,10 +45,10 @@ fn solve_and_check(alloc: Global, words: &[&str], model: &str) -> Result<Solved,
     })
 }
 
-#[test]
-fn solver_rows(rt: HostRuntime) -> Result<(), Fail> {
-    for row in &SOLVER_ROWS {
-        let solved = solve_and_check(rt.alloc(), row.words, row.model)?;
+/// Each row is solved and checked, and prints what it is to print.
+fn solve_rows(rt: &impl Abort, alloc: Global, rows: &[SolverRow]) -> Result<(), Fail> {
+    for row in rows {
+        let solved = solve_and_check(alloc, row.words, row.model)?;
         let out = from_utf8(&solved.out)?;
         assert_eq!(rt; solved.fault.as_str(), row.fault, "{}", row.name);
         assert_eq!(rt;
@@ -64,6 +67,16 @@ fn solver_rows(rt: HostRuntime) -> Result<(), Fail> {
         assert!(rt; is_right, "{}: {out}", row.name);
     }
     Ok(())
+}
+
+#[test]
+fn solver_rows(rt: HostRuntime) -> Result<(), Fail> {
+    solve_rows(&rt, rt.alloc(), &SOLVER_ROWS)
+}
+
+#[test]
+fn builtin_rows(rt: HostRuntime) -> Result<(), Fail> {
+    solve_rows(&rt, rt.alloc(), &BUILTIN_ROWS)
 }
 
 /// The file of a thousand variables of 10^9 whose sum is at most 10^9.
@@ -92,5 +105,29 @@ fn thousand_large_values(rt: HostRuntime) -> Result<(), Fail> {
     let solved = solve_and_check(alloc, &["m.fzn"], model.as_str())?;
     assert_eq!(rt; (solved.fault.as_str(), solved.out.as_slice()), ("", want));
     assert_eq!(rt; solved.checked.as_slice(), want);
+    Ok(())
+}
+
+/// Each pair of two different numbers of 0..3 once, in any order.
+#[test]
+fn twelve_solutions(rt: HostRuntime) -> Result<(), Fail> {
+    let alloc = rt.alloc();
+    let model =
+        "var 0..3: x :: output_var; var 0..3: y :: output_var; constraint int_ne(x,y); solve satisfy;";
+    let solved = solve_and_check(alloc, &["-a", "--nodes", "15", "m.fzn"], model)?;
+    let out = from_utf8(&solved.out)?;
+    assert_eq!(rt;
+        (solved.fault.as_str(), solved.checked.as_slice()),
+        ("", solved.out.as_slice())
+    );
+    for x in 0..4u8 {
+        for y in 0..4u8 {
+            let solution = format!(in alloc; "x = {x};\ny = {y};\n----------\n")?;
+            let count = out.matches(solution.as_str()).count();
+            assert_eq!(rt; count, usize::from(x != y), "{solution} in {out}");
+        }
+    }
+    assert_eq!(rt; out.matches("----------\n").count(), 12);
+    assert!(rt; out.ends_with("\n==========\n"), "{out}");
     Ok(())
 }

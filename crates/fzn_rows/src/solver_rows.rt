@@ -1,7 +1,7 @@
 // Files and words, and what solving them prints.
 use crate::SolverRow;
 
-pub const SOLVER_ROWS: [SolverRow; 11] = [
+pub const SOLVER_ROWS: [SolverRow; 19] = [
     SolverRow {
         name: "two-booleans",
         words: &["-a", "m.fzn"],
@@ -52,18 +52,32 @@ pub const SOLVER_ROWS: [SolverRow; 11] = [
         fault: "",
     },
     SolverRow {
+        name: "number-range-and-bases.a",
+        words: &["m.fzn"],
+        model: "int: k = 1000000000; solve satisfy;",
+        answers: &["----------\n"],
+        fault: "",
+    },
+    SolverRow {
+        name: "number-range-and-bases.c",
+        words: &["m.fzn"],
+        model: "var -0x1F..-0x1F: x :: output_var; var 0o17..0o17: y :: output_var; solve satisfy;",
+        answers: &["x = -31;\ny = 15;\n----------\n"],
+        fault: "",
+    },
+    SolverRow {
+        name: "output-in-two-ranges.a",
+        words: &["m.fzn"],
+        model: "var 1..1: a;\narray [1..4] of var int: q :: output_array([1..2, 1..2]) = [a, 2, 3, 4];\nsolve satisfy;",
+        answers: &["q = array2d(1..2, 1..2, [1, 2, 3, 4]);\n----------\n"],
+        fault: "",
+    },
+    SolverRow {
         name: "node-limit-zero",
         words: &["--nodes", "0", "m.fzn"],
         model: "var bool: a :: output_var; solve satisfy;",
         answers: &["=====UNKNOWN=====\n"],
         fault: "",
-    },
-    SolverRow {
-        name: "empty-model-file",
-        words: &["m.fzn"],
-        model: "",
-        answers: &[],
-        fault: "line 1 column 1: fault 3 Syntax",
     },
     SolverRow {
         name: "hidden-variable",
@@ -80,6 +94,48 @@ pub const SOLVER_ROWS: [SolverRow; 11] = [
         words: &["m.fzn"],
         model: "var 0..10: x :: output_var; constraint int_lin_le([3],[x],10); solve maximize x;",
         answers: &["x = 3;\n----------\n==========\n"],
+        fault: "",
+    },
+    SolverRow {
+        name: "predicate-read",
+        words: &["m.fzn"],
+        model: "predicate p(var int: x); solve satisfy;",
+        answers: &["----------\n"],
+        fault: "",
+    },
+    SolverRow {
+        name: "reified-and-minimize",
+        words: &["m.fzn"],
+        model: "var 0..3: x :: output_var; var bool: r :: output_var; constraint int_le_reif(x,1,r); constraint bool_eq(r,false); solve minimize x;",
+        answers: &["x = 2;\nr = false;\n----------\n==========\n"],
+        fault: "",
+    },
+    SolverRow {
+        name: "bounds-without-nodes",
+        words: &["--nodes", "0", "m.fzn"],
+        model: "var 0..1000000000: x :: output_var; var 0..1000000000: y; constraint int_lin_le([1,1],[x,y],0); solve satisfy;",
+        answers: &["x = 0;\n----------\n"],
+        fault: "",
+    },
+    SolverRow {
+        name: "boolean-array-output",
+        words: &["m.fzn"],
+        model: "var bool: b = false; array [1..2] of var bool: q :: output_array([0..1]) = [true,b]; solve satisfy;",
+        answers: &["q = array1d(0..1, [true, false]);\n----------\n"],
+        fault: "",
+    },
+    SolverRow {
+        name: "empty-array-output",
+        words: &["m.fzn"],
+        model: "array [1..0] of var int: q :: output_array([1..0]) = []; solve satisfy;",
+        answers: &["q = array1d(1..0, []);\n----------\n"],
+        fault: "",
+    },
+    SolverRow {
+        name: "bit-words-and-wider",
+        words: &["-a", "m.fzn"],
+        model: "var {0,4095}: x :: output_var; var {0,4096}: y :: output_var; constraint int_lin_le([-1],[x],-1); constraint int_lin_le([-1],[y],-1); solve satisfy;",
+        answers: &["x = 4095;\ny = 4096;\n----------\n==========\n"],
         fault: "",
     },
 ];

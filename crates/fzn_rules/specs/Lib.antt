@@ -1,17 +1,1 @@
-pub mod Choices
-pub mod Cut
-pub mod Energy
-pub mod Form
-pub mod GlobalRows
-pub mod Hall
-pub mod Inside
-pub mod Linear
-pub mod Load
-pub mod Numbered
-pub mod Pair
-pub mod Product
-pub mod Rows
 pub mod Rules
-pub mod State
-pub mod Tasks
-pub mod Terms

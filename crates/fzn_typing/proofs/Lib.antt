@@ -1,7 +1,8 @@
-pub mod AcceptedLemmas
 pub mod ArgumentLemmas
 pub mod FirstLemmas
 pub mod ItemLemmas
 pub mod MadeLemmas
+pub mod OneModel
+pub mod RisingLemmas
 pub mod TreeLemmas
 pub mod WellFormedLemmas

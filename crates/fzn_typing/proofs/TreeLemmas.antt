@@ -99,8 +99,8 @@ module _ (tree : Tree) where
       (all_written sets (tree_names tree) known tree.vars within.declarations.vars)
 
   pub model_formed : (model : Model) → IsWithinLimits tree → in_names ≡ [] → in_cons ≡ [] → IsModelOf tree model → All (IsVariable (length model.vars)) model.outputs
-      → AllPairs (λ (a b : VarId). a.0 < b.0) model.outputs → IsWellFormed model
-  model_formed model within none right is inside rising =
+      → IsWellFormed model
+  model_formed model within none right is inside =
       let sets = declared_sets (vars_of tree.vars) in
       let known = tree-meanings within none in
       let good = tree_good within none right in
@@ -112,7 +112,7 @@ module _ (tree : Tree) where
         booleans = subst (λ all. All (HasBooleanSets (declared_sets all)) model.constraints) (sym is.vars) (λ k d h. (each k d h).1);
         goal = subst (λ n. IsGoal n model.goal) count (goal-within sets (tree_names tree) known tree.solve.goal model.goal is.goal);
         outputs = inside;
-        rising = rising;
+        rising = is.rising;
         shown = subst (λ n. All (IsOutputItem n) model.shown) many (subst (λ items. All (IsOutputItem (length (vars_of tree.vars))) items) (sym is.shown) (tree_shown within none));
         values = rw is.vars (sets-limited tree.vars within.declarations.vars);
         few_vars = rw (← many) within.declarations.few_vars;
@@ -156,7 +156,7 @@ module _ (tree : Tree) (params : List Param) (declared : List Var) (count : ℕ)
 
       module _ (model : Model) (aimed : goal_faults names tree.solve.goal ≡ []) (goal_is : goal_of names tree.solve.goal ≡ Some model.goal) (vars_is : model.vars ≡ vars_of declared)
           (constraints_are : model.constraints ≡ flat_map (stated names) cons ++ flat_map (written names) declared) (shown_is : model.shown ≡ shown_from names 1 declared)
-          (outputs_are : (var : VarId) → Contains model.outputs var ↔ IsShown model.shown var) where
+          (outputs_are : (var : VarId) → Contains model.outputs var ↔ IsShown model.shown var) (rising : AllPairs (λ (a b : VarId). a.0 < b.0) model.outputs) where
         pub is_model : IsModelOf tree model
         is_model = record {
           vars = vars_is ∙ ap vars_of vars_are;
@@ -164,6 +164,7 @@ module _ (tree : Tree) (params : List Param) (declared : List Var) (count : ℕ)
           goal = subst (λ all. goal_of all tree.solve.goal ≡ Some model.goal) names_right goal_is;
           shown = shown_is ∙ rw (vars_are, names_right) refl;
           outputs = outputs_are;
+          rising = rising;
         }
 
         pub model_right : (faults_of tree ≡ []) × IsModelOf tree model

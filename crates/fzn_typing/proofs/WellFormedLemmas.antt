@@ -42,9 +42,9 @@ use Rattle.fzn_parser.specs.declared.tree.Values.{Values}
 use Rattle.fzn_parser.specs.declared.tree.Var.{Var}
 use Rattle.fzn_parser.specs.declared.tree.Var.TheVariants as vars
 use Rattle.fzn_registry.specs.declared.name.Name.{Name}
-use Rattle.fzn_registry.specs.Registry.{arguments_of, lengths_of, non_negative_of}
+use Rattle.fzn_registry.specs.Registry.{name_spelled, arguments_of, lengths_of, non_negative_of}
 use Rattle.fzn_typing.specs.Arguments.{set_entries, unknown_names, wrong_arguments, has_lengths, has_negative}
-use Rattle.fzn_typing.specs.Constraints.{supported_name, constraint_for}
+use Rattle.fzn_typing.specs.Constraints.{constraint_for}
 use Rattle.fzn_typing.specs.Faults.{named_faults, constraint_faults, integer_variable, objective_of}
 use Rattle.fzn_typing.specs.Limits.{IsArgWithin, IsConWithin}
 use Rattle.fzn_typing.specs.Models.{named, stated, equality, equalities, element_domains, written, goal_of}
@@ -63,7 +63,7 @@ length-named names given (Some name) = omega arith
 pub length-stated : (names : NameList) (cons : List Con) → length (flat_map (stated names) cons) ≤ length cons
 length-stated names [] = omega arith
 length-stated names (con ∷ cons) =
-    let here = length-named names con.args (supported_name con.name.text) in
+    let here = length-named names con.args (name_spelled con.name.text) in
     let rest = length-stated names cons in
     rw length-append (omega (arith, here, rest))
 
@@ -116,8 +116,8 @@ module _ (sets : List IntSet) (names : NameList) (known : AreMeanings sets names
   stated_good : (con : Con) → All IsArgWithin con.args → constraint_faults names con ≡ [] → All IsGood (stated names con)
   unfolding constraint_faults
   stated_good con within right =
-      named_good con (supported_name con.name.text) within
-      (right_empty (at SetRefused (flat_map (set_entries names) con.args) ++ at UnknownName (flat_map (unknown_names names) con.args)) (named_faults names con (supported_name con.name.text)) right)
+      named_good con (name_spelled con.name.text) within
+      (right_empty (at SetRefused (flat_map (set_entries names) con.args) ++ at UnknownName (flat_map (unknown_names names) con.args)) (named_faults names con (name_spelled con.name.text)) right)
 
   pub all_stated : (cons : List Con) → All IsConWithin cons → flat_map (constraint_faults names) cons ≡ [] → All IsGood (flat_map (stated names) cons)
   all_stated [] within right = All-nil IsGood

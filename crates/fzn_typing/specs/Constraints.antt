@@ -1,5 +1,5 @@
 -- The constraint that each name states of its arguments.
-use Rattle.std.specs.Prelude.{ℕ, Bool, true, List, [], ◌∷◌, Option, Some, None, find, filter, bytes_eq}
+use Rattle.std.specs.Prelude.{ℕ, List, [], ◌∷◌, Option, Some, None}
 use Rattle.fzn_meaning.specs.declared.arithmetic.Operation.TheVariants.{Plus, Times, Quotient, Remainder}
 use Rattle.fzn_meaning.specs.declared.boolean.Gate.TheVariants.{And, Or}
 use Rattle.fzn_meaning.specs.declared.constraint.Constraint.{Constraint}
@@ -13,33 +13,7 @@ use Rattle.fzn_names.specs.Values.{NameList}
 use Rattle.fzn_parser.specs.declared.tree.Arg.{Arg}
 use Rattle.fzn_registry.specs.declared.name.Name.{Name}
 use Rattle.fzn_registry.specs.declared.name.Name.TheVariants as n
-use Rattle.fzn_registry.specs.Registry.{spelling_of}
 use Rattle.fzn_typing.specs.Arguments.{term_at, terms_at, set_at, number_at, numbers_at, weighted}
-
--- ---- which names are accepted
-
-unfoldable pub registered : List Name
-registered =
-    n.IntEq ∷ n.IntNe ∷ n.IntLe ∷ n.IntLt ∷ n.IntLinEq ∷ n.IntLinLe ∷ n.IntLinNe ∷ n.IntPlus ∷
-    n.IntTimes ∷ n.IntDiv ∷ n.IntMod ∷ n.IntMin ∷ n.IntMax ∷ n.IntAbs ∷ n.ArrayIntMaximum ∷ n.ArrayIntMinimum ∷
-    n.ArrayIntElement ∷ n.ArrayVarIntElement ∷ n.ArrayBoolElement ∷ n.ArrayVarBoolElement ∷ n.SetIn ∷ n.BoolEq ∷ n.BoolLe ∷ n.BoolLt ∷
-    n.BoolNot ∷ n.BoolAnd ∷ n.BoolOr ∷ n.BoolXor ∷ n.ArrayBoolAnd ∷ n.ArrayBoolOr ∷ n.ArrayBoolXor ∷ n.BoolClause ∷
-    n.Bool2Int ∷ n.BoolLinEq ∷ n.BoolLinLe ∷ n.FznAllDifferentInt ∷ n.FznTableInt ∷ n.FznCumulative ∷ n.FznCircuit ∷ n.FznInverse ∷
-    n.IntEqReif ∷ n.IntNeReif ∷ n.IntLeReif ∷ n.IntLtReif ∷ n.IntLinEqReif ∷ n.IntLinLeReif ∷ n.IntLinNeReif ∷ n.SetInReif ∷
-    n.BoolEqReif ∷ n.BoolLeReif ∷ n.BoolLtReif ∷ []
-
--- all of them; a name is left out by a line of its own above the last
-abbrev pub is_accepted : Name → Bool
-is_accepted _ = true
-
-unfoldable pub supported : List Name
-supported = filter is_accepted registered
-
--- the one with this spelling
-unfoldable pub supported_name : List ℕ → Option Name
-supported_name text = find (λ name. bytes_eq (spelling_of name) text) supported
-
--- ---- the table
 
 module _ (names : NameList) (given : List Arg) where
   abbrev pub term : ℕ → Term

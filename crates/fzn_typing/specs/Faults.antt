@@ -17,9 +17,8 @@ use Rattle.fzn_parser.specs.declared.tree.Goal.{Goal}
 use Rattle.fzn_parser.specs.declared.tree.Goal.TheVariants as goals
 use Rattle.fzn_parser.specs.declared.tree.Tree.{Tree}
 use Rattle.fzn_registry.specs.declared.name.Name.{Name}
-use Rattle.fzn_registry.specs.Registry.{arguments_of, lengths_of, non_negative_of}
+use Rattle.fzn_registry.specs.Registry.{name_spelled, arguments_of, lengths_of, non_negative_of}
 use Rattle.fzn_typing.specs.Arguments.{set_entries, unknown_names, wrong_arguments, has_lengths, has_negative}
-use Rattle.fzn_typing.specs.Constraints.{supported_name}
 
 -- ---- constraints
 
@@ -36,7 +35,7 @@ unfoldable pub constraint_faults : NameList → Con → List Fault
 constraint_faults names con =
     at SetRefused (flat_map (set_entries names) con.args)
     ++ at UnknownName (flat_map (unknown_names names) con.args)
-    ++ named_faults names con (supported_name con.name.text)
+    ++ named_faults names con (name_spelled con.name.text)
 
 -- ---- the goal
 

@@ -1,5 +1,5 @@
 -- The model that a tree without faults states.
-use Rattle.std.specs.Prelude.{◌≡◌, ◌↔◌, List, [], ◌∷◌, ◌++◌, Option, Some, None, map, flat_map, option_map, Contains}
+use Rattle.std.specs.Prelude.{◌≡◌, ◌<◌, ◌↔◌, List, [], ◌∷◌, ◌++◌, Option, Some, None, map, flat_map, option_map, Contains, AllPairs}
 use Rattle.fzn_domain.specs.declared.literal.VarId.{VarId}
 use Rattle.fzn_meaning.specs.declared.constraint.Constraint.{Constraint}
 use Rattle.fzn_meaning.specs.declared.constraint.Constraint.TheVariants.{SetIn}
@@ -26,7 +26,8 @@ use Rattle.fzn_parser.specs.declared.tree.Var.{Var}
 use Rattle.fzn_parser.specs.declared.tree.Var.TheVariants as vars
 use Rattle.fzn_registry.specs.declared.name.Name.{Name}
 use Rattle.fzn_registry.specs.declared.name.Name.TheVariants as n
-use Rattle.fzn_typing.specs.Constraints.{supported_name, constraint_for}
+use Rattle.fzn_registry.specs.Registry.{name_spelled}
+use Rattle.fzn_typing.specs.Constraints.{constraint_for}
 use Rattle.fzn_typing.specs.Faults.{objective_of, tree_names}
 
 -- ---- constraints
@@ -35,9 +36,9 @@ abbrev pub named : NameList → List Arg → Option Name → List Constraint
 named names given None = []
 named names given (Some name) = constraint_for names given name ∷ []
 
--- the constraint of an item, where its name is accepted
+-- the constraint of an item, where its name is in the registry
 abbrev pub stated : NameList → Con → List Constraint
-stated names con = named names con.args (supported_name con.name.text)
+stated names con = named names con.args (name_spelled con.name.text)
 
 abbrev pub equality : Kind → Name
 equality Integer = n.IntEq
@@ -77,3 +78,5 @@ pub record IsModelOf (tree : Tree) (model : Model) : Type 0 where
   pub goal : goal_of (tree_names tree) tree.solve.goal ≡ Some model.goal
   pub shown : model.shown ≡ shown_from (tree_names tree) 1 tree.vars
   pub outputs : (var : VarId) → Contains model.outputs var ↔ IsShown model.shown var
+  -- each once, in rising order
+  pub rising : AllPairs (λ (a b : VarId). a.0 < b.0) model.outputs

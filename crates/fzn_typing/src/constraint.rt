@@ -1,11 +1,10 @@
 // The constraint items of a file.
-ghost use Rattle.std.specs.Prelude.{◌≡◌, ◌++◌, Some, None, flat_map, OnOk, IfSome, IfNone};
+ghost use Rattle.std.specs.Prelude.{◌≡◌, ◌++◌, Some, flat_map, OnOk};
 ghost use Rattle.std.specs.List.{All};
 ghost use Rattle.fzn_names.specs.Given.{Gives};
 ghost use Rattle.fzn_names.specs.Known.{known};
 ghost use Rattle.fzn_names.specs.Places.{first};
 ghost use Rattle.fzn_registry.specs.Registry.{IsRow};
-ghost use Rattle.fzn_typing.specs.Constraints.{is_accepted, supported_name};
 ghost use Rattle.fzn_typing.specs.Faults.{named_faults, constraint_faults};
 ghost use Rattle.fzn_typing.specs.Limits.{IsConWithin};
 ghost use Rattle.fzn_typing.specs.Models.{stated};
@@ -18,30 +17,8 @@ use fzn_list::Items;
 use fzn_meaning::Constraint;
 use fzn_names::Names;
 use fzn_parser::Con;
-use fzn_registry::{Name, Signature, lookup_bytes};
+use fzn_registry::{Signature, lookup_bytes};
 use std::alloc::{AllocError, Global};
-
-fn is_accepted(name: Name) -> bool
-    ensures { result ≡ is_accepted name }
-{
-    match name {
-        _ => true,
-    }
-}
-
-/// The constraint with this name, if it is accepted.
-fn supported(text: &[u8]) -> Option<Signature>
-    ensures found { IfSome result (λ signature. supported_name text.now ≡ Some signature.name) }
-    ensures row { IfSome result IsRow }
-    ensures none { IfNone result (supported_name text.now ≡ None) }
-{
-    let signature = lookup_bytes(text)?;
-    if is_accepted(signature.name) {
-        Some(signature)
-    } else {
-        None
-    }
-}
 
 #[tactic(auto, using(crate::proofs::FirstLemmas::firsts))]
 fn named_fault(names: &Names, con: &Con, signature: &Signature) -> Option<Fault>
@@ -94,7 +71,7 @@ fn constraint_fault(names: &Names, con: &Con) -> Option<Fault>
             place,
         });
     }
-    match supported(con.name.text.as_slice()) {
+    match lookup_bytes(con.name.text.as_slice()) {
         None => Some(Fault {
             kind: FaultKind::UnknownConstraint,
             place: con.name.place,
@@ -113,7 +90,7 @@ fn state(
     requires { IsConWithin con.now }
     ensures { OnOk result (constraints.new ≡ constraints.old ++ stated (known names.now) con.now) }
 {
-    if let Some(signature) = supported(con.name.text.as_slice()) {
+    if let Some(signature) = lookup_bytes(con.name.text.as_slice()) {
         constraints.push(constraint_for(alloc, names, con.args.as_slice(), signature.name)?)?;
     }
     Ok(())

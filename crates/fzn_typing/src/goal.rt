@@ -35,6 +35,7 @@ fn objective_of(names: &Names, basic: &Basic) -> Result<VarId, ReadError>
     }
 }
 
+/// The goal, or its fault: a name that is not declared, or what is no integer variable.
 pub fn goal_of(names: &Names, goal: &Goal) -> Result<fzn_meaning::Goal, ReadError>
     ensures { Gives (goal_faults (known names.now) goal.now)
         (λ found. goal_of (known names.now) goal.now ≡ Some found) result }

@@ -4,12 +4,16 @@
 //! they count) and `specs/Models.antt` (the model of a tree without faults).
 #![tactic(auto)]
 
+pub use law::one_model;
 pub use tree::type_check;
 
 mod argument;
 mod constraint;
 mod given;
 mod goal;
+mod law;
 mod table;
+#[cfg(test)]
+mod tests;
 mod tree;
 mod written;

@@ -2,7 +2,7 @@ use Rattle.std.proofs.Common.{◌++◌, List, take, ap, ◌∙◌, ℤ, w64}
 use Rattle.std.proofs.lemmas.Int.{to_z-of_z}
 use Rattle.std.proofs.lemmas.List.{take_all}
 use Rattle.fzn_meaning.specs.declared.term.Term.{Term}
-use Rattle.fzn_rules.specs.Form.{each_with}
+use Rattle.fzn_builtin_rules.specs.Form.{each_with}
 use Rattle.fzn_arith.proofs.MadeLemmas.{each_with-push}
 use Rattle.fzn_arith.proofs.form.push_each.Goals as goal
 

@@ -1,21 +1,23 @@
 use Rattle.std.proofs.Common.{◌≡◌, ◌+◌, ◌-◌}
 use Rattle.fzn_meaning.specs.Solutions.{declared_sets}
-use Rattle.fzn_rules.specs.State.{start}
+use Rattle.fzn_state.specs.State.{start}
 use Rattle.fzn_cert.specs.declared.limits.TheConstants.{LAST_STEP}
 use Rattle.fzn_cert.specs.Reader.{progress}
 use Rattle.fzn_cert.specs.Sound.{IsSound}
 use Rattle.fzn_cert.specs.Verdict.{Outcome, VerdictOn}
+use Rattle.fzn_checker.specs.Given.{AreGiven}
 use Rattle.fzn_checker.specs.Checked.{Standing, IsMidway}
 use Rattle.fzn_checker.proofs.certificate.check_certificate.Given as goal
 
-abbrev pub invariant-loop-history : goal.invariant-loop-history
-invariant-loop-history g l = record {
+abbrev pub invariant-loop-given : goal.invariant-loop-given
+invariant-loop-given g l = record {
   midway : IsMidway l.model l.history (progress g.C.Read.remaining l.reader);
   line : l.line ≡ (progress g.C.Read.remaining l.reader).steps + 3;
   goes_on : (outcome : Outcome) → Standing l.model l.history (progress g.C.Read.remaining l.reader) outcome → VerdictOn l.model (g.C.Read.remaining l.fn.cert) outcome;
   sound : IsSound l.model l.history;
+  given : AreGiven l.model l.history.solutions l.given;
   state : l.state ≡ start (declared_sets l.model.vars);
 }
 
-abbrev pub decreases-loop-history : goal.decreases-loop-history
-decreases-loop-history g l = LAST_STEP - (progress g.C.Read.remaining l.reader).steps
+abbrev pub decreases-loop-given : goal.decreases-loop-given
+decreases-loop-given g l = LAST_STEP - (progress g.C.Read.remaining l.reader).steps

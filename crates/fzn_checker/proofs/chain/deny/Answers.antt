@@ -1,7 +1,7 @@
 use Rattle.std.proofs.Common.{◌≡◌, length, ap, ◌∙◌}
 use Rattle.fzn_domain.specs.Narrow.{IsVariable, is_some_empty, narrowed}
 use Rattle.fzn_domain.proofs.NarrowLemmas.{length-narrowed}
-use Rattle.fzn_rules.specs.State.{Sets}
+use Rattle.fzn_state.specs.State.{Sets}
 use Rattle.fzn_checker.proofs.ChainLemmas.{denied-more, emptied_now, not_emptied_now, lit_over}
 use Rattle.fzn_checker.proofs.chain.deny.Goals.{then-not-branch, else-not-branch}
 use Rattle.fzn_checker.proofs.chain.deny.Goals as goal

@@ -1,7 +1,7 @@
 use Rattle.std.proofs.Common.{◌≡◌, length, ap, sym, subst, ◌∙◌, All, IfSome}
 use Rattle.fzn_domain.specs.Narrow.{IsClauseOver, IsVariable, narrowed, possible_in}
 use Rattle.fzn_domain.proofs.NarrowLemmas.{length-narrowed}
-use Rattle.fzn_rules.specs.State.{Sets}
+use Rattle.fzn_state.specs.State.{Sets}
 use Rattle.fzn_checker.proofs.ChainLemmas.{held_over, possible_over, chain-more}
 use Rattle.fzn_checker.proofs.chain.follow.Goals as goal
 

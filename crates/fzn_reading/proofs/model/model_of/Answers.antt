@@ -1,10 +1,7 @@
-use Rattle.std.proofs.Common.{subst}
-use Rattle.fzn_parser.specs.Parse.{IsTree}
 use Rattle.fzn_reading.proofs.LimitLemmas.{tree_within}
 use Rattle.fzn_reading.proofs.model.model_of.Goals as goal
 
 -- the tokens are small, and the tree is within the limits
 pub type_check-requires : goal.type_check-requires
 type_check-requires c =
-    let parsed = subst (λ z. IsTree z c.in_ok-tree.tree) c.as_slice.ensures c.in_ok-tree.ensures.right in
-    tree_within c.args.bytes.now c.in_ok-tokens.tokens c.in_ok-tree.tree c.in_ok-tokens.ensures.right parsed
+    tree_within c.args.bytes.now c.in_ok-tokens.tokens c.in_ok-tree.tree c.in_ok-tokens.ensures.right c.in_ok-tree.ensures.right

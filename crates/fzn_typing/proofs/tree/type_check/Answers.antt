@@ -43,6 +43,7 @@ returns-clause-right c =
     (c.in_ok-with_written.ensures ∙ ap (λ (xs : List Constraint). xs ++ flat_map (written (known c.in_ok-names.names)) c.as_slice-declared.result.now) c.in_ok-stated.ensures.1)
     c.in_ok-shown.ensures
     (λ var. subst (λ (items : List OutputItem). Contains c.in_ok-outputs.outputs var ↔ IsShown items var) c.as_slice-3.ensures (c.in_ok-outputs.ensures.shown var))
+    c.in_ok-outputs.ensures.rising
 
 pub returns-clause-well_formed : goal.returns-clause-well_formed
 returns-clause-well_formed c =
@@ -57,6 +58,6 @@ returns-clause-well_formed c =
     _ c.in_ok-goal.ensures.0 c.in_ok-goal.ensures.1 (c.vars.view_is ∙ c.in_ok-vars.ensures)
     (c.in_ok-with_written.ensures ∙ ap (λ (xs : List Constraint). xs ++ flat_map (written (known c.in_ok-names.names)) c.as_slice-declared.result.now) c.in_ok-stated.ensures.1)
     c.in_ok-shown.ensures
-    (λ var. subst (λ (items : List OutputItem). Contains c.in_ok-outputs.outputs var ↔ IsShown items var) c.as_slice-3.ensures (c.in_ok-outputs.ensures.shown var)))
+    (λ var. subst (λ (items : List OutputItem). Contains c.in_ok-outputs.outputs var ↔ IsShown items var) c.as_slice-3.ensures (c.in_ok-outputs.ensures.shown var))
+    c.in_ok-outputs.ensures.rising)
     (subst (λ k. All (IsVariable k) c.in_ok-outputs.outputs) many c.in_ok-outputs.ensures.within)
-    c.in_ok-outputs.ensures.rising

@@ -1,4 +1,4 @@
-use Rattle.std.proofs.Common.{rules, Option, List, subst, IfSome, IfNone}
+use Rattle.std.proofs.Common.{Option, List, subst, IfSome, IfNone}
 use Rattle.fzn_domain.specs.declared.literal.Lit.{Lit}
 use Rattle.fzn_arith.specs.Kinds.{form_in}
 use Rattle.fzn_arith.specs.Refuted.{IsFound, IsLeftAlone}

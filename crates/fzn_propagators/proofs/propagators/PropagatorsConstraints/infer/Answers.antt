@@ -1,6 +1,6 @@
 -- What the propagator at this place finds, and what it means that none finds anything.
 use Rattle.std.proofs.lemmas.List.Elements.{AllWithin-more}
-use Rattle.fzn_arith.specs.AnyKind.{KindIsFor}
+use Rattle.fzn_propagators.specs.AnyCrate.{AnyIsFor}
 use Rattle.fzn_arith.specs.Inference.{AreExhausted}
 use Rattle.fzn_propagators.proofs.FoundLemmas.{fits-trail, found-inference, none-quiet, HoldsAt-item}
 use Rattle.fzn_propagators.proofs.propagators.PropagatorsConstraints.infer.Goals as goal
@@ -20,8 +20,8 @@ pub loop-propagator-preserved : goal.loop-propagator-preserved
 loop-propagator-preserved c =
     let items = c.as_slice-propagator-items.result.now in
     let i = c.loop-propagator.propagator-index in
-    AllWithin-more (λ p. AreExhausted (KindIsFor p) c.args.trail.now) items 0 i c.loop-propagator.invariant
-    (HoldsAt-item (λ p. AreExhausted (KindIsFor p) c.args.trail.now) items i c.propagator-item.result c.propagator-item.is c.loop-propagator-test.true (rw c.in_default.is at c.in_ok-found.ensures.none))
+    AllWithin-more (λ p. AreExhausted (AnyIsFor p) c.args.trail.now) items 0 i c.loop-propagator.invariant
+    (HoldsAt-item (λ p. AreExhausted (AnyIsFor p) c.args.trail.now) items i c.propagator-item.result c.propagator-item.is c.loop-propagator-test.true (rw c.in_default.is at c.in_ok-found.ensures.none))
 
 pub returns-clause-none : goal.returns-clause-none
 returns-clause-none c =

@@ -1,0 +1,4 @@
+mod DenialLemmas
+mod FixedLemmas
+mod MeaningLemmas
+mod OutcomeLemmas

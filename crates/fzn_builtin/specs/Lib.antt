@@ -1,0 +1,5 @@
+pub mod Demand
+pub mod Denial
+pub mod Kinds
+pub mod Outcome
+pub mod Parts

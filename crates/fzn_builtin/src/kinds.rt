@@ -1,0 +1,66 @@
+// The propagator of any such constraint, and which constraint gets one.
+ghost use Rattle.std.specs.Prelude.{◌≡◌, ◌-◌, ◌≤◌, length, IfOk, IfSome, IfNone, None, slice_index_or};
+ghost use Rattle.fzn_meaning.specs.declared.constraint.Constraint.{Constraint};
+ghost use Rattle.fzn_meaning.specs.Solutions.{declared_sets};
+ghost use Rattle.fzn_meaning.specs.WellFormed.{IsWellFormed};
+ghost use Rattle.fzn_builtin_rules.specs.Choices.{inputs_of};
+ghost use Rattle.fzn_builtin_rules.specs.Form.{form_of};
+ghost use Rattle.fzn_builtin.specs.Kinds.{builtin_number, BuiltinIsFor, BuiltinFits};
+
+use crate::fixed::refute_fixed;
+use crate::parts::{Parts, parts_of};
+use fzn_arith::{Inference, Propagator};
+use fzn_domain::Memory;
+use fzn_meaning::Model;
+use fzn_rules::Rule;
+use fzn_trail::Trail;
+use std::alloc::Global;
+
+/// What reasons for one constraint that is no sum.
+#[derive(Drop)]
+pub struct BuiltinPropagator {
+    pub number: u64,
+    pub parts: Parts,
+}
+
+impl Propagator for BuiltinPropagator {
+    ghost number = { builtin_number };
+
+    ghost is_for = { BuiltinIsFor };
+
+    ghost fits = { BuiltinFits };
+
+    fn propagate(&self, alloc: Global, trail: &Trail) -> Result<Option<Inference>, Memory> {
+        let Some(clause) = refute_fixed(alloc, trail, &self.parts)? else {
+            return Ok(None);
+        };
+        Ok(Some(Inference {
+            constraint: self.number,
+            rule: Rule::Fixed,
+            clause,
+        }))
+    }
+}
+
+/// The propagator of the constraint of this number, where this crate has one for it: it is no sum, and none of the five globals.
+pub fn propagator_of(
+    alloc: Global,
+    model: &Model,
+    c: usize,
+) -> Result<Option<BuiltinPropagator>, Memory>
+    requires model { IsWellFormed model.now }
+    requires number { (1 ≤ c) × (c ≤ length model.now.constraints) }
+    ensures number { IfOk result (λ found. IfSome found (λ propagator. builtin_number propagator ≡ c)) }
+    ensures is_for { IfOk result (λ found. IfSome found (λ propagator. (default : Constraint) → BuiltinIsFor propagator (slice_index_or model.now.constraints (c - 1) default))) }
+    ensures fits { IfOk result (λ found. IfSome found (λ propagator. BuiltinFits propagator (declared_sets model.now.vars))) }
+    ensures none { IfOk result (λ found. IfNone found ((default : Constraint) → form_of (slice_index_or model.now.constraints (c - 1) default) ≡ None → inputs_of (slice_index_or model.now.constraints (c - 1) default) ≡ None)) }
+{
+    let constraint = &model.constraints.as_slice()[c - 1];
+    let Some(parts) = parts_of(alloc, constraint)? else {
+        return Ok(None);
+    };
+    Ok(Some(BuiltinPropagator {
+        number: c as u64,
+        parts,
+    }))
+}

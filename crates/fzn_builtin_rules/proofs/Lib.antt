@@ -1,0 +1,14 @@
+mod BitSums
+pub mod CallerLemmas
+mod ChoiceLemmas
+pub mod ChoicesSound
+mod ChosenLemmas
+mod CountLemmas
+pub mod LinSound
+mod OutcomeLemmas
+mod OverlapLemmas
+mod ProductLemmas
+pub mod ProductSound
+mod RowLemmas
+pub mod RowsSound
+mod SumLemmas

@@ -1,0 +1,32 @@
+use Rattle.std.proofs.Common.{List, drop, map, ap, ◌+◌, length}
+use Rattle.std.proofs.lemmas.List.Elements.{All-drop}
+use Rattle.fzn_meaning.specs.declared.term.Term.{Term}
+use Rattle.fzn_meaning.specs.declared.term.Place.{Place}
+use Rattle.fzn_meaning.specs.Term.{IsPlace}
+use Rattle.fzn_builtin_rules.specs.Choices.{choices}
+use Rattle.fzn_builtin_rules.proofs.ChoiceLemmas.{some_choice}
+use Rattle.fzn_builtin_rules.proofs.CountLemmas.{if_none, drop_next, one_more, too_many, place_terms}
+use Rattle.fzn_builtin_rules.proofs.choices.times_places.Goals as goal
+
+abbrev terms : List Place → List Term
+terms places = map (λ (place : Place). place.term) places
+
+pub returns-in_err-product-clause-none : goal.returns-in_err-product-clause-none
+returns-in_err-product-clause-none c =
+    let sets = c.args.state.now.sets in
+    let places = c.args.places.now in
+    let i = c.loop-place.place-index in
+    if_none c.from_residual.result _
+    (too_many sets _ (terms (drop i places)) (terms (drop (i + 1) places)) c.loop-place.product (choices sets (terms places)) (ap terms (drop_next places i _ c.loop-place-test.true)) c.loop-place.invariant.product
+    (some_choice sets (terms (drop (i + 1) places)) c.requires.nonempty (place_terms (length sets) (drop (i + 1) places) (All-drop (IsPlace (length sets)) (i + 1) places c.requires.places))) c.in_err-product.ensures.none)
+
+pub loop-place-preserved : goal.loop-place-preserved
+loop-place-preserved c =
+    let sets = c.args.state.now.sets in
+    let places = c.args.places.now in
+    let i = c.loop-place.place-index in
+    record {
+      product = one_more sets _ (terms (drop i places)) (terms (drop (i + 1) places)) c.loop-place.product c.in_ok-product.product (choices sets (terms places)) (ap terms (drop_next places i _ c.loop-place-test.true)) c.loop-place.invariant.product c.in_ok-product.ensures.value;
+      some = c.in_ok-product.ensures.some;
+      few = c.in_ok-product.ensures.few;
+    }

@@ -1,0 +1,6 @@
+pub mod Choices
+pub mod Form
+pub mod Linear
+pub mod Numbered
+pub mod Product
+pub mod Rows

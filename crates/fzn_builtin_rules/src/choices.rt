@@ -1,0 +1,150 @@
+// The rules `fixed` and `enum`: no choice of values for the inputs leaves a value for the result.
+ghost use Rattle.std.specs.Prelude.{◌≡◌, ◌↔◌, ◌*◌, ◌++◌, ◌<◌, ◌≤◌, IsTrue, false, length, map, IfNone, IfSome, IsSomeAnd};
+ghost use Rattle.std.specs.List.{All};
+ghost use Rattle.fzn_domain.specs.Narrow.{is_some_empty};
+ghost use Rattle.fzn_meaning.specs.Term.{IsTerm, IsPlace};
+ghost use Rattle.fzn_meaning.specs.Meaning.{IsWellFormed};
+ghost use Rattle.fzn_builtin_rules.specs.Choices.{inputs_of, count_of, choices, NoChoiceFits, IsFixedMet, IsEnumMet};
+
+use crate::numbered::count_of;
+use crate::outcome::fails_at;
+use fzn_meaning::{Constraint, Place, Term};
+use fzn_state::State;
+
+/// The most choices that `enum` goes over.
+const MOST_CHOICES: usize = 4096;
+
+/// Whether the one choice for the inputs leaves no value for the result.
+pub fn is_fixed_met(constraint: &Constraint, state: &State) -> bool
+    requires constraint { IsWellFormed (length state.now.sets) constraint.now }
+    requires nonempty { is_some_empty state.now.sets ≡ false }
+    ensures { IsTrue result ↔ IsFixedMet constraint.now state.now.sets }
+{
+    match count_choices(constraint, state) {
+        Some(1) => no_choice_fits(constraint, state, 1),
+        _ => false,
+    }
+}
+
+/// Whether there are at most 4,096 choices for the inputs, and none leaves a value for the result. It goes over the inputs once for
+/// each choice.
+pub fn is_enum_met(constraint: &Constraint, state: &State) -> bool
+    requires constraint { IsWellFormed (length state.now.sets) constraint.now }
+    requires nonempty { is_some_empty state.now.sets ≡ false }
+    ensures { IsTrue result ↔ IsEnumMet constraint.now state.now.sets }
+{
+    match count_choices(constraint, state) {
+        Some(count) => no_choice_fits(constraint, state, count),
+        None => false,
+    }
+}
+
+fn no_choice_fits(constraint: &Constraint, state: &State, count: usize) -> bool
+    requires constraint { IsWellFormed (length state.now.sets) constraint.now }
+    requires nonempty { is_some_empty state.now.sets ≡ false }
+    requires count { IsSomeAnd (inputs_of constraint.now) (λ inputs. count ≡ choices state.now.sets inputs) }
+    ensures { IsTrue result ↔ IsSomeAnd (inputs_of constraint.now) (NoChoiceFits constraint.now state.now.sets) }
+{
+    for number in 0..count {
+        if !fails_at(constraint, state, number) {
+            return false;
+        }
+    }
+    true
+}
+
+/// How many choices there are for the inputs, and nothing where they are too many or the constraint has no inputs.
+#[tactic(auto, unfolding(crate::specs::Choices::inputs_of, fzn_meaning::specs::Meaning::IsWellFormed))]
+fn count_choices(constraint: &Constraint, state: &State) -> Option<usize>
+    requires constraint { IsWellFormed (length state.now.sets) constraint.now }
+    requires nonempty { is_some_empty state.now.sets ≡ false }
+    ensures some { IfSome result (λ count. IsSomeAnd (inputs_of constraint.now) (λ inputs. (count ≡ choices state.now.sets inputs) × (count ≤ 4096))) }
+    ensures none { IfNone result (IfSome (inputs_of constraint.now) (λ inputs. 4096 < choices state.now.sets inputs)) }
+{
+    match constraint {
+        Constraint::Compare { left, right, .. }
+        | Constraint::BoolNot { left, right }
+        | Constraint::Arithmetic { left, right, .. }
+        | Constraint::BoolXor { left, right, .. } => times_each(state, 1, &[*left, *right]),
+        Constraint::BoolToInt { boolean: term, .. }
+        | Constraint::IntAbs { of: term, .. }
+        | Constraint::SetIn { term, .. } => times_each(state, 1, &[*term]),
+        Constraint::Linear { sum, .. } | Constraint::BoolLinEq { sum, .. } => {
+            times_places(state, sum.as_slice())
+        }
+        Constraint::Extremum { entries: terms, .. }
+        | Constraint::Gated { inputs: terms, .. }
+        | Constraint::ArrayBoolXor { inputs: terms } => times_each(state, 1, terms.as_slice()),
+        Constraint::Element { index, entries, .. } => {
+            times_both(state, &[*index], entries.as_slice())
+        }
+        Constraint::BoolClause { positive, negative } => {
+            times_both(state, positive.as_slice(), negative.as_slice())
+        }
+        _ => None,
+    }
+}
+
+/// The number times that of the term's values, and nothing where that is too many.
+fn times(state: &State, count: usize, term: Term) -> Option<usize>
+    requires some { 0 < count }
+    requires few { count ≤ 4096 }
+    requires term { IsTerm (length state.now.sets) term }
+    requires nonempty { is_some_empty state.now.sets ≡ false }
+    ensures value { IfSome result (λ product. product ≡ count * count_of state.now.sets term) }
+    ensures few { IfSome result (λ product. product ≤ 4096) }
+    ensures some { IfSome result (λ product. 0 < product) }
+    ensures none { IfNone result (4096 < count * count_of state.now.sets term) }
+{
+    let factor = count_of(state, term);
+    if factor > MOST_CHOICES || count * factor > MOST_CHOICES {
+        return None;
+    }
+    Some(count * factor)
+}
+
+/// The number times those of all terms.
+fn times_each(state: &State, count: usize, terms: &[Term]) -> Option<usize>
+    requires some { 0 < count }
+    requires few { count ≤ 4096 }
+    requires terms { All (IsTerm (length state.now.sets)) terms.now }
+    requires nonempty { is_some_empty state.now.sets ≡ false }
+    ensures value { IfSome result (λ product. product ≡ count * choices state.now.sets terms.now) }
+    ensures few { IfSome result (λ product. product ≤ 4096) }
+    ensures some { IfSome result (λ product. 0 < product) }
+    ensures none { IfNone result (4096 < count * choices state.now.sets terms.now) }
+{
+    let mut product = count;
+    for term in terms {
+        product = times(state, product, *term)?;
+    }
+    Some(product)
+}
+
+/// How many choices there are for the terms of two lists.
+fn times_both(state: &State, front: &[Term], back: &[Term]) -> Option<usize>
+    requires front { All (IsTerm (length state.now.sets)) front.now }
+    requires back { All (IsTerm (length state.now.sets)) back.now }
+    requires nonempty { is_some_empty state.now.sets ≡ false }
+    ensures value { IfSome result (λ product. product ≡ choices state.now.sets (front.now ++ back.now)) }
+    ensures few { IfSome result (λ product. product ≤ 4096) }
+    ensures none { IfNone result (4096 < choices state.now.sets (front.now ++ back.now)) }
+{
+    let count = times_each(state, 1, front)?;
+    times_each(state, count, back)
+}
+
+/// How many choices there are for the terms of the places.
+fn times_places(state: &State, places: &[Place]) -> Option<usize>
+    requires places { All (IsPlace (length state.now.sets)) places.now }
+    requires nonempty { is_some_empty state.now.sets ≡ false }
+    ensures value { IfSome result (λ product. product ≡ choices state.now.sets (map (λ place. place.term) places.now)) }
+    ensures few { IfSome result (λ product. product ≤ 4096) }
+    ensures none { IfNone result (4096 < choices state.now.sets (map (λ place. place.term) places.now)) }
+{
+    let mut product = 1;
+    for place in places {
+        product = times(state, product, place.term)?;
+    }
+    Some(product)
+}

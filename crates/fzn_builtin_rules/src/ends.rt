@@ -1,0 +1,140 @@
+// The ends of sums on the present sets.
+ghost use Rattle.std.specs.Prelude.{◌≡◌, ◌+◌, ◌*◌, ◌≤◌, ◌+ℤ◌, pos, false, length, unsigned_abs};
+ghost use Rattle.std.specs.List.{All};
+ghost use Rattle.fzn_domain.specs.Limits.{IsInLimits};
+ghost use Rattle.fzn_domain.specs.Narrow.{is_some_empty};
+ghost use Rattle.fzn_meaning.specs.Term.{IsTerm, IsPlace};
+ghost use Rattle.fzn_builtin_rules.specs.Linear.{low_end, high_end, low_product, high_product, least_sum, greatest_sum};
+ghost use Rattle.fzn_builtin_rules.specs.Form.{each_with};
+
+use fzn_meaning::{Place, Term};
+use fzn_state::{State, greatest_value, least_value};
+
+/// The least and the greatest value of a sum.
+#[derive(Clone, Copy, Debug)]
+pub(crate) struct Ends {
+    pub least: i128,
+    pub greatest: i128,
+}
+
+/// The value at which the place gives least.
+fn low_end(state: &State, place: Place) -> i64
+    requires term { IsTerm (length state.now.sets) place.term }
+    requires nonempty { is_some_empty state.now.sets ≡ false }
+    ensures value { result ≡ low_end state.now.sets place }
+    ensures in_limits { IsInLimits result }
+{
+    if place.coefficient < 0 {
+        greatest_value(state, place.term)
+    } else {
+        least_value(state, place.term)
+    }
+}
+
+/// The value at which the place gives most.
+fn high_end(state: &State, place: Place) -> i64
+    requires term { IsTerm (length state.now.sets) place.term }
+    requires nonempty { is_some_empty state.now.sets ≡ false }
+    ensures value { result ≡ high_end state.now.sets place }
+    ensures in_limits { IsInLimits result }
+{
+    if place.coefficient < 0 {
+        least_value(state, place.term)
+    } else {
+        greatest_value(state, place.term)
+    }
+}
+
+/// The least that the place gives.
+#[tactic(auto, unfolding(crate::specs::Linear::low_product))]
+fn low_product(state: &State, place: Place) -> i128
+    requires place { IsPlace (length state.now.sets) place }
+    requires nonempty { is_some_empty state.now.sets ≡ false }
+    ensures value { result ≡ low_product state.now.sets place }
+    ensures bounded { unsigned_abs result ≤ 1000000000000000000 }
+{
+    place.coefficient as i128 * low_end(state, place) as i128
+}
+
+/// The most that the place gives.
+#[tactic(auto, unfolding(crate::specs::Linear::high_product))]
+fn high_product(state: &State, place: Place) -> i128
+    requires place { IsPlace (length state.now.sets) place }
+    requires nonempty { is_some_empty state.now.sets ≡ false }
+    ensures value { result ≡ high_product state.now.sets place }
+    ensures bounded { unsigned_abs result ≤ 1000000000000000000 }
+{
+    place.coefficient as i128 * high_end(state, place) as i128
+}
+
+impl Ends {
+    /// The ends of the sum with one more place.
+    pub(crate) fn plus(self, state: &State, place: Place) -> Ends
+        requires least { unsigned_abs self.least ≤ 1000000 * 1000000000000000000 }
+        requires greatest { unsigned_abs self.greatest ≤ 1000000 * 1000000000000000000 }
+        requires place { IsPlace (length state.now.sets) place }
+        requires nonempty { is_some_empty state.now.sets ≡ false }
+        ensures least { result.least ≡ self.least +ℤ low_product state.now.sets place }
+        ensures greatest { result.greatest ≡ self.greatest +ℤ high_product state.now.sets place }
+        ensures bounded { unsigned_abs result.least ≤ unsigned_abs self.least + 1000000000000000000 }
+        ensures bounded_above { unsigned_abs result.greatest ≤ unsigned_abs self.greatest + 1000000000000000000 }
+    {
+        Ends {
+            least: self.least + low_product(state, place),
+            greatest: self.greatest + high_product(state, place),
+        }
+    }
+
+    /// The ends of the sum with the coefficient times each term.
+    pub(crate) fn plus_each(self, state: &State, coefficient: i64, terms: &[Term]) -> Ends
+        requires least { unsigned_abs self.least ≤ 100000 * 1000000000000000000 }
+        requires greatest { unsigned_abs self.greatest ≤ 100000 * 1000000000000000000 }
+        requires coefficient { unsigned_abs coefficient ≤ 1000000000 }
+        requires terms { All (IsTerm (length state.now.sets)) terms.now }
+        requires short { length terms.now ≤ 100000 }
+        requires nonempty { is_some_empty state.now.sets ≡ false }
+        ensures least { result.least ≡ self.least +ℤ least_sum state.now.sets (each_with coefficient terms.now) }
+        ensures greatest { result.greatest ≡ self.greatest +ℤ greatest_sum state.now.sets (each_with coefficient terms.now) }
+        ensures bounded { unsigned_abs result.least ≤ unsigned_abs self.least + 100000 * 1000000000000000000 }
+        ensures bounded_above { unsigned_abs result.greatest ≤ unsigned_abs self.greatest + 100000 * 1000000000000000000 }
+    {
+        let mut ends = self;
+        for term in terms {
+            ends = ends.plus(
+                state,
+                Place {
+                    coefficient,
+                    term: *term,
+                },
+            );
+        }
+        ends
+    }
+}
+
+/// The ends of the empty sum.
+pub(crate) fn no_ends() -> Ends
+    ensures least { result.least ≡ pos 0 }
+    ensures greatest { result.greatest ≡ pos 0 }
+{
+    Ends {
+        least: 0,
+        greatest: 0,
+    }
+}
+
+pub(crate) fn ends_of(state: &State, places: &[Place]) -> Ends
+    requires places { All (IsPlace (length state.now.sets)) places.now }
+    requires short { length places.now ≤ 100000 }
+    requires nonempty { is_some_empty state.now.sets ≡ false }
+    ensures least { result.least ≡ least_sum state.now.sets places.now }
+    ensures greatest { result.greatest ≡ greatest_sum state.now.sets places.now }
+    ensures bounded { unsigned_abs result.least ≤ 100000 * 1000000000000000000 }
+    ensures bounded_above { unsigned_abs result.greatest ≤ 100000 * 1000000000000000000 }
+{
+    let mut ends = no_ends();
+    for place in places {
+        ends = ends.plus(state, *place);
+    }
+    ends
+}

@@ -1,0 +1,315 @@
+// Whether one choice of values for the inputs leaves a value for the result.
+ghost use Rattle.std.specs.Prelude.{◌≡◌, ◌≢◌, ◌↔◌, ◌+◌, ◌≤ℤ◌, ◌*◌, ◌<◌, ◌≤◌, ℤ, pos, IsTrue, false, length, Some, MatchOption, take, drop, ◌++◌};
+ghost use Rattle.std.specs.List.{All, Any};
+ghost use Rattle.fzn_domain.specs.IntSet.{contains};
+ghost use Rattle.fzn_domain.specs.Limits.{IsInLimits};
+ghost use Rattle.fzn_domain.specs.Narrow.{is_some_empty};
+ghost use Rattle.fzn_meaning.specs.Term.{IsTerm};
+ghost use Rattle.fzn_meaning.specs.Comparisons.{IsRelated, IsSwitched};
+ghost use Rattle.fzn_meaning.specs.Linear.{IsLinear};
+ghost use Rattle.fzn_meaning.specs.Arithmetic.{IsArithmetic};
+ghost use Rattle.fzn_meaning.specs.Extrema.{IsExtremum};
+ghost use Rattle.fzn_meaning.specs.Elements.{IsElement};
+ghost use Rattle.fzn_meaning.specs.Booleans.{Passes, IsBoolClause};
+ghost use Rattle.fzn_meaning.specs.Meaning.{IsWellFormed, IsSwitch};
+ghost use Rattle.fzn_state.specs.Terms.{MayBe};
+ghost use Rattle.fzn_builtin_rules.specs.Choices.{NoneOf};
+ghost use Rattle.fzn_builtin_rules.specs.Numbered.{value_in, rest_in, choice_at, IsOneOfTwo, FailsAt};
+
+use crate::chosen::{count_value, entry_in, extreme_in, rest_after, weighted_sum};
+use crate::numbered::{rest_in, value_in};
+use fzn_meaning::{Comparison, Constraint, Extreme, Gate, Operation, Relation, Term};
+use fzn_state::{State, greatest_value, is_fixed_to, is_index, least_value, may_be};
+
+/// Whether the choice with this number fits no value of the result.
+#[tactic(auto, unfolding(crate::specs::Choices::inputs_of, crate::specs::Choices::result_of, crate::specs::Choices::Relates, fzn_meaning::specs::Meaning::IsWellFormed))]
+pub(crate) fn fails_at(constraint: &Constraint, state: &State, number: usize) -> bool
+    requires constraint { IsWellFormed (length state.now.sets) constraint.now }
+    requires nonempty { is_some_empty state.now.sets ≡ false }
+    ensures { IsTrue result ↔ FailsAt constraint.now state.now.sets number }
+{
+    match constraint {
+        Constraint::Compare {
+            relation,
+            left,
+            right,
+            switch,
+        } => { compare_fails(state, *relation, *left, *right, *switch, number) }
+        Constraint::BoolNot { left, right } => !differ(state, *left, *right, number),
+        Constraint::BoolToInt { boolean, integer } => {
+            !may_be(state, *integer, &value_in(state, *boolean, number))
+        }
+        Constraint::Arithmetic {
+            operation,
+            left,
+            right,
+            result,
+        } => { arithmetic_fails(state, *operation, *left, *right, *result, number) }
+        Constraint::IntAbs { of, result } => {
+            !may_be(state, *result, &value_in(state, *of, number).abs())
+        }
+        Constraint::SetIn { term, set, switch } => {
+            switch_fails(state, *switch, set.contains(value_in(state, *term, number)))
+        }
+        Constraint::Linear {
+            sum,
+            comparison,
+            bound,
+            switch,
+        } => {
+            let value = weighted_sum(state, sum.as_slice(), number);
+            switch_fails(state, *switch, compares(*comparison, &value, bound))
+        }
+        Constraint::BoolLinEq { sum, total } => {
+            !may_be_wide(state, *total, &weighted_sum(state, sum.as_slice(), number))
+        }
+        Constraint::Extremum {
+            extreme,
+            entries,
+            result,
+        } => { extremum_fails(state, *extreme, entries.as_slice(), *result, number) }
+        Constraint::Element {
+            index,
+            entries,
+            value,
+        } => { element_fails(state, *index, entries.as_slice(), *value, number) }
+        Constraint::Gated {
+            gate,
+            inputs,
+            result,
+        } => { gate_fails(state, *gate, inputs.as_slice(), *result, number) }
+        Constraint::BoolXor {
+            left,
+            right,
+            result,
+        } => { result_fails(state, *result, is_one_of_two(state, *left, *right, number)) }
+        Constraint::ArrayBoolXor { inputs } => {
+            count_value(state, inputs.as_slice(), number, &1) % 2 != 1
+        }
+        Constraint::BoolClause { positive, negative } => {
+            clause_fails(state, positive.as_slice(), negative.as_slice(), number)
+        }
+        _ => true,
+    }
+}
+
+/// Whether no value of the switch goes with the constraint without it, which holds or does not. Without a switch it has to hold.
+fn switch_fails(state: &State, switch: Option<Term>, holds: bool) -> bool
+    requires switch { IsSwitch (length state.now.sets) switch }
+    requires nonempty { is_some_empty state.now.sets ≡ false }
+    ensures { IsTrue result ↔ NoneOf state.now.sets switch (λ value. IsSwitched value (IsTrue holds)) }
+{
+    match switch {
+        None => !holds,
+        Some(term) => result_fails(state, term, holds),
+    }
+}
+
+/// Whether no value of the term is 1 exactly where it has to be.
+fn result_fails(state: &State, term: Term, holds: bool) -> bool
+    requires term { IsTerm (length state.now.sets) term }
+    requires nonempty { is_some_empty state.now.sets ≡ false }
+    ensures { IsTrue result ↔ NoneOf state.now.sets (Some term) (λ value. IsSwitched value (IsTrue holds)) }
+{
+    if holds {
+        !may_be(state, term, &1)
+    } else {
+        is_fixed_to(state, term, 1)
+    }
+}
+
+fn compare_fails(
+    state: &State,
+    relation: Relation,
+    left: Term,
+    right: Term,
+    switch: Option<Term>,
+    number: usize,
+) -> bool
+    requires left { IsTerm (length state.now.sets) left }
+    requires right { IsTerm (length state.now.sets) right }
+    requires switch { IsSwitch (length state.now.sets) switch }
+    requires nonempty { is_some_empty state.now.sets ≡ false }
+    ensures { IsTrue result ↔ NoneOf state.now.sets switch (λ value. IsSwitched value (IsRelated relation (value_in state.now.sets left number) (value_in state.now.sets right (rest_in state.now.sets left number)))) }
+{
+    let first = value_in(state, left, number);
+    let second = value_in(state, right, rest_in(state, left, number));
+    switch_fails(state, switch, is_related(relation, &first, &second))
+}
+
+fn is_related(relation: Relation, left: &i64, right: &i64) -> bool
+    ensures { IsTrue result ↔ IsRelated relation left.now right.now }
+{
+    match relation {
+        Relation::Equal => *left == *right,
+        Relation::NotEqual => *left != *right,
+        Relation::AtMost => *left <= *right,
+        Relation::Below => *left < *right,
+    }
+}
+
+/// Whether the values of the two terms differ.
+fn differ(state: &State, left: Term, right: Term, number: usize) -> bool
+    requires left { IsTerm (length state.now.sets) left }
+    requires right { IsTerm (length state.now.sets) right }
+    requires nonempty { is_some_empty state.now.sets ≡ false }
+    ensures { IsTrue result ↔ (value_in state.now.sets left number ≢ value_in state.now.sets right (rest_in state.now.sets left number)) }
+{
+    let first = value_in(state, left, number);
+    let second = value_in(state, right, rest_in(state, left, number));
+    first != second
+}
+
+fn arithmetic_fails(
+    state: &State,
+    operation: Operation,
+    left: Term,
+    right: Term,
+    of: Term,
+    number: usize,
+) -> bool
+    requires left { IsTerm (length state.now.sets) left }
+    requires right { IsTerm (length state.now.sets) right }
+    requires of { IsTerm (length state.now.sets) of }
+    requires nonempty { is_some_empty state.now.sets ≡ false }
+    ensures { IsTrue result ↔ ((value : ℤ) → MayBe state.now.sets of value → IsArithmetic operation (value_in state.now.sets left number) (value_in state.now.sets right (rest_in state.now.sets left number)) value → ⊥) }
+{
+    let first = value_in(state, left, number);
+    let second = value_in(state, right, rest_in(state, left, number));
+    match outcome(operation, &first, &second) {
+        Some(value) => !may_be(state, of, &value),
+        None => true,
+    }
+}
+
+/// The result of the operation, and nothing where it has none.
+fn outcome(operation: Operation, left: &i64, right: &i64) -> Option<i64>
+    requires left { IsInLimits left.now }
+    requires right { IsInLimits right.now }
+    ensures { MatchOption result ((value : ℤ) → IsArithmetic operation left.now right.now value → ⊥) (λ found. (value : ℤ) → IsArithmetic operation left.now right.now value ↔ (found ≡ value)) }
+{
+    match operation {
+        Operation::Plus => Some(*left + *right),
+        Operation::Times => Some(*left * *right),
+        Operation::Quotient if *right != 0 => Some(*left / *right),
+        Operation::Remainder if *right != 0 => Some(*left % *right),
+        _ => None,
+    }
+}
+
+fn compares(comparison: Comparison, sum: &i128, bound: &i64) -> bool
+    ensures { IsTrue result ↔ IsLinear comparison sum.now bound.now }
+{
+    let bound = *bound as i128;
+    match comparison {
+        Comparison::AtMost => *sum <= bound,
+        Comparison::Equal => *sum == bound,
+        Comparison::NotEqual => *sum != bound,
+    }
+}
+
+/// Whether the number, however large, is in the set of the term.
+fn may_be_wide(state: &State, term: Term, value: &i128) -> bool
+    requires term { IsTerm (length state.now.sets) term }
+    requires nonempty { is_some_empty state.now.sets ≡ false }
+    ensures { IsTrue result ↔ MayBe state.now.sets term value.now }
+{
+    if *value < least_value(state, term) as i128 {
+        return false;
+    }
+    if *value > greatest_value(state, term) as i128 {
+        return false;
+    }
+    may_be(state, term, &narrow(value))
+}
+
+fn narrow(value: &i128) -> i64
+    requires { IsInLimits value.now }
+    ensures { result ≡ value.now }
+{
+    *value as i64
+}
+
+fn element_fails(state: &State, index: Term, entries: &[Term], of: Term, number: usize) -> bool
+    requires index { IsTerm (length state.now.sets) index }
+    requires entries { All (IsTerm (length state.now.sets)) entries.now }
+    requires of { IsTerm (length state.now.sets) of }
+    requires nonempty { is_some_empty state.now.sets ≡ false }
+    ensures { IsTrue result ↔ ((value : ℤ) → MayBe state.now.sets of value → IsElement (value_in state.now.sets index number) (choice_at state.now.sets entries.now (rest_in state.now.sets index number)) value → ⊥) }
+{
+    let place = value_in(state, index, number);
+    if !is_index(entries.len(), &place) {
+        return true;
+    }
+    let rest = rest_in(state, index, number);
+    !may_be(state, of, &entry_in(state, entries, rest, place_of(&place)))
+}
+
+/// The place, counted from 0, of an index from 1.
+fn place_of(index: &i64) -> usize
+    requires { pos 1 ≤ℤ index.now }
+    ensures { pos (result + 1) ≡ index.now }
+{
+    *index as usize - 1
+}
+
+fn extremum_fails(
+    state: &State,
+    extreme: Extreme,
+    entries: &[Term],
+    of: Term,
+    number: usize,
+) -> bool
+    requires entries { All (IsTerm (length state.now.sets)) entries.now }
+    requires some { 0 < length entries.now }
+    requires of { IsTerm (length state.now.sets) of }
+    requires nonempty { is_some_empty state.now.sets ≡ false }
+    ensures { IsTrue result ↔ ((value : ℤ) → MayBe state.now.sets of value → IsExtremum extreme (choice_at state.now.sets entries.now number) value → ⊥) }
+{
+    !may_be(state, of, &extreme_in(state, extreme, entries, number))
+}
+
+fn gate_fails(state: &State, gate: Gate, inputs: &[Term], of: Term, number: usize) -> bool
+    requires inputs { All (IsTerm (length state.now.sets)) inputs.now }
+    requires of { IsTerm (length state.now.sets) of }
+    requires nonempty { is_some_empty state.now.sets ≡ false }
+    ensures { IsTrue result ↔ NoneOf state.now.sets (Some of) (λ value. IsSwitched value (Passes gate (choice_at state.now.sets inputs.now number))) }
+{
+    result_fails(state, of, passes(state, gate, inputs, number))
+}
+
+/// Whether the values of the inputs make the gate give 1.
+fn passes(state: &State, gate: Gate, inputs: &[Term], number: usize) -> bool
+    requires inputs { All (IsTerm (length state.now.sets)) inputs.now }
+    requires nonempty { is_some_empty state.now.sets ≡ false }
+    ensures { IsTrue result ↔ Passes gate (choice_at state.now.sets inputs.now number) }
+{
+    let ones = count_value(state, inputs, number, &1);
+    match gate {
+        Gate::And => ones == inputs.len(),
+        Gate::Or => ones > 0,
+    }
+}
+
+/// Whether one of the two values is 1 and the other is not.
+fn is_one_of_two(state: &State, left: Term, right: Term, number: usize) -> bool
+    requires left { IsTerm (length state.now.sets) left }
+    requires right { IsTerm (length state.now.sets) right }
+    requires nonempty { is_some_empty state.now.sets ≡ false }
+    ensures { IsTrue result ↔ IsOneOfTwo (value_in state.now.sets left number) (value_in state.now.sets right (rest_in state.now.sets left number)) }
+{
+    let first = value_in(state, left, number);
+    let second = value_in(state, right, rest_in(state, left, number));
+    (first == 1) != (second == 1)
+}
+
+/// Whether no positive value is 1 and no negative one is 0.
+fn clause_fails(state: &State, positive: &[Term], negative: &[Term], number: usize) -> bool
+    requires positive { All (IsTerm (length state.now.sets)) positive.now }
+    requires negative { All (IsTerm (length state.now.sets)) negative.now }
+    requires nonempty { is_some_empty state.now.sets ≡ false }
+    ensures { IsTrue result ↔ (IsBoolClause (take (length positive.now) (choice_at state.now.sets (positive.now ++ negative.now) number)) (drop (length positive.now) (choice_at state.now.sets (positive.now ++ negative.now) number)) → ⊥) }
+{
+    let rest = rest_after(state, positive, number);
+    count_value(state, positive, number, &1) == 0 && count_value(state, negative, rest, &0) == 0
+}

@@ -1,0 +1,93 @@
+// The rule `load`: the tasks that surely run at a time use more than the capacity.
+ghost use Rattle.std.specs.Prelude.{◌≡◌, ◌↔◌, ◌≤◌, ◌≤ℤ◌, ◌+ℤ◌, IsTrue, false, pos, length};
+ghost use Rattle.std.specs.List.{All};
+ghost use Rattle.fzn_domain.specs.Narrow.{is_some_empty};
+ghost use Rattle.fzn_meaning.specs.Term.{IsTerm};
+ghost use Rattle.fzn_meaning.specs.Meaning.{IsWellFormed};
+ghost use Rattle.fzn_state.specs.Terms.{least_value};
+ghost use Rattle.fzn_global_rules.specs.Tasks.{task_terms, sum_over, IsTask};
+ghost use Rattle.fzn_global_rules.specs.Load.{surely_runs, least_use_at, IsLoadMet};
+
+use crate::task::{TaskTerms, least_use};
+use fzn_meaning::{Constraint, Term};
+use fzn_state::{State, greatest_value, least_value};
+
+/// Whether the tasks that run at the time, wherever they start, use more than the capacity. It looks at each task once.
+#[tactic(auto, unfolding(crate::specs::Load::IsLoadMet, fzn_meaning::specs::Meaning::IsWellFormed))]
+pub fn is_load_met(constraint: &Constraint, state: &State, time: &i64) -> bool
+    requires constraint { IsWellFormed (length state.now.sets) constraint.now }
+    requires nonempty { is_some_empty state.now.sets ≡ false }
+    ensures { IsTrue result ↔ IsLoadMet constraint.now state.now.sets time.now }
+{
+    match constraint {
+        Constraint::Cumulative {
+            starts,
+            durations,
+            uses,
+            capacity,
+        } => {
+            let load = least_load(
+                state,
+                time,
+                starts.as_slice(),
+                durations.as_slice(),
+                uses.as_slice(),
+            );
+            (greatest_value(state, *capacity) as i128) < load
+        }
+        _ => false,
+    }
+}
+
+fn least_load(state: &State, time: &i64, starts: &[Term], durations: &[Term], uses: &[Term]) -> i128
+    requires starts { All (IsTerm (length state.now.sets)) starts.now }
+    requires durations { All (IsTerm (length state.now.sets)) durations.now }
+    requires uses { All (IsTerm (length state.now.sets)) uses.now }
+    requires short { length starts.now ≤ 100000 }
+    requires as_many_durations { length durations.now ≡ length starts.now }
+    requires as_many_uses { length uses.now ≡ length starts.now }
+    requires nonempty { is_some_empty state.now.sets ≡ false }
+    ensures { result ≡ sum_over (least_use_at state.now.sets time.now) (task_terms starts.now durations.now uses.now) }
+{
+    let mut load: i128 = 0;
+    for k in 0..starts.len() {
+        let task = TaskTerms {
+            start: starts[k],
+            duration: durations[k],
+            uses: uses[k],
+        };
+        load += least_use_at(state, time, task) as i128;
+    }
+    load
+}
+
+fn least_use_at(state: &State, time: &i64, task: TaskTerms) -> i64
+    requires task { IsTask (length state.now.sets) task }
+    requires nonempty { is_some_empty state.now.sets ≡ false }
+    ensures value { result ≡ least_use_at state.now.sets time.now task }
+    ensures not_negative { pos 0 ≤ℤ result }
+    ensures bounded { result ≤ℤ pos 1000000000 }
+{
+    if surely_runs(state, time, task) {
+        least_use(state, task)
+    } else {
+        0
+    }
+}
+
+fn surely_runs(state: &State, time: &i64, task: TaskTerms) -> bool
+    requires task { IsTask (length state.now.sets) task }
+    requires nonempty { is_some_empty state.now.sets ≡ false }
+    ensures { result ≡ surely_runs state.now.sets time.now task }
+{
+    greatest_value(state, task.start) <= *time && *time < least_end(state, task)
+}
+
+/// The least end of the task.
+fn least_end(state: &State, task: TaskTerms) -> i64
+    requires task { IsTask (length state.now.sets) task }
+    requires nonempty { is_some_empty state.now.sets ≡ false }
+    ensures { result ≡ least_value state.now.sets task.start +ℤ least_value state.now.sets task.duration }
+{
+    least_value(state, task.start) + least_value(state, task.duration)
+}

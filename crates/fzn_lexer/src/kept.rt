@@ -1,0 +1,60 @@
+//! Tokens as they are kept: the text of each stands in the file.
+
+ghost use Rattle.std.specs.Prelude.{◌≡◌, slice_range};
+ghost use Rattle.fzn_lexer.specs.Kept.{inside};
+
+use crate::token::Symbol;
+
+/// What a token is, beside its text.
+#[derive(Clone, Copy, Debug, PartialEq, Eq)]
+pub enum Form {
+    Symbol(Symbol),
+    Name,
+    Int(i32),
+    Text,
+}
+
+impl Form {
+    ghost use Rattle.std.specs.Prelude.{ℕ, List};
+    ghost use Rattle.fzn_lexer.specs.Kept.{kind_in};
+    ghost use Rattle.fzn_lexer.specs.Kinds.{is_symbol};
+
+    pub fn is(self, symbol: Symbol) -> bool
+        ensures { (text : List ℕ) → result ≡ is_symbol symbol (kind_in self text) }
+    {
+        match self {
+            Form::Symbol(held) => held == symbol,
+            _ => false,
+        }
+    }
+}
+
+/// A token, the bytes of a file from `start` up to `end`.
+#[derive(Clone, Copy, Debug, PartialEq, Eq)]
+pub struct Kept {
+    pub form: Form,
+    pub start: u32,
+    pub end: u32,
+}
+
+impl Kept {
+    /// The token's bytes, in the file that has these.
+    pub fn text<'a>(&self, bytes: &'a [u8]) -> &'a [u8]
+        ensures { result.now ≡ slice_range bytes.now self.now.start self.now.end }
+    {
+        let end = bytes.len().min(self.end as usize);
+        let start = end.min(self.start as usize);
+        &bytes[start..end]
+    }
+}
+
+/// What stands between the quotes.
+pub fn inside(text: &[u8]) -> &[u8]
+    ensures { result.now ≡ inside text.now }
+{
+    if text.len() < 2 {
+        &text[..0]
+    } else {
+        &text[1..text.len() - 1]
+    }
+}

@@ -1,0 +1,112 @@
+//! The tokens of a file as a list.
+
+ghost use Rattle.std.specs.Prelude.{◌≡◌, length, IfOk, slice_get};
+ghost use Rattle.fzn_lexer.specs.Kept.{kind_in, token_of, tokens_of};
+
+use crate::kept::{Form, Kept, inside};
+use crate::places::Places;
+use crate::token::{Kind, Place, Span, Token};
+use fzn_list::{Items, Text};
+use std::alloc::{AllocError, Global};
+use std::marker::Model;
+
+/// The tokens of a file, which contracts see as their list. Each takes 16 bytes, since its text stands in the file.
+#[derive(Drop)]
+pub struct TokenList<'a> {
+    bytes: &'a [u8],
+    kept: Items<Kept>,
+}
+
+impl<'a> Model for TokenList<'a> {
+    ghost use Rattle.std.specs.Prelude.{List, ◌≤◌, length};
+    ghost use Rattle.fzn_lexer.specs.declared.token.Token.{Token};
+    ghost use Rattle.fzn_lexer.specs.Kept.{tokens_of};
+    ghost use Rattle.fzn_lexer.specs.Tokens.{max_file};
+
+    ghost Value = { List Token };
+
+    ghost view = { λ t. tokens_of t.bytes.now t.kept };
+
+    ghost invariant = { λ t. length t.bytes.now ≤ max_file };
+}
+
+/// What a token with this text is.
+fn kind_in(alloc: Global, form: Form, text: &[u8]) -> Result<Kind, AllocError>
+    ensures { IfOk result (λ kind. kind ≡ kind_in form text.now) }
+{
+    match form {
+        Form::Symbol(symbol) => Ok(Kind::Symbol(symbol)),
+        Form::Name => Ok(Kind::Name(Text::from_slice(alloc, text)?)),
+        Form::Int(value) => Ok(Kind::Int(i64::from(value))),
+        Form::Text => Ok(Kind::Text(Text::from_slice(alloc, inside(text))?)),
+    }
+}
+
+/// The token with its text and its place.
+fn token_of(alloc: Global, file: &mut Places<'_>, kept: &Kept) -> Result<Token, AllocError>
+    ensures { IfOk result (λ token. token ≡ token_of file.old kept.now) }
+{
+    let kind = kind_in(alloc, kept.form, kept.text(file.bytes()))?;
+    let start = kept.start as usize;
+    let span = Span {
+        start,
+        end: kept.end as usize,
+        place: file.of(start),
+    };
+    Ok(Token { kind, span })
+}
+
+/// A file, and its tokens as they are kept.
+#[derive(Drop)]
+pub struct Parts<'a> {
+    pub file: Places<'a>,
+    pub kept: &'a [Kept],
+}
+
+impl<'a> TokenList<'a> {
+    ghost use Rattle.std.specs.Prelude.{◌≤◌, ◌<◌, Some};
+    ghost use Rattle.fzn_lexer.specs.declared.token.Token.{Token};
+    ghost use Rattle.fzn_lexer.specs.Tokens.{max_file};
+
+    pub fn new(bytes: &'a [u8], kept: Items<Kept>) -> TokenList<'a>
+        requires { length bytes.now ≤ max_file }
+        ensures { result ≡ tokens_of bytes.now kept }
+    {
+        TokenList { bytes, kept }
+    }
+
+    /// How many tokens there are, the end among them.
+    pub fn len(&self) -> usize
+        ensures { result ≡ length self.now }
+    {
+        self.kept.len()
+    }
+
+    pub fn parts(&self) -> Parts<'_>
+        ensures { tokens_of result.file result.kept.now ≡ self.now }
+    {
+        Parts {
+            file: Places::new(self.bytes),
+            kept: self.kept.as_slice(),
+        }
+    }
+
+    /// The place of the token with this index.
+    pub fn place(&self, index: usize) -> Place
+        requires { index < length self.now }
+        ensures { (token : Token) → slice_get self.now index ≡ Some token → result ≡ token.span.place }
+    {
+        let kept = self.kept.as_slice();
+        Places::new(self.bytes).of(kept[index].start as usize)
+    }
+
+    /// The token with this index, with its text.
+    pub fn get(&self, alloc: Global, index: usize) -> Result<Option<Token>, AllocError>
+        ensures { IfOk result (λ token. token ≡ slice_get self.now index) }
+    {
+        match self.kept.as_slice().get(index) {
+            None => Ok(None),
+            Some(kept) => Ok(Some(token_of(alloc, &mut Places::new(self.bytes), kept)?)),
+        }
+    }
+}

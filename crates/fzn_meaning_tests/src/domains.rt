@@ -1,0 +1,81 @@
+// Examples worked out by hand.
+ghost use Rattle.std.specs.Prelude.{◌≡◌};
+
+use fzn_domain::{Domain, GREATEST_VALUE, LEAST_VALUE, Lit, Op, VarId};
+use std::test::Fail;
+
+fn lit(op: Op, value: i64) -> Lit
+    ensures { result.value ≡ value }
+{
+    Lit {
+        var: VarId(1),
+        op,
+        value,
+    }
+}
+
+#[test]
+fn a_range(rt: HostRuntime) -> Result<(), Fail> {
+    let domain = Domain::range(rt.alloc(), 3, 7)?;
+    assert_eq!(rt; domain.len(), 5);
+    assert!(rt; !domain.is_empty() && domain.contains(3) && !domain.contains(8));
+    assert_eq!(rt; domain.above(i64::MIN), Some(3));
+    assert_eq!(rt; domain.above(4), Some(5));
+    assert_eq!(rt; domain.above(7), None);
+    assert!(rt; Domain::range(rt.alloc(), 5, 3)?.is_empty());
+    Ok(())
+}
+
+#[test]
+fn a_listed_set(rt: HostRuntime) -> Result<(), Fail> {
+    let domain = Domain::listed(rt.alloc(), &[5, 1, 3, 3])?;
+    assert_eq!(rt; domain.len(), 3);
+    assert_eq!(rt; domain.above(0), Some(1));
+    assert_eq!(rt; domain.above(1), Some(3));
+    assert!(rt; domain.is_false(lit(Op::Equal, 2)));
+    assert!(rt; domain.is_false(lit(Op::AtLeast, 6)));
+    assert!(rt; domain.is_false(lit(Op::AtMost, 0)));
+    assert!(rt; !domain.is_false(lit(Op::NotEqual, 3)));
+    assert_eq!(rt; Domain::listed(rt.alloc(), &[])?.len(), 0);
+    Ok(())
+}
+
+#[test]
+fn holes_at_the_ends(rt: HostRuntime) -> Result<(), Fail> {
+    let mut domain = Domain::range(rt.alloc(), 1, 5)?;
+    assert!(rt; domain.restrict(lit(Op::NotEqual, 3))?);
+    assert!(rt; domain.restrict(lit(Op::NotEqual, 4))?);
+    let kept = domain.copy()?;
+    assert!(rt; domain.restrict(lit(Op::NotEqual, 5))?);
+    assert_eq!(rt; domain.len(), 2);
+    assert_eq!(rt; domain.above(2), None);
+    assert_eq!(rt; kept.above(2), Some(5));
+    assert!(rt; domain.restrict(lit(Op::AtLeast, 2))?);
+    assert!(rt; domain.is_false(lit(Op::NotEqual, 2)));
+    assert!(rt; !domain.restrict(lit(Op::AtMost, 1))?);
+    assert_eq!(rt; domain.len(), 0);
+    assert_eq!(rt; kept.len(), 3);
+    Ok(())
+}
+
+#[test]
+fn a_wide_range(rt: HostRuntime) -> Result<(), Fail> {
+    let mut domain = Domain::range(rt.alloc(), LEAST_VALUE, GREATEST_VALUE)?;
+    assert_eq!(rt; domain.len(), 2_000_000_001);
+    assert!(rt; domain.restrict(lit(Op::NotEqual, 0))?);
+    assert_eq!(rt; domain.len(), 2_000_000_000);
+    assert_eq!(rt; domain.above(-1), Some(1));
+    assert!(rt; domain.restrict(lit(Op::Equal, 5))?);
+    assert_eq!(rt; domain.len(), 1);
+    Ok(())
+}
+
+#[test]
+fn the_least_and_the_greatest(rt: HostRuntime) -> Result<(), Fail> {
+    let mut domain = Domain::listed(rt.alloc(), &[-4, 9, 2])?;
+    assert!(rt; domain.restrict(lit(Op::AtMost, 8))?);
+    assert_eq!(rt; (domain.min(), domain.max()), (-4, 2));
+    assert!(rt; !lit(Op::AtMost, 3).negated().is_true_at(3));
+    assert!(rt; lit(Op::AtMost, 3).negated().is_true_at(4));
+    Ok(())
+}

@@ -1,0 +1,12 @@
+//! A list of tokens has one reading.
+
+ghost use Rattle.std.specs.Prelude.{◌≡◌, ◌⊎◌, List};
+ghost use Rattle.fzn_lexer.specs.declared.fault.Fault.{Fault};
+ghost use Rattle.fzn_lexer.specs.declared.token.Token.{Token};
+ghost use Rattle.fzn_parser.specs.declared.tree.Tree.{Tree};
+ghost use Rattle.fzn_parser.specs.Parse.{IsReading};
+
+/// Tokens have one tree, or one first fault.
+pub fn one_reading()
+    ensures { (tokens : List Token) (x y : Tree ⊎ Fault) → IsReading tokens x → IsReading tokens y → x ≡ y }
+{}

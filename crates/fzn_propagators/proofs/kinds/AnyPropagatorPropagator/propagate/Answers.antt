@@ -1,0 +1,16 @@
+use Rattle.std.proofs.Common.{sym, subst, Option, IfOk, IfSome, IfNone}
+use Rattle.fzn_arith.specs.declared.propagator.Inference.{Inference}
+use Rattle.fzn_arith.specs.Inference.{IsInferenceOf, AreExhausted}
+use Rattle.fzn_propagators.specs.declared.kinds.AnyPropagator.{AnyPropagator}
+use Rattle.fzn_propagators.specs.AnyCrate.{any_number, AnyIsFor}
+use Rattle.fzn_propagators.proofs.kinds.AnyPropagatorPropagator.propagate.Goals as goal
+
+pub returns-in-Builtin-clause-found : goal.returns-in-Builtin-clause-found
+returns-in-Builtin-clause-found c =
+    subst (λ (p : AnyPropagator). IfOk c.propagate-in-Builtin.result (λ (found : Option Inference). IfSome found (IsInferenceOf (any_number p) (AnyIsFor p) c.args.trail.now))) (sym c.in-Builtin.is)
+    c.propagate-in-Builtin.ensures.found
+
+pub returns-in-Builtin-clause-none : goal.returns-in-Builtin-clause-none
+returns-in-Builtin-clause-none c =
+    subst (λ (p : AnyPropagator). IfOk c.propagate-in-Builtin.result (λ (found : Option Inference). IfNone found (AreExhausted (AnyIsFor p) c.args.trail.now))) (sym c.in-Builtin.is)
+    c.propagate-in-Builtin.ensures.none

@@ -1,0 +1,20 @@
+-- The ghost members of a propagator of any crate: those of its own.
+use Rattle.std.specs.Prelude.{ℕ, List}
+use Rattle.fzn_domain.specs.IntSet.{IntSet}
+use Rattle.fzn_meaning.specs.declared.constraint.Constraint.{Constraint}
+use Rattle.fzn_arith.specs.AnyKind.{kind_number, KindIsFor, KindFits}
+use Rattle.fzn_builtin.specs.Kinds.{builtin_number, BuiltinIsFor, BuiltinFits}
+use Rattle.fzn_propagators.specs.declared.kinds.AnyPropagator.{AnyPropagator}
+use Rattle.fzn_propagators.specs.declared.kinds.AnyPropagator.TheVariants.{Arith, Builtin}
+
+abbrev pub any_number : AnyPropagator → ℕ
+any_number (Arith p) = kind_number p
+any_number (Builtin p) = builtin_number p
+
+abbrev pub AnyIsFor : AnyPropagator → Constraint → Type 0
+AnyIsFor (Arith p) constraint = KindIsFor p constraint
+AnyIsFor (Builtin p) constraint = BuiltinIsFor p constraint
+
+abbrev pub AnyFits : AnyPropagator → List IntSet → Type 0
+AnyFits (Arith p) declared = KindFits p declared
+AnyFits (Builtin p) declared = BuiltinFits p declared

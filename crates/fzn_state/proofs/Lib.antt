@@ -1,0 +1,4 @@
+pub mod CallerLemmas
+mod StateLemmas
+pub mod TermLemmas
+pub mod ValueLemmas

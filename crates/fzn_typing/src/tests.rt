@@ -1,0 +1,104 @@
+// The tree of `var bool: x :: output_var; constraint bool_eq(x, true);`
+ghost use Rattle.std.specs.Prelude.{◌≡◌, [], ◌∷◌, IfOk};
+ghost use Rattle.fzn_names.specs.Limits.{IsVarWithin};
+ghost use Rattle.fzn_typing.specs.Limits.{IsConWithin, IsWithinLimits};
+
+use super::*;
+use fzn_domain::VarId;
+use fzn_lexer::{FaultKind, Place, ReadError};
+use fzn_list::{Items, Text};
+use fzn_meaning::Constraint;
+use fzn_parser::{Ann, Arg, Base, Basic, Con, Goal, Literal, Name, SingleVar, Solve, Tree, Var};
+use std::alloc::{AllocError, Global};
+use std::test::*;
+
+const HERE: Place = Place { line: 2, column: 7 };
+
+fn name(alloc: Global, text: &[u8]) -> Result<Name, AllocError> {
+    Ok(Name {
+        text: Text::from_slice(alloc, text)?,
+        place: HERE,
+    })
+}
+
+fn one<T: Drop>(alloc: Global, item: T) -> Result<Items<T>, AllocError>
+    ensures { IfOk result (λ items. items ≡ item ∷ []) }
+{
+    let mut items = Items::new(alloc);
+    items.push(item)?;
+    Ok(items)
+}
+
+fn boolean(alloc: Global) -> Result<Var, AllocError>
+    ensures { IfOk result IsVarWithin }
+{
+    let mark = Ann {
+        name: name(alloc, b"output_var")?,
+        args: None,
+    };
+    Ok(Var::Single(SingleVar {
+        place: HERE,
+        base: Base::Bool,
+        name: name(alloc, b"x")?,
+        anns: one(alloc, mark)?,
+        value: None,
+    }))
+}
+
+fn equality(alloc: Global) -> Result<Con, AllocError>
+    ensures { IfOk result IsConWithin }
+{
+    let mut args = Items::new(alloc);
+    args.push(Arg::Basic(Basic::Name(name(alloc, b"x")?)))?;
+    args.push(Arg::Basic(Basic::Literal(Literal::Bool(true, HERE))))?;
+    Ok(Con {
+        name: name(alloc, b"bool_eq")?,
+        args,
+        anns: Items::new(alloc),
+    })
+}
+
+fn example(alloc: Global, goal: Goal) -> Result<Tree, AllocError>
+    ensures { IfOk result IsWithinLimits }
+{
+    Ok(Tree {
+        predicates: Items::new(alloc),
+        params: Items::new(alloc),
+        vars: one(alloc, boolean(alloc)?)?,
+        cons: one(alloc, equality(alloc)?)?,
+        solve: Solve {
+            anns: Items::new(alloc),
+            goal,
+        },
+    })
+}
+
+#[test]
+fn model_of_a_tree(rt: HostRuntime) -> Result<(), Fail> {
+    let tree = example(rt.alloc(), Goal::Satisfy)?;
+    let model = type_check(rt.alloc(), &tree)?;
+    assert_eq!(rt; model.vars.len(), 1);
+    assert_eq!(rt; model.constraints.len(), 1);
+    match &model.constraints.as_slice()[0] {
+        Constraint::Compare { .. } => {}
+        _ => assert!(rt; false, "the two are compared"),
+    }
+    assert_eq!(rt; model.goal, fzn_meaning::Goal::Satisfy);
+    assert_eq!(rt; model.outputs.as_slice(), [VarId(1)].as_slice());
+    assert_eq!(rt; model.shown.len(), 1);
+    assert_eq!(rt; one_model(), ());
+    Ok(())
+}
+
+#[test]
+fn boolean_goal(rt: HostRuntime) -> Result<(), Fail> {
+    let x = Basic::Name(name(rt.alloc(), b"x")?);
+    let tree = example(rt.alloc(), Goal::Minimize(x))?;
+    match type_check(rt.alloc(), &tree) {
+        Err(ReadError::Fault(fault)) => {
+            assert_eq!(rt; (fault.kind, fault.place), (FaultKind::Type, HERE));
+        }
+        _ => assert!(rt; false, "the goal is refused"),
+    }
+    Ok(())
+}
