@@ -20,7 +20,5 @@ mod flag;
 mod names;
 mod output;
 mod param;
-#[cfg(test)]
-mod tests;
 mod value;
 mod variable;
