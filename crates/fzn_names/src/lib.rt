@@ -20,5 +20,7 @@ mod flag;
 mod names;
 mod output;
 mod param;
+#[cfg(test)]
+mod tests;
 mod value;
 mod variable;
