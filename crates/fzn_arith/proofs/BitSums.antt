@@ -6,7 +6,7 @@ use Rattle.fzn_meaning.specs.declared.term.Term.{Term}
 use Rattle.fzn_meaning.specs.Term.{term_value, values_of, product_at, sum_at}
 use Rattle.fzn_meaning.specs.Meaning.{IsBit}
 use Rattle.fzn_builtin_rules.specs.Form.{weighted, each_with}
-use Rattle.fzn_arith.proofs.SumLemmas.{total_by-cons}
+use Rattle.fzn_sums.proofs.CallerLemmas.{total_by-cons}
 
 pub one_times : (x : ℤ) → pos 1 *ℤ x ≡ x
 one_times (pos n) = omega (arith, ints)

@@ -15,13 +15,14 @@ use Rattle.fzn_meaning.specs.declared.constraint.Constraint.TheVariants as const
 use Rattle.fzn_meaning.specs.Term.{IsTerm, IsPlace}
 use Rattle.fzn_meaning.specs.Meaning.{IsWellFormed}
 use Rattle.fzn_builtin_rules.specs.Form.{Form, weighted, difference, bound_of, passing_bound, form_of}
+use Rattle.fzn_sums.specs.Opposite.{opposites}
+use Rattle.fzn_sums.proofs.CallerLemmas.{opposites_fit, opposites-twice, length-opposites}
 use Rattle.fzn_arith.specs.declared.form.SumForm.{SumForm}
+use Rattle.fzn_arith.specs.Opposite.{other_bound, opposite_form}
+use Rattle.fzn_arith.specs.Kinds.{form_in, IsFormOf, Fits, IsReady}
+use Rattle.fzn_arith.proofs.MadeLemmas.{each_fits, clause_fits, clause_length}
 use Rattle.fzn_meaning.specs.declared.relation.Comparison.{Comparison}
 use Rattle.fzn_meaning.specs.declared.relation.Comparison.TheVariants.{AtMost, Equal, NotEqual}
-use Rattle.fzn_arith.specs.Opposite.{opposites, other_bound, opposite_form}
-use Rattle.fzn_arith.specs.Kinds.{form_in, IsFormOf, Fits, IsReady}
-use Rattle.fzn_arith.proofs.OppositeLemmas.{opposites_fit, opposites-twice, length-opposites}
-use Rattle.fzn_arith.proofs.MadeLemmas.{each_fits, clause_fits, clause_length}
 
 difference_fits : (count : ℕ) (a b : Term) → IsTerm count a → IsTerm count b → All (IsPlace count) (difference a b)
 difference_fits count a b h k = All-from_recursion (IsPlace count) (difference a b) ((h, omega arith), ((k, omega arith), tt))

@@ -26,15 +26,15 @@ use Rattle.fzn_builtin_rules.specs.Linear.{low_product, least_sum}
 use Rattle.fzn_builtin_rules.specs.Form.{Form, form, form_of, IsFormMet}
 use Rattle.fzn_rules.specs.Rules.{IsMet}
 use Rattle.fzn_trail.specs.Levels.{Levels}
-use Rattle.fzn_arith.specs.Inference.{AllFixed, IsHint, IsTight, IsInference, IsExhausted}
-use Rattle.fzn_arith.specs.Opposite.{opposites, other_comparison, other_bound, opposite_form}
-use Rattle.fzn_arith.specs.Barred.{IsToDiffer, LeavesNoBarred}
-use Rattle.fzn_arith.specs.Refuted.{IsFound, LeavesSome, LeavesEach, IsLeftAlone}
-use Rattle.fzn_arith.proofs.SumLemmas.{total_le}
-use Rattle.fzn_arith.proofs.BarredLemmas.{none_barred_opposites}
-use Rattle.fzn_arith.proofs.CallerLemmas.{one_end, flat_cond}
+use Rattle.fzn_propagator.specs.Inference.{AllFixed, IsHint, IsTight, IsInference, IsExhausted}
+use Rattle.fzn_propagator.specs.Barred.{IsToDiffer, LeavesNoBarred}
+use Rattle.fzn_propagator.proofs.CallerLemmas.{one_end, flat_cond}
+use Rattle.fzn_sums.specs.Opposite.{opposites}
+use Rattle.fzn_sums.specs.Refuted.{LeavesSome, LeavesEach}
+use Rattle.fzn_sums.proofs.CallerLemmas.{total_le, none_barred_opposites, sum_at-opposites, opposites-twice, opposites_fit}
+use Rattle.fzn_arith.specs.Opposite.{other_comparison, other_bound, opposite_form}
+use Rattle.fzn_arith.specs.Sum.{IsFound, IsLeftAlone}
 use Rattle.fzn_arith.proofs.MeaningLemmas.{FormHolds, form_meets}
-use Rattle.fzn_arith.proofs.OppositeLemmas.{sum_at-opposites, opposites-twice, opposites_fit}
 
 -- ---- a clause was found
 

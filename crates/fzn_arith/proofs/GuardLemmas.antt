@@ -14,12 +14,12 @@ use Rattle.fzn_meaning.specs.declared.relation.Comparison.{Comparison}
 use Rattle.fzn_meaning.specs.declared.relation.Comparison.TheVariants as compared
 use Rattle.fzn_trail.specs.Levels.{Levels}
 use Rattle.fzn_trail.specs.Unit.{IsFalseOrUnit}
-use Rattle.fzn_arith.specs.Inference.{IsWritable}
-use Rattle.fzn_arith.specs.Opposite.{opposites}
-use Rattle.fzn_arith.specs.Refuted.{IsConflict, IsRefutation, IsGuard, IsGuarded}
-use Rattle.fzn_arith.proofs.CallerLemmas.{last_fails, none_left}
-use Rattle.fzn_arith.proofs.DiffersLemmas.{value_where_false, denied_one, denied_some, may_fail}
-use Rattle.fzn_arith.proofs.RefuteLemmas.{rules_out-more, refutation_of}
+use Rattle.fzn_propagator.specs.Inference.{IsWritable}
+use Rattle.fzn_propagator.proofs.CallerLemmas.{last_fails, none_left, value_where_false, denied_one, denied_some, may_fail}
+use Rattle.fzn_sums.specs.Opposite.{opposites}
+use Rattle.fzn_sums.specs.Refuted.{IsConflict, IsRefutation}
+use Rattle.fzn_sums.proofs.CallerLemmas.{rules_out-more, refutation_of}
+use Rattle.fzn_arith.specs.Guard.{IsGuard, IsGuarded}
 
 -- ---- one more literal
 

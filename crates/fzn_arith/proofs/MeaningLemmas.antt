@@ -19,7 +19,7 @@ use Rattle.fzn_meaning.specs.Linear.{IsLinear}
 use Rattle.fzn_meaning.specs.Meaning.{Meets, switch_value, booleans_of, IsBit, HasBooleanValues}
 use Rattle.fzn_meaning.specs.Booleans.{Passes, IsBoolClause}
 use Rattle.fzn_builtin_rules.specs.Form.{Form, weighted, each_with, difference, comparison_of, bound_of, passing_bound, form_of}
-use Rattle.fzn_arith.proofs.SumLemmas.{total_by-append}
+use Rattle.fzn_sums.proofs.CallerLemmas.{total_by-append}
 use Rattle.fzn_arith.proofs.BitSums.{one_times, minus_times, ones, sum-ones, sum-minus, AreBits, bits_of, ones_of_all, all_of_ones, ones_of_any, any_of_ones, any_of_noughts}
 
 -- the sum compares so with the bound; with a switch, exactly where this term is 1

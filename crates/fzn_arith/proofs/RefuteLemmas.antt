@@ -1,5 +1,5 @@
 -- What a refutation says of the denied sets: the form is met there by the rule.
-use Rattle.std.proofs.Common.{◌≡◌, true, false, List, ◌++◌, length, get_or, sym, subst, inl, inr, arith, ℤ, pos, ◌-ℤ◌, ◌≤ℤ◌, ◌<ℤ◌, int_lt, cond, negsuc, ◌*ℤ◌, All, Option, Some, None}
+use Rattle.std.proofs.Common.{◌≡◌, true, false, List, length, get_or, sym, subst, inl, inr, arith, ℤ, pos, ◌-ℤ◌, ◌≤ℤ◌, ◌<ℤ◌, int_lt, cond, negsuc, ◌*ℤ◌, All, Option, Some, None}
 use Rattle.std.proofs.lemmas.Int.{ints}
 use Rattle.fzn_domain.specs.declared.literal.Lit.{Lit}
 use Rattle.fzn_domain.specs.Narrow.{IsClauseOver, denied, is_some_empty}
@@ -12,33 +12,15 @@ use Rattle.fzn_state.specs.Terms.{IsFixedTo}
 use Rattle.fzn_builtin_rules.specs.Linear.{low_end, low_product, high_product, least_sum, greatest_sum, NoneCompares, AllCompare, IsExcluded}
 use Rattle.fzn_builtin_rules.specs.Form.{Form}
 use Rattle.fzn_trail.specs.Levels.{Levels}
-use Rattle.fzn_arith.specs.Explained.{IsLeft, Exceeds}
-use Rattle.fzn_arith.specs.Opposite.{opposites, other_comparison, other_bound, opposite_form}
-use Rattle.fzn_arith.specs.Refuted.{RulesOut, IsConflict, IsRefutation, IsGuarded, IsFound}
-use Rattle.fzn_arith.proofs.CallerLemmas.{end_left, ends_ordered, left_of_more}
-use Rattle.fzn_arith.proofs.ProductLemmas.{mono_up, mono_down}
-use Rattle.fzn_arith.proofs.SumLemmas.{total_le}
-use Rattle.fzn_arith.proofs.OppositeLemmas.{least_sum-opposites, greatest_sum-opposites, opposites_fit}
-
--- ---- a longer clause
-
-exceeds-more : (trail : Levels) (clause more : List Lit) (places : List Place) (bound : ℤ) → Exceeds trail clause places bound → Exceeds trail (clause ++ more) places bound
-exceeds-more trail clause more places bound exceeds = λ choice left.
-    exceeds choice (λ k d below. let place = get_or places k d in left_of_more trail.declared clause more place.term (choice place) (left k d below))
-
-pub rules_out-more : (trail : Levels) (clause more : List Lit) (comparison : Comparison) (places : List Place) (bound : ℤ) → RulesOut trail clause comparison places bound → RulesOut trail (clause ++ more) comparison places bound
-rules_out-more trail clause more AtMost places bound out = exceeds-more trail clause more places bound out
-rules_out-more trail clause more Equal places bound out = elim out [
-  | inl above ↦ inl (exceeds-more trail clause more places bound above)
-  | inr below ↦ inr (exceeds-more trail clause more (opposites places) (pos 0 -ℤ bound) below)
-]
-rules_out-more trail clause more NotEqual places bound out = (
-  exceeds-more trail clause more places (bound -ℤ pos 1) out.0,
-  exceeds-more trail clause more (opposites places) ((pos 0 -ℤ bound) -ℤ pos 1) out.1,
-)
-
-pub refutation_of : (trail : Levels) (comparison : Comparison) (places : List Place) (bound : ℤ) (clause : List Lit) → IsConflict trail comparison places bound clause → IsRefutation trail comparison places bound clause
-refutation_of trail comparison places bound clause conflict = record { over = conflict.over; writable = conflict.writable; forces = inl conflict.impossible; rules_out = conflict.rules_out }
+use Rattle.fzn_propagator.specs.Left.{IsLeft}
+use Rattle.fzn_propagator.proofs.CallerLemmas.{end_left, ends_ordered}
+use Rattle.fzn_sums.specs.Explained.{Exceeds}
+use Rattle.fzn_sums.specs.Opposite.{opposites}
+use Rattle.fzn_sums.specs.Refuted.{RulesOut, IsRefutation}
+use Rattle.fzn_sums.proofs.CallerLemmas.{mono_up, mono_down, total_le, least_sum-opposites, greatest_sum-opposites, opposites_fit}
+use Rattle.fzn_arith.specs.Opposite.{other_comparison, other_bound, opposite_form}
+use Rattle.fzn_arith.specs.Guard.{IsGuarded}
+use Rattle.fzn_arith.specs.Sum.{IsFound}
 
 -- ---- the ends on the denied sets
 

@@ -1,16 +1,9 @@
 -- The form that holds exactly where another does not.
-use Rattle.std.specs.Prelude.{ℤ, pos, ◌-ℤ◌, List, map}
-use Rattle.fzn_meaning.specs.declared.term.Place.{Place}
+use Rattle.std.specs.Prelude.{ℤ, pos, ◌-ℤ◌}
 use Rattle.fzn_meaning.specs.declared.relation.Comparison.{Comparison}
 use Rattle.fzn_meaning.specs.declared.relation.Comparison.TheVariants.{AtMost, Equal, NotEqual}
 use Rattle.fzn_builtin_rules.specs.Form.{Form, form}
-
--- the place gives the negative of what it gave
-abbrev pub opposite : Place → Place
-opposite place = record { coefficient = pos 0 -ℤ place.coefficient; term = place.term }
-
-abbrev pub opposites : List Place → List Place
-opposites places = map opposite places
+use Rattle.fzn_sums.specs.Opposite.{opposites}
 
 abbrev pub other_comparison : Comparison → Comparison
 other_comparison AtMost = AtMost

@@ -8,10 +8,10 @@ ghost use Rattle.fzn_arith.specs.AnyKind.{kind_number, KindIsFor, KindFits};
 
 use crate::form::form_of;
 use crate::opposite::opposite_of;
-use crate::propagator::{Inference, Propagator};
 use crate::sum::SumPropagator;
 use fzn_domain::Memory;
 use fzn_meaning::Model;
+use fzn_propagator::{Inference, Propagator};
 use fzn_trail::Trail;
 use std::alloc::Global;
 

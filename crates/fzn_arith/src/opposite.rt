@@ -2,8 +2,9 @@
 ghost use Rattle.std.specs.Prelude.{◌≡◌, ℕ, ◌≤◌, unsigned_abs, IfOk};
 ghost use Rattle.std.specs.List.{All};
 ghost use Rattle.fzn_meaning.specs.Term.{IsPlace};
+ghost use Rattle.fzn_sums.specs.Opposite.{opposites};
 ghost use Rattle.fzn_arith.specs.Kinds.{form_in};
-ghost use Rattle.fzn_arith.specs.Opposite.{opposites, other_comparison, other_bound, opposite_form};
+ghost use Rattle.fzn_arith.specs.Opposite.{other_comparison, other_bound, opposite_form};
 
 use crate::form::SumForm;
 use fzn_domain::Memory;

@@ -2,14 +2,14 @@
 ghost use Rattle.std.specs.Prelude.{length, IfOk, IfSome, IfNone};
 ghost use Rattle.fzn_domain.specs.Narrow.{NoneEmpty};
 ghost use Rattle.fzn_arith.specs.Kinds.{form_in, IsFormOf, IsReady};
-ghost use Rattle.fzn_arith.specs.Refuted.{IsFound, IsLeftAlone};
+ghost use Rattle.fzn_arith.specs.Sum.{IsFound, IsLeftAlone};
 
 use crate::form::SumForm;
 use crate::guard::guarded;
-use crate::propagator::{Inference, Propagator};
 use crate::refute::refute;
 use fzn_domain::{Lit, Memory};
 use fzn_list::Items;
+use fzn_propagator::{Inference, Propagator};
 use fzn_rules::Rule;
 use fzn_trail::Trail;
 use std::alloc::Global;

@@ -17,9 +17,9 @@ use Rattle.fzn_meaning.specs.declared.term.Term.TheVariants.{Variable}
 use Rattle.fzn_meaning.specs.Term.{IsTerm}
 use Rattle.fzn_state.specs.Terms.{least_value}
 use Rattle.fzn_trail.specs.Levels.{Levels}
-use Rattle.fzn_arith.specs.Inference.{IsWritable}
-use Rattle.fzn_arith.specs.Explained.{IsLeft}
-use Rattle.fzn_arith.proofs.CallerLemmas.{left_of_more, left_of_later, last_fails, none_left}
+use Rattle.fzn_propagator.specs.Inference.{IsWritable}
+use Rattle.fzn_propagator.specs.Left.{IsLeft}
+use Rattle.fzn_propagator.proofs.CallerLemmas.{left_of_more, left_of_later, last_fails, none_left}
 use Rattle.fzn_builtin.specs.Denial.{IsFixed, IsOnlyLeft, IsOtherValue, IsDenial, IsForcing, IsTrueOn}
 
 differs_not : (v k : ℤ) → v ≡ k → not (int_eq v k) ≡ false

@@ -15,9 +15,9 @@ use Rattle.fzn_meaning.specs.Term.{IsTerm}
 use Rattle.fzn_state.specs.Terms.{MayBe, least_value}
 use Rattle.fzn_builtin_rules.specs.Choices.{inputs_of, result_of, Relates, NoneOf, count_of, choices, IsChoice, NoChoiceFits, IsFixedMet}
 use Rattle.fzn_trail.specs.Levels.{Levels}
-use Rattle.fzn_arith.specs.Explained.{IsLeft}
-use Rattle.fzn_arith.proofs.CallerLemmas.{left_of_denied}
-use Rattle.fzn_arith.specs.Inference.{IsHint, IsInference}
+use Rattle.fzn_propagator.specs.Left.{IsLeft}
+use Rattle.fzn_propagator.proofs.CallerLemmas.{left_of_denied}
+use Rattle.fzn_propagator.specs.Inference.{IsHint, IsInference}
 use Rattle.fzn_rules.specs.declared.rule.Rule.TheVariants.{Fixed}
 use Rattle.fzn_rules.specs.Rules.{IsMet}
 use Rattle.fzn_builtin.specs.declared.outcome.Outcome.{Outcome}

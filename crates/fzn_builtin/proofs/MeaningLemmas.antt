@@ -18,7 +18,7 @@ use Rattle.fzn_state.specs.Terms.{MayBe, least_value, greatest_value}
 use Rattle.fzn_builtin_rules.specs.Form.{form_of}
 use Rattle.fzn_builtin_rules.specs.Choices.{inputs_of, result_of, Relates}
 use Rattle.fzn_trail.specs.Levels.{Levels}
-use Rattle.fzn_arith.specs.Inference.{AllFixed}
+use Rattle.fzn_propagator.specs.Inference.{AllFixed}
 use Rattle.fzn_builtin.specs.declared.outcome.Outcome.{Outcome}
 use Rattle.fzn_builtin.specs.declared.parts.Parts.{Parts}
 use Rattle.fzn_builtin.specs.Demand.{AdmitsEach, AdmitsWhere}

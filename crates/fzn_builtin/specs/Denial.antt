@@ -10,8 +10,8 @@ use Rattle.fzn_meaning.specs.declared.term.Term.TheVariants.{Variable}
 use Rattle.fzn_state.specs.Terms.{least_value, greatest_value}
 use Rattle.fzn_trail.specs.Levels.{Levels}
 use Rattle.fzn_trail.specs.Unit.{IsFalseOrUnit}
-use Rattle.fzn_arith.specs.Inference.{IsWritable}
-use Rattle.fzn_arith.specs.Explained.{IsLeft}
+use Rattle.fzn_propagator.specs.Inference.{IsWritable}
+use Rattle.fzn_propagator.specs.Left.{IsLeft}
 
 -- the term has one value
 abbrev pub IsFixed : List IntSet → Term → Type 0

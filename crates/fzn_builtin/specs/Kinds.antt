@@ -9,7 +9,7 @@ use Rattle.fzn_meaning.specs.Meaning.{Meets}
 use Rattle.fzn_builtin_rules.specs.Choices.{IsFixedMet}
 use Rattle.fzn_trail.specs.Levels.{Levels}
 use Rattle.fzn_trail.specs.Unit.{IsFalseOrUnit}
-use Rattle.fzn_arith.specs.Inference.{IsWritable, AllFixed}
+use Rattle.fzn_propagator.specs.Inference.{IsWritable, AllFixed}
 use Rattle.fzn_builtin.specs.declared.kinds.BuiltinPropagator.{BuiltinPropagator}
 use Rattle.fzn_builtin.specs.Parts.{IsReady}
 

@@ -3,7 +3,7 @@ ghost use Rattle.std.specs.Prelude.{length, IfOk, IfSome, IfNone};
 ghost use Rattle.std.specs.List.{All};
 ghost use Rattle.fzn_domain.specs.Narrow.{IsVariable, NoneEmpty};
 ghost use Rattle.fzn_meaning.specs.Term.{IsTerm};
-ghost use Rattle.fzn_arith.specs.Inference.{IsWritable};
+ghost use Rattle.fzn_propagator.specs.Inference.{IsWritable};
 ghost use Rattle.fzn_builtin.specs.Denial.{IsFixed, IsForcing, IsTrueOn};
 ghost use Rattle.fzn_builtin.specs.Kinds.{IsFixedClause, HoldsWhereFixed};
 ghost use Rattle.fzn_builtin.specs.Parts.{IsReady};

@@ -9,9 +9,9 @@ ghost use Rattle.fzn_builtin.specs.Kinds.{builtin_number, BuiltinIsFor, BuiltinF
 
 use crate::fixed::refute_fixed;
 use crate::parts::{Parts, parts_of};
-use fzn_arith::{Inference, Propagator};
 use fzn_domain::Memory;
 use fzn_meaning::Model;
+use fzn_propagator::{Inference, Propagator};
 use fzn_rules::Rule;
 use fzn_trail::Trail;
 use std::alloc::Global;

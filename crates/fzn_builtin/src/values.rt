@@ -5,40 +5,15 @@ ghost use Rattle.fzn_domain.specs.Limits.{IsInLimits};
 ghost use Rattle.fzn_domain.specs.Narrow.{NoneEmpty};
 ghost use Rattle.fzn_meaning.specs.Term.{IsTerm};
 ghost use Rattle.fzn_state.specs.Terms.{least_value, greatest_value};
-ghost use Rattle.fzn_arith.specs.Explained.{IsLeft};
+ghost use Rattle.fzn_propagator.specs.Left.{IsLeft};
 ghost use Rattle.fzn_builtin.specs.Denial.{IsFixed, IsOtherValue, IsDenial};
 
 use fzn_domain::{Lit, Memory, Op};
 use fzn_list::Items;
 use fzn_meaning::Term;
+use fzn_sums::{greatest_value, least_value};
 use fzn_trail::Trail;
 use std::alloc::Global;
-
-#[tactic(auto, using(fzn_arith::proofs::CallerLemmas::some_value))]
-pub fn least_value(trail: &Trail, term: Term) -> i64
-    requires term { IsTerm (length trail.now.declared) term }
-    requires filled { NoneEmpty trail.now.sets }
-    ensures value { result ≡ least_value trail.now.sets term }
-    ensures in_limits { IsInLimits result }
-{
-    match term {
-        Term::Constant(value) => value,
-        Term::Variable(var) => trail.domain(var).min(),
-    }
-}
-
-#[tactic(auto, using(fzn_arith::proofs::CallerLemmas::some_value))]
-pub fn greatest_value(trail: &Trail, term: Term) -> i64
-    requires term { IsTerm (length trail.now.declared) term }
-    requires filled { NoneEmpty trail.now.sets }
-    ensures value { result ≡ greatest_value trail.now.sets term }
-    ensures in_limits { IsInLimits result }
-{
-    match term {
-        Term::Constant(value) => value,
-        Term::Variable(var) => trail.domain(var).max(),
-    }
-}
 
 /// Whether each of the terms has one value.
 pub fn are_fixed(trail: &Trail, terms: &[Term]) -> bool

@@ -1,3 +1,4 @@
+mod AmountLemmas
 mod BitSums
 pub mod CallerLemmas
 mod ChoiceLemmas

@@ -6,7 +6,8 @@ use Rattle.fzn_domain.specs.IntSet.{IntSet, contains, size, least, greatest, wid
 use Rattle.fzn_domain.proofs.SetLemmas.{least_le, le_greatest, contains-least, contains-greatest, size_within, size_below, contains-range, size-range, member_of_size}
 use Rattle.fzn_builtin_rules.specs.Rows.{IsPartOf}
 
-width_falls : (v next high : ℤ) → v <ℤ next → next ≤ℤ high → width next high < width v high
+-- the measure of a walk up to a number
+pub width_falls : (v next high : ℤ) → v <ℤ next → next ≤ℤ high → width next high < width v high
 width_falls v next high h k = grind (arith, ints)
 
 -- the measure of a walk up the members

@@ -79,3 +79,22 @@ pub record IsNextCandidate (s t : IntSet) (v next : ℤ) : Type 0 where
 -- no common member is above the number
 abbrev pub NoCandidate : IntSet → IntSet → ℤ → Type 0
 NoCandidate s t v = (other : ℤ) → contains s other ≡ true → contains t other ≡ true → other ≤ℤ v
+
+-- the least amount of a member that is above a number
+pub record IsNextAmount (s : IntSet) (a next : ℤ) : Type 0 where
+  pub member : (v : ℤ) × (contains s v ≡ true) × (pos (unsigned_abs v) ≡ next)
+  pub greater : a <ℤ next
+  pub first : (other : ℤ) → contains s other ≡ true → a <ℤ pos (unsigned_abs other) → next ≤ℤ pos (unsigned_abs other)
+
+-- no member's amount is above the number
+abbrev pub NoAmountAbove : IntSet → ℤ → Type 0
+NoAmountAbove s a = (other : ℤ) → contains s other ≡ true → pos (unsigned_abs other) ≤ℤ a
+
+-- a number above this one and no greater than the next amount of the first set that is in the second
+pub record IsNextShared (s t : IntSet) (a next : ℤ) : Type 0 where
+  pub greater : a <ℤ next
+  pub first : (other : ℤ) → contains s other ≡ true → contains t (pos (unsigned_abs other)) ≡ true → a <ℤ pos (unsigned_abs other) → next ≤ℤ pos (unsigned_abs other)
+
+-- no amount of the first set that is in the second is above the number
+abbrev pub NoneShared : IntSet → IntSet → ℤ → Type 0
+NoneShared s t a = (other : ℤ) → contains s other ≡ true → contains t (pos (unsigned_abs other)) ≡ true → pos (unsigned_abs other) ≤ℤ a

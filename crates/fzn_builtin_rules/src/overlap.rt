@@ -2,7 +2,7 @@
 ghost use Rattle.std.specs.Prelude.{◌≡◌, ◌↔◌, ◌<◌, ◌≤ℤ◌, true, false, ℤ, pos, IsTrue, IfNone, IfSome, unsigned_abs};
 ghost use Rattle.fzn_domain.specs.IntSet.{contains, size, least, greatest};
 ghost use Rattle.fzn_domain.specs.Limits.{IsInLimits};
-ghost use Rattle.fzn_builtin_rules.specs.Rows.{AreApart, IsPartOf, AmountsApart, IsNextCandidate, NoCandidate};
+ghost use Rattle.fzn_builtin_rules.specs.Rows.{AreApart, IsPartOf, AmountsApart, IsNextCandidate, NoCandidate, IsNextAmount, NoAmountAbove, IsNextShared, NoneShared};
 
 use fzn_domain::Domain;
 
@@ -81,46 +81,50 @@ fn has_each(first: &Domain, second: &Domain) -> bool
     false
 }
 
-/// Whether no number of the first set has its amount in the second. It goes over the smaller set.
+/// Whether no number of the first set has its amount in the second. It goes up the amounts of both by turns, so it takes no more steps
+/// than the one with fewer gaps has gaps.
 pub(crate) fn amounts_apart(first: &Domain, second: &Domain) -> bool
-    requires first { 0 < size first.now }
-    requires second { 0 < size second.now }
     ensures { IsTrue result ↔ AmountsApart first.now second.now }
 {
-    if first.len() <= second.len() {
-        has_no_amount_in(first, second)
+    let mut amount = 0;
+    while !(second.contains(amount) && is_amount_in(amount, first)) {
+        match next_shared_amount(first, second, amount) {
+            Some(next) => amount = next,
+            None => return true,
+        }
+    }
+    false
+}
+
+/// The next number of the second set, or the next amount of the first set where that is not one.
+fn next_shared_amount(first: &Domain, second: &Domain, amount: i64) -> Option<i64>
+    requires { pos 0 ≤ℤ amount }
+    ensures found { IfSome result (IsNextShared first.now second.now amount) }
+    ensures none { IfNone result (NoneShared first.now second.now amount) }
+    ensures in_limits { IfSome result IsInLimits }
+{
+    let next = second.above(amount)?;
+    if is_amount_in(next, first) {
+        Some(next)
     } else {
-        is_no_amount_of(second, first)
+        next_amount(first, next)
     }
 }
 
-fn has_no_amount_in(first: &Domain, second: &Domain) -> bool
-    requires { 0 < size first.now }
-    ensures { IsTrue result ↔ AmountsApart first.now second.now }
+/// The least amount of a member that is greater than the given one.
+fn next_amount(set: &Domain, amount: i64) -> Option<i64>
+    requires in_limits { IsInLimits amount }
+    requires amount { pos 0 ≤ℤ amount }
+    ensures found { IfSome result (IsNextAmount set.now amount) }
+    ensures none { IfNone result (NoAmountAbove set.now amount) }
+    ensures in_limits { IfSome result IsInLimits }
 {
-    let mut value = first.min();
-    while !second.contains(value.abs()) {
-        match first.above(value) {
-            Some(next) => value = next,
-            None => return true,
-        }
+    match (set.above(amount), set.below(-amount)) {
+        (Some(up), Some(down)) => Some(up.min(-down)),
+        (Some(up), None) => Some(up),
+        (None, Some(down)) => Some(-down),
+        (None, None) => None,
     }
-    false
-}
-
-/// Whether no member is the amount of a number of the other set.
-fn is_no_amount_of(amounts: &Domain, set: &Domain) -> bool
-    requires { 0 < size amounts.now }
-    ensures { IsTrue result ↔ AmountsApart set.now amounts.now }
-{
-    let mut value = amounts.min();
-    while !is_amount_in(value, set) {
-        match amounts.above(value) {
-            Some(next) => value = next,
-            None => return true,
-        }
-    }
-    false
 }
 
 /// Whether the number is the amount of a member.

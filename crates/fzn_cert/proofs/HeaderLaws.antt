@@ -1,30 +1,16 @@
--- The first two lines.
-use Rattle.std.proofs.Common.{◌≡◌, ℕ, ◌^◌, ◌<◌, false, List, [], ◌∷◌, ◌++◌, Option, Some, None, refl, sym, ap, subst, ◌∙◌, arith, append_assoc, inl, inr}
-use Rattle.std.specs.Prelude.{◌&&◌, codes, IfSome, IfNone}
-use Rattle.std.specs.Str.{bytes_eq}
+-- Counts that are written are read again.
+use Rattle.std.proofs.Common.{◌≡◌, ℕ, ◌^◌, ◌<◌, List, [], ◌∷◌, ◌++◌, Some, refl, sym, ap, ◌∙◌, arith, append_assoc}
+use Rattle.std.specs.Prelude.{codes}
 use Rattle.std.specs.Fmt.{decimal}
-use Rattle.std.proofs.lemmas.Slice.Eq.{bytes_eq-Decides}
-use Rattle.fzn_cert.specs.declared.step.Version.{Version}
-use Rattle.fzn_cert.specs.declared.step.Version.TheVariants.{One, Two}
-use Rattle.fzn_cert.specs.Spelling.{spaced, version_text, counts_text}
-use Rattle.fzn_cert.specs.Stream.{IsVersionText, IsCountsText}
-use Rattle.fzn_cert.specs.Reading.{◌>>=◌, natural_of, words_of, counts_of}
-use Rattle.fzn_cert.proofs.NumberLaws.{natural_takes, natural_again}
-use Rattle.fzn_cert.proofs.WordLaws.{bind_some, chosen, some_is}
-use Rattle.fzn_cert.proofs.StepLaws.{and_true}
-use Rattle.fzn_cert.proofs.LineLaws.{plain_decimal, words_of-spaced, spaced-words_of, false_true}
+use Rattle.fzn_cert.specs.Spelling.{spaced, counts_text}
+use Rattle.fzn_cert.specs.Reading.{words_of, counts_of}
+use Rattle.fzn_cert.proofs.NumberLaws.{natural_again}
+use Rattle.fzn_cert.proofs.LineLaws.{plain_decimal, words_of-spaced}
 
-apart_from : (line : List ℕ) → bytes_eq line (codes "fzc 1") ≡ false → bytes_eq line (codes "fzc 2") ≡ false → (v : Version) → line ≡ version_text v → ⊥
-apart_from line h k One e = false_true (sym h ∙ (bytes_eq-Decides line (codes "fzc 1")).1 e)
-apart_from line h k Two e = false_true (sym k ∙ (bytes_eq-Decides line (codes "fzc 2")).1 e)
-
-pub no_version : (line : List ℕ) → bytes_eq line (codes "fzc 1") ≡ false → bytes_eq line (codes "fzc 2") ≡ false → IsVersionText line → ⊥
-no_version line h k t = apart_from line h k t.0 t.1
-
-abbrev counts_words : ℕ → ℕ → List (List ℕ)
+abbrev pub counts_words : ℕ → ℕ → List (List ℕ)
 counts_words n m = codes "vars" ∷ decimal n ∷ codes "cons" ∷ decimal m ∷ []
 
-counts_text_is : (n m : ℕ) → spaced (counts_words n m) ≡ counts_text n m
+pub counts_text_is : (n m : ℕ) → spaced (counts_words n m) ≡ counts_text n m
 unfolding spaced
 counts_text_is n m = sym (regrouped (codes "vars ") (decimal n) (codes " cons ") (decimal m))
   where
@@ -37,51 +23,3 @@ counts_again n m h k =
     ap (λ (t : List ℕ). counts_of (words_of t)) (sym (counts_text_is n m))
     ∙ ap counts_of (words_of-spaced (counts_words n m) (omega arith) (refl, (plain_decimal n h, (refl, (plain_decimal m k, tt)))))
     ∙ rw (natural_again n h, natural_again m k) refl
-
-pub record SpellsCounts (words : List (List ℕ)) (n m : ℕ) : Type 0 where
-  pub words_are : words ≡ counts_words n m
-  pub first : n < 10 ^ 18
-  pub second : m < 10 ^ 18
-
-pub counts_take : (words : List (List ℕ)) (x : ℕ × ℕ) → counts_of words ≡ Some x → SpellsCounts words x.0 x.1
-unfolding counts_of
-counts_take [] x e = absurd cc
-counts_take (a ∷ []) x e = absurd cc
-counts_take (a ∷ n ∷ []) x e = absurd cc
-counts_take (a ∷ n ∷ b ∷ []) x e = absurd cc
-counts_take (a ∷ n ∷ b ∷ m ∷ c ∷ rest) x e = absurd cc
-counts_take (a ∷ n ∷ b ∷ m ∷ []) x e =
-    elim (chosen (bytes_eq a (codes "vars") && bytes_eq b (codes "cons")) (natural_of n >>= λ v. natural_of m >>= λ k. Some (v, k)) None x e) [
-      | inl h ↦
-          let t = and_true (bytes_eq a (codes "vars")) (bytes_eq b (codes "cons")) h.0 in
-          let v = bind_some (natural_of n) (λ v. natural_of m >>= λ k. Some (v, k)) x h.1 in
-          let k = bind_some (natural_of m) (λ k. Some (v.0, k)) x v.2 in
-          let p = natural_takes n v.0 v.1 in
-          let q = natural_takes m k.0 k.1 in
-          let made : ℕ × ℕ = (v.0, k.0) in
-          subst (λ (y : ℕ × ℕ). SpellsCounts (a ∷ n ∷ b ∷ m ∷ []) y.0 y.1) (some_is made x k.2) (record {
-            words_are = ap (λ (w : List ℕ). w ∷ n ∷ b ∷ m ∷ []) ((bytes_eq-Decides a (codes "vars")).0 t.0)
-                ∙ ap (λ (w : List ℕ). codes "vars" ∷ w ∷ b ∷ m ∷ []) p.0
-                ∙ ap (λ (w : List ℕ). codes "vars" ∷ decimal v.0 ∷ w ∷ m ∷ []) ((bytes_eq-Decides b (codes "cons")).0 t.1)
-                ∙ ap (λ (w : List ℕ). codes "vars" ∷ decimal v.0 ∷ codes "cons" ∷ w ∷ []) q.0;
-            first = p.1;
-            second = q.1;
-          })
-      | inr h ↦ absurd (none_some x h.1)
-    ]
-  where
-    none_some : (y : ℕ × ℕ) → None ≡ Some y → ⊥
-    none_some y h = cc
-
-pub counts_found : (line : List ℕ) (r : Option (ℕ × ℕ)) → r ≡ counts_of (words_of line) → IfSome r (λ x. (line ≡ counts_text x.0 x.1) × ((x.0 < 10 ^ 18) × (x.1 < 10 ^ 18)))
-counts_found line None e = tt
-counts_found line (Some x) e =
-    let s = counts_take (words_of line) x (sym e) in
-    (sym (spaced-words_of line) ∙ ap spaced s.words_are ∙ counts_text_is x.0 x.1, (s.first, s.second))
-
-pub counts_none : (line : List ℕ) (r : Option (ℕ × ℕ)) → r ≡ counts_of (words_of line) → IfNone r (IsCountsText line → ⊥)
-counts_none line None e = λ t. none_some (t.0, t.1) (e ∙ ap (λ (text : List ℕ). counts_of (words_of text)) t.4 ∙ counts_again t.0 t.1 t.2 t.3)
-  where
-    none_some : (y : ℕ × ℕ) → None ≡ Some y → ⊥
-    none_some y h = cc
-counts_none line (Some x) e = tt

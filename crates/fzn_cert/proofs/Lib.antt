@@ -1,20 +1,16 @@
 pub mod CallerLemmas
 pub mod HeaderLaws
 pub mod LineLaws
-pub mod LoopLaws
 pub mod NumberLaws
-pub mod OneVerdict
-pub mod OneVerdictEnds
-pub mod OneVerdictHeader
-pub mod OneVerdictLines
-pub mod OneVerdictSteps
-pub mod ReadLaws
-pub mod RefusalLaws
-pub mod RiseLaws
+mod OneVerdict
+mod OneVerdictEnds
+mod OneVerdictHeader
+mod OneVerdictLines
+mod OneVerdictSteps
+mod RefusalLaws
 pub mod SoundLaws
-pub mod SpaceLaws
-pub mod SplitLaws
-pub mod StepLaws
+mod SpaceLaws
+mod StepLaws
 pub mod VerdictLaws
 pub mod WordLaws
-pub mod WriteLaws
+mod WriteLaws

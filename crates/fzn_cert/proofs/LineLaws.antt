@@ -1,30 +1,29 @@
 -- The words of a line, and where a line ends.
-use Rattle.std.proofs.Common.{◌≡◌, ℕ, suc, ◌^◌, ◌<◌, Bool, true, false, eqb, List, [], ◌∷◌, ◌++◌, length, map, Option, Some, None, refl, sym, ap, subst, ◌∙◌, arith, append_assoc}
-use Rattle.std.specs.Prelude.{Result, Ok, Err, IfOk, IfSome, IfNone, ◌&&◌, not, ℤ, pos, negsuc, codes}
+use Rattle.std.proofs.Common.{◌≡◌, ℕ, suc, ◌^◌, ◌<◌, Bool, true, false, eqb, List, [], ◌∷◌, ◌++◌, length, map, Option, Some, refl, sym, ap, subst, ◌∙◌, arith, append_assoc}
+use Rattle.std.specs.Prelude.{◌&&◌, not, ℤ, pos, negsuc, codes}
 use Rattle.std.specs.List.{list_all, AllByRecursion, join_with_byte, slice_split}
 use Rattle.std.specs.Char.{is_ascii_digit}
 use Rattle.std.specs.Fmt.{decimal, signed_decimal}
-use Rattle.std.proofs.lemmas.List.{same_from_push}
 use Rattle.std.proofs.lemmas.List.Folds.{list_all-append}
-use Rattle.std.proofs.lemmas.List.Splits.{join_with_byte-slice_split}
-use Rattle.std.specs.Str.{bytes_eq}
-use Rattle.std.proofs.lemmas.Slice.Eq.{bytes_eq-Decides}
 use Rattle.std.proofs.lemmas.Fmt.{digits_decimal}
 use Rattle.fzn_domain.specs.declared.literal.Op.{Op}
 use Rattle.fzn_domain.specs.declared.literal.Op.TheVariants.{AtMost, AtLeast, Equal, NotEqual}
 use Rattle.fzn_domain.specs.declared.literal.Lit.{Lit}
-use Rattle.std.specs.declared.alloc.AllocError.{AllocError}
 use Rattle.fzn_cert.specs.declared.step.Step.{Step}
 use Rattle.fzn_cert.specs.declared.step.Version.{Version}
 use Rattle.fzn_cert.specs.declared.step.Version.TheVariants.{Two}
 use Rattle.fzn_cert.specs.declared.step.Step.TheVariants.{Infer, Resolve, Solution, Delete}
 use Rattle.fzn_rules.specs.declared.rule.Rule.{Rule}
 use Rattle.fzn_rules.specs.declared.rule.Rule.TheVariants.{Lin, Rows, Box, Fixed, Enum, Hall, Load, Energy, Cut, Pair}
-use Rattle.fzn_cert.specs.Spelling.{op_text, rule_name, hints, literal_text, step_words, spaced, step_text, step_line, end_line, IsNumber, IsValue, IsHint, IsLiteral, IsSpelled}
+use Rattle.fzn_cert.specs.Spelling.{op_text, rule_name, hints, literal_text, step_words, spaced, step_text, step_line, IsNumber, IsValue, IsHint, IsLiteral, IsSpelled}
 use Rattle.fzn_cert.specs.Reading.{words_of, step_of_words, step_of}
 use Rattle.fzn_cert.proofs.NumberLaws.{AreDigits, own_digits}
 use Rattle.fzn_cert.proofs.WordLaws.{IsShort, hint_is_short, value_is_short}
-use Rattle.fzn_cert.proofs.StepLaws.{and_true, hints_fit, step_takes, step_again}
+use Rattle.fzn_cert.proofs.StepLaws.{hints_fit, step_again}
+
+pub and_true : (a b : Bool) → (a && b) ≡ true → (a ≡ true) × (b ≡ true)
+and_true true b e = (refl, e)
+and_true false b e = absurd cc
 
 -- neither a space nor a line feed
 abbrev pub is_plain : ℕ → Bool
@@ -140,10 +139,6 @@ unfolding spaced
 words_of-spaced [] some h = absurd (omega arith)
 words_of-spaced (word ∷ words) some h = words_joined word words h.0 h.1
 
-pub spaced-words_of : (line : List ℕ) → spaced (words_of line) ≡ line
-unfolding spaced
-spaced-words_of line = join_with_byte-slice_split 32 line
-
 words_some : (step : Step) → 0 < length (step_words step)
 words_some (Infer constraint rule clause) = omega arith
 words_some (Resolve clause ids) = omega arith
@@ -153,12 +148,6 @@ words_some (Delete ids) = omega arith
 -- what is written for a step is read as that step
 pub text_again : (v : Version) (step : Step) → IsSpelled v step → step_of v (step_text step) ≡ Some step
 text_again v step h = ap (step_of_words v) (words_of-spaced (step_words step) (words_some step) (step_words_are_plain v step h)) ∙ step_again v step h
-
--- what is read as a step is written for it
-pub text_takes : (v : Version) (line : List ℕ) (step : Step) → step_of v line ≡ Some step → (line ≡ step_text step) × IsSpelled v step
-text_takes v line step e =
-    let s = step_takes v (words_of line) step e in
-    (sym (spaced-words_of line) ∙ ap spaced s.words_are, s.is_spelled)
 
 -- ---- where a line ends
 
@@ -220,32 +209,3 @@ one_line_lem v w a b x y h k e =
     let first = text_again Two a (in_two v a h) in
     let second = text_again Two b (in_two w b k) in
     (same_step a b (sym first ∙ ap (step_of Two) lines.0 ∙ second), lines.1)
-
--- ---- what reading a line gives
-
-pub found_step : (v : Version) (line : List ℕ) (r : Result (Option Step) AllocError) → IfOk r (λ found. found ≡ step_of v line) → IfOk r (λ found. IfSome found (λ step. IsSpelled v step))
-found_step v line (Ok None) h = tt
-found_step v line (Ok (Some s)) h = (text_takes v line s (sym h)).1
-found_step v line (Err e) h = tt
-
-pub found_text : (v : Version) (line : List ℕ) (r : Result (Option Step) AllocError) → IfOk r (λ found. found ≡ step_of v line) → IfOk r (λ found. IfSome found (λ step. line ≡ step_text step))
-found_text v line (Ok None) h = tt
-found_text v line (Ok (Some s)) h = (text_takes v line s (sym h)).0
-found_text v line (Err e) h = tt
-
-apart : (s : Step) → None ≡ some_step s → ⊥
-apart s e = cc
-
-pub found_none : (v : Version) (line : List ℕ) (r : Result (Option Step) AllocError) → IfOk r (λ found. found ≡ step_of v line) → IfOk r (λ found. IfNone found ((s : Step) → IsSpelled v s → line ≡ step_text s → ⊥))
-found_none v line (Ok None) h = λ s spelled same. apart s (h ∙ ap (step_of v) same ∙ text_again v s spelled)
-found_none v line (Ok (Some s)) h = tt
-found_none v line (Err e) h = tt
-
--- ---- the last line
-
-pub false_true : false ≡ true → ⊥
-false_true e = cc
-
-pub no_end : (line : List ℕ) → bytes_eq line (codes "e closed") ≡ false → bytes_eq line (codes "e open") ≡ false → (closed : Bool) → line ++ 10 ∷ [] ≡ end_line closed → ⊥
-no_end line h k true e = false_true (sym h ∙ (bytes_eq-Decides line (codes "e closed")).1 (same_from_push line (codes "e closed") 10 10 e).0)
-no_end line h k false e = false_true (sym k ∙ (bytes_eq-Decides line (codes "e open")).1 (same_from_push line (codes "e open") 10 10 e).0)

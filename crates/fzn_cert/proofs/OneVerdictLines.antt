@@ -7,8 +7,7 @@ use Rattle.fzn_cert.specs.declared.limits.TheConstants.{LINE_LIMIT}
 use Rattle.fzn_cert.specs.declared.refusal.Refusal.{Refusal}
 use Rattle.fzn_cert.specs.declared.refusal.Refusal.TheVariants.{Truncated, LineTooLong}
 use Rattle.fzn_cert.specs.Stream.{BeginsWithLine, IsTruncated, IsTooLong}
-use Rattle.fzn_cert.proofs.StepLaws.{and_true}
-use Rattle.fzn_cert.proofs.LineLaws.{IsInside, is_inside, same_lines}
+use Rattle.fzn_cert.proofs.LineLaws.{and_true, IsInside, is_inside, same_lines}
 
 -- the text before the first line feed
 pub record IsLine (bytes text rest : List ℕ) : Type 0 where

@@ -1,12 +1,11 @@
 pub mod Accepted
-pub mod Input
-pub mod Lines
 pub mod Parts
 pub mod Past
-pub mod Reader
 pub mod Reading
 pub mod Sound
 pub mod Spelling
 pub mod Stream
+pub mod Text
 pub mod Verdict
+pub mod Words
 pub mod Writer

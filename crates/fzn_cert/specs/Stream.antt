@@ -1,5 +1,6 @@
 -- What the next line of a certificate is, and which fault it has.
-use Rattle.std.specs.Prelude.{◌≡◌, ◌⊎◌, ℕ, ◌+◌, ◌≤◌, Bool, List, ◌∷◌, [], ◌++◌, length, Option, Some}
+use Rattle.std.specs.Prelude.{◌≡◌, ◌⊎◌, ℕ, ◌+◌, ◌≤◌, ◌==◌, Bool, true, not, List, ◌∷◌, [], ◌++◌, length, Option, Some}
+use Rattle.std.specs.List.{list_all}
 use Rattle.std.specs.Io.KnownBytes.{Consumes, IsAtEnd}
 use Rattle.fzn_cert.specs.declared.fault.CertFault.{CertFault}
 use Rattle.fzn_cert.specs.declared.fault.FaultKind.{FaultKind}
@@ -8,7 +9,10 @@ use Rattle.fzn_cert.specs.declared.limits.TheConstants.{LINE_LIMIT}
 use Rattle.fzn_cert.specs.declared.step.Step.{Step}
 use Rattle.fzn_cert.specs.declared.step.Version.{Version}
 use Rattle.fzn_cert.specs.Spelling.{step_text, end_line, version_text, counts_text, IsSized, HasLine}
-use Rattle.fzn_cert.specs.Input.{HasNoLineFeed}
+
+-- no byte is a line feed
+abbrev pub HasNoLineFeed : List ℕ → Type 0
+HasNoLineFeed text = list_all (λ b. not (b == 10)) text ≡ true
 
 -- the bytes begin with this line, which keeps the limit, and its line feed
 pub record BeginsWithLine (left : Option (List ℕ)) (text : List ℕ) : Type 0 where

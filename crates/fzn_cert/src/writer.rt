@@ -50,7 +50,7 @@ impl<'w, W: Write> StepWriter<'w, W> {
         }
     }
 
-    /// Writes the first two lines of version 1.
+    /// Writes the first two lines of version 1, with counts of at most 18 digits. Its faults are `Memory` and `Write`.
     pub fn new(
         alloc: Global,
         out: &'w mut W,
@@ -67,7 +67,7 @@ impl<'w, W: Write> StepWriter<'w, W> {
         StepWriter::with_version(alloc, out, Version::One, variables, constraints)
     }
 
-    /// Writes the first two lines.
+    /// Writes the first two lines, with counts of at most 18 digits. Its faults are `Memory` and `Write`.
     pub fn with_version(
         alloc: Global,
         out: &'w mut W,
@@ -87,7 +87,8 @@ impl<'w, W: Write> StepWriter<'w, W> {
         Ok(writer)
     }
 
-    /// Writes the first two lines.
+    /// Writes the first two lines, with counts of at most 18 digits. Its faults are `Memory` and `Write`, and `Failed` after an
+    /// earlier call.
     pub fn begin(
         &mut self,
         alloc: Global,
@@ -121,7 +122,8 @@ impl<'w, W: Write> StepWriter<'w, W> {
         Ok(())
     }
 
-    /// Writes the line of a step.
+    /// Writes the line of a step. Its faults are `Memory` and `Write`, `StepTooLong` where the line has more than `LINE_LIMIT` bytes or
+    /// `LAST_STEP` steps were written, and `Failed` before the first two lines and after a fault or the last line.
     pub fn write(&mut self, alloc: Global, step: &Step) -> Result<(), FaultKind>
         requires { IsSpelled (version_of self.old) step.now }
         ensures ok { OnOk result (Appends (contents_of W.contents self.old) (contents_of W.contents self.new) (step_line step.now)) }
@@ -150,7 +152,7 @@ impl<'w, W: Write> StepWriter<'w, W> {
         Ok(())
     }
 
-    /// Flushes the writer below.
+    /// Flushes the writer below. Its faults are `Write` and `Failed`.
     pub fn flush(&mut self) -> Result<(), FaultKind>
         ensures kept { Keeps (contents_of W.contents self.old) (contents_of W.contents self.new) }
         ensures ok { OnOk result ((stage_of self.new ≡ Open) × (step_count self.new ≡ step_count self.old)) }
@@ -169,7 +171,7 @@ impl<'w, W: Write> StepWriter<'w, W> {
         }
     }
 
-    /// Writes the last line, and flushes the writer below.
+    /// Writes the last line, and flushes the writer below. Its faults are `Write` and `Failed`.
     #[tactic(auto, using(crate::proofs::WriteLaws::AppendsFront_whole))]
     pub fn finish(&mut self, closed: bool) -> Result<(), FaultKind>
         ensures ok { OnOk result (Appends (contents_of W.contents self.old) (contents_of W.contents self.new) (end_line closed)) }

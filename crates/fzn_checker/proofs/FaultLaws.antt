@@ -15,7 +15,7 @@ use Rattle.fzn_cert.specs.Spelling.{step_line, end_line, IsHeader}
 use Rattle.fzn_cert.specs.Stream.{After, IsFaultOf, IsHeaderFault, IsTrailedBy, line_of}
 use Rattle.fzn_cert.specs.Past.{Past}
 use Rattle.fzn_cert.specs.Accepted.{after}
-use Rattle.fzn_cert.specs.Reader.{Progress, lines_read, Gives, Ends, IsNextFault, Finds}
+use Rattle.fzn_cert_reader.specs.Reader.{Progress, lines_read, Gives, Ends, IsNextFault, Finds}
 use Rattle.fzn_cert.specs.Verdict.{Outcome, accepted, refused, BeginsWith, VerdictFrom, VerdictOn}
 use Rattle.fzn_cert.proofs.VerdictLaws.{verdict-ends}
 use Rattle.fzn_checker.specs.declared.fault.CheckFault.{CheckFault}

@@ -18,7 +18,7 @@ use Rattle.fzn_cert.specs.Spelling.{step_line, end_line, version_text, counts_te
 use Rattle.fzn_cert.specs.Stream.{After}
 use Rattle.fzn_cert.specs.Past.{Past, start}
 use Rattle.fzn_cert.specs.Accepted.{HasFault, after}
-use Rattle.fzn_cert.specs.Reader.{Progress, lines_read, Gives, Ends}
+use Rattle.fzn_cert_reader.specs.Reader.{Progress, lines_read, Gives, Ends}
 use Rattle.fzn_cert.specs.Verdict.{Outcome, accepted, refused, lines_of, MayEnd, EndsIn, VerdictFrom, header_of, VerdictOn}
 use Rattle.fzn_cert.proofs.VerdictLaws.{verdict-ends, verdict-step}
 use Rattle.fzn_checker.specs.Judged.{IsBound, HasBounds}

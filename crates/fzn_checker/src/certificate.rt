@@ -10,7 +10,7 @@ use crate::given::Given;
 use crate::history::History;
 use crate::next::next_step;
 use crate::steps::take_step;
-use fzn_cert::StepReader;
+use fzn_cert_reader::StepReader;
 use fzn_domain::{Domain, Memory};
 use fzn_list::Items;
 use fzn_meaning::{Model, Var};

@@ -1,13 +1,14 @@
 // The next line of a certificate.
 ghost use Rattle.std.specs.Prelude.{◌≡◌, ◌↔◌, ◌+◌, ◌≤◌, IfOk, IfErr, IfSome, IfNone, IsTrue};
-ghost use Rattle.fzn_cert.specs.Reader.{progress};
+ghost use Rattle.fzn_cert_reader.specs.Reader.{progress};
 ghost use Rattle.fzn_cert.specs.Spelling.{IsHeader};
 ghost use Rattle.fzn_checker.specs.Checked.{IsFaultWhere, HasCounts, Standing, IsMidway, Offers, Accepts, IsReadFault};
 ghost use Rattle.fzn_checker.specs.Faults.{may_end, fault_after};
 
 use crate::fault::CheckFault;
 use crate::history::History;
-use fzn_cert::{CertFault, FaultKind, Refusal, Step, StepReader};
+use fzn_cert::{CertFault, FaultKind, Refusal, Step};
+use fzn_cert_reader::StepReader;
 use fzn_meaning::Model;
 use std::alloc::Global;
 use std::io::Read;

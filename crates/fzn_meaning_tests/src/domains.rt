@@ -22,6 +22,7 @@ fn a_range(rt: HostRuntime) -> Result<(), Fail> {
     assert_eq!(rt; domain.above(i64::MIN), Some(3));
     assert_eq!(rt; domain.above(4), Some(5));
     assert_eq!(rt; domain.above(7), None);
+    assert_eq!(rt; (domain.below(i64::MAX), domain.below(3)), (Some(7), None));
     assert!(rt; Domain::range(rt.alloc(), 5, 3)?.is_empty());
     Ok(())
 }
@@ -64,7 +65,7 @@ fn a_wide_range(rt: HostRuntime) -> Result<(), Fail> {
     assert_eq!(rt; domain.len(), 2_000_000_001);
     assert!(rt; domain.restrict(lit(Op::NotEqual, 0))?);
     assert_eq!(rt; domain.len(), 2_000_000_000);
-    assert_eq!(rt; domain.above(-1), Some(1));
+    assert_eq!(rt; (domain.above(-1), domain.below(1)), (Some(1), Some(-1)));
     assert!(rt; domain.restrict(lit(Op::Equal, 5))?);
     assert_eq!(rt; domain.len(), 1);
     Ok(())

@@ -19,33 +19,32 @@ use Rattle.fzn_meaning.specs.declared.model.OutputItem.{OutputItem}
 use Rattle.fzn_meaning.specs.WellFormed.{IsOutputItem}
 use Rattle.fzn_domain.specs.declared.literal.VarId.{VarId}
 use Rattle.fzn_lexer.specs.declared.token.Place.{Place}
-use Rattle.fzn_parser.specs.declared.tree.Ann.{Ann}
-use Rattle.fzn_names.specs.Declarations.{set_types, wanted_of, added_by_entries, added_by, passes, array_faults, var_faults, declared_var, vars_faults, names_from, names_of, declaration_faults}
+use Rattle.fzn_tree.specs.declared.tree.Ann.{Ann}
+use Rattle.fzn_names.specs.Declarations.{declared_var, vars_faults, names_from, names_of, declaration_faults}
+use Rattle.fzn_names.specs.Faults.{set_types, wanted_of, added_by_entries, added_by, passes, array_faults, var_faults}
 use Rattle.fzn_names.specs.Params.{set_elements, set_values, wanted_by, wrong_values, wrong_lengths, param_faults, kind_by, param_value, declared_param, params_faults, param_names}
-use Rattle.fzn_names.specs.Types.{repeated, fits, sets_in, unknown_in, wrong_literals, wrong_in}
-use Rattle.fzn_names.specs.Limits.{IsLiteralWithin, IsBasicWithin, IsParamValueWithin, IsParamWithin, IsVarWithin, AreDeclarationsWithin}
-use Rattle.fzn_names.specs.Places.{when, at, place_of_literal}
-use Rattle.fzn_names.specs.Values.{NameList, literal_value, value_term, terms_of}
-use Rattle.fzn_names.specs.Variables.{kind_of, values_of, vars_of}
-use Rattle.fzn_names.specs.declared.names.Declared.{Declared}
-use Rattle.fzn_names.specs.declared.names.Declared.TheVariants as d
-use Rattle.fzn_names.proofs.FirstLemmas.{left_empty, right_empty, at-empty}
-use Rattle.fzn_parser.specs.declared.tree.ArrayVar.{ArrayVar}
-use Rattle.fzn_parser.specs.declared.tree.Base.{Base}
-use Rattle.fzn_parser.specs.declared.tree.Base.TheVariants as bases
-use Rattle.fzn_parser.specs.declared.tree.Literal.{Literal}
-use Rattle.fzn_parser.specs.declared.tree.Literal.TheVariants as l
-use Rattle.fzn_parser.specs.declared.tree.Param.{Param}
-use Rattle.fzn_parser.specs.declared.tree.ParamBase.{ParamBase}
-use Rattle.fzn_parser.specs.declared.tree.ParamBase.TheVariants as p
-use Rattle.fzn_parser.specs.declared.tree.ParamValue.{ParamValue}
-use Rattle.fzn_parser.specs.declared.tree.ParamValue.TheVariants as v
-use Rattle.fzn_parser.specs.declared.tree.Size.{Size}
-use Rattle.fzn_parser.specs.declared.tree.Var.{Var}
-use Rattle.fzn_parser.specs.declared.tree.Var.TheVariants as vars
+use Rattle.fzn_tree.specs.declared.tree.ArrayVar.{ArrayVar}
+use Rattle.fzn_tree.specs.declared.tree.Base.{Base}
+use Rattle.fzn_tree.specs.declared.tree.Base.TheVariants as bases
+use Rattle.fzn_tree.specs.declared.tree.Literal.{Literal}
+use Rattle.fzn_tree.specs.declared.tree.Literal.TheVariants as l
+use Rattle.fzn_tree.specs.declared.tree.Param.{Param}
+use Rattle.fzn_tree.specs.declared.tree.ParamBase.{ParamBase}
+use Rattle.fzn_tree.specs.declared.tree.ParamBase.TheVariants as p
+use Rattle.fzn_tree.specs.declared.tree.ParamValue.{ParamValue}
+use Rattle.fzn_tree.specs.declared.tree.ParamValue.TheVariants as v
+use Rattle.fzn_tree.specs.declared.tree.Size.{Size}
+use Rattle.fzn_tree.specs.declared.tree.Var.{Var}
+use Rattle.fzn_tree.specs.declared.tree.Var.TheVariants as vars
 use Rattle.fzn_registry.specs.declared.signature.Argument.TheVariants.{BooleanConstant}
-use Rattle.fzn_names.proofs.ValueSetLemmas.{bit_in_range, none_limited}
-use Rattle.fzn_names.proofs.MeaningLemmas.{IsMeaning, AreMeanings, constants_meaning, array_meaning, literal_meaning, when_not, terms_of-within, boolean_terms}
+use Rattle.fzn_symbols.specs.Types.{repeated, fits, sets_in, unknown_in, wrong_literals, wrong_in}
+use Rattle.fzn_symbols.specs.Limits.{IsLiteralWithin, IsBasicWithin, IsParamValueWithin, IsParamWithin, IsVarWithin, AreDeclarationsWithin}
+use Rattle.fzn_symbols.specs.Places.{when, at, place_of_literal}
+use Rattle.fzn_symbols.specs.Values.{NameList, literal_value, value_term, terms_of}
+use Rattle.fzn_symbols.specs.Variables.{kind_of, values_of, vars_of}
+use Rattle.fzn_symbols.specs.declared.names.Declared.{Declared}
+use Rattle.fzn_symbols.specs.declared.names.Declared.TheVariants as d
+use Rattle.fzn_symbols.proofs.CallerLemmas.{left_empty, right_empty, at-empty, bit_in_range, none_limited, IsMeaning, AreMeanings, constants_meaning, array_meaning, literal_meaning, when_not, terms_of-within, boolean_terms}
 
 -- ---- parameters
 

@@ -4,7 +4,7 @@ use Rattle.fzn_lexer.specs.declared.fault.Fault.{Fault}
 use Rattle.fzn_lexer.specs.declared.fault.ReadError.{ReadError}
 use Rattle.fzn_lexer.specs.declared.fault.ReadError.TheVariants as errors
 use Rattle.fzn_names.specs.Given.{Gives}
-use Rattle.fzn_names.proofs.FirstLemmas.{first-append_some}
+use Rattle.fzn_symbols.proofs.CallerLemmas.{first-append_some}
 
 pub err_is : {A : Type 0} (result : Result A ReadError) (e : ReadError) → IsErrAnd result (λ x. x ≡ e) → result ≡ Err e
 err_is (Ok value) e h = absurd h

@@ -1,10 +1,8 @@
 pub mod DeclaredLemmas
-pub mod FirstLemmas
 pub mod FlagLemmas
 pub mod GivesLemmas
-pub mod MeaningLemmas
-pub mod NameLemmas
 pub mod SizeLemmas
 pub mod StepLemmas
-pub mod ValueSetLemmas
-pub mod VarLemmas
+pub use Rattle.fzn_symbols.proofs.FirstLemmas
+pub use Rattle.fzn_symbols.proofs.MeaningLemmas
+pub use Rattle.fzn_symbols.proofs.ValueSetLemmas

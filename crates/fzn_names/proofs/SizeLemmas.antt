@@ -4,8 +4,8 @@ use Rattle.fzn_domain.specs.IntSet.{width}
 use Rattle.fzn_meaning.specs.declared.model.IndexRange.{IndexRange}
 use Rattle.fzn_names.specs.Annotations.{range_of, ranges_in, size_of}
 use Rattle.fzn_names.specs.Capped.{capped}
-use Rattle.fzn_parser.specs.declared.tree.Ann.{Ann}
-use Rattle.fzn_parser.specs.declared.tree.AnnTerm.{AnnTerm}
+use Rattle.fzn_tree.specs.declared.tree.Ann.{Ann}
+use Rattle.fzn_tree.specs.declared.tree.AnnTerm.{AnnTerm}
 
 split : (p : ℕ) → (p ≤ 100001) ⊎ (100001 < p)
 split p = grind arith

@@ -5,22 +5,23 @@ use Rattle.fzn_lexer.specs.declared.fault.Fault.{Fault}
 use Rattle.fzn_lexer.specs.declared.fault.FaultKind.TheVariants.{SetRefused, UnboundedInt, DuplicateName, UnknownName, «Type» as WrongType, Length, TooMany, OutputAnnotation}
 use Rattle.fzn_meaning.specs.Meaning.{longest}
 use Rattle.fzn_names.specs.Annotations.{is_bad_mark, is_bad_array_mark, mark_faults}
-use Rattle.fzn_names.specs.Declarations.{set_types, unbounded_types, wanted_of, unknown_values, wrong_written, added_by_value, added_by_entries, added_by, passes, single_faults, array_faults, var_faults, name_of, var_value, declared_var, number_after, vars_faults, names_from}
+use Rattle.fzn_names.specs.Declarations.{name_of, var_value, declared_var, number_after, vars_faults, names_from}
+use Rattle.fzn_names.specs.Faults.{set_types, unbounded_types, wanted_of, unknown_values, wrong_written, added_by_value, added_by_entries, added_by, passes, single_faults, array_faults, var_faults}
 use Rattle.fzn_names.specs.Params.{set_elements, set_values, wanted_by, wrong_values, wrong_lengths, param_faults, param_value, declared_param, params_faults, param_names}
-use Rattle.fzn_names.specs.Types.{repeated, sets_in, unknown_in, wrong_in}
 use Rattle.fzn_meaning.specs.declared.model.OutputItem.{OutputItem}
 use Rattle.fzn_names.specs.Outputs.{items_of, shown_from}
-use Rattle.fzn_names.specs.Places.{first, when, at}
-use Rattle.fzn_names.specs.Values.{NameList, meaning_of}
-use Rattle.fzn_names.specs.Variables.{kind_of, vars_of}
-use Rattle.fzn_names.specs.declared.names.Declared.{Declared}
-use Rattle.fzn_names.proofs.FirstLemmas.{first-append_none, empty-first, left_empty, right_empty, at-empty}
-use Rattle.fzn_parser.specs.declared.tree.ArrayVar.{ArrayVar}
-use Rattle.fzn_parser.specs.declared.tree.Name.{Name}
-use Rattle.fzn_parser.specs.declared.tree.Param.{Param}
-use Rattle.fzn_parser.specs.declared.tree.SingleVar.{SingleVar}
-use Rattle.fzn_parser.specs.declared.tree.Var.{Var}
-use Rattle.fzn_parser.specs.declared.tree.Var.TheVariants as vars
+use Rattle.fzn_tree.specs.declared.tree.ArrayVar.{ArrayVar}
+use Rattle.fzn_tree.specs.declared.tree.Name.{Name}
+use Rattle.fzn_tree.specs.declared.tree.Param.{Param}
+use Rattle.fzn_tree.specs.declared.tree.SingleVar.{SingleVar}
+use Rattle.fzn_tree.specs.declared.tree.Var.{Var}
+use Rattle.fzn_tree.specs.declared.tree.Var.TheVariants as vars
+use Rattle.fzn_symbols.specs.Types.{repeated, sets_in, unknown_in, wrong_in}
+use Rattle.fzn_symbols.specs.Places.{first, when, at}
+use Rattle.fzn_symbols.specs.Values.{NameList, meaning_of}
+use Rattle.fzn_symbols.specs.Variables.{kind_of, vars_of}
+use Rattle.fzn_symbols.specs.declared.names.Declared.{Declared}
+use Rattle.fzn_symbols.proofs.CallerLemmas.{first-append_none, empty-first, left_empty, right_empty, at-empty}
 
 -- ---- lists
 

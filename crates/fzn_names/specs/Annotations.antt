@@ -4,12 +4,12 @@ use Rattle.std.specs.List.{list_any, list_all, filter_map}
 use Rattle.fzn_domain.specs.IntSet.{width}
 use Rattle.fzn_lexer.specs.declared.token.Place.{Place}
 use Rattle.fzn_meaning.specs.declared.model.IndexRange.{IndexRange}
-use Rattle.fzn_parser.specs.declared.tree.Ann.{Ann, out-Ann}
-use Rattle.fzn_parser.specs.declared.tree.AnnArg.{AnnArg}
-use Rattle.fzn_parser.specs.declared.tree.AnnArg.TheVariants as a
-use Rattle.fzn_parser.specs.declared.tree.AnnTerm.{AnnTerm}
-use Rattle.fzn_parser.specs.declared.tree.AnnTerm.TheVariants as t
-use Rattle.fzn_parser.specs.declared.tree.Literal.TheVariants as l
+use Rattle.fzn_tree.specs.declared.tree.Ann.{Ann, out-Ann}
+use Rattle.fzn_tree.specs.declared.tree.AnnArg.{AnnArg}
+use Rattle.fzn_tree.specs.declared.tree.AnnArg.TheVariants as a
+use Rattle.fzn_tree.specs.declared.tree.AnnTerm.{AnnTerm}
+use Rattle.fzn_tree.specs.declared.tree.AnnTerm.TheVariants as t
+use Rattle.fzn_tree.specs.declared.tree.Literal.TheVariants as l
 
 abbrev pub is_output_var : Ann → Bool
 is_output_var ann = bytes_eq (out-Ann ann).name.text (codes "output_var")

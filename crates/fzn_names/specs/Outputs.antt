@@ -7,14 +7,14 @@ use Rattle.fzn_meaning.specs.declared.model.OutputItem.TheVariants as items
 use Rattle.fzn_meaning.specs.declared.term.Term.TheVariants as terms
 use Rattle.fzn_names.specs.Annotations.{is_marked, is_array_mark, ranges_in, listed_terms}
 use Rattle.fzn_names.specs.Declarations.{number_after}
-use Rattle.fzn_names.specs.Places.{when}
-use Rattle.fzn_names.specs.Values.{NameList, terms_of}
-use Rattle.fzn_names.specs.Variables.{kind_of}
-use Rattle.fzn_parser.specs.declared.tree.Ann.{Ann, out-Ann}
-use Rattle.fzn_parser.specs.declared.tree.ArrayVar.{ArrayVar}
-use Rattle.fzn_parser.specs.declared.tree.SingleVar.{SingleVar}
-use Rattle.fzn_parser.specs.declared.tree.Var.{Var}
-use Rattle.fzn_parser.specs.declared.tree.Var.TheVariants as vars
+use Rattle.fzn_tree.specs.declared.tree.Ann.{Ann, out-Ann}
+use Rattle.fzn_tree.specs.declared.tree.ArrayVar.{ArrayVar}
+use Rattle.fzn_tree.specs.declared.tree.SingleVar.{SingleVar}
+use Rattle.fzn_tree.specs.declared.tree.Var.{Var}
+use Rattle.fzn_tree.specs.declared.tree.Var.TheVariants as vars
+use Rattle.fzn_symbols.specs.Places.{when}
+use Rattle.fzn_symbols.specs.Values.{NameList, terms_of}
+use Rattle.fzn_symbols.specs.Variables.{kind_of}
 
 abbrev pub single_item : ℕ → SingleVar → OutputItem
 single_item number var = items.Single var.name.text (kind_of var.base) (record { 0 = number })

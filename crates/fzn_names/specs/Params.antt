@@ -5,19 +5,19 @@ use Rattle.fzn_lexer.specs.declared.fault.FaultKind.TheVariants.{SetRefused, Dup
 use Rattle.fzn_lexer.specs.declared.token.Place.{Place}
 use Rattle.fzn_meaning.specs.declared.model.Kind.{Kind}
 use Rattle.fzn_meaning.specs.declared.model.Kind.TheVariants as k
-use Rattle.fzn_names.specs.Places.{when, at, place_of_literal}
-use Rattle.fzn_names.specs.Types.{set_literals, wrong_literals, repeated}
-use Rattle.fzn_names.specs.Values.{NameList, literal_value, value_term}
-use Rattle.fzn_names.specs.declared.names.Declared.{Declared}
-use Rattle.fzn_names.specs.declared.names.Declared.TheVariants.{Constants}
-use Rattle.fzn_parser.specs.declared.tree.Param.{Param}
-use Rattle.fzn_parser.specs.declared.tree.ParamBase.{ParamBase}
-use Rattle.fzn_parser.specs.declared.tree.ParamBase.TheVariants as p
-use Rattle.fzn_parser.specs.declared.tree.ParamValue.{ParamValue}
-use Rattle.fzn_parser.specs.declared.tree.ParamValue.TheVariants as v
-use Rattle.fzn_parser.specs.declared.tree.Size.{Size}
+use Rattle.fzn_tree.specs.declared.tree.Param.{Param}
+use Rattle.fzn_tree.specs.declared.tree.ParamBase.{ParamBase}
+use Rattle.fzn_tree.specs.declared.tree.ParamBase.TheVariants as p
+use Rattle.fzn_tree.specs.declared.tree.ParamValue.{ParamValue}
+use Rattle.fzn_tree.specs.declared.tree.ParamValue.TheVariants as v
+use Rattle.fzn_tree.specs.declared.tree.Size.{Size}
 use Rattle.fzn_registry.specs.declared.signature.Argument.{Argument}
 use Rattle.fzn_registry.specs.declared.signature.Argument.TheVariants.{IntegerConstant, BooleanConstant, Set}
+use Rattle.fzn_symbols.specs.Places.{when, at, place_of_literal}
+use Rattle.fzn_symbols.specs.Types.{set_literals, wrong_literals, repeated}
+use Rattle.fzn_symbols.specs.Values.{NameList, literal_value, value_term}
+use Rattle.fzn_symbols.specs.declared.names.Declared.{Declared}
+use Rattle.fzn_symbols.specs.declared.names.Declared.TheVariants.{Constants}
 
 -- ---- faults
 

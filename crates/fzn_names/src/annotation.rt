@@ -3,16 +3,16 @@ ghost use Rattle.std.specs.Prelude.{◌≡◌, ◌≤◌, ◌*◌, List, ◌∷�
 ghost use Rattle.std.specs.List.{list_all};
 ghost use Rattle.fzn_domain.specs.IntSet.{width};
 ghost use Rattle.fzn_meaning.specs.Meaning.{longest};
-ghost use Rattle.fzn_names.specs.Places.{first};
 ghost use Rattle.fzn_names.specs.Annotations.{has_no_args, is_output_var, is_output_array, is_output, is_mark, is_marked, is_bad_mark, range_of, ranges_in, size_of, have_form, listed_terms, is_array_mark, is_bad_array_mark, place_of_ann, mark_faults};
 ghost use Rattle.fzn_names.specs.Capped.{capped};
-ghost use Rattle.fzn_parser.specs.declared.tree.Ann.{Ann, out-Ann};
-ghost use Rattle.fzn_parser.specs.declared.tree.AnnTerm.{AnnTerm};
+ghost use Rattle.fzn_tree.specs.declared.tree.Ann.{Ann, out-Ann};
+ghost use Rattle.fzn_tree.specs.declared.tree.AnnTerm.{AnnTerm};
+ghost use Rattle.fzn_symbols.specs.Places.{first};
 
 use fzn_lexer::Place;
 use fzn_list::Items;
 use fzn_meaning::IndexRange;
-use fzn_parser::{Ann, AnnArg, AnnTerm, Literal};
+use fzn_tree::{Ann, AnnArg, AnnTerm, Literal};
 use std::alloc::{AllocError, Global};
 
 fn has_no_args(args: &Option<Items<AnnArg<Ann>>>) -> bool
@@ -227,7 +227,7 @@ fn first_bad_array_mark(count: usize, mut anns: &[Ann]) -> Option<Place>
 }
 
 /// The first fault of the annotations of a single variable.
-#[tactic(auto, using(crate::proofs::FirstLemmas::firsts))]
+#[tactic(auto, using(fzn_symbols::proofs::CallerLemmas::firsts))]
 pub fn mark_fault(anns: &[Ann]) -> Option<Place>
     ensures { result ≡ first (mark_faults is_bad_mark anns.now) }
 {
@@ -238,7 +238,7 @@ pub fn mark_fault(anns: &[Ann]) -> Option<Place>
 }
 
 /// The first fault of the annotations of an array with this many entries.
-#[tactic(auto, using(crate::proofs::FirstLemmas::firsts))]
+#[tactic(auto, using(fzn_symbols::proofs::CallerLemmas::firsts))]
 pub fn array_mark_fault(count: usize, anns: &[Ann]) -> Option<Place>
     requires { count ≤ longest }
     ensures { result ≡ first (mark_faults (is_bad_array_mark count) anns.now) }

@@ -1,21 +1,20 @@
 // The parameters of a file.
 ghost use Rattle.std.specs.Prelude.{◌≡◌, [], ◌++◌, flat_map, IfOk};
 ghost use Rattle.std.specs.List.{All};
-ghost use Rattle.fzn_names.specs.Known.{known};
 ghost use Rattle.fzn_names.specs.Given.{Gives};
-ghost use Rattle.fzn_names.specs.Limits.{IsLiteralWithin, IsParamWithin};
-ghost use Rattle.fzn_names.specs.Places.{first};
-ghost use Rattle.fzn_names.specs.Types.{set_literals, wrong_literals};
-ghost use Rattle.fzn_names.specs.Values.{literal_value};
 ghost use Rattle.fzn_names.specs.Params.{set_elements, set_values, wanted_by, wrong_values, wrong_lengths, param_faults, kind_by, param_value, params_faults, param_names};
+ghost use Rattle.fzn_symbols.specs.Known.{known};
+ghost use Rattle.fzn_symbols.specs.Limits.{IsLiteralWithin, IsParamWithin};
+ghost use Rattle.fzn_symbols.specs.Places.{first};
+ghost use Rattle.fzn_symbols.specs.Types.{set_literals, wrong_literals};
+ghost use Rattle.fzn_symbols.specs.Values.{literal_value};
 
-use crate::names::{Declared, Names};
-use crate::value::{literal_terms, place_of_literal, set_literal, wrong_literal};
 use fzn_domain::Domain;
 use fzn_lexer::{Fault, FaultKind, Place, ReadError};
 use fzn_meaning::Kind;
-use fzn_parser::{Literal, Param, ParamBase, ParamValue, Size};
 use fzn_registry::Argument;
+use fzn_symbols::{Declared, Names, literal_terms, place_of_literal, set_literal, wrong_literal};
+use fzn_tree::{Literal, Param, ParamBase, ParamValue, Size};
 use std::alloc::{AllocError, Global};
 
 // ---- faults
@@ -29,7 +28,7 @@ fn set_element(size: &Option<Size>, base: ParamBase) -> Option<Place>
     }
 }
 
-#[tactic(auto, using(crate::proofs::FirstLemmas::firsts))]
+#[tactic(auto, using(fzn_symbols::proofs::CallerLemmas::firsts))]
 fn first_set_literal(mut literals: &[Literal]) -> Option<Place>
     ensures { result ≡ first (flat_map set_literals literals.now) }
 {
@@ -51,7 +50,7 @@ fn set_value(value: &ParamValue) -> Option<Place>
     }
 }
 
-#[tactic(auto, using(crate::proofs::FirstLemmas::firsts))]
+#[tactic(auto, using(fzn_symbols::proofs::CallerLemmas::firsts))]
 fn refused_set(param: &Param) -> Option<Place>
     ensures { result ≡ first (set_elements param.now.size param.now.base ++ set_values param.now.value) }
 {
@@ -71,7 +70,7 @@ fn wanted_by(base: ParamBase) -> Argument
     }
 }
 
-#[tactic(auto, using(crate::proofs::FirstLemmas::firsts))]
+#[tactic(auto, using(fzn_symbols::proofs::CallerLemmas::firsts))]
 fn first_wrong_literal(wanted: Argument, mut literals: &[Literal]) -> Option<Place>
     ensures { result ≡ first (flat_map (wrong_literals wanted) literals.now) }
 {
@@ -107,7 +106,7 @@ fn wrong_length(size: &Option<Size>, value: &ParamValue) -> Option<Place>
 }
 
 /// The first fault of a parameter behind these names.
-#[tactic(auto, using(crate::proofs::FirstLemmas::firsts), unfolding(crate::specs::Params::param_faults))]
+#[tactic(auto, using(fzn_symbols::proofs::CallerLemmas::firsts), unfolding(crate::specs::Params::param_faults))]
 fn param_fault(earlier: &Names, param: &Param) -> Option<Fault>
     ensures { result ≡ first (param_faults (known earlier.now) param.now) }
 {
@@ -182,7 +181,7 @@ fn param_value(alloc: Global, param: &Param) -> Result<Declared, AllocError>
 }
 
 /// The names of the parameters, or their first fault.
-#[tactic(auto, using(crate::proofs::FirstLemmas::firsts))]
+#[tactic(auto, using(fzn_symbols::proofs::CallerLemmas::firsts))]
 pub fn param_names(alloc: Global, mut params: &[Param]) -> Result<Names, ReadError>
     requires { All IsParamWithin params.now }
     ensures { Gives (params_faults [] params.now) (λ names. known names ≡ param_names params.now) result }

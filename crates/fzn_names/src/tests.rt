@@ -2,20 +2,21 @@
 // `int: k = 3; set of int: s = {2}; var 1..3: x :: output_var = k; array [1..2] of var int: q = [x, 5];`
 ghost use Rattle.std.specs.Prelude.{◌≡◌, ◌≤◌, [], ◌∷◌, length, IfOk};
 ghost use Rattle.std.specs.List.{All};
-ghost use Rattle.fzn_names.specs.Limits.{AreValuesWithin, IsParamWithin, IsVarWithin};
-ghost use Rattle.fzn_parser.specs.declared.tree.Var.TheVariants as vars;
-ghost use Rattle.fzn_names.specs.Variables.{vars_of};
+ghost use Rattle.fzn_tree.specs.declared.tree.Var.TheVariants as vars;
+ghost use Rattle.fzn_symbols.specs.Limits.{AreValuesWithin, IsParamWithin, IsVarWithin};
+ghost use Rattle.fzn_symbols.specs.Variables.{vars_of};
 
 use super::*;
 use fzn_domain::VarId;
 use fzn_lexer::{FaultKind, Place, ReadError};
 use fzn_list::{Items, Text};
 use fzn_meaning::{Kind, OutputItem, Term};
-use fzn_parser::{
+use fzn_registry::Argument;
+use fzn_symbols::{literal_terms, place_of_literal, set_literal, wrong_literal};
+use fzn_tree::{
     Ann, Array, ArrayVar, Base, Basic, Int, Listed, Literal, Name, Param, ParamBase, ParamValue,
     Range, SingleVar, Size, Values, Var,
 };
-use fzn_registry::Argument;
 use std::alloc::{AllocError, Global};
 use std::test::*;
 
@@ -184,6 +185,23 @@ fn values_of_names(rt: HostRuntime) -> Result<(), Fail> {
         let terms = terms_of(alloc, &names, entries)?;
         assert_eq!(rt; terms.as_slice(), [term].as_slice(), "{letter}");
     }
+    Ok(())
+}
+
+#[test]
+fn values_of_literals(rt: HostRuntime) -> Result<(), Fail> {
+    let alloc = rt.alloc();
+    let boolean = Literal::Bool(true, X);
+    let set = Literal::Set(HERE, Listed::new(alloc, one(alloc, 2)?)?);
+    for (literal, place, fault) in [(&boolean, X, None), (&set, HERE, Some(HERE))] {
+        assert_eq!(rt; place_of_literal(literal), place);
+        assert_eq!(rt; set_literal(literal), fault);
+        assert_eq!(rt; wrong_literal(Argument::BooleanConstant, literal), fault);
+    }
+    let literals = two(alloc, boolean, set)?;
+    let terms = literal_terms(alloc, literals.as_slice())?;
+    let want = [Term::Constant(1), Term::Constant(0)];
+    assert_eq!(rt; terms.as_slice(), want.as_slice());
     Ok(())
 }
 

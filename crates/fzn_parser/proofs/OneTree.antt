@@ -1,20 +1,21 @@
 -- A list of tokens has one tree, or one fault.
-use Rattle.std.proofs.Common.{◌≡◌, ℕ, suc, ◌+◌, List, [], ◌∷◌, ◌++◌, length, Option, Some, None, Ok, Err, refl, sym, ap, subst, ◌∙◌, append_assoc, arith, inl, inr, ◌⊎◌}
+use Rattle.std.proofs.Common.{◌≡◌, ℕ, List, [], ◌∷◌, ◌++◌, length, Option, Some, Ok, Err, refl, sym, ap, subst, ◌∙◌, append_assoc, inl, inr, ◌⊎◌}
 use Rattle.fzn_lexer.specs.declared.fault.Fault.{Fault}
 use Rattle.fzn_lexer.specs.declared.fault.FaultKind.{FaultKind}
 use Rattle.fzn_lexer.specs.declared.fault.FaultKind.TheVariants.{Syntax}
 use Rattle.fzn_lexer.specs.declared.token.Place.{Place}
 use Rattle.fzn_lexer.specs.declared.token.Symbol.TheVariants.{End}
 use Rattle.fzn_lexer.specs.declared.token.Token.{Token}
-use Rattle.fzn_parser.specs.declared.tree.Tree.{Tree}
-use Rattle.fzn_parser.specs.Piece.{Piece, Fits, AreSpelled, AreWithin, sign}
-use Rattle.fzn_parser.specs.Grammar as G
+use Rattle.fzn_tree.specs.declared.tree.Tree.{Tree}
+use Rattle.fzn_tree.specs.Piece.{Piece, Fits, AreSpelled, AreWithin, sign}
+use Rattle.fzn_tree.specs.Grammar as G
+use Rattle.fzn_cursor.specs.Reading.{Outcome}
+use Rattle.fzn_cursor.proofs.Exact.{IsExact, Reads, Refuses}
+use Rattle.fzn_cursor.proofs.SpelledLaws.{AreSpelled-append, AreSpelled-split, AreWithin-split, Limited-within, SameNext-refl}
+use Rattle.fzn_cursor.proofs.NextLaws.{never, stops_never}
 use Rattle.fzn_parser.specs.Parse.{IsTree, Begins, NoneBegins, IsPast, EachIsPast, IsFault, IsReading}
-use Rattle.fzn_parser.specs.Reading.{Outcome}
-use Rattle.fzn_parser.specs.Readers as R
-use Rattle.fzn_parser.proofs.Laws.{IsExact, Reads, Refuses, AreSpelled-append, AreSpelled-split, AreWithin-split, Limited-within, SameNext-refl}
-use Rattle.fzn_parser.proofs.GrammarLaws.{never, stops_never}
 use Rattle.fzn_parser.proofs.ItemLaws.{all_exact}
+use Rattle.fzn_parser.specs.Readers as R
 
 -- ---- one tree
 

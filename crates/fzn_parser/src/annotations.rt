@@ -2,22 +2,21 @@
 
 ghost use Rattle.std.specs.Prelude.{◌<◌, ◌≤◌, length, OnOk};
 ghost use Rattle.fzn_lexer.specs.declared.token.Symbol.TheVariants.{CloseBracket, CloseParen};
-ghost use Rattle.fzn_parser.specs.Reading.{Gives};
+ghost use Rattle.fzn_cursor.specs.Reading.{Gives};
 ghost use Rattle.fzn_parser.specs.Readers as spec;
 
-use crate::cursor::{MOST, Stop, Tokens};
-use crate::lists::{Part, many};
-use crate::tree::{Ann, AnnArg, AnnTerm};
-use crate::values::literal;
+use crate::repeated::{Repeated, many};
+use fzn_cursor::{MOST, Stop, Tokens, literal};
 use fzn_lexer::{FaultKind, Symbol};
 use fzn_list::Items;
+use fzn_tree::{Ann, AnnArg, AnnTerm};
 use std::alloc::Global;
 
 /// How deep the brackets and parentheses of one annotation nest.
 const DEEPEST: usize = 64;
 
 #[cycle(ann)]
-#[tactic(auto, unfolding(crate::specs::Readers::ann, crate::specs::Readers::levels))]
+#[tactic(auto, unfolding(crate::specs::Readers::Annotations::ann, crate::specs::Readers::Annotations::levels))]
 fn ann(alloc: Global, tokens: &mut Tokens<'_>, levels: usize) -> Result<Ann, Stop>
     ensures gives { Gives (spec.ann levels tokens.old) result tokens.new }
     ensures shorter { OnOk result (length tokens.new < length tokens.old) }
@@ -65,7 +64,7 @@ fn ann_args(
 }
 
 #[cycle(ann)]
-#[tactic(auto, unfolding(crate::specs::Readers::ann_arg, crate::specs::Readers::levels, crate::specs::Readers::ann_term, crate::specs::Readers::ann))]
+#[tactic(auto, unfolding(crate::specs::Readers::Annotations::ann_arg, crate::specs::Readers::Annotations::levels, crate::specs::Readers::Annotations::ann_term, crate::specs::Readers::Annotations::ann))]
 fn ann_arg(alloc: Global, tokens: &mut Tokens<'_>, levels: usize) -> Result<AnnArg<Ann>, Stop>
     ensures gives { Gives (spec.ann_arg levels tokens.old) result tokens.new }
     ensures never_longer { length tokens.new ≤ length tokens.old }
@@ -108,7 +107,7 @@ fn ann_terms(
 
 /// The term that stands in brackets behind so many others.
 #[cycle(ann)]
-#[tactic(auto, unfolding(crate::specs::Readers::ann_term))]
+#[tactic(auto, unfolding(crate::specs::Readers::Annotations::ann_term))]
 fn ann_entry(
     alloc: Global,
     tokens: &mut Tokens<'_>,
@@ -126,7 +125,7 @@ fn ann_entry(
 }
 
 #[cycle(ann)]
-#[tactic(auto, unfolding(crate::specs::Readers::ann_term))]
+#[tactic(auto, unfolding(crate::specs::Readers::Annotations::ann_term))]
 fn ann_term(alloc: Global, tokens: &mut Tokens<'_>, levels: usize) -> Result<AnnTerm<Ann>, Stop>
     ensures gives { Gives (spec.ann_term levels tokens.old) result tokens.new }
     ensures never_longer { length tokens.new ≤ length tokens.old }
@@ -142,7 +141,7 @@ fn ann_term(alloc: Global, tokens: &mut Tokens<'_>, levels: usize) -> Result<Ann
 }
 
 /// An annotation behind its two colons.
-impl Part for Ann {
+impl Repeated for Ann {
     ghost reader = { spec.colons_ann };
 
     fn read(alloc: Global, tokens: &mut Tokens<'_>, _number: usize) -> Result<Ann, Stop> {
@@ -151,7 +150,8 @@ impl Part for Ann {
     }
 }
 
-#[tactic(auto, unfolding(crate::specs::Readers::anns))]
+/// As many annotations as there are, each behind two colons.
+#[tactic(auto, unfolding(crate::specs::Readers::Annotations::anns))]
 pub fn anns(alloc: Global, tokens: &mut Tokens<'_>) -> Result<Items<Ann>, Stop>
     ensures gives { Gives (spec.anns tokens.old) result tokens.new }
     ensures never_longer { length tokens.new ≤ length tokens.old }

@@ -1,21 +1,18 @@
 //! Parameters and variables.
 
 ghost use Rattle.std.specs.Prelude.{◌≡◌, ◌<◌, ◌≤◌, ◌++◌, ℕ, List, Option, length, OnOk, IfOk};
-ghost use Rattle.fzn_parser.specs.Grammar.{singles_with};
-ghost use Rattle.fzn_parser.specs.Reading.{Gives, made};
+ghost use Rattle.fzn_tree.specs.Grammar.{singles_with};
+ghost use Rattle.fzn_cursor.specs.Reading.{Gives, made};
 ghost use Rattle.fzn_parser.specs.Readers as spec;
 
 use crate::annotations::anns;
-use crate::cursor::{MOST, Stop, Tokens};
-use crate::lists::{Part, listed};
-use crate::tree::{ArrayVar, Basic, Literal, Param, ParamBase, ParamValue, SingleVar, Size, Var};
-use crate::types::{array_of, base};
-use crate::values::{array, basic, literal};
+use fzn_cursor::{MOST, Stop, Tokens, array, array_of, base, basic, listed, literal};
 use fzn_lexer::Symbol;
 use fzn_list::Items;
+use fzn_tree::{ArrayVar, Basic, Literal, Param, ParamBase, ParamValue, SingleVar, Size, Var};
 use std::alloc::Global;
 
-#[tactic(auto, unfolding(crate::specs::Readers::param_base))]
+#[tactic(auto, unfolding(crate::specs::Readers::Params::param_base))]
 fn param_base(tokens: &mut Tokens<'_>) -> Result<ParamBase, Stop>
     ensures gives { Gives (spec.param_base tokens.old) result tokens.new }
     ensures shorter { OnOk result (length tokens.new < length tokens.old) }
@@ -33,21 +30,7 @@ fn param_base(tokens: &mut Tokens<'_>) -> Result<ParamBase, Stop>
     Ok(ParamBase::Set(place))
 }
 
-/// An entry of a parameter that is an array.
-impl Part for Literal {
-    ghost reader = { spec.param_entry };
-
-    #[tactic(auto, unfolding(crate::specs::Readers::param_entry))]
-    fn read(alloc: Global, tokens: &mut Tokens<'_>, number: usize) -> Result<Literal, Stop> {
-        if number < MOST {
-            literal(alloc, tokens)
-        } else {
-            Err(tokens.refuse_more(tokens.sees_literal()))
-        }
-    }
-}
-
-#[tactic(auto, unfolding(crate::specs::Readers::param_value))]
+#[tactic(auto, unfolding(crate::specs::Readers::Params::param_value))]
 fn param_value(alloc: Global, tokens: &mut Tokens<'_>) -> Result<ParamValue, Stop>
     ensures gives { Gives (spec.param_value tokens.old) result tokens.new }
     ensures never_longer { length tokens.new ≤ length tokens.old }
@@ -61,7 +44,7 @@ fn param_value(alloc: Global, tokens: &mut Tokens<'_>) -> Result<ParamValue, Sto
 }
 
 /// The parameter of this size, from its type on.
-#[tactic(auto, unfolding(crate::specs::Readers::param_rest))]
+#[tactic(auto, unfolding(crate::specs::Readers::Params::param_rest))]
 fn param_rest(alloc: Global, tokens: &mut Tokens<'_>, size: Option<Size>) -> Result<Param, Stop>
     ensures gives { Gives (made (spec.param_of size) (spec.param_rest tokens.old)) result tokens.new }
     ensures shorter { OnOk result (length tokens.new < length tokens.old) }
@@ -82,7 +65,7 @@ fn param_rest(alloc: Global, tokens: &mut Tokens<'_>, size: Option<Size>) -> Res
 }
 
 /// The value that a variable is declared with, up to the semicolon.
-#[tactic(auto, unfolding(crate::specs::Readers::given))]
+#[tactic(auto, unfolding(crate::specs::Readers::Variables::given))]
 fn given(alloc: Global, tokens: &mut Tokens<'_>) -> Result<Option<Basic>, Stop>
     ensures gives { Gives (spec.given tokens.old) result tokens.new }
     ensures never_longer { length tokens.new ≤ length tokens.old }
@@ -97,7 +80,7 @@ fn given(alloc: Global, tokens: &mut Tokens<'_>) -> Result<Option<Basic>, Stop>
     Ok(Some(value))
 }
 
-#[tactic(auto, unfolding(crate::specs::Readers::single_var))]
+#[tactic(auto, unfolding(crate::specs::Readers::Variables::single_var))]
 fn single_var(alloc: Global, tokens: &mut Tokens<'_>) -> Result<SingleVar, Stop>
     ensures gives { Gives (spec.single_var tokens.old) result tokens.new }
     ensures shorter { OnOk result (length tokens.new < length tokens.old) }
@@ -119,7 +102,7 @@ fn single_var(alloc: Global, tokens: &mut Tokens<'_>) -> Result<SingleVar, Stop>
 }
 
 /// The array of variables of this size, from `var` on.
-#[tactic(auto, unfolding(crate::specs::Readers::array_rest))]
+#[tactic(auto, unfolding(crate::specs::Readers::Variables::array_rest))]
 fn array_rest(alloc: Global, tokens: &mut Tokens<'_>, size: Size) -> Result<ArrayVar, Stop>
     ensures gives { Gives (made (spec.array_var_of size) (spec.array_rest tokens.old)) result tokens.new }
     ensures shorter { OnOk result (length tokens.new < length tokens.old) }
@@ -143,7 +126,7 @@ fn array_rest(alloc: Global, tokens: &mut Tokens<'_>, size: Size) -> Result<Arra
 }
 
 /// A variable or an array of them, behind so many single variables.
-#[tactic(auto, unfolding(crate::specs::Readers::var, crate::specs::Readers::counted_single))]
+#[tactic(auto, unfolding(crate::specs::Readers::Variables::var, crate::specs::Readers::Variables::counted_single))]
 fn var(alloc: Global, tokens: &mut Tokens<'_>, singles: usize) -> Result<Var, Stop>
     requires { singles ≤ MOST }
     ensures gives { Gives (spec.var singles tokens.old) result tokens.new }
@@ -197,7 +180,7 @@ pub enum Declared {
     Array(ArrayVar),
 }
 
-#[tactic(auto, unfolding(crate::specs::Readers::declaration))]
+#[tactic(auto, unfolding(crate::specs::Readers::DeclarationList::declaration))]
 fn declaration(alloc: Global, tokens: &mut Tokens<'_>) -> Result<Declared, Stop>
     ensures gives { Gives (spec.declaration tokens.old) result tokens.new }
     ensures shorter { OnOk result (length tokens.new < length tokens.old) }

@@ -1,20 +1,19 @@
 //! Constraints, the goal and the whole file.
 
 ghost use Rattle.std.specs.Prelude.{◌<◌, ◌≤◌, length, OnOk};
-ghost use Rattle.fzn_parser.specs.Reading.{Gives};
+ghost use Rattle.fzn_cursor.specs.Reading.{Gives};
 ghost use Rattle.fzn_parser.specs.Readers as spec;
 
 use crate::annotations::anns;
-use crate::cursor::{MOST, Stop, Tokens};
 use crate::declarations::declarations;
-use crate::lists::{Part, listed, many};
-use crate::tree::{Arg, Con, Goal, Predicate, Solve, Tree};
-use crate::values::basic;
+use crate::repeated::{Repeated, many};
+use fzn_cursor::{MOST, Stop, Tokens, basic, listed};
 use fzn_lexer::Symbol;
 use fzn_list::Items;
+use fzn_tree::{Arg, Con, Goal, Predicate, Solve, Tree};
 use std::alloc::Global;
 
-#[tactic(auto, unfolding(crate::specs::Readers::con))]
+#[tactic(auto, unfolding(crate::specs::Readers::Items::con))]
 fn con(alloc: Global, tokens: &mut Tokens<'_>) -> Result<Con, Stop>
     ensures gives { Gives (spec.con tokens.old) result tokens.new }
     ensures shorter { OnOk result (length tokens.new < length tokens.old) }
@@ -29,10 +28,10 @@ fn con(alloc: Global, tokens: &mut Tokens<'_>) -> Result<Con, Stop>
     Ok(Con { name, args, anns })
 }
 
-impl Part for Con {
+impl Repeated for Con {
     ghost reader = { spec.each_con };
 
-    #[tactic(auto, unfolding(crate::specs::Readers::each_con))]
+    #[tactic(auto, unfolding(crate::specs::Readers::Items::each_con))]
     fn read(alloc: Global, tokens: &mut Tokens<'_>, number: usize) -> Result<Con, Stop> {
         if number < MOST {
             con(alloc, tokens)
@@ -42,7 +41,7 @@ impl Part for Con {
     }
 }
 
-#[tactic(auto, unfolding(crate::specs::Readers::goal))]
+#[tactic(auto, unfolding(crate::specs::Readers::Items::goal))]
 fn goal(alloc: Global, tokens: &mut Tokens<'_>) -> Result<Goal, Stop>
     ensures gives { Gives (spec.goal tokens.old) result tokens.new }
     ensures never_longer { length tokens.new ≤ length tokens.old }
@@ -59,7 +58,7 @@ fn goal(alloc: Global, tokens: &mut Tokens<'_>) -> Result<Goal, Stop>
     Ok(Goal::Maximize(basic(alloc, tokens)?))
 }
 
-#[tactic(auto, unfolding(crate::specs::Readers::solve))]
+#[tactic(auto, unfolding(crate::specs::Readers::Items::solve))]
 fn solve(alloc: Global, tokens: &mut Tokens<'_>) -> Result<Solve, Stop>
     ensures gives { Gives (spec.solve tokens.old) result tokens.new }
     ensures never_longer { length tokens.new ≤ length tokens.old }
@@ -71,7 +70,7 @@ fn solve(alloc: Global, tokens: &mut Tokens<'_>) -> Result<Solve, Stop>
     Ok(Solve { anns, goal })
 }
 
-#[tactic(auto, unfolding(crate::specs::Readers::items))]
+#[tactic(auto, unfolding(crate::specs::Readers::Items::items))]
 fn items(alloc: Global, tokens: &mut Tokens<'_>) -> Result<Tree, Stop>
     ensures { Gives (spec.items tokens.old) result tokens.new }
 {
@@ -88,7 +87,8 @@ fn items(alloc: Global, tokens: &mut Tokens<'_>) -> Result<Tree, Stop>
     })
 }
 
-#[tactic(auto, unfolding(crate::specs::Readers::tree))]
+/// The whole file, with its end.
+#[tactic(auto, unfolding(crate::specs::Readers::Items::tree))]
 pub fn tree(alloc: Global, tokens: &mut Tokens<'_>) -> Result<Tree, Stop>
     ensures { Gives (spec.tree tokens.old) result tokens.new }
 {

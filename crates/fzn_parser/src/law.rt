@@ -3,7 +3,7 @@
 ghost use Rattle.std.specs.Prelude.{◌≡◌, ◌⊎◌, List};
 ghost use Rattle.fzn_lexer.specs.declared.fault.Fault.{Fault};
 ghost use Rattle.fzn_lexer.specs.declared.token.Token.{Token};
-ghost use Rattle.fzn_parser.specs.declared.tree.Tree.{Tree};
+ghost use Rattle.fzn_tree.specs.declared.tree.Tree.{Tree};
 ghost use Rattle.fzn_parser.specs.Parse.{IsReading};
 
 /// Tokens have one tree, or one first fault.

@@ -16,9 +16,9 @@ use Rattle.fzn_rules.specs.Rules.{IsMet, IsAcceptedBy}
 use Rattle.fzn_cert.specs.Accepted.{IsTrivial, IsRuleMet}
 use Rattle.fzn_trail.specs.Levels.{Levels, IsNarrower}
 use Rattle.fzn_propagators.specs.declared.kinds.AnyPropagator.{AnyPropagator}
-use Rattle.fzn_arith.specs.declared.propagator.Inference.{Inference as Found}
+use Rattle.fzn_propagator.specs.declared.propagator.Inference.{Inference as Found}
 use Rattle.fzn_propagators.specs.AnyCrate.{any_number, AnyIsFor, AnyFits}
-use Rattle.fzn_arith.specs.Inference.{IsInferenceOf, AreExhausted, IsInference as IsFound}
+use Rattle.fzn_propagator.specs.Inference.{IsInferenceOf, AreExhausted, IsInference as IsFound}
 use Rattle.fzn_engine.specs.Inference.{IsInference, IsQuiet}
 use Rattle.fzn_propagators.specs.declared.propagators.Propagators.{Propagators}
 use Rattle.fzn_propagators.specs.Propagators.{IsPropagatorOf, AreFor}

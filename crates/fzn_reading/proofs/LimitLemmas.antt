@@ -10,25 +10,25 @@ use Rattle.fzn_lexer.specs.declared.token.Symbol.TheVariants as s
 use Rattle.fzn_lexer.specs.declared.token.Token.{Token}
 use Rattle.fzn_lexer.specs.Lexemes.{IsSmall, IsInRange}
 use Rattle.fzn_lexer.specs.Tokens.{Lexes, Stand}
-use Rattle.fzn_parser.specs.declared.tree.Arg.{Arg}
-use Rattle.fzn_parser.specs.declared.tree.Arg.TheVariants as args
-use Rattle.fzn_parser.specs.declared.tree.Array.{Array}
-use Rattle.fzn_parser.specs.declared.tree.Base.{Base}
-use Rattle.fzn_parser.specs.declared.tree.Base.TheVariants as bases
-use Rattle.fzn_parser.specs.declared.tree.Basic.{Basic}
-use Rattle.fzn_parser.specs.declared.tree.Basic.TheVariants as basics
-use Rattle.fzn_parser.specs.declared.tree.Con.{Con}
-use Rattle.fzn_parser.specs.declared.tree.Literal.{Literal}
-use Rattle.fzn_parser.specs.declared.tree.Literal.TheVariants as l
-use Rattle.fzn_parser.specs.declared.tree.Param.{Param}
-use Rattle.fzn_parser.specs.declared.tree.ParamValue.{ParamValue}
-use Rattle.fzn_parser.specs.declared.tree.ParamValue.TheVariants as param_values
-use Rattle.fzn_parser.specs.declared.tree.Range.{Range}
-use Rattle.fzn_parser.specs.declared.tree.Tree.{Tree}
-use Rattle.fzn_parser.specs.declared.tree.Values.{Values}
-use Rattle.fzn_parser.specs.declared.tree.Values.TheVariants as values_are
-use Rattle.fzn_parser.specs.declared.tree.Var.{Var}
-use Rattle.fzn_parser.specs.declared.tree.Var.TheVariants as vars
+use Rattle.fzn_tree.specs.declared.tree.Arg.{Arg}
+use Rattle.fzn_tree.specs.declared.tree.Arg.TheVariants as args
+use Rattle.fzn_tree.specs.declared.tree.Array.{Array}
+use Rattle.fzn_tree.specs.declared.tree.Base.{Base}
+use Rattle.fzn_tree.specs.declared.tree.Base.TheVariants as bases
+use Rattle.fzn_tree.specs.declared.tree.Basic.{Basic}
+use Rattle.fzn_tree.specs.declared.tree.Basic.TheVariants as basics
+use Rattle.fzn_tree.specs.declared.tree.Con.{Con}
+use Rattle.fzn_tree.specs.declared.tree.Literal.{Literal}
+use Rattle.fzn_tree.specs.declared.tree.Literal.TheVariants as l
+use Rattle.fzn_tree.specs.declared.tree.Param.{Param}
+use Rattle.fzn_tree.specs.declared.tree.ParamValue.{ParamValue}
+use Rattle.fzn_tree.specs.declared.tree.ParamValue.TheVariants as param_values
+use Rattle.fzn_tree.specs.declared.tree.Range.{Range}
+use Rattle.fzn_tree.specs.declared.tree.Tree.{Tree}
+use Rattle.fzn_tree.specs.declared.tree.Values.{Values}
+use Rattle.fzn_tree.specs.declared.tree.Values.TheVariants as values_are
+use Rattle.fzn_tree.specs.declared.tree.Var.{Var}
+use Rattle.fzn_tree.specs.declared.tree.Var.TheVariants as vars
 use Rattle.fzn_parser.specs.Grammar as G
 use Rattle.fzn_parser.specs.Parse.{IsTree}
 use Rattle.fzn_parser.specs.Piece.{Piece, AreSpelled, AreWithin, sign, each, each_by, one_more, marked}

@@ -5,7 +5,7 @@ use Rattle.fzn_lexer.specs.declared.fault.ReadError.TheVariants as errors
 use Rattle.fzn_lexer.specs.declared.token.Token.{Token}
 use Rattle.fzn_lexer.specs.Tokens.{Lexes, max_file}
 use Rattle.fzn_meaning.specs.declared.model.Model.{Model}
-use Rattle.fzn_parser.specs.declared.tree.Tree.{Tree}
+use Rattle.fzn_tree.specs.declared.tree.Tree.{Tree}
 use Rattle.fzn_parser.specs.Parse.{Parses}
 use Rattle.fzn_reading.specs.declared.fault.ModelFault.{ModelFault}
 use Rattle.fzn_reading.specs.declared.fault.ModelFault.TheVariants as faults

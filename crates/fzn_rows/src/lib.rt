@@ -21,25 +21,3 @@ mod solved;
 mod solver_rows;
 #[cfg(test)]
 mod tests;
-
-/// A file with a certificate, and what checking them prints.
-pub struct Row {
-    pub name: &'static str,
-    pub model: &'static str,
-    pub certificate: &'static str,
-    pub show_all: bool,
-    pub out: &'static str,
-    /// The line of the fault, empty where there is none.
-    pub fault: &'static str,
-}
-
-/// A file with the words that it is solved with, and what solving it prints.
-pub struct SolverRow {
-    pub name: &'static str,
-    pub words: &'static [&'static str],
-    pub model: &'static str,
-    /// One of these is printed; where there is none, nothing is.
-    pub answers: &'static [&'static str],
-    /// The line of the fault, empty where there is none.
-    pub fault: &'static str,
-}

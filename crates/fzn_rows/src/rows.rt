@@ -1,384 +1,237 @@
 // Files and certificates, and what checking them prints.
-use crate::Row;
+//
+// A row has a line each for its name, with `-a` where every solution is shown, its file, its certificate, and what is printed, where `|`
+// stands for the end of a line.
 
-const MODEL_0: &str =
-    "var bool: a :: output_var; var bool: b :: output_var; constraint bool_clause([a,b],[]); constraint bool_clause([],[a]); solve satisfy;";
+/// Clauses and sums.
+pub const ROWS: &str = "
+two-booleans.cert -a
+var bool: a :: output_var; var bool: b :: output_var; constraint bool_clause([a,b],[]); constraint bool_clause([],[a]); solve satisfy;
+fzc 1|vars 2 cons 2|i 2 lin ; 1<=0|i 1 lin ; 1>=1 2>=1|s 0 1|r ; 1 2 3|e closed|
+a = false;|b = true;|----------|==========|
 
-const MODEL_1: &str = "var 5..3: x; solve satisfy;";
+two-booleans.cert.noa
+var bool: a :: output_var; var bool: b :: output_var; constraint bool_clause([a,b],[]); constraint bool_clause([],[a]); solve satisfy;
+fzc 1|vars 2 cons 2|i 2 lin ; 1<=0|i 1 lin ; 1>=1 2>=1|s 0 1|r ; 1 2 3|e closed|
+a = false;|b = true;|----------|==========|
 
-const MODEL_2: &str =
-    "var 0..10: x :: output_var; constraint int_lin_le([-2],[x],-7); solve minimize x;";
+empty-domain.cert
+var 5..3: x; solve satisfy;
+fzc 1|vars 1 cons 0|r ;|e closed|
+=====UNSATISFIABLE=====|
 
-const MODEL_3: &str =
-    "var 0..10: x :: output_var; constraint int_lin_le([3],[x],10); solve maximize x;";
+minimize-one-integer.cert
+var 0..10: x :: output_var; constraint int_lin_le([-2],[x],-7); solve minimize x;
+fzc 1|vars 1 cons 1|i 1 lin ; 1>=4|s 4|r ; 1 2|e closed|
+x = 4;|----------|==========|
 
-pub const ROWS: [Row; 46] = [
-    Row {
-        name: "two-booleans.cert",
-        model: MODEL_0,
-        certificate: "fzc 1\nvars 2 cons 2\ni 2 lin ; 1<=0\ni 1 lin ; 1>=1 2>=1\ns 0 1\nr ; 1 2 3\ne closed\n",
-        show_all: true,
-        out: "a = false;\nb = true;\n----------\n==========\n",
-        fault: "",
-    },
-    Row {
-        name: "two-booleans.cert.noa",
-        model: MODEL_0,
-        certificate: "fzc 1\nvars 2 cons 2\ni 2 lin ; 1<=0\ni 1 lin ; 1>=1 2>=1\ns 0 1\nr ; 1 2 3\ne closed\n",
-        show_all: false,
-        out: "a = false;\nb = true;\n----------\n==========\n",
-        fault: "",
-    },
-    Row {
-        name: "empty-domain.cert",
-        model: MODEL_1,
-        certificate: "fzc 1\nvars 1 cons 0\nr ;\ne closed\n",
-        show_all: false,
-        out: "=====UNSATISFIABLE=====\n",
-        fault: "",
-    },
-    Row {
-        name: "minimize-one-integer.cert",
-        model: MODEL_2,
-        certificate: "fzc 1\nvars 1 cons 1\ni 1 lin ; 1>=4\ns 4\nr ; 1 2\ne closed\n",
-        show_all: false,
-        out: "x = 4;\n----------\n==========\n",
-        fault: "",
-    },
-    Row {
-        name: "changed-certificates.no7",
-        model: MODEL_0,
-        certificate: "fzc 1\nvars 2 cons 2\ni 2 lin ; 1<=0\ni 1 lin ; 1>=1 2>=1\ns 0 1\nr ; 1 2 3\n",
-        show_all: true,
-        out: "",
-        fault: "certificate line 7: fault 32 Truncated",
-    },
-    Row {
-        name: "changed-certificates.x8",
-        model: MODEL_0,
-        certificate: "fzc 1\nvars 2 cons 2\ni 2 lin ; 1<=0\ni 1 lin ; 1>=1 2>=1\ns 0 1\nr ; 1 2 3\ne closed\nx",
-        show_all: true,
-        out: "",
-        fault: "certificate line 8: fault 33 Trailing",
-    },
-    Row {
-        name: "changed-certificates.second_s",
-        model: MODEL_0,
-        certificate: "fzc 1\nvars 2 cons 2\ni 2 lin ; 1<=0\ni 1 lin ; 1>=1 2>=1\ns 0 1\ns 0 1\ne closed\n",
-        show_all: true,
-        out: "",
-        fault: "certificate line 6: fault 47 CutByEarlier",
-    },
-    Row {
-        name: "changed-certificates.second_s_inserted",
-        model: MODEL_0,
-        certificate: "fzc 1\nvars 2 cons 2\ni 2 lin ; 1<=0\ni 1 lin ; 1>=1 2>=1\ns 0 1\ns 0 1\nr ; 1 2 3\ne closed\n",
-        show_all: true,
-        out: "",
-        fault: "certificate line 6: fault 47 CutByEarlier",
-    },
-    Row {
-        name: "changed-certificates.no6",
-        model: MODEL_0,
-        certificate: "fzc 1\nvars 2 cons 2\ni 2 lin ; 1<=0\ni 1 lin ; 1>=1 2>=1\ns 0 1\ne closed\n",
-        show_all: true,
-        out: "",
-        fault: "certificate line 6: fault 48 NotClosed",
-    },
-    Row {
-        name: "changed-certificates.r124",
-        model: MODEL_0,
-        certificate: "fzc 1\nvars 2 cons 2\ni 2 lin ; 1<=0\ni 1 lin ; 1>=1 2>=1\ns 0 1\nr ; 1 2 4\ne closed\n",
-        show_all: true,
-        out: "",
-        fault: "certificate line 6: fault 43 NoSuchClause",
-    },
-    Row {
-        name: "changed-certificates.r213",
-        model: MODEL_0,
-        certificate: "fzc 1\nvars 2 cons 2\ni 2 lin ; 1<=0\ni 1 lin ; 1>=1 2>=1\ns 0 1\nr ; 2 1 3\ne closed\n",
-        show_all: true,
-        out: "",
-        fault: "certificate line 6: fault 44 NotUnit",
-    },
-    Row {
-        name: "changed-certificates.r12",
-        model: MODEL_0,
-        certificate: "fzc 1\nvars 2 cons 2\ni 2 lin ; 1<=0\ni 1 lin ; 1>=1 2>=1\ns 0 1\nr ; 1 2\ne closed\n",
-        show_all: true,
-        out: "",
-        fault: "certificate line 6: fault 45 NoConflict",
-    },
-    Row {
-        name: "changed-certificates.twospaces",
-        model: MODEL_0,
-        certificate: "fzc 1\nvars 2 cons 2\ni 2 lin ; 1<=0\ni 1 lin ; 1>=1 2>=1\ns 0 1\nr ;  1 2 3\ne closed\n",
-        show_all: true,
-        out: "",
-        fault: "certificate line 6: fault 31 Spelling",
-    },
-    Row {
-        name: "changed-certificates.s11",
-        model: MODEL_0,
-        certificate: "fzc 1\nvars 2 cons 2\ni 2 lin ; 1<=0\ni 1 lin ; 1>=1 2>=1\ns 1 1\nr ; 1 2 3\ne closed\n",
-        show_all: true,
-        out: "",
-        fault: "certificate line 5: fault 46 NotASolution",
-    },
-    Row {
-        name: "changed-certificates.rulefails",
-        model: MODEL_0,
-        certificate: "fzc 1\nvars 2 cons 2\ni 2 lin ; 1<=0\ni 1 lin ; 2>=1\ns 0 1\nr ; 1 2 3\ne closed\n",
-        show_all: true,
-        out: "",
-        fault: "certificate line 4: fault 42 RuleFails",
-    },
-    Row {
-        name: "changed-certificates.header",
-        model: MODEL_0,
-        certificate: "fzc 9\nvars 2 cons 2\ni 2 lin ; 1<=0\ni 1 lin ; 1>=1 2>=1\ns 0 1\nr ; 1 2 3\ne closed\n",
-        show_all: true,
-        out: "",
-        fault: "certificate line 1: fault 30 Header",
-    },
-    Row {
-        name: "changed-certificates.counts",
-        model: MODEL_0,
-        certificate: "fzc 1\nvars 2 cons 3\ni 2 lin ; 1<=0\ni 1 lin ; 1>=1 2>=1\ns 0 1\nr ; 1 2 3\ne closed\n",
-        show_all: true,
-        out: "",
-        fault: "certificate line 2: fault 40 Counts",
-    },
-    Row {
-        name: "changed-certificates.empty",
-        model: MODEL_0,
-        certificate: "",
-        show_all: true,
-        out: "",
-        fault: "certificate line 1: fault 32 Truncated",
-    },
-    Row {
-        name: "minimize-one-integer-certificate",
-        model: MODEL_2,
-        certificate: "fzc 1\nvars 1 cons 1\ni 1 lin ; 1>=4\ns 4\nr ; 1 2\ne closed\n",
-        show_all: true,
-        out: "x = 4;\n----------\n==========\n",
-        fault: "",
-    },
-    Row {
-        name: "maximize-one-integer.cert",
-        model: MODEL_3,
-        certificate: "fzc 1\nvars 1 cons 1\ni 1 lin ; 1<=3\ns 3\nr ; 1 2\ne closed\n",
-        show_all: false,
-        out: "x = 3;\n----------\n==========\n",
-        fault: "",
-    },
-    Row {
-        name: "maximize-one-integer.bad",
-        model: MODEL_3,
-        certificate: "fzc 1\nvars 1 cons 1\ni 1 lin ; 1<=2\ns 3\nr ; 1 2\ne closed\n",
-        show_all: false,
-        out: "",
-        fault: "certificate line 3: fault 42 RuleFails",
-    },
-    Row {
-        name: "command-lines.check47",
-        model: MODEL_0,
-        certificate: "fzc 1\nvars 2 cons 2\ni 2 lin ; 1<=0\ni 1 lin ; 1>=1 2>=1\ns 0 1\ns 0 1\ne closed\n",
-        show_all: true,
-        out: "",
-        fault: "certificate line 6: fault 47 CutByEarlier",
-    },
-    Row {
-        name: "hostile-inputs.l3.i3",
-        model: MODEL_0,
-        certificate: "fzc 1\nvars 2 cons 2\ni 3 lin ; 1<=0\ni 1 lin ; 1>=1 2>=1\ns 0 1\nr ; 1 2 3\ne closed\n",
-        show_all: true,
-        out: "",
-        fault: "certificate line 3: fault 41 NoSuchConstraint",
-    },
-    Row {
-        name: "hostile-inputs.l3.v3",
-        model: MODEL_0,
-        certificate: "fzc 1\nvars 2 cons 2\ni 2 lin ; 3<=0\ni 1 lin ; 1>=1 2>=1\ns 0 1\nr ; 1 2 3\ne closed\n",
-        show_all: true,
-        out: "",
-        fault: "certificate line 3: fault 49 NoSuchVariable",
-    },
-    Row {
-        name: "hostile-inputs.l3.zero",
-        model: MODEL_0,
-        certificate: "fzc 1\nvars 2 cons 2\ni 2 lin ; 01<=0\ni 1 lin ; 1>=1 2>=1\ns 0 1\nr ; 1 2 3\ne closed\n",
-        show_all: true,
-        out: "",
-        fault: "certificate line 3: fault 31 Spelling",
-    },
-    Row {
-        name: "hostile-inputs.l3.big",
-        model: MODEL_0,
-        certificate: "fzc 1\nvars 2 cons 2\ni 2 lin ; 1<=1000000002\ni 1 lin ; 1>=1 2>=1\ns 0 1\nr ; 1 2 3\ne closed\n",
-        show_all: true,
-        out: "",
-        fault: "certificate line 3: fault 31 Spelling",
-    },
-    Row {
-        name: "hostile-inputs.l3.load",
-        model: MODEL_0,
-        certificate: "fzc 1\nvars 2 cons 2\ni 1 load 4000000001 ;\ni 1 lin ; 1>=1 2>=1\ns 0 1\nr ; 1 2 3\ne closed\n",
-        show_all: true,
-        out: "",
-        fault: "certificate line 3: fault 31 Spelling",
-    },
-    Row {
-        name: "hostile-inputs.l3.cut11",
-        model: MODEL_0,
-        certificate: "fzc 1\nvars 2 cons 2\ni 1 cut 1 1 ;\ni 1 lin ; 1>=1 2>=1\ns 0 1\nr ; 1 2 3\ne closed\n",
-        show_all: true,
-        out: "",
-        fault: "certificate line 3: fault 31 Spelling",
-    },
-    Row {
-        name: "hostile-inputs.l3.hall1",
-        model: MODEL_0,
-        certificate: "fzc 1\nvars 2 cons 2\ni 1 hall 1 ;\ni 1 lin ; 1>=1 2>=1\ns 0 1\nr ; 1 2 3\ne closed\n",
-        show_all: true,
-        out: "",
-        fault: "certificate line 3: fault 31 Spelling",
-    },
-    Row {
-        name: "hostile-inputs.l3.r0",
-        model: MODEL_0,
-        certificate: "fzc 1\nvars 2 cons 2\nr ; 0\ni 1 lin ; 1>=1 2>=1\ns 0 1\nr ; 1 2 3\ne closed\n",
-        show_all: true,
-        out: "",
-        fault: "certificate line 3: fault 31 Spelling",
-    },
-    Row {
-        name: "hostile-inputs.l3.load4e9",
-        model: MODEL_0,
-        certificate: "fzc 1\nvars 2 cons 2\ni 1 load 4000000000 ;\ni 1 lin ; 1>=1 2>=1\ns 0 1\nr ; 1 2 3\ne closed\n",
-        show_all: true,
-        out: "",
-        fault: "certificate line 3: fault 42 RuleFails",
-    },
-    Row {
-        name: "hostile-inputs.l3.rself",
-        model: MODEL_0,
-        certificate: "fzc 1\nvars 2 cons 2\nr 1<=0 ; 1\ni 1 lin ; 1>=1 2>=1\ns 0 1\nr ; 1 2 3\ne closed\n",
-        show_all: true,
-        out: "",
-        fault: "certificate line 3: fault 43 NoSuchClause",
-    },
-    Row {
-        name: "hostile-inputs.l3.r18",
-        model: MODEL_0,
-        certificate: "fzc 1\nvars 2 cons 2\nr ; 999999999999999999\ni 1 lin ; 1>=1 2>=1\ns 0 1\nr ; 1 2 3\ne closed\n",
-        show_all: true,
-        out: "",
-        fault: "certificate line 3: fault 43 NoSuchClause",
-    },
-    Row {
-        name: "hostile-inputs.l3.r19",
-        model: MODEL_0,
-        certificate: "fzc 1\nvars 2 cons 2\nr ; 1000000000000000000\ni 1 lin ; 1>=1 2>=1\ns 0 1\nr ; 1 2 3\ne closed\n",
-        show_all: true,
-        out: "",
-        fault: "certificate line 3: fault 31 Spelling",
-    },
-    Row {
-        name: "hostile-inputs.l3.taut",
-        model: MODEL_0,
-        certificate: "fzc 1\nvars 2 cons 2\ni 2 lin ; 1<=1\ni 1 lin ; 1>=1 2>=1\ns 0 1\nr ; 1 2 3\ne closed\n",
-        show_all: true,
-        out: "",
-        fault: "certificate line 6: fault 44 NotUnit",
-    },
-    Row {
-        name: "hostile-inputs.s011",
-        model: MODEL_0,
-        certificate: "fzc 1\nvars 2 cons 2\ni 2 lin ; 1<=0\ni 1 lin ; 1>=1 2>=1\ns 0 1 1\nr ; 1 2 3\ne closed\n",
-        show_all: true,
-        out: "",
-        fault: "certificate line 5: fault 46 NotASolution",
-    },
-    Row {
-        name: "hostile-inputs.s",
-        model: MODEL_0,
-        certificate: "fzc 1\nvars 2 cons 2\ni 2 lin ; 1<=0\ni 1 lin ; 1>=1 2>=1\ns\nr ; 1 2 3\ne closed\n",
-        show_all: true,
-        out: "",
-        fault: "certificate line 5: fault 46 NotASolution",
-    },
-    Row {
-        name: "deletion.1",
-        model: MODEL_0,
-        certificate: "fzc 2\nvars 2 cons 2\ni 2 lin ; 1<=0\ni 1 lin ; 1>=1 2>=1\nr 2>=1 ; 1 2\nd 2\ns 0 1\nr ; 1 3 5\ne closed\n",
-        show_all: true,
-        out: "a = false;\nb = true;\n----------\n==========\n",
-        fault: "",
-    },
-    Row {
-        name: "deletion.r125",
-        model: MODEL_0,
-        certificate: "fzc 2\nvars 2 cons 2\ni 2 lin ; 1<=0\ni 1 lin ; 1>=1 2>=1\nr 2>=1 ; 1 2\nd 2\ns 0 1\nr ; 1 2 5\ne closed\n",
-        show_all: true,
-        out: "",
-        fault: "certificate line 8: fault 43 NoSuchClause",
-    },
-    Row {
-        name: "deletion.r145",
-        model: MODEL_0,
-        certificate: "fzc 2\nvars 2 cons 2\ni 2 lin ; 1<=0\ni 1 lin ; 1>=1 2>=1\nr 2>=1 ; 1 2\nd 2\ns 0 1\nr ; 1 4 5\ne closed\n",
-        show_all: true,
-        out: "",
-        fault: "certificate line 8: fault 43 NoSuchClause",
-    },
-    Row {
-        name: "deletion.d4",
-        model: MODEL_0,
-        certificate: "fzc 2\nvars 2 cons 2\ni 2 lin ; 1<=0\ni 1 lin ; 1>=1 2>=1\nr 2>=1 ; 1 2\nd 4\ns 0 1\nr ; 1 3 5\ne closed\n",
-        show_all: true,
-        out: "",
-        fault: "certificate line 6: fault 43 NoSuchClause",
-    },
-    Row {
-        name: "deletion.d",
-        model: MODEL_0,
-        certificate: "fzc 2\nvars 2 cons 2\ni 2 lin ; 1<=0\ni 1 lin ; 1>=1 2>=1\nr 2>=1 ; 1 2\nd\ns 0 1\nr ; 1 3 5\ne closed\n",
-        show_all: true,
-        out: "",
-        fault: "certificate line 6: fault 31 Spelling",
-    },
-    Row {
-        name: "deletion.d22",
-        model: MODEL_0,
-        certificate: "fzc 2\nvars 2 cons 2\ni 2 lin ; 1<=0\ni 1 lin ; 1>=1 2>=1\nr 2>=1 ; 1 2\nd 2 2\ns 0 1\nr ; 1 3 5\ne closed\n",
-        show_all: true,
-        out: "",
-        fault: "certificate line 6: fault 31 Spelling",
-    },
-    Row {
-        name: "deletion.d2twice",
-        model: MODEL_0,
-        certificate: "fzc 2\nvars 2 cons 2\ni 2 lin ; 1<=0\ni 1 lin ; 1>=1 2>=1\nr 2>=1 ; 1 2\nd 2\nd 2\ns 0 1\nr ; 1 3 5\ne closed\n",
-        show_all: true,
-        out: "",
-        fault: "certificate line 7: fault 43 NoSuchClause",
-    },
-    Row {
-        name: "deletion.d5s",
-        model: MODEL_0,
-        certificate: "fzc 2\nvars 2 cons 2\ni 2 lin ; 1<=0\ni 1 lin ; 1>=1 2>=1\nr 2>=1 ; 1 2\nd 2\ns 0 1\nd 5\ns 0 1\n",
-        show_all: true,
-        out: "",
-        fault: "certificate line 9: fault 47 CutByEarlier",
-    },
-    Row {
-        name: "deletion.v1",
-        model: MODEL_0,
-        certificate: "fzc 1\nvars 2 cons 2\ni 2 lin ; 1<=0\ni 1 lin ; 1>=1 2>=1\nr 2>=1 ; 1 2\nd 2\ns 0 1\nr ; 1 3 5\ne closed\n",
-        show_all: true,
-        out: "",
-        fault: "certificate line 6: fault 31 Spelling",
-    },
-];
+changed-certificates.no7 -a
+var bool: a :: output_var; var bool: b :: output_var; constraint bool_clause([a,b],[]); constraint bool_clause([],[a]); solve satisfy;
+fzc 1|vars 2 cons 2|i 2 lin ; 1<=0|i 1 lin ; 1>=1 2>=1|s 0 1|r ; 1 2 3|
+certificate line 7: fault 32 Truncated
+
+changed-certificates.x8 -a
+var bool: a :: output_var; var bool: b :: output_var; constraint bool_clause([a,b],[]); constraint bool_clause([],[a]); solve satisfy;
+fzc 1|vars 2 cons 2|i 2 lin ; 1<=0|i 1 lin ; 1>=1 2>=1|s 0 1|r ; 1 2 3|e closed|x
+certificate line 8: fault 33 Trailing
+
+changed-certificates.second_s -a
+var bool: a :: output_var; var bool: b :: output_var; constraint bool_clause([a,b],[]); constraint bool_clause([],[a]); solve satisfy;
+fzc 1|vars 2 cons 2|i 2 lin ; 1<=0|i 1 lin ; 1>=1 2>=1|s 0 1|s 0 1|e closed|
+certificate line 6: fault 47 CutByEarlier
+
+changed-certificates.second_s_inserted -a
+var bool: a :: output_var; var bool: b :: output_var; constraint bool_clause([a,b],[]); constraint bool_clause([],[a]); solve satisfy;
+fzc 1|vars 2 cons 2|i 2 lin ; 1<=0|i 1 lin ; 1>=1 2>=1|s 0 1|s 0 1|r ; 1 2 3|e closed|
+certificate line 6: fault 47 CutByEarlier
+
+changed-certificates.no6 -a
+var bool: a :: output_var; var bool: b :: output_var; constraint bool_clause([a,b],[]); constraint bool_clause([],[a]); solve satisfy;
+fzc 1|vars 2 cons 2|i 2 lin ; 1<=0|i 1 lin ; 1>=1 2>=1|s 0 1|e closed|
+certificate line 6: fault 48 NotClosed
+
+changed-certificates.r124 -a
+var bool: a :: output_var; var bool: b :: output_var; constraint bool_clause([a,b],[]); constraint bool_clause([],[a]); solve satisfy;
+fzc 1|vars 2 cons 2|i 2 lin ; 1<=0|i 1 lin ; 1>=1 2>=1|s 0 1|r ; 1 2 4|e closed|
+certificate line 6: fault 43 NoSuchClause
+
+changed-certificates.r213 -a
+var bool: a :: output_var; var bool: b :: output_var; constraint bool_clause([a,b],[]); constraint bool_clause([],[a]); solve satisfy;
+fzc 1|vars 2 cons 2|i 2 lin ; 1<=0|i 1 lin ; 1>=1 2>=1|s 0 1|r ; 2 1 3|e closed|
+certificate line 6: fault 44 NotUnit
+
+changed-certificates.r12 -a
+var bool: a :: output_var; var bool: b :: output_var; constraint bool_clause([a,b],[]); constraint bool_clause([],[a]); solve satisfy;
+fzc 1|vars 2 cons 2|i 2 lin ; 1<=0|i 1 lin ; 1>=1 2>=1|s 0 1|r ; 1 2|e closed|
+certificate line 6: fault 45 NoConflict
+
+changed-certificates.twospaces -a
+var bool: a :: output_var; var bool: b :: output_var; constraint bool_clause([a,b],[]); constraint bool_clause([],[a]); solve satisfy;
+fzc 1|vars 2 cons 2|i 2 lin ; 1<=0|i 1 lin ; 1>=1 2>=1|s 0 1|r ;  1 2 3|e closed|
+certificate line 6: fault 31 Spelling
+
+changed-certificates.s11 -a
+var bool: a :: output_var; var bool: b :: output_var; constraint bool_clause([a,b],[]); constraint bool_clause([],[a]); solve satisfy;
+fzc 1|vars 2 cons 2|i 2 lin ; 1<=0|i 1 lin ; 1>=1 2>=1|s 1 1|r ; 1 2 3|e closed|
+certificate line 5: fault 46 NotASolution
+
+changed-certificates.rulefails -a
+var bool: a :: output_var; var bool: b :: output_var; constraint bool_clause([a,b],[]); constraint bool_clause([],[a]); solve satisfy;
+fzc 1|vars 2 cons 2|i 2 lin ; 1<=0|i 1 lin ; 2>=1|s 0 1|r ; 1 2 3|e closed|
+certificate line 4: fault 42 RuleFails
+
+changed-certificates.header -a
+var bool: a :: output_var; var bool: b :: output_var; constraint bool_clause([a,b],[]); constraint bool_clause([],[a]); solve satisfy;
+fzc 9|vars 2 cons 2|i 2 lin ; 1<=0|i 1 lin ; 1>=1 2>=1|s 0 1|r ; 1 2 3|e closed|
+certificate line 1: fault 30 Header
+
+changed-certificates.counts -a
+var bool: a :: output_var; var bool: b :: output_var; constraint bool_clause([a,b],[]); constraint bool_clause([],[a]); solve satisfy;
+fzc 1|vars 2 cons 3|i 2 lin ; 1<=0|i 1 lin ; 1>=1 2>=1|s 0 1|r ; 1 2 3|e closed|
+certificate line 2: fault 40 Counts
+
+changed-certificates.empty -a
+var bool: a :: output_var; var bool: b :: output_var; constraint bool_clause([a,b],[]); constraint bool_clause([],[a]); solve satisfy;
+(empty)
+certificate line 1: fault 32 Truncated
+
+minimize-one-integer-certificate -a
+var 0..10: x :: output_var; constraint int_lin_le([-2],[x],-7); solve minimize x;
+fzc 1|vars 1 cons 1|i 1 lin ; 1>=4|s 4|r ; 1 2|e closed|
+x = 4;|----------|==========|
+
+maximize-one-integer.cert
+var 0..10: x :: output_var; constraint int_lin_le([3],[x],10); solve maximize x;
+fzc 1|vars 1 cons 1|i 1 lin ; 1<=3|s 3|r ; 1 2|e closed|
+x = 3;|----------|==========|
+
+maximize-one-integer.bad
+var 0..10: x :: output_var; constraint int_lin_le([3],[x],10); solve maximize x;
+fzc 1|vars 1 cons 1|i 1 lin ; 1<=2|s 3|r ; 1 2|e closed|
+certificate line 3: fault 42 RuleFails
+
+command-lines.check47 -a
+var bool: a :: output_var; var bool: b :: output_var; constraint bool_clause([a,b],[]); constraint bool_clause([],[a]); solve satisfy;
+fzc 1|vars 2 cons 2|i 2 lin ; 1<=0|i 1 lin ; 1>=1 2>=1|s 0 1|s 0 1|e closed|
+certificate line 6: fault 47 CutByEarlier
+
+hostile-inputs.l3.i3 -a
+var bool: a :: output_var; var bool: b :: output_var; constraint bool_clause([a,b],[]); constraint bool_clause([],[a]); solve satisfy;
+fzc 1|vars 2 cons 2|i 3 lin ; 1<=0|i 1 lin ; 1>=1 2>=1|s 0 1|r ; 1 2 3|e closed|
+certificate line 3: fault 41 NoSuchConstraint
+
+hostile-inputs.l3.v3 -a
+var bool: a :: output_var; var bool: b :: output_var; constraint bool_clause([a,b],[]); constraint bool_clause([],[a]); solve satisfy;
+fzc 1|vars 2 cons 2|i 2 lin ; 3<=0|i 1 lin ; 1>=1 2>=1|s 0 1|r ; 1 2 3|e closed|
+certificate line 3: fault 49 NoSuchVariable
+
+hostile-inputs.l3.zero -a
+var bool: a :: output_var; var bool: b :: output_var; constraint bool_clause([a,b],[]); constraint bool_clause([],[a]); solve satisfy;
+fzc 1|vars 2 cons 2|i 2 lin ; 01<=0|i 1 lin ; 1>=1 2>=1|s 0 1|r ; 1 2 3|e closed|
+certificate line 3: fault 31 Spelling
+
+hostile-inputs.l3.big -a
+var bool: a :: output_var; var bool: b :: output_var; constraint bool_clause([a,b],[]); constraint bool_clause([],[a]); solve satisfy;
+fzc 1|vars 2 cons 2|i 2 lin ; 1<=1000000002|i 1 lin ; 1>=1 2>=1|s 0 1|r ; 1 2 3|e closed|
+certificate line 3: fault 31 Spelling
+
+hostile-inputs.l3.load -a
+var bool: a :: output_var; var bool: b :: output_var; constraint bool_clause([a,b],[]); constraint bool_clause([],[a]); solve satisfy;
+fzc 1|vars 2 cons 2|i 1 load 4000000001 ;|i 1 lin ; 1>=1 2>=1|s 0 1|r ; 1 2 3|e closed|
+certificate line 3: fault 31 Spelling
+
+hostile-inputs.l3.cut11 -a
+var bool: a :: output_var; var bool: b :: output_var; constraint bool_clause([a,b],[]); constraint bool_clause([],[a]); solve satisfy;
+fzc 1|vars 2 cons 2|i 1 cut 1 1 ;|i 1 lin ; 1>=1 2>=1|s 0 1|r ; 1 2 3|e closed|
+certificate line 3: fault 31 Spelling
+
+hostile-inputs.l3.hall1 -a
+var bool: a :: output_var; var bool: b :: output_var; constraint bool_clause([a,b],[]); constraint bool_clause([],[a]); solve satisfy;
+fzc 1|vars 2 cons 2|i 1 hall 1 ;|i 1 lin ; 1>=1 2>=1|s 0 1|r ; 1 2 3|e closed|
+certificate line 3: fault 31 Spelling
+
+hostile-inputs.l3.r0 -a
+var bool: a :: output_var; var bool: b :: output_var; constraint bool_clause([a,b],[]); constraint bool_clause([],[a]); solve satisfy;
+fzc 1|vars 2 cons 2|r ; 0|i 1 lin ; 1>=1 2>=1|s 0 1|r ; 1 2 3|e closed|
+certificate line 3: fault 31 Spelling
+
+hostile-inputs.l3.load4e9 -a
+var bool: a :: output_var; var bool: b :: output_var; constraint bool_clause([a,b],[]); constraint bool_clause([],[a]); solve satisfy;
+fzc 1|vars 2 cons 2|i 1 load 4000000000 ;|i 1 lin ; 1>=1 2>=1|s 0 1|r ; 1 2 3|e closed|
+certificate line 3: fault 42 RuleFails
+
+hostile-inputs.l3.rself -a
+var bool: a :: output_var; var bool: b :: output_var; constraint bool_clause([a,b],[]); constraint bool_clause([],[a]); solve satisfy;
+fzc 1|vars 2 cons 2|r 1<=0 ; 1|i 1 lin ; 1>=1 2>=1|s 0 1|r ; 1 2 3|e closed|
+certificate line 3: fault 43 NoSuchClause
+
+hostile-inputs.l3.r18 -a
+var bool: a :: output_var; var bool: b :: output_var; constraint bool_clause([a,b],[]); constraint bool_clause([],[a]); solve satisfy;
+fzc 1|vars 2 cons 2|r ; 999999999999999999|i 1 lin ; 1>=1 2>=1|s 0 1|r ; 1 2 3|e closed|
+certificate line 3: fault 43 NoSuchClause
+
+hostile-inputs.l3.r19 -a
+var bool: a :: output_var; var bool: b :: output_var; constraint bool_clause([a,b],[]); constraint bool_clause([],[a]); solve satisfy;
+fzc 1|vars 2 cons 2|r ; 1000000000000000000|i 1 lin ; 1>=1 2>=1|s 0 1|r ; 1 2 3|e closed|
+certificate line 3: fault 31 Spelling
+
+hostile-inputs.l3.taut -a
+var bool: a :: output_var; var bool: b :: output_var; constraint bool_clause([a,b],[]); constraint bool_clause([],[a]); solve satisfy;
+fzc 1|vars 2 cons 2|i 2 lin ; 1<=1|i 1 lin ; 1>=1 2>=1|s 0 1|r ; 1 2 3|e closed|
+certificate line 6: fault 44 NotUnit
+
+hostile-inputs.s011 -a
+var bool: a :: output_var; var bool: b :: output_var; constraint bool_clause([a,b],[]); constraint bool_clause([],[a]); solve satisfy;
+fzc 1|vars 2 cons 2|i 2 lin ; 1<=0|i 1 lin ; 1>=1 2>=1|s 0 1 1|r ; 1 2 3|e closed|
+certificate line 5: fault 46 NotASolution
+
+hostile-inputs.s -a
+var bool: a :: output_var; var bool: b :: output_var; constraint bool_clause([a,b],[]); constraint bool_clause([],[a]); solve satisfy;
+fzc 1|vars 2 cons 2|i 2 lin ; 1<=0|i 1 lin ; 1>=1 2>=1|s|r ; 1 2 3|e closed|
+certificate line 5: fault 46 NotASolution
+
+deletion.1 -a
+var bool: a :: output_var; var bool: b :: output_var; constraint bool_clause([a,b],[]); constraint bool_clause([],[a]); solve satisfy;
+fzc 2|vars 2 cons 2|i 2 lin ; 1<=0|i 1 lin ; 1>=1 2>=1|r 2>=1 ; 1 2|d 2|s 0 1|r ; 1 3 5|e closed|
+a = false;|b = true;|----------|==========|
+
+deletion.r125 -a
+var bool: a :: output_var; var bool: b :: output_var; constraint bool_clause([a,b],[]); constraint bool_clause([],[a]); solve satisfy;
+fzc 2|vars 2 cons 2|i 2 lin ; 1<=0|i 1 lin ; 1>=1 2>=1|r 2>=1 ; 1 2|d 2|s 0 1|r ; 1 2 5|e closed|
+certificate line 8: fault 43 NoSuchClause
+
+deletion.r145 -a
+var bool: a :: output_var; var bool: b :: output_var; constraint bool_clause([a,b],[]); constraint bool_clause([],[a]); solve satisfy;
+fzc 2|vars 2 cons 2|i 2 lin ; 1<=0|i 1 lin ; 1>=1 2>=1|r 2>=1 ; 1 2|d 2|s 0 1|r ; 1 4 5|e closed|
+certificate line 8: fault 43 NoSuchClause
+
+deletion.d4 -a
+var bool: a :: output_var; var bool: b :: output_var; constraint bool_clause([a,b],[]); constraint bool_clause([],[a]); solve satisfy;
+fzc 2|vars 2 cons 2|i 2 lin ; 1<=0|i 1 lin ; 1>=1 2>=1|r 2>=1 ; 1 2|d 4|s 0 1|r ; 1 3 5|e closed|
+certificate line 6: fault 43 NoSuchClause
+
+deletion.d -a
+var bool: a :: output_var; var bool: b :: output_var; constraint bool_clause([a,b],[]); constraint bool_clause([],[a]); solve satisfy;
+fzc 2|vars 2 cons 2|i 2 lin ; 1<=0|i 1 lin ; 1>=1 2>=1|r 2>=1 ; 1 2|d|s 0 1|r ; 1 3 5|e closed|
+certificate line 6: fault 31 Spelling
+
+deletion.d22 -a
+var bool: a :: output_var; var bool: b :: output_var; constraint bool_clause([a,b],[]); constraint bool_clause([],[a]); solve satisfy;
+fzc 2|vars 2 cons 2|i 2 lin ; 1<=0|i 1 lin ; 1>=1 2>=1|r 2>=1 ; 1 2|d 2 2|s 0 1|r ; 1 3 5|e closed|
+certificate line 6: fault 31 Spelling
+
+deletion.d2twice -a
+var bool: a :: output_var; var bool: b :: output_var; constraint bool_clause([a,b],[]); constraint bool_clause([],[a]); solve satisfy;
+fzc 2|vars 2 cons 2|i 2 lin ; 1<=0|i 1 lin ; 1>=1 2>=1|r 2>=1 ; 1 2|d 2|d 2|s 0 1|r ; 1 3 5|e closed|
+certificate line 7: fault 43 NoSuchClause
+
+deletion.d5s -a
+var bool: a :: output_var; var bool: b :: output_var; constraint bool_clause([a,b],[]); constraint bool_clause([],[a]); solve satisfy;
+fzc 2|vars 2 cons 2|i 2 lin ; 1<=0|i 1 lin ; 1>=1 2>=1|r 2>=1 ; 1 2|d 2|s 0 1|d 5|s 0 1|
+certificate line 9: fault 47 CutByEarlier
+
+deletion.v1 -a
+var bool: a :: output_var; var bool: b :: output_var; constraint bool_clause([a,b],[]); constraint bool_clause([],[a]); solve satisfy;
+fzc 1|vars 2 cons 2|i 2 lin ; 1<=0|i 1 lin ; 1>=1 2>=1|r 2>=1 ; 1 2|d 2|s 0 1|r ; 1 3 5|e closed|
+certificate line 6: fault 31 Spelling
+";

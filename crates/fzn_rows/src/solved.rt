@@ -1,6 +1,6 @@
-use crate::SolverRow;
 use crate::builtin_rows::BUILTIN_ROWS;
 use crate::solver_rows::SOLVER_ROWS;
+use crate::tests::{lines_of, spelled};
 use fzn_checker::check;
 use fzn_solver::run;
 use fzn_words::options_of;
@@ -45,38 +45,52 @@ fn solve_and_check(alloc: Global, words: &[&str], model: &str) -> Result<Solved,
     })
 }
 
+/// What solving a row printed with the line of its fault, where checking its certificate printed the same.
+fn printed(alloc: Global, head: &str, file: &str) -> Result<String, Fail> {
+    let mut words: Vec<&str> = head.split_whitespace().skip(1).collect(alloc)?;
+    words.push("m.fzn")?;
+    let file = spelled(alloc, file)?;
+    let solved = solve_and_check(alloc, &words, file.as_str())?;
+    if solved.checked.as_slice() != solved.out.as_slice() {
+        return Err("the checker prints something else")?;
+    }
+    let out = from_utf8(&solved.out)?;
+    Ok(format!(in alloc; "{out}{}", solved.fault.as_str())?)
+}
+
+/// Whether one of the lines stands for the text.
+fn is_one_of(alloc: Global, text: &str, answers: &[&str]) -> Result<bool, AllocError> {
+    for answer in answers {
+        if text == spelled(alloc, answer)?.as_str() {
+            return Ok(true);
+        }
+    }
+    Ok(false)
+}
+
 /// Each row is solved and checked, and prints what it is to print.
-fn solve_rows(rt: &impl Abort, alloc: Global, rows: &[SolverRow]) -> Result<(), Fail> {
-    for row in rows {
-        let solved = solve_and_check(alloc, row.words, row.model)?;
-        let out = from_utf8(&solved.out)?;
-        assert_eq!(rt; solved.fault.as_str(), row.fault, "{}", row.name);
-        assert_eq!(rt;
-            solved.checked.as_slice(),
-            solved.out.as_slice(),
-            "{}",
-            row.name
-        );
-        assert_eq!(rt;
-            solved.certificate.is_empty(),
-            row.answers.is_empty(),
-            "{}",
-            row.name
-        );
-        let is_right = row.answers.contains(&out) || out.is_empty() && row.answers.is_empty();
-        assert!(rt; is_right, "{}: {out}", row.name);
+fn solve_rows(rt: &impl Abort, alloc: Global, table: &str) -> Result<(), Fail> {
+    for row in table.split("\n\n") {
+        let lines = lines_of(alloc, row)?;
+        let [head, file, answers @ ..] = lines.as_slice() else {
+            return Err("a row has a head and a file")?;
+        };
+        let got = printed(alloc, head, file)?;
+        assert!(rt; is_one_of(alloc, got.as_str(), answers)?, "{head}: {got}");
     }
     Ok(())
 }
 
 #[test]
 fn solver_rows(rt: HostRuntime) -> Result<(), Fail> {
-    solve_rows(&rt, rt.alloc(), &SOLVER_ROWS)
+    assert_eq!(rt; SOLVER_ROWS.split("\n\n").count(), 19);
+    solve_rows(&rt, rt.alloc(), SOLVER_ROWS)
 }
 
 #[test]
 fn builtin_rows(rt: HostRuntime) -> Result<(), Fail> {
-    solve_rows(&rt, rt.alloc(), &BUILTIN_ROWS)
+    assert_eq!(rt; BUILTIN_ROWS.split("\n\n").count(), 7);
+    solve_rows(&rt, rt.alloc(), BUILTIN_ROWS)
 }
 
 /// The file of a thousand variables of 10^9 whose sum is at most 10^9.

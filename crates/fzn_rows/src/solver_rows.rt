@@ -1,141 +1,84 @@
 // Files and words, and what solving them prints.
-use crate::SolverRow;
+//
+// A row has a line for its name and the words, one for its file, and one for each answer that may be printed, where `|` stands for the end
+// of a line.
 
-pub const SOLVER_ROWS: [SolverRow; 19] = [
-    SolverRow {
-        name: "two-booleans",
-        words: &["-a", "m.fzn"],
-        model: "var bool: a :: output_var; var bool: b :: output_var; constraint bool_clause([a,b],[]); constraint bool_clause([],[a]); solve satisfy;",
-        answers: &["a = false;\nb = true;\n----------\n==========\n"],
-        fault: "",
-    },
-    SolverRow {
-        name: "no-variables.a",
-        words: &["-a", "m.fzn"],
-        model: "solve satisfy;",
-        answers: &["----------\n==========\n"],
-        fault: "",
-    },
-    SolverRow {
-        name: "no-variables.plain",
-        words: &["m.fzn"],
-        model: "solve satisfy;",
-        answers: &["----------\n"],
-        fault: "",
-    },
-    SolverRow {
-        name: "contrary-clauses",
-        words: &["m.fzn"],
-        model: "var bool: a; constraint bool_clause([a],[]); constraint bool_clause([],[a]); solve satisfy;",
-        answers: &["=====UNSATISFIABLE=====\n"],
-        fault: "",
-    },
-    SolverRow {
-        name: "empty-domain",
-        words: &["m.fzn"],
-        model: "var 5..3: x; solve satisfy;",
-        answers: &["=====UNSATISFIABLE=====\n"],
-        fault: "",
-    },
-    SolverRow {
-        name: "empty-domain.nodes0",
-        words: &["--nodes", "0", "m.fzn"],
-        model: "var 5..3: x; solve satisfy;",
-        answers: &["=====UNSATISFIABLE=====\n"],
-        fault: "",
-    },
-    SolverRow {
-        name: "minimize-one-integer",
-        words: &["m.fzn"],
-        model: "var 0..10: x :: output_var; constraint int_lin_le([-2],[x],-7); solve minimize x;",
-        answers: &["x = 4;\n----------\n==========\n"],
-        fault: "",
-    },
-    SolverRow {
-        name: "number-range-and-bases.a",
-        words: &["m.fzn"],
-        model: "int: k = 1000000000; solve satisfy;",
-        answers: &["----------\n"],
-        fault: "",
-    },
-    SolverRow {
-        name: "number-range-and-bases.c",
-        words: &["m.fzn"],
-        model: "var -0x1F..-0x1F: x :: output_var; var 0o17..0o17: y :: output_var; solve satisfy;",
-        answers: &["x = -31;\ny = 15;\n----------\n"],
-        fault: "",
-    },
-    SolverRow {
-        name: "output-in-two-ranges.a",
-        words: &["m.fzn"],
-        model: "var 1..1: a;\narray [1..4] of var int: q :: output_array([1..2, 1..2]) = [a, 2, 3, 4];\nsolve satisfy;",
-        answers: &["q = array2d(1..2, 1..2, [1, 2, 3, 4]);\n----------\n"],
-        fault: "",
-    },
-    SolverRow {
-        name: "node-limit-zero",
-        words: &["--nodes", "0", "m.fzn"],
-        model: "var bool: a :: output_var; solve satisfy;",
-        answers: &["=====UNKNOWN=====\n"],
-        fault: "",
-    },
-    SolverRow {
-        name: "hidden-variable",
-        words: &["-a", "m.fzn"],
-        model: "var bool: a :: output_var; var bool: b; solve satisfy;",
-        answers: &[
-            "a = false;\n----------\na = true;\n----------\n==========\n",
-            "a = true;\n----------\na = false;\n----------\n==========\n",
-        ],
-        fault: "",
-    },
-    SolverRow {
-        name: "maximize-one-integer",
-        words: &["m.fzn"],
-        model: "var 0..10: x :: output_var; constraint int_lin_le([3],[x],10); solve maximize x;",
-        answers: &["x = 3;\n----------\n==========\n"],
-        fault: "",
-    },
-    SolverRow {
-        name: "predicate-read",
-        words: &["m.fzn"],
-        model: "predicate p(var int: x); solve satisfy;",
-        answers: &["----------\n"],
-        fault: "",
-    },
-    SolverRow {
-        name: "reified-and-minimize",
-        words: &["m.fzn"],
-        model: "var 0..3: x :: output_var; var bool: r :: output_var; constraint int_le_reif(x,1,r); constraint bool_eq(r,false); solve minimize x;",
-        answers: &["x = 2;\nr = false;\n----------\n==========\n"],
-        fault: "",
-    },
-    SolverRow {
-        name: "bounds-without-nodes",
-        words: &["--nodes", "0", "m.fzn"],
-        model: "var 0..1000000000: x :: output_var; var 0..1000000000: y; constraint int_lin_le([1,1],[x,y],0); solve satisfy;",
-        answers: &["x = 0;\n----------\n"],
-        fault: "",
-    },
-    SolverRow {
-        name: "boolean-array-output",
-        words: &["m.fzn"],
-        model: "var bool: b = false; array [1..2] of var bool: q :: output_array([0..1]) = [true,b]; solve satisfy;",
-        answers: &["q = array1d(0..1, [true, false]);\n----------\n"],
-        fault: "",
-    },
-    SolverRow {
-        name: "empty-array-output",
-        words: &["m.fzn"],
-        model: "array [1..0] of var int: q :: output_array([1..0]) = []; solve satisfy;",
-        answers: &["q = array1d(1..0, []);\n----------\n"],
-        fault: "",
-    },
-    SolverRow {
-        name: "bit-words-and-wider",
-        words: &["-a", "m.fzn"],
-        model: "var {0,4095}: x :: output_var; var {0,4096}: y :: output_var; constraint int_lin_le([-1],[x],-1); constraint int_lin_le([-1],[y],-1); solve satisfy;",
-        answers: &["x = 4095;\ny = 4096;\n----------\n==========\n"],
-        fault: "",
-    },
-];
+/// Clauses, sums, limits and output.
+pub const SOLVER_ROWS: &str = "
+two-booleans -a
+var bool: a :: output_var; var bool: b :: output_var; constraint bool_clause([a,b],[]); constraint bool_clause([],[a]); solve satisfy;
+a = false;|b = true;|----------|==========|
+
+no-variables.a -a
+solve satisfy;
+----------|==========|
+
+no-variables.plain
+solve satisfy;
+----------|
+
+contrary-clauses
+var bool: a; constraint bool_clause([a],[]); constraint bool_clause([],[a]); solve satisfy;
+=====UNSATISFIABLE=====|
+
+empty-domain
+var 5..3: x; solve satisfy;
+=====UNSATISFIABLE=====|
+
+empty-domain.nodes0 --nodes 0
+var 5..3: x; solve satisfy;
+=====UNSATISFIABLE=====|
+
+minimize-one-integer
+var 0..10: x :: output_var; constraint int_lin_le([-2],[x],-7); solve minimize x;
+x = 4;|----------|==========|
+
+number-range-and-bases.a
+int: k = 1000000000; solve satisfy;
+----------|
+
+number-range-and-bases.c
+var -0x1F..-0x1F: x :: output_var; var 0o17..0o17: y :: output_var; solve satisfy;
+x = -31;|y = 15;|----------|
+
+output-in-two-ranges.a
+var 1..1: a;|array [1..4] of var int: q :: output_array([1..2, 1..2]) = [a, 2, 3, 4];|solve satisfy;
+q = array2d(1..2, 1..2, [1, 2, 3, 4]);|----------|
+
+node-limit-zero --nodes 0
+var bool: a :: output_var; solve satisfy;
+=====UNKNOWN=====|
+
+hidden-variable -a
+var bool: a :: output_var; var bool: b; solve satisfy;
+a = false;|----------|a = true;|----------|==========|
+a = true;|----------|a = false;|----------|==========|
+
+maximize-one-integer
+var 0..10: x :: output_var; constraint int_lin_le([3],[x],10); solve maximize x;
+x = 3;|----------|==========|
+
+predicate-read
+predicate p(var int: x); solve satisfy;
+----------|
+
+reified-and-minimize
+var 0..3: x :: output_var; var bool: r :: output_var; constraint int_le_reif(x,1,r); constraint bool_eq(r,false); solve minimize x;
+x = 2;|r = false;|----------|==========|
+
+bounds-without-nodes --nodes 0
+var 0..1000000000: x :: output_var; var 0..1000000000: y; constraint int_lin_le([1,1],[x,y],0); solve satisfy;
+x = 0;|----------|
+
+boolean-array-output
+var bool: b = false; array [1..2] of var bool: q :: output_array([0..1]) = [true,b]; solve satisfy;
+q = array1d(0..1, [true, false]);|----------|
+
+empty-array-output
+array [1..0] of var int: q :: output_array([1..0]) = []; solve satisfy;
+q = array1d(1..0, []);|----------|
+
+bit-words-and-wider -a
+var {0,4095}: x :: output_var; var {0,4096}: y :: output_var; constraint int_lin_le([-1],[x],-1); constraint int_lin_le([-1],[y],-1); solve satisfy;
+x = 4095;|y = 4096;|----------|==========|
+";

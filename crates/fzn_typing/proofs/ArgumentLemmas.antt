@@ -13,12 +13,12 @@ use Rattle.fzn_meaning.specs.Term.{IsTerm, IsPlace}
 use Rattle.fzn_names.specs.Places.{place_of}
 use Rattle.fzn_names.specs.Types.{is_wanted}
 use Rattle.fzn_names.specs.Values.{NameList, value_of, terms_in, set_in}
-use Rattle.fzn_names.specs.declared.names.Declared.{Declared}
+use Rattle.fzn_symbols.specs.declared.names.Declared.{Declared}
 use Rattle.fzn_names.proofs.FirstLemmas.{left_empty, right_empty}
 use Rattle.fzn_names.proofs.MeaningLemmas.{IsMeaning, AreMeanings, value-meaning, when_not, term_of-within, terms_of-within, boolean_term, boolean_terms}
 use Rattle.fzn_names.proofs.ValueSetLemmas.{zero_in_limits, none_limited}
-use Rattle.fzn_parser.specs.declared.tree.Arg.{Arg}
-use Rattle.fzn_parser.specs.declared.tree.Arg.TheVariants as args
+use Rattle.fzn_tree.specs.declared.tree.Arg.{Arg}
+use Rattle.fzn_tree.specs.declared.tree.Arg.TheVariants as args
 use Rattle.fzn_registry.specs.declared.signature.Argument.{Argument}
 use Rattle.fzn_registry.specs.declared.signature.Argument.TheVariants.{Boolean, BooleanList}
 use Rattle.fzn_typing.specs.Arguments.{wrong_values, wrong_arguments, term_given, terms_given, set_given, number_in, weighted, is_negative}

@@ -23,7 +23,7 @@ use Rattle.fzn_meaning.specs.Meaning.{IsBoolean, HasBooleanSets, booleans_of, Ar
 use Rattle.fzn_meaning.specs.Term.{IsTerm}
 use Rattle.fzn_names.specs.Values.{NameList}
 use Rattle.fzn_names.proofs.MeaningLemmas.{AreMeanings}
-use Rattle.fzn_parser.specs.declared.tree.Arg.{Arg}
+use Rattle.fzn_tree.specs.declared.tree.Arg.{Arg}
 use Rattle.fzn_registry.specs.declared.name.Name.{Name}
 use Rattle.fzn_registry.specs.declared.name.Name.TheVariants as n
 use Rattle.fzn_registry.specs.declared.signature.Argument.{Argument}

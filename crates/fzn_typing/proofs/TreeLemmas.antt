@@ -23,10 +23,10 @@ use Rattle.fzn_names.proofs.GivesLemmas.{err_is, Gives-first, Gives-behind}
 use Rattle.fzn_names.proofs.DeclaredLemmas.{names-meanings, shown-within}
 use Rattle.fzn_names.proofs.MeaningLemmas.{AreMeanings}
 use Rattle.fzn_names.proofs.ValueSetLemmas.{sets-limited, length-declared_sets}
-use Rattle.fzn_parser.specs.declared.tree.Con.{Con}
-use Rattle.fzn_parser.specs.declared.tree.Param.{Param}
-use Rattle.fzn_parser.specs.declared.tree.Tree.{Tree}
-use Rattle.fzn_parser.specs.declared.tree.Var.{Var}
+use Rattle.fzn_tree.specs.declared.tree.Con.{Con}
+use Rattle.fzn_tree.specs.declared.tree.Param.{Param}
+use Rattle.fzn_tree.specs.declared.tree.Tree.{Tree}
+use Rattle.fzn_tree.specs.declared.tree.Var.{Var}
 use Rattle.fzn_typing.specs.Faults.{constraint_faults, goal_faults, tree_names, faults_of}
 use Rattle.fzn_typing.specs.Limits.{IsWithinLimits}
 use Rattle.fzn_typing.specs.Models.{IsModelOf, stated, written, numbered, goal_of}

@@ -21,26 +21,26 @@ use Rattle.fzn_names.specs.Limits.{IsBasicWithin, IsValueWithin, IsBaseWithin, I
 use Rattle.fzn_names.specs.Places.{first, when, at}
 use Rattle.fzn_names.specs.Values.{NameList, value_of, term_of}
 use Rattle.fzn_names.specs.Variables.{kind_of, values_in}
-use Rattle.fzn_names.specs.declared.names.Declared.{Declared}
-use Rattle.fzn_names.specs.declared.names.Declared.TheVariants as d
+use Rattle.fzn_symbols.specs.declared.names.Declared.{Declared}
+use Rattle.fzn_symbols.specs.declared.names.Declared.TheVariants as d
 use Rattle.fzn_names.proofs.FirstLemmas.{left_empty, right_empty, at-empty}
 use Rattle.fzn_names.proofs.MeaningLemmas.{IsMeaning, AreMeanings, lookup-meaning, when_not, term_of-within}
 use Rattle.fzn_names.proofs.ValueSetLemmas.{values_in-limited}
 use Rattle.fzn_names.proofs.StepLemmas.{var_room}
-use Rattle.fzn_parser.specs.declared.tree.Arg.{Arg}
-use Rattle.fzn_parser.specs.declared.tree.Arg.TheVariants as args
-use Rattle.fzn_parser.specs.declared.tree.Base.{Base}
-use Rattle.fzn_parser.specs.declared.tree.Base.TheVariants as bases
-use Rattle.fzn_parser.specs.declared.tree.Basic.{Basic}
-use Rattle.fzn_parser.specs.declared.tree.Basic.TheVariants as basics
-use Rattle.fzn_parser.specs.declared.tree.Con.{Con}
-use Rattle.fzn_parser.specs.declared.tree.Goal.{Goal as Wanted}
-use Rattle.fzn_parser.specs.declared.tree.Goal.TheVariants as goals
-use Rattle.fzn_parser.specs.declared.tree.Literal.TheVariants as l
-use Rattle.fzn_parser.specs.declared.tree.SingleVar.{SingleVar}
-use Rattle.fzn_parser.specs.declared.tree.Values.{Values}
-use Rattle.fzn_parser.specs.declared.tree.Var.{Var}
-use Rattle.fzn_parser.specs.declared.tree.Var.TheVariants as vars
+use Rattle.fzn_tree.specs.declared.tree.Arg.{Arg}
+use Rattle.fzn_tree.specs.declared.tree.Arg.TheVariants as args
+use Rattle.fzn_tree.specs.declared.tree.Base.{Base}
+use Rattle.fzn_tree.specs.declared.tree.Base.TheVariants as bases
+use Rattle.fzn_tree.specs.declared.tree.Basic.{Basic}
+use Rattle.fzn_tree.specs.declared.tree.Basic.TheVariants as basics
+use Rattle.fzn_tree.specs.declared.tree.Con.{Con}
+use Rattle.fzn_tree.specs.declared.tree.Goal.{Goal as Wanted}
+use Rattle.fzn_tree.specs.declared.tree.Goal.TheVariants as goals
+use Rattle.fzn_tree.specs.declared.tree.Literal.TheVariants as l
+use Rattle.fzn_tree.specs.declared.tree.SingleVar.{SingleVar}
+use Rattle.fzn_tree.specs.declared.tree.Values.{Values}
+use Rattle.fzn_tree.specs.declared.tree.Var.{Var}
+use Rattle.fzn_tree.specs.declared.tree.Var.TheVariants as vars
 use Rattle.fzn_registry.specs.declared.name.Name.{Name}
 use Rattle.fzn_registry.specs.Registry.{name_spelled, arguments_of, lengths_of, non_negative_of}
 use Rattle.fzn_typing.specs.Arguments.{set_entries, unknown_names, wrong_arguments, has_lengths, has_negative}

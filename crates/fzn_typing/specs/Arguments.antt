@@ -8,9 +8,9 @@ use Rattle.fzn_meaning.specs.declared.term.Term.TheVariants as terms
 use Rattle.fzn_meaning.specs.declared.term.Place.{Place as Product}
 use Rattle.fzn_names.specs.Types.{sets_in, unknown_in, wrong_in}
 use Rattle.fzn_names.specs.Values.{NameList, value_of, term_of, terms_of, terms_in, set_in}
-use Rattle.fzn_parser.specs.declared.tree.Arg.{Arg}
-use Rattle.fzn_parser.specs.declared.tree.Arg.TheVariants as args
-use Rattle.fzn_parser.specs.declared.tree.Array.{Array}
+use Rattle.fzn_tree.specs.declared.tree.Arg.{Arg}
+use Rattle.fzn_tree.specs.declared.tree.Arg.TheVariants as args
+use Rattle.fzn_tree.specs.declared.tree.Array.{Array}
 use Rattle.fzn_registry.specs.declared.signature.Argument.{Argument}
 use Rattle.fzn_registry.specs.declared.signature.Argument.TheVariants.{Integer, Boolean, IntegerConstant, BooleanConstant, IntegerList, BooleanList, IntegerConstantList, BooleanConstantList}
 use Rattle.fzn_registry.specs.declared.signature.Lengths.{Lengths}

@@ -10,7 +10,7 @@ use Rattle.fzn_meaning.specs.declared.relation.Relation.TheVariants as r
 use Rattle.fzn_meaning.specs.declared.term.Term.{Term}
 use Rattle.fzn_meaning.specs.declared.term.Place.{Place as Product}
 use Rattle.fzn_names.specs.Values.{NameList}
-use Rattle.fzn_parser.specs.declared.tree.Arg.{Arg}
+use Rattle.fzn_tree.specs.declared.tree.Arg.{Arg}
 use Rattle.fzn_registry.specs.declared.name.Name.{Name}
 use Rattle.fzn_registry.specs.declared.name.Name.TheVariants as n
 use Rattle.fzn_typing.specs.Arguments.{term_at, terms_at, set_at, number_at, numbers_at, weighted}

@@ -9,13 +9,13 @@ use Rattle.fzn_names.specs.Declarations.{names_of, declaration_faults}
 use Rattle.fzn_names.specs.Places.{when, at, place_of}
 use Rattle.fzn_names.specs.Types.{unknown_in}
 use Rattle.fzn_names.specs.Values.{NameList, value_of}
-use Rattle.fzn_names.specs.declared.names.Declared.{Declared}
-use Rattle.fzn_names.specs.declared.names.Declared.TheVariants.{Variable}
-use Rattle.fzn_parser.specs.declared.tree.Basic.{Basic}
-use Rattle.fzn_parser.specs.declared.tree.Con.{Con}
-use Rattle.fzn_parser.specs.declared.tree.Goal.{Goal}
-use Rattle.fzn_parser.specs.declared.tree.Goal.TheVariants as goals
-use Rattle.fzn_parser.specs.declared.tree.Tree.{Tree}
+use Rattle.fzn_symbols.specs.declared.names.Declared.{Declared}
+use Rattle.fzn_symbols.specs.declared.names.Declared.TheVariants.{Variable}
+use Rattle.fzn_tree.specs.declared.tree.Basic.{Basic}
+use Rattle.fzn_tree.specs.declared.tree.Con.{Con}
+use Rattle.fzn_tree.specs.declared.tree.Goal.{Goal}
+use Rattle.fzn_tree.specs.declared.tree.Goal.TheVariants as goals
+use Rattle.fzn_tree.specs.declared.tree.Tree.{Tree}
 use Rattle.fzn_registry.specs.declared.name.Name.{Name}
 use Rattle.fzn_registry.specs.Registry.{name_spelled, arguments_of, lengths_of, non_negative_of}
 use Rattle.fzn_typing.specs.Arguments.{set_entries, unknown_names, wrong_arguments, has_lengths, has_negative}

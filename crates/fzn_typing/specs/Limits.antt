@@ -3,10 +3,10 @@ use Rattle.std.specs.Prelude.{◌≤◌, length}
 use Rattle.std.specs.List.{All}
 use Rattle.fzn_meaning.specs.Meaning.{longest}
 use Rattle.fzn_names.specs.Limits.{IsBasicWithin, AreEntriesWithin, AreDeclarationsWithin}
-use Rattle.fzn_parser.specs.declared.tree.Arg.{Arg}
-use Rattle.fzn_parser.specs.declared.tree.Arg.TheVariants as args
-use Rattle.fzn_parser.specs.declared.tree.Con.{Con}
-use Rattle.fzn_parser.specs.declared.tree.Tree.{Tree}
+use Rattle.fzn_tree.specs.declared.tree.Arg.{Arg}
+use Rattle.fzn_tree.specs.declared.tree.Arg.TheVariants as args
+use Rattle.fzn_tree.specs.declared.tree.Con.{Con}
+use Rattle.fzn_tree.specs.declared.tree.Tree.{Tree}
 
 abbrev pub IsArgWithin : Arg → Type 0
 IsArgWithin (args.Basic basic) = IsBasicWithin basic

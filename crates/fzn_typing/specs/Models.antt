@@ -11,19 +11,19 @@ use Rattle.fzn_meaning.specs.declared.model.Model.{Model}
 use Rattle.fzn_names.specs.Outputs.{IsShown, shown_from}
 use Rattle.fzn_names.specs.Values.{NameList, term_of}
 use Rattle.fzn_names.specs.Variables.{kind_of, values_in, vars_of}
-use Rattle.fzn_parser.specs.declared.tree.Arg.{Arg}
-use Rattle.fzn_parser.specs.declared.tree.Arg.TheVariants as args
-use Rattle.fzn_parser.specs.declared.tree.Base.{Base}
-use Rattle.fzn_parser.specs.declared.tree.Base.TheVariants as bases
-use Rattle.fzn_parser.specs.declared.tree.Basic.{Basic}
-use Rattle.fzn_parser.specs.declared.tree.Basic.TheVariants as basics
-use Rattle.fzn_parser.specs.declared.tree.Con.{Con}
-use Rattle.fzn_parser.specs.declared.tree.Goal.{Goal as Wanted}
-use Rattle.fzn_parser.specs.declared.tree.Goal.TheVariants as goals
-use Rattle.fzn_parser.specs.declared.tree.SingleVar.{SingleVar}
-use Rattle.fzn_parser.specs.declared.tree.Tree.{Tree}
-use Rattle.fzn_parser.specs.declared.tree.Var.{Var}
-use Rattle.fzn_parser.specs.declared.tree.Var.TheVariants as vars
+use Rattle.fzn_tree.specs.declared.tree.Arg.{Arg}
+use Rattle.fzn_tree.specs.declared.tree.Arg.TheVariants as args
+use Rattle.fzn_tree.specs.declared.tree.Base.{Base}
+use Rattle.fzn_tree.specs.declared.tree.Base.TheVariants as bases
+use Rattle.fzn_tree.specs.declared.tree.Basic.{Basic}
+use Rattle.fzn_tree.specs.declared.tree.Basic.TheVariants as basics
+use Rattle.fzn_tree.specs.declared.tree.Con.{Con}
+use Rattle.fzn_tree.specs.declared.tree.Goal.{Goal as Wanted}
+use Rattle.fzn_tree.specs.declared.tree.Goal.TheVariants as goals
+use Rattle.fzn_tree.specs.declared.tree.SingleVar.{SingleVar}
+use Rattle.fzn_tree.specs.declared.tree.Tree.{Tree}
+use Rattle.fzn_tree.specs.declared.tree.Var.{Var}
+use Rattle.fzn_tree.specs.declared.tree.Var.TheVariants as vars
 use Rattle.fzn_registry.specs.declared.name.Name.{Name}
 use Rattle.fzn_registry.specs.declared.name.Name.TheVariants as n
 use Rattle.fzn_registry.specs.Registry.{name_spelled}

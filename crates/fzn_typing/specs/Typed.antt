@@ -3,7 +3,7 @@ use Rattle.std.specs.Prelude.{Result}
 use Rattle.fzn_lexer.specs.declared.fault.ReadError.{ReadError}
 use Rattle.fzn_meaning.specs.declared.model.Model.{Model}
 use Rattle.fzn_names.specs.Given.{Gives}
-use Rattle.fzn_parser.specs.declared.tree.Tree.{Tree}
+use Rattle.fzn_tree.specs.declared.tree.Tree.{Tree}
 use Rattle.fzn_typing.specs.Faults.{faults_of}
 use Rattle.fzn_typing.specs.Models.{IsModelOf}
 

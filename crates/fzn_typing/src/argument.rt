@@ -6,8 +6,8 @@ ghost use Rattle.fzn_typing.specs.Arguments.{set_entries, unknown_names, entry_o
 
 use fzn_lexer::Place;
 use fzn_names::{Names, first_set_in, first_unknown_in, first_wrong_in, unknown_in, wrong_in};
-use fzn_parser::{Arg, Array};
 use fzn_registry::Argument;
+use fzn_tree::{Arg, Array};
 
 fn set_entry(names: &Names, arg: &Arg) -> Option<Place>
     ensures { result ≡ first (set_entries (known names.now) arg.now) }

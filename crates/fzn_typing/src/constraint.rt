@@ -16,8 +16,8 @@ use fzn_lexer::{Fault, FaultKind, ReadError};
 use fzn_list::Items;
 use fzn_meaning::Constraint;
 use fzn_names::Names;
-use fzn_parser::Con;
 use fzn_registry::{Signature, lookup_bytes};
+use fzn_tree::Con;
 use std::alloc::{AllocError, Global};
 
 #[tactic(auto, using(crate::proofs::FirstLemmas::firsts))]

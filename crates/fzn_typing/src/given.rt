@@ -10,8 +10,8 @@ use fzn_domain::Domain;
 use fzn_list::Items;
 use fzn_meaning::{Place, Term};
 use fzn_names::{Names, array_of, no_values, set_of, term_of, terms_of};
-use fzn_parser::{Arg, Basic};
 use fzn_registry::Lengths;
+use fzn_tree::{Arg, Basic};
 use std::alloc::{AllocError, Global};
 
 /// The term that is the argument at this place.

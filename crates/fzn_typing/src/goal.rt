@@ -9,7 +9,7 @@ use fzn_domain::VarId;
 use fzn_lexer::{Fault, FaultKind, ReadError};
 use fzn_meaning::Kind;
 use fzn_names::{Declared, Names, place_of};
-use fzn_parser::{Basic, Goal};
+use fzn_tree::{Basic, Goal};
 
 /// The integer variable that is named.
 fn objective_of(names: &Names, basic: &Basic) -> Result<VarId, ReadError>

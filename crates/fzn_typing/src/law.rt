@@ -3,7 +3,7 @@ ghost use Rattle.std.specs.Prelude.{◌≡◌, ◌≢◌, Result, Err};
 ghost use Rattle.fzn_lexer.specs.declared.fault.ReadError.{ReadError};
 ghost use Rattle.fzn_lexer.specs.declared.fault.ReadError.TheVariants.{Memory};
 ghost use Rattle.fzn_meaning.specs.declared.model.Model.{Model};
-ghost use Rattle.fzn_parser.specs.declared.tree.Tree.{Tree};
+ghost use Rattle.fzn_tree.specs.declared.tree.Tree.{Tree};
 ghost use Rattle.fzn_typing.specs.Typed.{IsTyped};
 
 /// A tree has one model or one fault: two answers for it are the same, unless memory ran out.

@@ -11,8 +11,8 @@ use crate::given::{number_at, numbers_at, set_at, sum_of, term_at, terms_at};
 use fzn_list::Items;
 use fzn_meaning::{Comparison, Constraint, Extreme, Gate, Operation, Relation, Term};
 use fzn_names::Names;
-use fzn_parser::Arg;
 use fzn_registry::Name;
+use fzn_tree::Arg;
 use std::alloc::{AllocError, Global};
 
 fn compare(names: &Names, args: &[Arg], relation: Relation, switch: Option<Term>) -> Constraint

@@ -8,7 +8,7 @@ use fzn_domain::VarId;
 use fzn_lexer::{FaultKind, Place, ReadError};
 use fzn_list::{Items, Text};
 use fzn_meaning::Constraint;
-use fzn_parser::{Ann, Arg, Base, Basic, Con, Goal, Literal, Name, SingleVar, Solve, Tree, Var};
+use fzn_tree::{Ann, Arg, Base, Basic, Con, Goal, Literal, Name, SingleVar, Solve, Tree, Var};
 use std::alloc::{AllocError, Global};
 use std::test::*;
 

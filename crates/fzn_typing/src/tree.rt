@@ -10,7 +10,7 @@ use crate::written::with_written;
 use fzn_lexer::ReadError;
 use fzn_meaning::Model;
 use fzn_names::{names_of, outputs_of, shown_of, vars_of};
-use fzn_parser::Tree;
+use fzn_tree::Tree;
 use std::alloc::Global;
 
 /// The model of the tree, or its first fault.

@@ -12,7 +12,7 @@ ghost use Rattle.fzn_typing.specs.Models.{equalities, written};
 use fzn_list::Items;
 use fzn_meaning::{Constraint, Relation, Term};
 use fzn_names::{Names, term_of, values_in, variable_of};
-use fzn_parser::{Base, Basic, SingleVar, Values, Var};
+use fzn_tree::{Base, Basic, SingleVar, Values, Var};
 use std::alloc::{AllocError, Global};
 
 /// That the variable has the written value.

@@ -26,6 +26,7 @@ int_max(a,b,c)                   | var {1,5}: a; var {3,#}: b; var {4,6}: c;    
 int_min(a,b,c)                   | var 0..9: a; var 0..#: b; var 5..9: c;                     | rows ;                | 4  | 5
 int_min(a,b,c)                   | var {5,9}: a; var {7,#}: b; var {4,6}: c;                  | rows ;                | 8  | 6
 int_abs(a,b)                     | var {-3,2}: a; var {1,#}: b;                               | rows ;                | 4  | 3
+int_abs(a,b)                     | var -1000000000..-1: a; var -1000000000..#: b;             | rows ;                | 0  | 1
 fzn_table_int([x,y],[1,2,2,1,3,#]) | var 2..3: x; var 2..3: y;                                | rows ;                | 4  | 3
 fzn_table_int([x],[#])           | var 1..3: x;                                               | rows ;                | 4  | 3
 fzn_circuit([x,y])               | var 1..2: x; var #..9: y;                                  | rows ;                | 3  | 2

@@ -8,9 +8,9 @@ use Rattle.fzn_arith.proofs.tests.keep.Goals as goal
 
 pub returns-clause-sets : goal.returns-clause-sets
 returns-clause-sets c =
-    ap (λ (t : Levels). length t.sets) c.in_ok-left.ensures.ok ∙ length-asserted c.args.lit Decision c.args.trail.now ∙ c.requires.sets
+    ap (λ (t : Levels). length t.sets) c.in_ok-left.ensures.ok ∙ length-asserted _ Decision c.args.trail.now ∙ c.requires.sets
 
 pub returns-clause-filled : goal.returns-clause-filled
 returns-clause-filled c =
-    filled_after c.args.lit Decision c.args.trail.now _ c.in_ok-left.left (subst (λ (n : ℕ). IsVariable n c.args.lit.var) (sym c.requires.sets) c.requires.variable)
+    filled_after _ Decision c.args.trail.now _ c.in_ok-left.left (subst (λ (n : ℕ). IsVariable n c.args.var) (sym c.requires.sets) c.requires.variable)
     c.requires.filled c.in_ok-left.ensures.ok c.in_ok-left.ensures.left

@@ -3,7 +3,7 @@ use Rattle.std.specs.Prelude.{IfNone}
 use Rattle.std.proofs.lemmas.Result.{err_from_is_err_and}
 use Rattle.fzn_meaning.specs.Solutions.{IsProper, IsExhausted}
 use Rattle.fzn_cert.specs.Accepted.{IsJudged}
-use Rattle.fzn_cert.specs.Reader.{progress}
+use Rattle.fzn_cert_reader.specs.Reader.{progress}
 use Rattle.fzn_cert.specs.Verdict.{accepted, refused, VerdictOn}
 use Rattle.fzn_cert.proofs.SoundLaws.{proper-sound, exhausted-sound}
 use Rattle.fzn_checker.specs.Checked.{Offers, Accepts}

@@ -2,7 +2,7 @@ use Rattle.std.proofs.Common.{◌≡◌, ◌+◌, ◌-◌}
 use Rattle.fzn_meaning.specs.Solutions.{declared_sets}
 use Rattle.fzn_state.specs.State.{start}
 use Rattle.fzn_cert.specs.declared.limits.TheConstants.{LAST_STEP}
-use Rattle.fzn_cert.specs.Reader.{progress}
+use Rattle.fzn_cert_reader.specs.Reader.{progress}
 use Rattle.fzn_cert.specs.Sound.{IsSound}
 use Rattle.fzn_cert.specs.Verdict.{Outcome, VerdictOn}
 use Rattle.fzn_checker.specs.Given.{AreGiven}

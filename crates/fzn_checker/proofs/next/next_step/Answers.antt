@@ -2,7 +2,7 @@ use Rattle.std.proofs.Common.{◌≡◌, ap₂, sym, subst, ◌∙◌, refl, IfS
 use Rattle.std.specs.Prelude.{IfNone}
 use Rattle.std.proofs.lemmas.Bool.{false≢true}
 use Rattle.fzn_cert.specs.declared.refusal.Refusal.TheVariants.{NotClosed}
-use Rattle.fzn_cert.specs.Reader.{progress, Gives, Ends}
+use Rattle.fzn_cert_reader.specs.Reader.{progress, Gives, Ends}
 use Rattle.fzn_cert.specs.Verdict.{refused}
 use Rattle.fzn_checker.specs.Checked.{IsFaultWhere, Standing}
 use Rattle.fzn_checker.specs.Faults.{may_end, fault_after}

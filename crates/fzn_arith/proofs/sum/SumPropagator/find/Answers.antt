@@ -5,8 +5,10 @@ use Rattle.fzn_domain.specs.declared.literal.Lit.{Lit}
 use Rattle.fzn_meaning.specs.declared.term.Term.{Term}
 use Rattle.fzn_meaning.specs.Term.{IsTerm}
 use Rattle.std.proofs.Common.{length}
+use Rattle.fzn_sums.specs.Refuted.{IsRefutation}
 use Rattle.fzn_arith.specs.Kinds.{form_in}
-use Rattle.fzn_arith.specs.Refuted.{IsFound, IsRefutation, IsGuarded}
+use Rattle.fzn_arith.specs.Sum.{IsFound}
+use Rattle.fzn_arith.specs.Guard.{IsGuarded}
 use Rattle.fzn_arith.proofs.RefuteLemmas.{found_plain, found_on, found_off}
 use Rattle.fzn_arith.proofs.sum.SumPropagator.find.Goals as goal
 

@@ -1,7 +1,7 @@
 use Rattle.std.proofs.Common.{Option, List, subst, IfSome, IfNone}
 use Rattle.fzn_domain.specs.declared.literal.Lit.{Lit}
 use Rattle.fzn_arith.specs.Kinds.{form_in}
-use Rattle.fzn_arith.specs.Refuted.{IsFound, IsLeftAlone}
+use Rattle.fzn_arith.specs.Sum.{IsFound, IsLeftAlone}
 use Rattle.fzn_arith.proofs.FormLemmas.{sum_found, sum_alone}
 use Rattle.fzn_arith.proofs.sum.SumPropagatorPropagator.propagate.Goals as goal
 

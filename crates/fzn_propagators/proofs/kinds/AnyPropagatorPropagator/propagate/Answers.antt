@@ -1,6 +1,6 @@
 use Rattle.std.proofs.Common.{sym, subst, Option, IfOk, IfSome, IfNone}
-use Rattle.fzn_arith.specs.declared.propagator.Inference.{Inference}
-use Rattle.fzn_arith.specs.Inference.{IsInferenceOf, AreExhausted}
+use Rattle.fzn_propagator.specs.declared.propagator.Inference.{Inference}
+use Rattle.fzn_propagator.specs.Inference.{IsInferenceOf, AreExhausted}
 use Rattle.fzn_propagators.specs.declared.kinds.AnyPropagator.{AnyPropagator}
 use Rattle.fzn_propagators.specs.AnyCrate.{any_number, AnyIsFor}
 use Rattle.fzn_propagators.proofs.kinds.AnyPropagatorPropagator.propagate.Goals as goal

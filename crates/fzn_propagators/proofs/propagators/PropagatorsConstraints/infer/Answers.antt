@@ -1,7 +1,7 @@
 -- What the propagator at this place finds, and what it means that none finds anything.
 use Rattle.std.proofs.lemmas.List.Elements.{AllWithin-more}
 use Rattle.fzn_propagators.specs.AnyCrate.{AnyIsFor}
-use Rattle.fzn_arith.specs.Inference.{AreExhausted}
+use Rattle.fzn_propagator.specs.Inference.{AreExhausted}
 use Rattle.fzn_propagators.proofs.FoundLemmas.{fits-trail, found-inference, none-quiet, HoldsAt-item}
 use Rattle.fzn_propagators.proofs.propagators.PropagatorsConstraints.infer.Goals as goal
 

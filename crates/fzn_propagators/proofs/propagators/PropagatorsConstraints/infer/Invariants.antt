@@ -1,6 +1,6 @@
 use Rattle.std.specs.List.{AllWithin}
 use Rattle.fzn_propagators.specs.AnyCrate.{AnyIsFor}
-use Rattle.fzn_arith.specs.Inference.{AreExhausted}
+use Rattle.fzn_propagator.specs.Inference.{AreExhausted}
 use Rattle.fzn_propagators.proofs.propagators.PropagatorsConstraints.infer.Given as goal
 
 -- the propagators before this place find nothing

@@ -1,0 +1,11 @@
+pub mod CallerLemmas
+mod HeaderLaws
+mod LineLaws
+mod LoopLaws
+mod NumberLaws
+mod OptionLaws
+mod ReadLaws
+mod RiseLaws
+mod SplitLaws
+mod StepLaws
+mod WordLaws

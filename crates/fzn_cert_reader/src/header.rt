@@ -1,0 +1,52 @@
+// The first two lines.
+ghost use Rattle.std.specs.Prelude.{◌≡◌, IfSome, IfNone};
+ghost use Rattle.fzn_cert.specs.Spelling.{version_text, counts_text, IsSized};
+ghost use Rattle.fzn_cert.specs.Stream.{IsVersionText, IsCountsText};
+ghost use Rattle.fzn_cert.specs.Reading.{words_of, counts_of};
+
+use crate::number::natural_of;
+use crate::words::words_of;
+use fzn_cert::Version;
+
+/// The version that the first line says, without its line feed.
+pub fn version_of_line(line: &[u8]) -> Option<Version>
+    ensures found { IfSome result (λ version. line.now ≡ version_text version) }
+    ensures none { IfNone result (IsVersionText line.now → ⊥) }
+{
+    if line == b"fzc 1".as_slice() {
+        Some(Version::One)
+    } else if line == b"fzc 2".as_slice() {
+        Some(Version::Two)
+    } else {
+        None
+    }
+}
+
+/// How many variables and constraints the second line says, without its line feed.
+pub fn counts_of_line(line: &[u8]) -> Option<(u64, u64)>
+    ensures found { IfSome result (λ counts. (line.now ≡ counts_text counts.0 counts.1) × (IsSized counts.0 × IsSized counts.1)) }
+    ensures none { IfNone result (IsCountsText line.now → ⊥) }
+{
+    read_counts(line)
+}
+
+#[tactic(auto, unfolding(fzn_cert::specs::Reading::counts_of))]
+fn read_counts(line: &[u8]) -> Option<(u64, u64)>
+    ensures { result ≡ counts_of (words_of line.now) }
+{
+    let mut words = words_of(line);
+    let first = words.next()?;
+    let variables = words.next()?;
+    let third = words.next()?;
+    let constraints = words.next()?;
+    if words.next().is_some() {
+        return None;
+    }
+    if first == b"vars".as_slice() && third == b"cons".as_slice() {
+        let variables = natural_of(variables)?;
+        let constraints = natural_of(constraints)?;
+        Some((variables, constraints))
+    } else {
+        None
+    }
+}

@@ -1,0 +1,22 @@
+//! The reader of a certificate: its bytes, line by line, to the steps that the lines spell.
+//!
+//! In: a reader of bytes. Out: one step at a time, what the first and the last lines say, or the first faulty line and its fault. Proved
+//! against `specs/Reader.antt` (what one call takes of the bytes) and `fzn_cert`'s `Spelling` (the one line of a step) and `Stream`
+//! (the fault of a line). Whether a step is accepted is not asked here.
+#![tactic(auto)]
+
+pub use stream::StepReader;
+
+mod ending;
+mod header;
+mod input;
+mod lines;
+mod literal;
+mod number;
+mod parse;
+mod reader;
+mod rule;
+mod stream;
+#[cfg(test)]
+mod tests;
+mod words;

@@ -1,0 +1,96 @@
+// The lines of a certificate from a reader, each with its fault.
+ghost use Rattle.std.specs.Prelude.{◌≡◌, ◌≤◌, ◌+◌, ◌++◌, ◌∷◌, [], Bool, Some, None, IfOk, IfErr, IfSome, IfNone, OnOk, OnErr};
+ghost use Rattle.std.specs.Io.KnownBytes.{Consumes, IsAtEnd};
+ghost use Rattle.fzn_cert.specs.Spelling.{step_line, end_line, version_text, counts_text, HasLine, IsSized};
+ghost use Rattle.fzn_cert_reader.specs.Input.{left_in};
+ghost use Rattle.fzn_cert.specs.declared.fault.FaultKind.TheVariants.{Trailing};
+ghost use Rattle.fzn_cert.specs.Stream.{IsFaultOf, IsTrailedBy, IsHeaderFaultOf, IsVersionText, IsCountsText};
+
+use crate::ending::closed_of_line;
+use crate::header::{counts_of_line, version_of_line};
+use crate::input::Bytes;
+use crate::lines::{LineEnd, next_line};
+use crate::parse::step_after;
+use fzn_cert::{FaultKind, Step, Version};
+use std::alloc::Global;
+use std::io::Read;
+
+/// What is read of a certificate: the bytes, the line that was read last, and how far it came.
+#[derive(Drop)]
+pub struct StepLines<R: Read> {
+    pub bytes: Bytes<R>,
+    pub line: Vec<u8>,
+    pub steps: u64,
+    pub closed: Option<bool>,
+    ghost few: { steps ≤ 999999999999999999 },
+}
+
+impl<R: Read + Drop> StepLines<R> {
+    /// The step of the next line, and none once the last line was read and nothing follows it.
+    pub fn next_step(&mut self, alloc: Global, version: Version) -> Result<Option<Step>, FaultKind>
+        ensures line { IfOk result (λ found. IfSome found (HasLine version self.old.steps)) }
+        ensures step { IfOk result (λ found. IfSome found (λ step. Consumes (left_in R.remaining self.old.bytes) (left_in R.remaining self.new.bytes) (step_line step)
+            × (self.new.steps ≡ self.old.steps + 1) × (self.new.closed ≡ self.old.closed))) }
+        ensures end { IfOk result (λ found. IfNone found ((closed : Bool) × (self.new.closed ≡ Some closed)
+            × Consumes (left_in R.remaining self.old.bytes) (left_in R.remaining self.new.bytes) (end_line closed) × IsAtEnd (left_in R.remaining self.new.bytes)
+            × (self.new.steps ≡ self.old.steps))) }
+        ensures err { IfErr result (IsFaultOf version self.old.steps (left_in R.remaining self.old.bytes)) }
+        ensures same_steps { OnErr result (self.new.steps ≡ self.old.steps) }
+        ensures trailed { IfErr result (λ kind. kind ≡ Trailing → IsTrailedBy (left_in R.remaining self.old.bytes) self.new.closed) }
+    {
+        match next_line(&mut self.bytes, &mut self.line)? {
+            LineEnd::Truncated => Err(FaultKind::Truncated),
+            LineEnd::TooLong => Err(FaultKind::LineTooLong),
+            LineEnd::Whole => match closed_of_line(&self.line) {
+                Some(closed) => {
+                    self.closed = Some(closed);
+                    match self.bytes.next_byte() {
+                        Ok(None) => Ok(None),
+                        Ok(Some(_)) => Err(FaultKind::Trailing),
+                        Err(_) => Err(FaultKind::Read),
+                    }
+                }
+                None => match step_after(alloc, &self.line, version, self.steps)? {
+                    Some(step) => {
+                        self.steps += 1;
+                        Ok(Some(step))
+                    }
+                    None => Err(FaultKind::Spelling),
+                },
+            },
+        }
+    }
+
+    /// Reads the first line.
+    pub fn read_version(&mut self) -> Result<Version, FaultKind>
+        ensures ok { IfOk result (λ version. Consumes (left_in R.remaining self.old.bytes) (left_in R.remaining self.new.bytes) (version_text version ++ 10 ∷ [])) }
+        ensures err { IfErr result (IsHeaderFaultOf IsVersionText (left_in R.remaining self.old.bytes)) }
+        ensures same { (self.new.steps ≡ self.old.steps) × (self.new.closed ≡ self.old.closed) }
+    {
+        match next_line(&mut self.bytes, &mut self.line)? {
+            LineEnd::Truncated => Err(FaultKind::Truncated),
+            LineEnd::TooLong => Err(FaultKind::LineTooLong),
+            LineEnd::Whole => match version_of_line(&self.line) {
+                Some(version) => Ok(version),
+                None => Err(FaultKind::Header),
+            },
+        }
+    }
+
+    /// Reads the second line: how many variables and constraints there are.
+    pub fn read_counts(&mut self) -> Result<(u64, u64), FaultKind>
+        ensures ok { IfOk result (λ counts. Consumes (left_in R.remaining self.old.bytes) (left_in R.remaining self.new.bytes) (counts_text counts.0 counts.1 ++ 10 ∷ [])) }
+        ensures sized { IfOk result (λ counts. IsSized counts.0 × IsSized counts.1) }
+        ensures err { IfErr result (IsHeaderFaultOf IsCountsText (left_in R.remaining self.old.bytes)) }
+        ensures same { (self.new.steps ≡ self.old.steps) × (self.new.closed ≡ self.old.closed) }
+    {
+        match next_line(&mut self.bytes, &mut self.line)? {
+            LineEnd::Truncated => Err(FaultKind::Truncated),
+            LineEnd::TooLong => Err(FaultKind::LineTooLong),
+            LineEnd::Whole => match counts_of_line(&self.line) {
+                Some(counts) => Ok(counts),
+                None => Err(FaultKind::Header),
+            },
+        }
+    }
+}

@@ -1,0 +1,15 @@
+pub mod ChoiceLaws
+pub mod Exact
+pub mod FormLaws
+pub mod ListLaws
+pub mod LiteralLaws
+pub mod ManyLaws
+pub mod NextLaws
+pub mod OneTokenLaws
+pub mod PredicateLaws
+pub mod SequenceLaws
+pub mod SpelledLaws
+pub mod TokenLaws
+pub mod Turns
+pub mod TypeLaws
+pub mod ValueLaws

@@ -1,0 +1,89 @@
+-- What an inference promises, and what it means that there is none.
+use Rattle.std.specs.Prelude.{◌≡◌, ℕ, ℤ, pos, negsuc, ◌+ℤ◌, ◌-ℤ◌, ◌≤ℤ◌, List, [], ◌∷◌, length, Some, None}
+use Rattle.std.specs.List.{All}
+use Rattle.fzn_domain.specs.declared.literal.Lit.{Lit}
+use Rattle.fzn_domain.specs.IntSet.{IntSet, size}
+use Rattle.fzn_domain.specs.Ascending.{IsAscending}
+use Rattle.fzn_domain.specs.Narrow.{IsClauseOver, IsWithin}
+use Rattle.fzn_meaning.specs.declared.term.Place.{Place}
+use Rattle.fzn_meaning.specs.declared.constraint.Constraint.{Constraint}
+use Rattle.fzn_meaning.specs.Meaning.{Meets, HasBooleanSets}
+use Rattle.fzn_rules.specs.declared.rule.Rule.{Rule}
+use Rattle.fzn_rules.specs.declared.rule.Rule.TheVariants.{Lin, Rows, Box, Fixed, Enum, Hall, Load, Energy, Cut, Pair}
+use Rattle.fzn_meaning.specs.declared.relation.Comparison.TheVariants.{AtMost}
+use Rattle.fzn_builtin_rules.specs.Linear.{least_sum, low_product, high_product}
+use Rattle.fzn_builtin_rules.specs.Form.{Form, form_of}
+use Rattle.fzn_rules.specs.Rules.{IsAcceptedBy}
+use Rattle.fzn_trail.specs.Levels.{Levels}
+use Rattle.fzn_trail.specs.Unit.{IsFalseOrUnit}
+use Rattle.fzn_propagator.specs.declared.propagator.Inference.{Inference}
+use Rattle.fzn_propagator.specs.Barred.{LeavesNoBarred, IsToDiffer}
+
+-- the numbers that a literal of a certificate may have
+abbrev pub IsWritable : Lit → Type 0
+IsWritable lit = (negsuc 1000000000 ≤ℤ lit.value) × (lit.value ≤ℤ pos 1000000001)
+
+-- the numbers that a hint of a certificate may be
+abbrev pub IsHint : ℤ → Type 0
+IsHint hint = (negsuc 3999999999 ≤ℤ hint) × (hint ≤ℤ pos 4000000000)
+
+abbrev pub hints_of : Rule → List ℤ
+hints_of Lin = []
+hints_of Rows = []
+hints_of Box = []
+hints_of Fixed = []
+hints_of Enum = []
+hints_of (Hall low high) = low ∷ high ∷ []
+hints_of (Load time) = time ∷ []
+hints_of (Energy from to) = from ∷ to ∷ []
+hints_of (Cut places) = places
+hints_of (Pair one other) = one ∷ other ∷ []
+
+abbrev pub HasWritableHints : Rule → Type 0
+HasWritableHints (Cut places) = All IsHint places × IsAscending places
+HasWritableHints rule = All IsHint (hints_of rule)
+
+-- the clause is justified by the rule, and is false or forces one literal on the trail
+pub record IsInference (number : ℕ) (constraint : Constraint) (trail : Levels) (inference : Inference) : Type 0 where
+  pub of_constraint : inference.constraint ≡ number
+  pub over : IsClauseOver (length trail.declared) inference.clause
+  pub writable : All IsWritable inference.clause
+  pub hints : HasWritableHints inference.rule
+  pub accepted : IsAcceptedBy constraint inference.rule trail.declared inference.clause
+  pub forces : IsFalseOrUnit trail.sets inference.clause
+
+-- so of each of these constraints
+abbrev pub IsInferenceOf : ℕ → (Constraint → Type 0) → Levels → Inference → Type 0
+IsInferenceOf number is_for trail inference = (constraint : Constraint) → is_for constraint → IsInference number constraint trail inference
+
+-- how much more a place may give than its least
+abbrev pub spread : List IntSet → Place → ℤ
+spread sets place = high_product sets place -ℤ low_product sets place
+
+-- neither the least sum exceeds the bound, nor does it with any one place at its other end
+pub record IsTight (sets : List IntSet) (places : List Place) (bound : ℤ) : Type 0 where
+  pub least : least_sum sets places ≤ℤ bound
+  pub one_other : All (λ place. (least_sum sets places +ℤ spread sets place) ≤ℤ bound) places
+
+-- the strength that is promised of a sum that is at most a bound
+abbrev pub HasStrength : Constraint → List IntSet → Type 0
+HasStrength constraint sets =
+    (form : Form) → form_of constraint ≡ Some form → form.comparison ≡ AtMost → form.switch ≡ None → IsTight sets form.places form.bound
+
+-- the strength that is promised of a sum that is not to be a number
+abbrev pub HasNoBarred : Constraint → List IntSet → Type 0
+HasNoBarred constraint sets = (form : Form) → form_of constraint ≡ Some form → IsToDiffer sets form → LeavesNoBarred sets form.places form.bound
+
+-- each variable has one value
+abbrev pub AllFixed : List IntSet → Type 0
+AllFixed sets = All (λ s. size s ≡ 1) sets
+
+-- no inference is left: where all variables are fixed the constraint holds, and the strength is reached
+pub record IsExhausted (constraint : Constraint) (trail : Levels) : Type 0 where
+  pub holds : AllFixed trail.sets → (values : List ℤ) → IsWithin trail.declared values → IsWithin trail.sets values → Meets constraint values
+  pub strong : HasStrength constraint trail.sets
+  pub none_barred : HasNoBarred constraint trail.sets
+
+-- so of each of these constraints whose Boolean terms are declared so
+abbrev pub AreExhausted : (Constraint → Type 0) → Levels → Type 0
+AreExhausted is_for trail = (constraint : Constraint) → is_for constraint → HasBooleanSets trail.declared constraint → IsExhausted constraint trail

@@ -1,0 +1,3 @@
+pub mod Barred
+pub mod Inference
+pub mod Left

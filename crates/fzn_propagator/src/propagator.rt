@@ -1,0 +1,41 @@
+// What every propagator promises.
+ghost use Rattle.std.specs.Prelude.{ℕ, List, IfOk, IfSome, IfNone};
+ghost use Rattle.fzn_domain.specs.IntSet.{IntSet};
+ghost use Rattle.fzn_domain.specs.Narrow.{NoneEmpty};
+ghost use Rattle.fzn_meaning.specs.declared.constraint.Constraint.{Constraint};
+ghost use Rattle.fzn_propagator.specs.Inference.{IsInferenceOf, AreExhausted};
+
+use fzn_domain::{Lit, Memory};
+use fzn_list::Items;
+use fzn_rules::Rule;
+use fzn_trail::Trail;
+use std::alloc::Global;
+
+/// What a propagator found: a clause that the rule justifies from the constraint of this number.
+#[derive(Debug, Drop)]
+pub struct Inference {
+    /// From 1 up.
+    pub constraint: u64,
+    pub rule: Rule,
+    /// False on the trail, but for at most one literal, which it forces.
+    pub clause: Items<Lit>,
+}
+
+/// What reasons for one constraint.
+pub trait Propagator {
+    /// The number of its constraint.
+    ghost number: { Self → ℕ };
+
+    /// The constraints that it may stand for.
+    ghost is_for: { Self → Constraint → Type 0 };
+
+    /// Its terms are variables of the declared sets, and its numbers lie within the limits.
+    ghost fits: { Self → List IntSet → Type 0 };
+
+    /// What an inference finds, if anything. `Err` where memory runs out.
+    fn propagate(&self, alloc: Global, trail: &Trail) -> Result<Option<Inference>, Memory>
+        requires fits { fits self.now trail.now.declared }
+        requires filled { NoneEmpty trail.now.sets }
+        ensures found { IfOk result (λ found. IfSome found (IsInferenceOf (number self.now) (is_for self.now) trail.now)) }
+        ensures none { IfOk result (λ found. IfNone found (AreExhausted (is_for self.now) trail.now)) };
+}

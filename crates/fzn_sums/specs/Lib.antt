@@ -1,0 +1,4 @@
+pub mod Explained
+pub mod Opposite
+pub mod Pinned
+pub mod Refuted

@@ -1,0 +1,14 @@
+//! Weighted sums over a trail: their least values, and the clauses that refute how they compare with a bound.
+//!
+//! In: places over the variables of a trail, and a bound. Out: the ends of terms, and a clause that is false or forces one literal on the
+//! trail, or none. Proved against `specs/Refuted.antt`: whatever values the clause leaves, no sum compares so with the bound; and where
+//! none is found, the ends leave one.
+#![tactic(auto)]
+
+pub use at_most::{conflict_at_most, refute_at_most};
+pub use ends::{greatest_value, least_value};
+pub use not_equal::{conflict_not_equal, refute_not_equal};
+
+mod at_most;
+mod ends;
+mod not_equal;

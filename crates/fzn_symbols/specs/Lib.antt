@@ -1,0 +1,6 @@
+pub mod Known
+pub mod Limits
+pub mod Places
+pub mod Types
+pub mod Values
+pub mod Variables
