@@ -3,13 +3,13 @@ use Rattle.std.proofs.Common.{◌≡◌, ◌+◌, ℕ, ◌<◌, Bool, true, fals
 use Rattle.std.proofs.lemmas.Int.{ints}
 use Rattle.std.specs.Ordering.{int_eq}
 use Rattle.std.proofs.lemmas.Bool.{cases_Bool, true≢false}
-use Rattle.std.proofs.lemmas.List.Elements.{All-nil, All-push, All-more, All-weaker, All-contains, Contains-push}
+use Rattle.std.proofs.lemmas.List.Elements.{All-nil, All-push, All-more, All-weaker}
 use Rattle.fzn_domain.specs.declared.literal.VarId.{VarId}
 use Rattle.fzn_domain.specs.declared.literal.Lit.{Lit}
 use Rattle.fzn_domain.specs.declared.literal.Op.TheVariants.{NotEqual}
 use Rattle.fzn_domain.specs.Limits.{IsInLimits}
 use Rattle.fzn_domain.specs.Literal.{is_true_at, negated}
-use Rattle.fzn_domain.specs.IntSet.{IntSet, contains, is_possible, least, greatest}
+use Rattle.fzn_domain.specs.IntSet.{IntSet, is_possible, least, greatest}
 use Rattle.fzn_domain.specs.Narrow.{IsVariable, set_of}
 use Rattle.fzn_domain.proofs.SetLemmas.{least_le, le_greatest, possible_when, impossible_when, is_true_at-negated}
 use Rattle.fzn_meaning.specs.declared.term.Term.{Term}
@@ -19,7 +19,7 @@ use Rattle.fzn_state.specs.Terms.{least_value}
 use Rattle.fzn_trail.specs.Levels.{Levels}
 use Rattle.fzn_propagator.specs.Inference.{IsWritable}
 use Rattle.fzn_propagator.specs.Left.{IsLeft}
-use Rattle.fzn_propagator.proofs.CallerLemmas.{left_of_more, left_of_later, last_fails, none_left}
+use Rattle.fzn_propagator.proofs.CallerLemmas.{left_of_more, last_fails, none_left}
 use Rattle.fzn_builtin.specs.Denial.{IsFixed, IsOnlyLeft, IsOtherValue, IsDenial, IsForcing, IsTrueOn}
 
 differs_not : (v k : ℤ) → v ≡ k → not (int_eq v k) ≡ false

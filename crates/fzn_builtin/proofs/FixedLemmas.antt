@@ -1,11 +1,11 @@
 -- By the rule `fixed`: inputs that have one value each, and what their outcome asks of the result.
-use Rattle.std.proofs.Common.{◌≡◌, ◌↔◌, ◌≢◌, ℕ, zero, suc, ◌-◌, ◌*◌, ◌<◌, true, false, Bool, List, [], ◌∷◌, length, map, get_or, nat_eq, refl, sym, ap, ap₂, subst, ◌∙◌, inl, inr, arith, ℤ, All, Option, Some, None, IfSome, IfNone, IsSomeAnd, MatchOption}
+use Rattle.std.proofs.Common.{◌≡◌, ◌↔◌, ℕ, zero, suc, ◌-◌, ◌*◌, ◌<◌, false, List, [], ◌∷◌, length, map, get_or, nat_eq, refl, sym, ap₂, subst, ◌∙◌, inl, inr, arith, ℤ, All, Option, Some, None, IfNone, IsSomeAnd, MatchOption}
 use Rattle.std.proofs.lemmas.Bool.{or_parts, cases_Bool, true≢false}
 use Rattle.std.proofs.lemmas.List.Elements.{All-nil, All-head, All-tail}
 use Rattle.fzn_domain.specs.declared.literal.Lit.{Lit}
 use Rattle.fzn_domain.specs.Literal.{is_true_at}
-use Rattle.fzn_domain.specs.IntSet.{IntSet, contains, size, no_values}
-use Rattle.fzn_domain.specs.Narrow.{IsClauseOver, IsWithin, set_of, denied, is_some_empty}
+use Rattle.fzn_domain.specs.IntSet.{IntSet, size, no_values}
+use Rattle.fzn_domain.specs.Narrow.{IsClauseOver, set_of, denied, is_some_empty}
 use Rattle.fzn_domain.proofs.SetLemmas.{member_of_size, size_of_one}
 use Rattle.fzn_domain.proofs.NarrowLemmas.{length-denied}
 use Rattle.fzn_meaning.specs.declared.term.Term.{Term}
@@ -13,7 +13,7 @@ use Rattle.fzn_meaning.specs.declared.term.Term.TheVariants.{Constant, Variable}
 use Rattle.fzn_meaning.specs.declared.constraint.Constraint.{Constraint}
 use Rattle.fzn_meaning.specs.Term.{IsTerm}
 use Rattle.fzn_state.specs.Terms.{MayBe, least_value}
-use Rattle.fzn_builtin_rules.specs.Choices.{inputs_of, result_of, Relates, NoneOf, count_of, choices, IsChoice, NoChoiceFits, IsFixedMet}
+use Rattle.fzn_builtin_rules.specs.Choices.{inputs_of, result_of, Relates, NoneOf, count_of, choices, IsChoice, IsFixedMet}
 use Rattle.fzn_trail.specs.Levels.{Levels}
 use Rattle.fzn_propagator.specs.Left.{IsLeft}
 use Rattle.fzn_propagator.proofs.CallerLemmas.{left_of_denied}
@@ -26,7 +26,7 @@ use Rattle.fzn_builtin.specs.Demand.{AdmitsWhere}
 use Rattle.fzn_builtin.specs.Denial.{IsOnlyLeft, IsDenial, IsForcing}
 use Rattle.fzn_builtin.specs.Kinds.{IsFixedClause}
 use Rattle.fzn_builtin.specs.Outcome.{Admits, IsOutcome}
-use Rattle.fzn_builtin.specs.Parts.{ArePartsOf, IsReady}
+use Rattle.fzn_builtin.specs.Parts.{IsReady}
 
 not_zero : (n : ℕ) → nat_eq n 0 ≡ false → 0 < n
 not_zero n h = grind arith

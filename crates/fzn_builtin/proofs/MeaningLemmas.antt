@@ -1,15 +1,13 @@
 -- Where all variables are fixed and the result is one that the outcome admits, the constraint holds.
-use Rattle.std.proofs.Common.{◌≡◌, ◌↔◌, ℕ, ◌-◌, ◌<◌, true, List, [], ◌∷◌, length, map, get_or, refl, sym, ap, ap₂, subst, ◌∙◌, arith, ℤ, pos, All, Option, Some, None, IfSome, MatchOption}
+use Rattle.std.proofs.Common.{◌≡◌, ◌↔◌, ℕ, ◌-◌, true, List, [], ◌∷◌, length, map, get_or, refl, sym, ap₂, subst, ◌∙◌, arith, ℤ, All, Option, Some, None, IfSome, MatchOption}
 use Rattle.std.proofs.lemmas.List.Elements.{All-head, All-tail, All-cons, All-from_recursion}
 use Rattle.std.proofs.lemmas.Option.{none-some}
 use Rattle.fzn_domain.specs.declared.literal.Lit.{Lit}
-use Rattle.fzn_domain.specs.Literal.{is_true_at}
-use Rattle.fzn_domain.specs.IntSet.{IntSet, contains, size, least, greatest, no_values}
+use Rattle.fzn_domain.specs.IntSet.{IntSet, contains, least, greatest, no_values}
 use Rattle.fzn_domain.specs.Narrow.{IsWithin, set_of, value_of}
 use Rattle.fzn_domain.proofs.SetLemmas.{only_member, contains-least, contains-greatest}
 use Rattle.fzn_meaning.specs.declared.term.Term.{Term}
 use Rattle.fzn_meaning.specs.declared.term.Term.TheVariants.{Constant, Variable}
-use Rattle.fzn_meaning.specs.declared.arithmetic.Operation.TheVariants.{Plus}
 use Rattle.fzn_meaning.specs.declared.constraint.Constraint.{Constraint}
 use Rattle.fzn_meaning.specs.declared.constraint.Constraint.TheVariants as constraint
 use Rattle.fzn_meaning.specs.Term.{IsTerm, term_value, values_of}
@@ -25,7 +23,7 @@ use Rattle.fzn_builtin.specs.Demand.{AdmitsEach, AdmitsWhere}
 use Rattle.fzn_builtin.specs.Denial.{IsFixed, IsTrueOn}
 use Rattle.fzn_builtin.specs.Kinds.{HoldsWhereFixed}
 use Rattle.fzn_builtin.specs.Outcome.{Admits, IsOutcome}
-use Rattle.fzn_builtin.specs.Parts.{ArePartsOf, IsReady}
+use Rattle.fzn_builtin.specs.Parts.{IsReady}
 use Rattle.fzn_builtin.proofs.FixedLemmas.{values_on}
 
 -- the values of the places stand in the constraint's relation where, and only where, the values meet it

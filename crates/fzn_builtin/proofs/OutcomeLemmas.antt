@@ -1,15 +1,14 @@
 -- Outcomes of the kinds of constraints.
-use Rattle.std.proofs.Common.{◌≡◌, ◌↔◌, ℕ, ◌+◌, ◌-◌, ◌<◌, Bool, true, false, IsTrue, List, [], ◌∷◌, length, get_or, drop, refl, sym, ap, subst, ◌∙◌, inl, inr, arith, ℤ, pos, ◌≤ℤ◌, int_le, Option, Some, None, MatchOption}
+use Rattle.std.proofs.Common.{◌≡◌, ◌↔◌, ℕ, ◌+◌, ◌<◌, true, false, List, [], ◌∷◌, length, get_or, drop, sym, subst, ◌∙◌, inl, inr, arith, ℤ, pos, ◌≤ℤ◌, int_le, Option, Some, None, MatchOption}
 use Rattle.std.proofs.lemmas.Int.{ints}
-use Rattle.std.specs.List.{All, Contains}
+use Rattle.std.specs.List.{All}
 use Rattle.std.proofs.lemmas.List.Elements.{All-contains, All-from_get_or, Contains-get_or}
 use Rattle.std.proofs.lemmas.Bool.{cases_lt, cases_Bool}
-use Rattle.fzn_domain.specs.IntSet.{IntSet, contains}
+use Rattle.fzn_domain.specs.IntSet.{IntSet}
 use Rattle.fzn_meaning.specs.declared.term.Term.{Term}
 use Rattle.fzn_meaning.specs.declared.arithmetic.Operation.{Operation}
 use Rattle.fzn_meaning.specs.declared.extremum.Extreme.{Extreme}
 use Rattle.fzn_meaning.specs.declared.extremum.Extreme.TheVariants.{Least, Greatest}
-use Rattle.fzn_meaning.specs.declared.constraint.Constraint.{Constraint}
 use Rattle.fzn_meaning.specs.declared.constraint.Constraint.TheVariants as constraint
 use Rattle.fzn_meaning.specs.Arithmetic.{IsArithmetic, IsIntAbs}
 use Rattle.fzn_meaning.specs.Booleans.{IsArrayBoolXor}
@@ -17,7 +16,7 @@ use Rattle.fzn_meaning.specs.Sets.{IsInSet}
 use Rattle.fzn_builtin_rules.specs.Numbered.{IsOneOfTwo}
 use Rattle.fzn_meaning.specs.Elements.{IsElement}
 use Rattle.fzn_meaning.specs.Extrema.{Bounds, IsExtremum}
-use Rattle.fzn_builtin_rules.specs.Choices.{inputs_of, result_of, Relates}
+use Rattle.fzn_builtin_rules.specs.Choices.{result_of, Relates}
 use Rattle.fzn_builtin.specs.declared.outcome.Outcome.{Outcome}
 use Rattle.fzn_builtin.specs.Outcome.{Admits, IsOutcome}
 

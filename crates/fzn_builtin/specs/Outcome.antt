@@ -3,7 +3,7 @@ use Rattle.std.specs.Prelude.{◌≡◌, ◌≢◌, ◌↔◌, ℤ, List, Option
 use Rattle.fzn_meaning.specs.declared.constraint.Constraint.{Constraint}
 use Rattle.fzn_builtin_rules.specs.Choices.{result_of, Relates}
 use Rattle.fzn_builtin.specs.declared.outcome.Outcome.{Outcome}
-use Rattle.fzn_builtin.specs.declared.outcome.Outcome.TheVariants.{Holds, Fails, Only, AllBut}
+use Rattle.fzn_builtin.specs.declared.outcome.Outcome.TheVariants.{Holds, Only, AllBut}
 
 -- with this value of the result, or without a result, the constraint holds
 abbrev pub Admits : Outcome → Option ℤ → Type 0

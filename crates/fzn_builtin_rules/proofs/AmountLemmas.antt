@@ -1,8 +1,8 @@
 -- The amounts of the members of a set, in order.
-use Rattle.std.proofs.Common.{◌≡◌, ◌∙◌, sym, ◌⊎◌, inl, inr, refl, true, arith, ℕ, suc, ℤ, pos, negsuc, ◌<ℤ◌, ◌≤ℤ◌, ◌-ℤ◌, unsigned_abs, subst, ap, ap₂, to_z-of_z}
+use Rattle.std.proofs.Common.{◌≡◌, ◌∙◌, sym, ◌⊎◌, inl, inr, refl, arith, ℤ, pos, negsuc, ◌≤ℤ◌, ◌-ℤ◌, unsigned_abs, subst, ap, ap₂, to_z-of_z}
 use Rattle.std.proofs.lemmas.Int.{ints, fits_signed_from_abs}
 use Rattle.std.specs.Int.{int_min}
-use Rattle.fzn_domain.specs.IntSet.{IntSet, contains, IsNextAbove, NoneAbove, IsNextBelow, NoneBelow}
+use Rattle.fzn_domain.specs.IntSet.{IntSet, IsNextAbove, NoneAbove, IsNextBelow, NoneBelow}
 use Rattle.fzn_domain.specs.Limits.{IsInLimits}
 use Rattle.fzn_builtin_rules.specs.Rows.{IsNextAmount, NoAmountAbove}
 use mir.Syntax.{w64}

@@ -1,5 +1,5 @@
 -- Which sets are empty after a narrowing, and chains clause by clause.
-use Rattle.std.proofs.Common.{◌≡◌, ℕ, zero, suc, ◌+◌, ◌-◌, ◌<◌, ◌≤◌, Bool, true, false, ◌||◌, List, [], ◌∷◌, length, get_or, set, drop, refl, sym, ap, subst, ◌∙◌, arith, nat_eq, inl, inr, All, Some, None, Option, IfSome, unwrap_or, IsSome, add-one, drop-cons}
+use Rattle.std.proofs.Common.{◌≡◌, ℕ, zero, suc, ◌+◌, ◌-◌, ◌<◌, ◌≤◌, Bool, true, false, ◌||◌, List, [], ◌∷◌, length, get_or, set, drop, refl, sym, ap, subst, ◌∙◌, arith, nat_eq, All, Some, IfSome, unwrap_or, IsSome, add-one, drop-cons}
 use Rattle.std.proofs.lemmas.Bool.{true≢false}
 use Rattle.std.proofs.lemmas.List.Elements.{All-head, All-filter}
 use Rattle.fzn_cert.specs.Past.{Past, clause_held, IsHeld, clauses_held}

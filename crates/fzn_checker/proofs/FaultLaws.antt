@@ -1,5 +1,5 @@
 -- A fault of the reader carries a verdict on, and what that makes of the whole certificate.
-use Rattle.std.proofs.Common.{◌≡◌, ℕ, ◌+◌, ◌-◌, Bool, true, false, List, [], ◌∷◌, ◌++◌, Option, Some, None, Result, Ok, Err, IsSome, IfSome, IfOk, IfErr, unwrap_or, ◌≤◌, refl, sym, ap, subst, ◌∙◌, inl, inr, arith}
+use Rattle.std.proofs.Common.{◌≡◌, ℕ, ◌+◌, ◌-◌, Bool, true, false, List, [], ◌∷◌, ◌++◌, Option, Some, None, Result, Ok, Err, IsSome, IfSome, IfOk, IfErr, unwrap_or, refl, sym, ap, subst, ◌∙◌, inl, inr, arith}
 use Rattle.std.specs.Prelude.{MatchOption, IfNone}
 use Rattle.std.specs.Io.KnownBytes.{Consumes}
 use Rattle.std.proofs.lemmas.Bool.{false≢true}
@@ -14,7 +14,6 @@ use Rattle.fzn_cert.specs.declared.step.Version.{Version}
 use Rattle.fzn_cert.specs.Spelling.{step_line, end_line, IsHeader}
 use Rattle.fzn_cert.specs.Stream.{After, IsFaultOf, IsHeaderFault, IsTrailedBy, line_of}
 use Rattle.fzn_cert.specs.Past.{Past}
-use Rattle.fzn_cert.specs.Accepted.{after}
 use Rattle.fzn_cert_reader.specs.Reader.{Progress, lines_read, Gives, Ends, IsNextFault, Finds}
 use Rattle.fzn_cert.specs.Verdict.{Outcome, accepted, refused, BeginsWith, VerdictFrom, VerdictOn}
 use Rattle.fzn_cert.proofs.VerdictLaws.{verdict-ends}

@@ -1,5 +1,5 @@
 -- A rule on the numbered constraint, and sets as many as variables.
-use Rattle.std.proofs.Common.{◌≡◌, ℕ, ◌-◌, ◌<◌, ◌≤◌, List, Bool, true, false, ◌||◌, length, get_or, refl, sym, ap, subst, ◌∙◌, inl, inr, arith, IfSome}
+use Rattle.std.proofs.Common.{◌≡◌, ℕ, ◌-◌, ◌<◌, List, Bool, true, false, ◌||◌, length, get_or, sym, ap, subst, ◌∙◌, inl, inr, arith, IfSome}
 use Rattle.std.proofs.lemmas.List.{length-map, get_or_default}
 use Rattle.std.proofs.lemmas.Option.{slice_get_cases}
 use Rattle.fzn_domain.specs.declared.literal.Lit.{Lit}

@@ -1,5 +1,5 @@
 -- In an optimisation the last solution decides whether values pass the cuts of all.
-use Rattle.std.proofs.Common.{◌≡◌, ℕ, ◌+◌, ◌-◌, ◌<◌, List, [], ◌∷◌, Bool, true, false, ◌||◌, length, get_or, refl, sym, ◌∙◌, inl, inr, subst, ℤ, pos, ◌+ℤ◌, ◌-ℤ◌, int_le, arith}
+use Rattle.std.proofs.Common.{◌≡◌, ◌-◌, ◌<◌, List, Bool, true, false, ◌||◌, length, get_or, refl, sym, ◌∙◌, inl, inr, subst, ℤ, pos, ◌+ℤ◌, ◌-ℤ◌, int_le, arith}
 use Rattle.std.specs.List.{All, AllPairs}
 use Rattle.std.proofs.lemmas.Int.{ints}
 use Rattle.std.proofs.lemmas.List.{get_or_default}

@@ -1,11 +1,11 @@
 -- The small model of the tests is one that a file may ask for.
-use Rattle.std.proofs.Common.{◌≡◌, ◌<◌, true, ◌&&◌, ℤ, pos, ◌≤ℤ◌, int_le, [], ◌∷◌, length, refl, sym, ap, ◌∙◌, arith}
+use Rattle.std.proofs.Common.{◌≡◌, ◌<◌, true, ◌&&◌, ℤ, pos, ◌≤ℤ◌, int_le, [], ◌∷◌, length, sym, ap, ◌∙◌, arith}
 use Rattle.std.specs.List.{AllPairs}
 use Rattle.std.proofs.lemmas.Int.{ints}
 use Rattle.std.proofs.lemmas.List.Elements.{All-nil, All-from_recursion}
 use Rattle.std.proofs.lemmas.List.Kept.{AllPairs-cons}
 use Rattle.fzn_domain.specs.declared.literal.VarId.{VarId}
-use Rattle.fzn_domain.specs.IntSet.{contains, range}
+use Rattle.fzn_domain.specs.IntSet.{range}
 use Rattle.fzn_domain.specs.Limits.{IsLimited}
 use Rattle.fzn_domain.specs.Narrow.{IsVariable}
 use Rattle.fzn_domain.proofs.SetLemmas.{contains-range}
@@ -14,7 +14,7 @@ use Rattle.fzn_meaning.specs.declared.model.Var.{Var}
 use Rattle.fzn_meaning.specs.declared.model.Model.{Model}
 use Rattle.fzn_meaning.specs.Meaning.{HasBooleanSets, IsWellFormed as IsWellFormedConstraint}
 use Rattle.fzn_meaning.specs.Solutions.{declared_sets}
-use Rattle.fzn_meaning.specs.WellFormed.{IsOutputItem, IsGoal, IsWellFormed}
+use Rattle.fzn_meaning.specs.WellFormed.{IsOutputItem, IsWellFormed}
 
 between : (low high v : ℤ) → (int_le low v && int_le v high) ≡ true → (low ≤ℤ v) × (v ≤ℤ high)
 between low high v h = (grind (arith, ints), grind (arith, ints))

@@ -1,5 +1,5 @@
 -- What a reader's fault says of a certificate.
-use Rattle.std.specs.Prelude.{ℕ, ◌-◌, Bool, true, false, not, ◌||◌, Option, Some, None, if◌then◌else◌, unwrap_or}
+use Rattle.std.specs.Prelude.{ℕ, ◌-◌, Bool, false, not, ◌||◌, Option, if◌then◌else◌, unwrap_or}
 use Rattle.fzn_cert.specs.declared.fault.CertFault.{CertFault}
 use Rattle.fzn_cert.specs.declared.fault.FaultKind.{FaultKind}
 use Rattle.fzn_cert.specs.declared.fault.FaultKind.TheVariants as faults

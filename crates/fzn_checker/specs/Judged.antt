@@ -1,5 +1,5 @@
 -- What a step must have to be judged, and how a chain's outcome is told.
-use Rattle.std.specs.Prelude.{◌≡◌, Bool, ℤ, pos, negsuc, ◌≤ℤ◌, List, Option, Some, None}
+use Rattle.std.specs.Prelude.{◌≡◌, Bool, pos, negsuc, ◌≤ℤ◌, Option, Some, None}
 use Rattle.std.specs.List.{All}
 use Rattle.fzn_domain.specs.declared.literal.Lit.{Lit}
 use Rattle.fzn_domain.specs.Narrow.{ChainOutcome, accepted, not_unit, no_conflict, is_some_empty}

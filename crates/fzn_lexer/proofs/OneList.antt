@@ -1,5 +1,5 @@
 -- A file has one list of tokens, or one fault.
-use Rattle.std.proofs.Common.{◌≡◌, ℕ, suc, ◌+◌, ◌-◌, ◌<◌, ◌≤◌, Bool, true, false, List, [], ◌∷◌, ◌++◌, length, get_or, take, drop, slice_range, refl, sym, ap, subst, ◌∙◌, arith, inl, inr, ◌⊎◌, length-drop, length-take, get_or-take}
+use Rattle.std.proofs.Common.{◌≡◌, ℕ, ◌+◌, ◌-◌, ◌<◌, ◌≤◌, Bool, true, false, List, [], ◌∷◌, ◌++◌, length, get_or, take, drop, slice_range, refl, sym, ap, subst, ◌∙◌, arith, inl, inr, ◌⊎◌, length-drop, length-take, get_or-take}
 use Rattle.std.proofs.lemmas.Bool.{false≢true}
 use Rattle.std.proofs.lemmas.List.{drop-drop, take-append-drop}
 use Rattle.std.specs.List.{AllPass}
@@ -11,7 +11,7 @@ use Rattle.fzn_lexer.specs.declared.token.Token.{Token}
 use Rattle.fzn_lexer.specs.Bytes.{is_known}
 use Rattle.fzn_lexer.specs.Places.{place_after}
 use Rattle.fzn_lexer.specs.Lexemes.{StandsFirst, StandsFault}
-use Rattle.fzn_lexer.specs.Tokens.{IsGap, IsLastGap, begins_gap, StandsAt, Stand, FaultStandsAt, IsEnd, IsKnown, IsBadByte, IsBadToken, AreTokens, IsLexicalFault, IsReading, max_file}
+use Rattle.fzn_lexer.specs.Tokens.{IsGap, IsLastGap, begins_gap, StandsAt, Stand, FaultStandsAt, IsEnd, IsKnown, IsBadByte, AreTokens, IsLexicalFault, IsReading, max_file}
 use Rattle.fzn_lexer.proofs.Shapes.{spells_some}
 use Rattle.fzn_lexer.proofs.OneGap.{one_gap, no_last}
 use Rattle.fzn_lexer.proofs.OneToken.{spells_no_gap, one_text, no_fault, one_fault}

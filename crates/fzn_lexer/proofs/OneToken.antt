@@ -1,5 +1,5 @@
 -- One token stands at the front, or one fault in its place.
-use Rattle.std.proofs.Common.{◌≡◌, ◌≢◌, ℕ, suc, ◌<◌, ◌≤◌, ℤ, pos, ◌-ℤ◌, Bool, true, false, ◌&&◌, ◌||◌, ◌==◌, if◌then◌else◌, List, [], ◌∷◌, ◌++◌, length, get_or, take, drop, refl, sym, ap, subst, ◌∙◌, arith, codes, inl, inr, ◌⊎◌, length-append}
+use Rattle.std.proofs.Common.{◌≡◌, ℕ, ◌<◌, ℤ, pos, ◌-ℤ◌, Bool, true, false, ◌&&◌, ◌||◌, ◌==◌, if◌then◌else◌, List, [], ◌∷◌, ◌++◌, length, get_or, drop, refl, sym, ap, subst, ◌∙◌, arith, codes, inl, inr, length-append}
 use Rattle.std.proofs.lemmas.Bool.{false≢true}
 use Rattle.std.proofs.lemmas.Bool.Decides.{nat_tests}
 use Rattle.std.proofs.lemmas.List.Sums.{AllPass-from_list_all}
@@ -9,11 +9,11 @@ use Rattle.fzn_lexer.specs.declared.token.Kind.{Kind}
 use Rattle.fzn_lexer.specs.declared.token.Kind.TheVariants as k
 use Rattle.fzn_lexer.specs.declared.token.Symbol.{Symbol}
 use Rattle.fzn_lexer.specs.declared.token.Symbol.TheVariants as s
-use Rattle.fzn_lexer.specs.Bytes.{begins_word, is_word, is_white, is_digit, is_hex, starts, value}
-use Rattle.fzn_lexer.specs.Lexemes.{spelling, IsWord, IsName, AreDigits, IsNatural, IsNumeral, IsInRange, Spells, IsFloatWord, IsFloatDigits, IsFloat, IsLongest, EndsWell, StandsFirst, IsSmall, StandsFault}
+use Rattle.fzn_lexer.specs.Bytes.{begins_word, is_word, is_white, is_digit, starts, value}
+use Rattle.fzn_lexer.specs.Lexemes.{spelling, IsWord, IsNatural, IsNumeral, Spells, IsFloatWord, IsFloatDigits, IsFloat, EndsWell, StandsFirst, IsSmall, StandsFault}
 use Rattle.fzn_lexer.specs.Steps.{begins_number}
 use Rattle.fzn_lexer.proofs.Runs.{front_get, front_take}
-use Rattle.fzn_lexer.proofs.Shapes.{as_word, as_number, as_text, spells_some, natural_head, natural_some, numeral_head, digit_number, one_length, symbol_no_quote}
+use Rattle.fzn_lexer.proofs.Shapes.{as_word, as_number, spells_some, natural_head, numeral_head, digit_number, one_length, symbol_no_quote}
 use Rattle.fzn_lexer.proofs.TokenLaws.{word_pass}
 
 -- ---- what symbols are spelled like

@@ -1,5 +1,5 @@
 -- From place to place.
-use Rattle.std.proofs.Common.{◌≡◌, ℕ, zero, suc, ◌+◌, ◌-◌, ◌≤◌, List, [], ◌∷◌, ◌++◌, length, take, drop, refl, sym, ap, ◌∙◌, arith}
+use Rattle.std.proofs.Common.{◌≡◌, ℕ, zero, suc, ◌+◌, ◌-◌, ◌≤◌, List, [], ◌∷◌, ◌++◌, take, drop, ap, ◌∙◌, arith}
 use Rattle.fzn_lexer.specs.declared.token.Place.{Place}
 use Rattle.fzn_lexer.specs.Places.{place_after}
 use Rattle.fzn_lexer.specs.Steps.{Moves}

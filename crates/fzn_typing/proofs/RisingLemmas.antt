@@ -1,5 +1,5 @@
 -- Rising lists of variables with the same members are one list.
-use Rattle.std.proofs.Common.{◌≡◌, ◌↔◌, ℕ, zero, suc, ◌<◌, List, [], ◌∷◌, length, refl, sym, ◌∙◌, ap, subst, arith}
+use Rattle.std.proofs.Common.{◌≡◌, ◌↔◌, zero, suc, ◌<◌, List, [], ◌∷◌, refl, sym, ap, subst, arith}
 use Rattle.std.specs.List.{AllPairs, Contains}
 use Rattle.fzn_domain.specs.declared.literal.VarId.{VarId}
 

@@ -1,4 +1,4 @@
-use Rattle.std.proofs.Common.{◌+◌, ℕ, ◌<◌, length, refl, sym, subst, arith}
+use Rattle.std.proofs.Common.{◌+◌, ℕ, ◌<◌, length, refl, sym, subst}
 use Rattle.std.proofs.lemmas.Bool.{false≢true}
 use Rattle.fzn_builtin.proofs.OutcomeLemmas.{BoundsBefore, still_best, new_best}
 use Rattle.fzn_builtin.proofs.outcome.place_of.Goals as goal

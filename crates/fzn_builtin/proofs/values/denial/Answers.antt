@@ -1,4 +1,4 @@
-use Rattle.std.proofs.Common.{◌+◌, List, take, get_or, sym, subst, ◌∙◌, pos, length}
+use Rattle.std.proofs.Common.{◌+◌, List, take, sym, subst, ◌∙◌, pos, length}
 use Rattle.std.proofs.lemmas.List.Elements.{All-get_or}
 use Rattle.fzn_domain.specs.declared.literal.Lit.{Lit}
 use Rattle.fzn_meaning.specs.declared.term.Term.{Term}

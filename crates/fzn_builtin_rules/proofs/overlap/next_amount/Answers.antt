@@ -3,8 +3,6 @@ use Rattle.fzn_domain.specs.IntSet.{IsNextAbove, NoneAbove}
 use Rattle.fzn_builtin_rules.specs.Rows.{IsNextAmount}
 use Rattle.fzn_builtin_rules.proofs.AmountLemmas.{up_alone, down_alone, nearer, nearer_is, held, held_opposite}
 use Rattle.fzn_builtin_rules.proofs.overlap.next_amount.Goals as goal
-use mir.Syntax.{w64}
-use mir.Val.{to_z, of_z}
 
 pub returns-in-Some-Some-clause-found : goal.returns-in-Some-Some-clause-found
 returns-in-Some-Some-clause-found c =

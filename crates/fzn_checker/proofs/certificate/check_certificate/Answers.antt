@@ -1,4 +1,4 @@
-use Rattle.std.proofs.Common.{◌≡◌, ap, sym, subst, ◌∙◌, IfSome, unwrap_or, false}
+use Rattle.std.proofs.Common.{ap, sym, subst, ◌∙◌, IfSome, unwrap_or, false}
 use Rattle.std.specs.Prelude.{IfNone}
 use Rattle.std.proofs.lemmas.Result.{err_from_is_err_and}
 use Rattle.fzn_meaning.specs.Solutions.{IsProper, IsExhausted}

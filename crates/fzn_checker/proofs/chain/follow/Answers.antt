@@ -1,5 +1,5 @@
 use Rattle.std.proofs.Common.{◌≡◌, length, ap, sym, subst, ◌∙◌, All, IfSome}
-use Rattle.fzn_domain.specs.Narrow.{IsClauseOver, IsVariable, narrowed, possible_in}
+use Rattle.fzn_domain.specs.Narrow.{IsClauseOver, narrowed, possible_in}
 use Rattle.fzn_domain.proofs.NarrowLemmas.{length-narrowed}
 use Rattle.fzn_state.specs.State.{Sets}
 use Rattle.fzn_checker.proofs.ChainLemmas.{held_over, possible_over, chain-more}

@@ -1,7 +1,5 @@
-use Rattle.std.proofs.Common.{◌≡◌, ◌-◌, ◌<◌, get_or, length, ap, sym, subst, ◌∙◌, refl, inr, arith}
+use Rattle.std.proofs.Common.{◌-◌, subst, refl, inr, arith}
 use Rattle.fzn_domain.specs.Narrow.{IsClauseOver}
-use Rattle.fzn_meaning.specs.declared.constraint.Constraint.{Constraint}
-use Rattle.fzn_cert.specs.Accepted.{denying}
 use Rattle.fzn_checker.proofs.JudgeLemmas.{denied_from, constraint_fits, rule_met, rule_not_met, not_trivial}
 use Rattle.fzn_checker.proofs.judge.judge_infer.Goals as goal
 

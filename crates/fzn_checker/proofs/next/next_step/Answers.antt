@@ -1,4 +1,4 @@
-use Rattle.std.proofs.Common.{◌≡◌, ap₂, sym, subst, ◌∙◌, refl, IfSome}
+use Rattle.std.proofs.Common.{ap₂, sym, subst, ◌∙◌, refl, IfSome}
 use Rattle.std.specs.Prelude.{IfNone}
 use Rattle.std.proofs.lemmas.Bool.{false≢true}
 use Rattle.fzn_cert.specs.declared.refusal.Refusal.TheVariants.{NotClosed}

@@ -1,4 +1,4 @@
-use Rattle.std.proofs.Common.{◌≡◌, ◌-◌, ◌<◌, get_or, length, ap, ◌∙◌, sym, subst, List, ℤ, refl, arith}
+use Rattle.std.proofs.Common.{◌≡◌, ◌-◌, get_or, length, ap, ◌∙◌, sym, subst, List}
 use Rattle.fzn_domain.specs.declared.literal.VarId.{VarId}
 use Rattle.fzn_meaning.specs.Solutions.{IsBetter}
 use Rattle.fzn_checker.specs.Given.{given_by, is_given}
