@@ -106,52 +106,51 @@ fn limits(rt: HostRuntime) -> Result<(), Fail> {
     Ok(())
 }
 
-#[test]
-fn a_tree(rt: HostRuntime) -> Result<(), Fail> {
-    let file =
-        b"predicate q(var int: a);\nint: k = -3;\nvar {2, 1}: x = k;\nconstraint p({4}, [x]) :: t(\"u\");\nsolve minimize x;";
-    let tokens = tokens(rt.alloc(), file).ok().ok_or("the file has tokens")?;
-    let tree = parse(rt.alloc(), &tokens)
-        .ok()
-        .ok_or("the file has a tree")?;
-    assert_eq!(rt;
-        (
-            tree.predicates.len(),
-            tree.params.len(),
-            tree.vars.len(),
-            tree.cons.len()
-        ),
-        (1, 1, 1, 1)
-    );
-    let [param] = tree.params.as_slice() else {
-        return Err("there is one parameter".into());
-    };
-    assert_eq!(rt; param.name.text.as_slice(), b"k".as_slice());
-    assert_eq!(rt; param.name.place, Place { line: 2, column: 6 });
-    assert!(rt;
-        matches!(
+const FILE: &str =
+    "predicate q(var int: a);\nint: k = -3;\nvar {2, 1}: x = k;\nconstraint p({4}, [x]) :: t(\"u\");\nsolve minimize x;";
+
+/// Whether the parameter is `k = -3` in line 2.
+fn is_k(param: &Param) -> bool {
+    param.name.text.as_slice() == b"k".as_slice()
+        && param.name.place == Place { line: 2, column: 6 }
+        && matches!(
             &param.value,
             ParamValue::Literal(Literal::Int(Int { value: -3, .. }))
         )
-    );
-    let [Con { args, .. }] = tree.cons.as_slice() else {
-        return Err("there is one constraint".into());
-    };
+}
+
+/// Whether the constraint is on the set of 4, in line 4, and an array.
+fn is_p(con: &Con) -> bool {
     let [
         Arg::Basic(Basic::Literal(Literal::Set(place, listed))),
         Arg::Array(_),
-    ] = args.as_slice()
+    ] = con.args.as_slice()
     else {
-        return Err("its arguments are a set and an array".into());
+        return false;
     };
-    assert_eq!(rt;
-        *place,
-        Place {
+    *place
+        == Place {
             line: 4,
-            column: 14
+            column: 14,
         }
-    );
-    assert_eq!(rt; listed.as_slice(), [4].as_slice());
+        && listed.as_slice() == [4].as_slice()
+}
+
+/// Whether the tree has one item of each kind, the parameter and the constraint as they are written.
+fn is_tree_of_file(tree: &Tree) -> bool {
+    let ([param], [con]) = (tree.params.as_slice(), tree.cons.as_slice()) else {
+        return false;
+    };
+    tree.predicates.len() == 1 && tree.vars.len() == 1 && is_k(param) && is_p(con)
+}
+
+#[test]
+fn a_tree(rt: HostRuntime) -> Result<(), Fail> {
+    let tokens = tokens(rt.alloc(), FILE.as_bytes())
+        .ok()
+        .ok_or("the file has tokens")?;
+    let tree = parse(rt.alloc(), &tokens);
+    assert!(rt; tree.is_ok_and(|tree| is_tree_of_file(&tree)));
     assert_eq!(rt; one_reading(), ());
     Ok(())
 }

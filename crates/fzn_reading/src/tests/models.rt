@@ -412,17 +412,21 @@ fn or_dash(alloc: Global, text: String) -> Result<String, AllocError> {
     Ok(text)
 }
 
-/// The parts of a file's model, a line each.
+/// The parts of a model, a line each.
+fn parts(alloc: Global, model: &Model) -> Result<String, AllocError> {
+    format!(in alloc;
+        "{}\n{}\n{}\n{}",
+        or_dash(alloc, vars(alloc, model)?)?,
+        or_dash(alloc, constraints(alloc, model)?)?,
+        or_dash(alloc, outputs(alloc, model)?)?,
+        or_dash(alloc, shown(alloc, model)?)?
+    )
+}
+
 fn parts_of(alloc: Global, file: &str) -> Result<String, Fail> {
     let mut bytes = file.as_bytes();
     let model = read_model(alloc, &mut bytes)?;
-    Ok(format!(in alloc;
-        "{}\n{}\n{}\n{}",
-        or_dash(alloc, vars(alloc, &model)?)?,
-        or_dash(alloc, constraints(alloc, &model)?)?,
-        or_dash(alloc, outputs(alloc, &model)?)?,
-        or_dash(alloc, shown(alloc, &model)?)?
-    )?)
+    Ok(parts(alloc, &model)?)
 }
 
 #[test]
@@ -436,6 +440,12 @@ fn parts_of_models(rt: HostRuntime) -> Result<(), Fail> {
     Ok(())
 }
 
+fn goal_of(alloc: Global, file: &str) -> Result<Goal, Fail> {
+    let mut bytes = file.as_bytes();
+    let model = read_model(alloc, &mut bytes)?;
+    Ok(model.goal)
+}
+
 #[test]
 fn goals(rt: HostRuntime) -> Result<(), Fail> {
     for (goal, want) in [
@@ -444,9 +454,7 @@ fn goals(rt: HostRuntime) -> Result<(), Fail> {
         ("maximize x", Goal::Maximize(VarId(1))),
     ] {
         let file = format!(in rt.alloc(); "var 1..3: x; var 1..3: y; solve {goal};")?;
-        let mut bytes = file.as_str().as_bytes();
-        let model = read_model(rt.alloc(), &mut bytes)?;
-        assert_eq!(rt; model.goal, want, "of {goal:?}");
+        assert_eq!(rt; goal_of(rt.alloc(), file.as_str())?, want, "of {goal:?}");
     }
     Ok(())
 }
