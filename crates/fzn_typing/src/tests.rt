@@ -7,7 +7,7 @@ use super::*;
 use fzn_domain::VarId;
 use fzn_lexer::{FaultKind, Place, ReadError};
 use fzn_list::{Items, Text};
-use fzn_meaning::Constraint;
+use fzn_meaning::{Constraint, Model};
 use fzn_tree::{Ann, Arg, Base, Basic, Con, Goal, Literal, Name, SingleVar, Solve, Tree, Var};
 use std::alloc::{AllocError, Global};
 use std::test::*;
@@ -73,32 +73,40 @@ fn example(alloc: Global, goal: Goal) -> Result<Tree, AllocError>
     })
 }
 
+/// Whether the model has the one variable, which is output, and the one constraint.
+fn is_as_stated(model: &Model) -> bool {
+    let [Constraint::Compare { .. }] = model.constraints.as_slice() else {
+        return false;
+    };
+    model.vars.len() == 1
+        && model.goal == fzn_meaning::Goal::Satisfy
+        && model.outputs.as_slice() == [VarId(1)].as_slice()
+        && model.shown.len() == 1
+}
+
 #[test]
 fn model_of_a_tree(rt: HostRuntime) -> Result<(), Fail> {
     let tree = example(rt.alloc(), Goal::Satisfy)?;
-    let model = type_check(rt.alloc(), &tree)?;
-    assert_eq!(rt; model.vars.len(), 1);
-    assert_eq!(rt; model.constraints.len(), 1);
-    match &model.constraints.as_slice()[0] {
-        Constraint::Compare { .. } => {}
-        _ => assert!(rt; false, "the two are compared"),
-    }
-    assert_eq!(rt; model.goal, fzn_meaning::Goal::Satisfy);
-    assert_eq!(rt; model.outputs.as_slice(), [VarId(1)].as_slice());
-    assert_eq!(rt; model.shown.len(), 1);
+    let model = type_check(rt.alloc(), &tree);
+    assert!(rt; model.is_ok_and(|model| is_as_stated(&model)));
     assert_eq!(rt; one_model(), ());
     Ok(())
+}
+
+/// Whether the tree is refused with fault 13 at the place of its names.
+fn is_refused(alloc: Global, tree: &Tree) -> bool
+    requires { IsWithinLimits tree.now }
+{
+    match type_check(alloc, tree) {
+        Err(ReadError::Fault(fault)) => fault.kind == FaultKind::Type && fault.place == HERE,
+        _ => false,
+    }
 }
 
 #[test]
 fn boolean_goal(rt: HostRuntime) -> Result<(), Fail> {
     let x = Basic::Name(name(rt.alloc(), b"x")?);
     let tree = example(rt.alloc(), Goal::Minimize(x))?;
-    match type_check(rt.alloc(), &tree) {
-        Err(ReadError::Fault(fault)) => {
-            assert_eq!(rt; (fault.kind, fault.place), (FaultKind::Type, HERE));
-        }
-        _ => assert!(rt; false, "the goal is refused"),
-    }
+    assert!(rt; is_refused(rt.alloc(), &tree));
     Ok(())
 }
