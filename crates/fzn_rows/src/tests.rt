@@ -65,7 +65,7 @@ fn checked(alloc: Global, case: &Case, most: usize) -> Result<String, AllocError
 }
 
 /// The bytes that a line of a table stands for.
-pub fn spelled(alloc: Global, line: &str) -> Result<String, AllocError> {
+pub(crate) fn spelled(alloc: Global, line: &str) -> Result<String, AllocError> {
     if line == "(empty)" {
         return Ok(String::new(alloc));
     }
@@ -73,7 +73,7 @@ pub fn spelled(alloc: Global, line: &str) -> Result<String, AllocError> {
 }
 
 /// The lines of a row.
-pub fn lines_of<'a>(alloc: Global, row: &'a str) -> Result<Vec<&'a str>, AllocError> {
+pub(crate) fn lines_of<'a>(alloc: Global, row: &'a str) -> Result<Vec<&'a str>, AllocError> {
     row.trim().lines().collect(alloc)
 }
 
