@@ -1,5 +1,5 @@
 -- Each choice has a number, and each number a choice.
-use Rattle.std.proofs.Common.{◌≡◌, ℕ, zero, suc, ◌+◌, ◌*◌, ◌/◌, ◌%◌, ◌<◌, ◌≤◌, List, [], ◌∷◌, ◌++◌, true, false, refl, sym, ap, subst, ◌∙◌, inl, inr, arith, ℤ, ◌<ℤ◌, length}
+use Rattle.std.proofs.Common.{◌≡◌, ℕ, zero, suc, ◌+◌, ◌*◌, ◌/◌, ◌%◌, ◌<◌, ◌≤◌, ◌⊎◌, List, [], ◌∷◌, ◌++◌, true, false, refl, sym, ap, ◌∙◌, inl, inr, arith, ℤ, ◌<ℤ◌, ◌≤ℤ◌, length}
 use Rattle.std.specs.List.{All}
 use Rattle.std.specs.FinSet as set
 use Rattle.std.specs.Ordering.{int_eq}
@@ -8,9 +8,10 @@ use Rattle.std.proofs.lemmas.Bool.{cases_Bool}
 use Rattle.std.proofs.lemmas.Bool.Decides.{Decides-int_eq}
 use Rattle.std.proofs.lemmas.List.Elements.{All-head, All-tail}
 use Rattle.std.proofs.Math.Nat.{add-mul-mod_self_left, add-mul-div_left, mod-eq_of_lt, div-eq_of_lt, mod-lt, mul-le-mul_left}
-use Rattle.fzn_domain.specs.IntSet.{IntSet, contains, size, least, IsNextAbove, NoneAbove}
+use Rattle.fzn_domain.specs.IntSet.{IntSet, contains, size, least, below}
 use Rattle.fzn_domain.specs.Narrow.{is_some_empty, set_of}
-use Rattle.fzn_domain.proofs.SetLemmas.{contains-least, least_le, least_is, contains-remove, size-remove, member_of_size, size_above_zero}
+use Rattle.fzn_domain.proofs.SetLemmas.{contains-least, least_le, least_is, contains-remove, size-remove, member_of_size, size_above_zero, same_by_members}
+use Rattle.fzn_domain.proofs.CountLemmas.{in_below, of_below}
 use Rattle.fzn_meaning.specs.declared.term.Term.{Term}
 use Rattle.fzn_meaning.specs.declared.term.Term.TheVariants.{Constant, Variable}
 use Rattle.fzn_meaning.specs.Term.{IsTerm}
@@ -58,25 +59,53 @@ unfolding nth_member
 nth_is_member zero s below = least_member s (omega arith)
 nth_is_member (suc n) s below = (in_others s (nth_member (others s) n) (nth_is_member n (others s) (omega (arith, size-others s (omega arith))))).0
 
-pub nth_rises : (n : ℕ) (s : IntSet) → suc n < size s → nth_member s n <ℤ nth_member s (suc n)
-unfolding nth_member
-nth_rises zero s below = (in_others s (least (others s)) (least_member (others s) (omega (arith, size-others s (omega arith))))).1
-nth_rises (suc n) s below = nth_rises n (others s) (omega (arith, size-others s (omega arith)))
+in_remove : (s : IntSet) (m x : ℤ) → contains s x ≡ true → (x ≡ m → ⊥) → contains (set.remove s m) x ≡ true
+in_remove s m x there differ =
+    let parts = contains-remove s m x in
+    elim (cases_Bool (int_eq x m)) [
+      | inl same ↦ absurd (differ ((Decides-int_eq x m).0 same))
+      | inr apart ↦ grind (arith, apart, parts, there)
+    ]
 
--- the next member above one is the one with the next number
-pub nth_next : (n : ℕ) (s : IntSet) (next : ℤ) → n < size s → IsNextAbove s (nth_member s n) next → next ≡ nth_member s (suc n)
+of_remove : (s : IntSet) (m x : ℤ) → contains (set.remove s m) x ≡ true → (contains s x ≡ true) × (x ≡ m → ⊥)
+of_remove s m x there =
+    let parts = contains-remove s m x in
+    elim (cases_Bool (int_eq x m)) [
+      | inl same ↦ absurd (grind (arith, same, parts, there))
+      | inr apart ↦ (grind (arith, apart, parts, there), λ e. grind (arith, (Decides-int_eq x m).1 e, apart))
+    ]
+
+-- what is below a member of the others, without the least one
+others_below : (s : IntSet) (v : ℤ) → 0 < size s → set.remove (below s v) (least s) ≡ below (others s) v
+others_below s v some = same_by_members _ _
+    (λ x h. let r = of_remove (below s v) (least s) x h in let b = of_below s v x r.0 in in_below (others s) v x (others_have s x b.0 r.1) b.1)
+    (λ x h. let b = of_below (others s) v x h in let o = in_others s x b.0 in in_remove (below s v) (least s) x (in_below s v x o.0 b.1) (differ x o.1))
+  where
+    differ : (x : ℤ) → least s <ℤ x → x ≡ least s → ⊥
+    differ x less e = grind (arith, ints, less, e)
+
+-- the member that so many members are below
+pub nth_at : (n : ℕ) (s : IntSet) (v : ℤ) → contains s v ≡ true → size (below s v) ≡ n → v ≡ nth_member s n
 unfolding nth_member
-nth_next zero s next below above =
-    least_is (others s) next (others_have s next above.member (λ e. let h = above.greater in grind (arith, ints, e, h)))
-    (λ w there. let parts = in_others s w there in above.first w parts.0 parts.1)
-nth_next (suc n) s next below above =
-    let rest : n < size (others s) = omega (arith, size-others s (omega arith)) in
-    let up = in_others s (nth_member (others s) n) (nth_is_member n (others s) rest) in
-    nth_next n (others s) next rest (record {
-      member = others_have s next above.member (λ e. let h = above.greater in let k = up.1 in grind (arith, ints, e, h, k));
-      greater = above.greater;
-      first = λ w there more. above.first w (in_others s w there).0 more;
-    })
+nth_at zero s v there none = least_is s v there (λ w inside. elim (order v w) [
+  | inl le ↦ le
+  | inr less ↦ absurd (let some = size_above_zero (below s v) w (in_below s v w inside less) in omega arith)
+]) where
+  order : (v w : ℤ) → (v ≤ℤ w) ⊎ (w <ℤ v)
+  order v w = grind (arith, ints)
+nth_at (suc n) s v there count =
+    let m = member_of_size (below s v) (omega arith) in
+    let low = of_below s v m.0 m.1 in
+    let above : least s <ℤ v = between (least s) m.0 v (least_le s m.0 low.0) low.1 in
+    let some = size_above_zero s v there in
+    let fewer = size-remove (below s v) (least s) (in_below s v (least s) (least_member s some) above) in
+    nth_at n (others s) v (others_have s v there (differ v above)) (omega (arith, ap size (others_below s v some)))
+  where
+    between : (a b c : ℤ) → a ≤ℤ b → b <ℤ c → a <ℤ c
+    between a b c h k = omega (arith, ints)
+
+    differ : (v : ℤ) → least s <ℤ v → v ≡ least s → ⊥
+    differ v less e = grind (arith, ints, less, e)
 
 -- each member has a number
 pub nth_found : (n : ℕ) (s : IntSet) (v : ℤ) → size s ≤ n → contains s v ≡ true → (k : ℕ) × (k < size s) × (nth_member s k ≡ v)
@@ -90,22 +119,6 @@ nth_found (suc n) s v few there = elim (cases_Bool (int_eq v (least s))) [
       let rest = nth_found n (others s) v (omega arith) (others_have s v there (λ e. grind (arith, (Decides-int_eq v (least s)).1 e, apart))) in
       (suc rest.0, omega (arith, rest.1), rest.2)
 ]
-
--- the same for a walk that has come to a member
-pub walk_start : (s : IntSet) (v x : ℤ) → x ≡ v → v ≡ least s → x ≡ nth_member s 0
-unfolding nth_member
-walk_start s v x same is = same ∙ is
-
-pub walk_step : (s : IntSet) (n : ℕ) (v next x : ℤ) → n < size s → v ≡ nth_member s n → IsNextAbove s v next → x ≡ next → x ≡ nth_member s (n + 1)
-walk_step s n v next x below at above same =
-    let more : suc n ≡ n + 1 = omega arith in
-    same ∙ nth_next n s next below (subst (λ (m : ℤ). IsNextAbove s m next) at above) ∙ ap (nth_member s) more
-
-pub walk_goes_on : (s : IntSet) (n : ℕ) (v : ℤ) → suc n < size s → v ≡ nth_member s n → NoneAbove s v → ⊥
-walk_goes_on s n v below at none =
-    let rises = nth_rises n s below in
-    let last = none (nth_member s (suc n)) (nth_is_member (suc n) s below) in
-    omega (arith, ints)
 
 -- ---- choices by number
 

@@ -3,12 +3,8 @@ use Rattle.std.proofs.Common.{◌≡◌, ◌↔◌, ◌<◌, ◌≤◌, true, �
 use Rattle.std.proofs.lemmas.Int.{ints}
 use Rattle.std.proofs.lemmas.Bool.{cases_Bool}
 use Rattle.fzn_domain.specs.IntSet.{IntSet, contains, size, least, greatest, width, range}
-use Rattle.fzn_domain.proofs.SetLemmas.{least_le, le_greatest, contains-least, contains-greatest, size_within, size_below, contains-range, size-range, member_of_size}
+use Rattle.fzn_domain.proofs.SetLemmas.{least_le, le_greatest, contains-least, contains-greatest, size_within, size_below, contains-range, size-range, member_of_size, width_falls}
 use Rattle.fzn_builtin_rules.specs.Rows.{IsPartOf}
-
--- the measure of a walk up to a number
-pub width_falls : (v next high : ℤ) → v <ℤ next → next ≤ℤ high → width next high < width v high
-width_falls v next high h k = grind (arith, ints)
 
 -- the measure of a walk up the members
 pub walk_falls : (s : IntSet) (v next : ℤ) → contains s next ≡ true → v <ℤ next → width next (greatest s) < width v (greatest s)

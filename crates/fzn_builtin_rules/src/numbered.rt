@@ -31,14 +31,7 @@ fn nth_member(set: &Domain, n: usize) -> i64
     ensures value { result ≡ nth_member set.now n }
     ensures in_limits { IsInLimits result }
 {
-    let mut value = set.min();
-    for k in 0..n {
-        match set.above(value) {
-            Some(next) => value = next,
-            None => return value, // Not reached: a member is above.
-        }
-    }
-    value
+    set.nth(n)
 }
 
 /// The value of the term in the choice with this number.

@@ -1,10 +1,19 @@
--- A fault of reading a model as one of checking.
+-- Faults of reading a model as those of checking, and their exit statuses.
+use Rattle.std.specs.Prelude.{ℕ}
 use Rattle.fzn_reading.specs.declared.fault.ModelFault.{ModelFault}
 use Rattle.fzn_reading.specs.declared.fault.ModelFault.TheVariants as reading
 use Rattle.fzn_checker.specs.declared.fault.CheckFault.{CheckFault}
-use Rattle.fzn_checker.specs.declared.fault.CheckFault.TheVariants.{File, Memory, Read}
+use Rattle.fzn_checker.specs.declared.fault.CheckFault.TheVariants.{File, Refused, Memory, Read, WriteOutput}
 
 abbrev pub fault_from : ModelFault → CheckFault
 fault_from (reading.File fault) = File fault
 fault_from reading.Memory = Memory
 fault_from reading.Read = Read
+
+-- the exit status of a program that answers the fault
+abbrev pub status_of : CheckFault → ℕ
+status_of (Refused line refusal) = 1
+status_of (File fault) = 2
+status_of Read = 4
+status_of WriteOutput = 4
+status_of Memory = 5

@@ -1,7 +1,7 @@
 // Why there is no verdict.
 ghost use Rattle.std.specs.Prelude.{◌≡◌};
 ghost use Rattle.fzn_checker.specs.declared.fault.CheckFault.TheVariants.{Memory};
-ghost use Rattle.fzn_checker.specs.FileFaults.{fault_from};
+ghost use Rattle.fzn_checker.specs.FileFaults.{fault_from, status_of};
 
 use fzn_cert::Refusal;
 use fzn_lexer::Fault;
@@ -28,7 +28,9 @@ pub enum CheckFault {
 
 impl CheckFault {
     /// The exit status of a program that answers it.
-    pub fn status(self) -> u8 {
+    pub fn status(self) -> u8
+        ensures { result ≡ status_of self }
+    {
         match self {
             CheckFault::Refused { .. } => 1,
             CheckFault::File(_) => 2,

@@ -9,4 +9,5 @@ pub mod LoadSound
 pub mod PairSound
 mod PlacesLemmas
 mod RisingLemmas
+mod RunLemmas
 mod TaskLemmas

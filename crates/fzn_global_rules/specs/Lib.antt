@@ -4,4 +4,5 @@ pub mod GlobalRows
 pub mod Hall
 pub mod Load
 pub mod Pair
+pub mod Runs
 pub mod Tasks

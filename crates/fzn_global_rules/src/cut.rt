@@ -1,20 +1,21 @@
 // The rule `cut`: some places, but not all, that lead only to one another.
-ghost use Rattle.std.specs.Prelude.{◌≡◌, ◌↔◌, IsTrue, length};
-ghost use Rattle.std.specs.List.{All, Contains, count_by};
+ghost use Rattle.std.specs.Prelude.{◌↔◌, ◌≤ℤ◌, IsTrue, length};
+ghost use Rattle.std.specs.List.{All};
 ghost use Rattle.fzn_domain.specs.Ascending.{IsAscending};
-ghost use Rattle.fzn_domain.specs.IntSet.{contains};
+ghost use Rattle.fzn_domain.specs.Limits.{IsInLimits};
 ghost use Rattle.fzn_meaning.specs.Entries.{IsIndex};
 ghost use Rattle.fzn_meaning.specs.Term.{IsTerm};
 ghost use Rattle.fzn_meaning.specs.Meaning.{IsWellFormed};
 ghost use Rattle.fzn_global_rules.specs.Cut.{LeadsInto, IsClosed, IsCutMet};
+ghost use Rattle.fzn_global_rules.specs.Runs.{HasAll, HasRun};
 ghost use Rattle.fzn_state.specs.Terms.{term_at};
 
-use fzn_domain::Domain;
+use fzn_domain::{Domain, place_of};
 use fzn_meaning::{Constraint, Term};
 use fzn_state::{State, is_index, term_at};
 
-/// Whether the places, in rising order, are some of a circuit's places, but not all, and lead only to one another. For each of them it
-/// asks the set of its successor about each of them.
+/// Whether the places, in rising order, are some of a circuit's places, but not all, and lead only to one another. It looks
+/// for each run of values of their successors once.
 #[tactic(auto, unfolding(crate::specs::Cut::IsCutMet, fzn_meaning::specs::Meaning::IsWellFormed))]
 pub fn is_cut_met(constraint: &Constraint, state: &State, places: &[i64]) -> bool
     requires { IsWellFormed (length state.now.sets) constraint.now }
@@ -77,26 +78,45 @@ fn leads_into(state: &State, places: &[i64], term: Term) -> bool
     ensures { IsTrue result ↔ LeadsInto state.now.sets places.now term }
 {
     match term {
-        Term::Constant(k) => is_place(places, &k),
-        Term::Variable(var) => {
-            let domain = state.domain(var);
-            count_in(domain, places) == domain.len()
+        Term::Constant(k) => has_run(places, k, k),
+        Term::Variable(var) => has_all(places, state.domain(var)),
+    }
+}
+
+/// Whether each value of the set is one of the places. It looks for each run of values once.
+fn has_all(places: &[i64], domain: &Domain) -> bool
+    requires { IsAscending places.now }
+    ensures { IsTrue result ↔ HasAll domain.now places.now }
+{
+    if domain.is_empty() {
+        return true;
+    }
+    let mut low = domain.min();
+    loop {
+        let high = domain.run_end(low);
+        if !has_run(places, low, high) {
+            return false;
+        }
+        match domain.above(high) {
+            Some(next) => low = next,
+            None => return true,
         }
     }
 }
 
-fn is_place(places: &[i64], value: &i64) -> bool
-    ensures { IsTrue result ↔ Contains places.now value.now }
+/// Whether the places have each number from low to high.
+fn has_run(places: &[i64], low: i64, high: i64) -> bool
+    requires rising { IsAscending places.now }
+    requires ordered { low ≤ℤ high }
+    requires low_in_limits { IsInLimits low }
+    requires high_in_limits { IsInLimits high }
+    ensures { IsTrue result ↔ HasRun places.now low high }
 {
-    places.contains(value)
-}
-
-/// How many of the places are in the set.
-fn count_in(domain: &Domain, places: &[i64]) -> usize
-    ensures { result ≡ count_by (contains domain.now) places.now }
-{
-    places
-        .iter()
-        .filter(|place| domain.contains(**place))
-        .count()
+    let first = place_of(places, low);
+    let width = (high - low) as usize;
+    if places.len() - first <= width {
+        return false;
+    }
+    let last = places[first + width];
+    last <= high // Never below it, since the places rise.
 }

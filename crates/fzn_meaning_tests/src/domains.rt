@@ -1,7 +1,7 @@
 // Examples worked out by hand.
 ghost use Rattle.std.specs.Prelude.{◌≡◌};
 
-use fzn_domain::{Domain, GREATEST_VALUE, LEAST_VALUE, Lit, Op, VarId};
+use fzn_domain::{Domain, GREATEST_VALUE, LEAST_VALUE, Lit, Op, VarId, place_of};
 use std::test::Fail;
 
 fn lit(op: Op, value: i64) -> Lit
@@ -78,5 +78,55 @@ fn the_least_and_the_greatest(rt: HostRuntime) -> Result<(), Fail> {
     assert_eq!(rt; (domain.min(), domain.max()), (-4, 2));
     assert!(rt; !lit(Op::AtMost, 3).negated().is_true_at(3));
     assert!(rt; lit(Op::AtMost, 3).negated().is_true_at(4));
+    Ok(())
+}
+
+/// The value that so many are below.
+fn nth(domain: &Domain, place: usize) -> Option<i64> {
+    if place < domain.len() {
+        Some(domain.nth(place))
+    } else {
+        None
+    }
+}
+
+/// The end of the run that the value is in.
+fn run_end(domain: &Domain, value: i64) -> Option<i64> {
+    if domain.contains(value) {
+        Some(domain.run_end(value))
+    } else {
+        None
+    }
+}
+
+#[test]
+fn places_and_runs(rt: HostRuntime) -> Result<(), Fail> {
+    let mut range = Domain::range(rt.alloc(), 1, 6)?;
+    assert!(rt; range.restrict(lit(Op::NotEqual, 3))?);
+    let listed = Domain::listed(rt.alloc(), &[5, 1, 3, 4])?;
+    assert_eq!(rt;
+        (nth(&range, 1), nth(&range, 2), nth(&range, 4)),
+        (Some(2), Some(4), Some(6))
+    );
+    assert_eq!(rt;
+        (nth(&listed, 0), nth(&listed, 3), nth(&listed, 4)),
+        (Some(1), Some(5), None)
+    );
+    assert_eq!(rt;
+        (run_end(&range, 1), run_end(&range, 3), run_end(&range, 4)),
+        (Some(2), None, Some(6))
+    );
+    assert_eq!(rt;
+        (
+            run_end(&listed, 1),
+            run_end(&listed, 3),
+            run_end(&listed, 5)
+        ),
+        (Some(1), Some(5), Some(5))
+    );
+    assert_eq!(rt;
+        (place_of(&[], 3), place_of(&[3], 3), place_of(&[2], 3)),
+        (0, 0, 1)
+    );
     Ok(())
 }

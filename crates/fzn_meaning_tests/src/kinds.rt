@@ -9,7 +9,7 @@ use std::string::String;
 use std::test::*;
 
 /// Declarations with a constraint, and the values that meet it, in the order of the variables.
-static ROWS: &str = "
+pub(crate) static ROWS: &str = "
 var 0..2: a; var 0..2: b; constraint int_eq(a,b); => 0,0 1,1 2,2
 var 0..2: a; var 0..2: b; constraint int_ne(a,b); => 0,1 0,2 1,0 1,2 2,0 2,1
 var 0..2: a; var 0..2: b; constraint int_le(a,b); => 0,0 0,1 0,2 1,1 1,2 2,2
@@ -85,7 +85,7 @@ fn spelled(alloc: Global, values: &[i64]) -> Result<String, AllocError> {
 }
 
 /// The least value of each variable.
-fn first_values(alloc: Global, model: &Model) -> Result<Vec<i64>, AllocError> {
+pub(crate) fn first_values(alloc: Global, model: &Model) -> Result<Vec<i64>, AllocError> {
     let mut values = Vec::new(alloc);
     for var in model.vars.as_slice() {
         values.push(var.domain.above(i64::MIN).unwrap_or(0))?;
@@ -94,7 +94,7 @@ fn first_values(alloc: Global, model: &Model) -> Result<Vec<i64>, AllocError> {
 }
 
 /// Goes on to the next values, the last variable's first, and says whether there are any.
-fn advance(model: &Model, values: &mut [i64]) -> bool {
+pub(crate) fn advance(model: &Model, values: &mut [i64]) -> bool {
     for (var, value) in model.vars.as_slice().iter().zip(values).rev() {
         if let Some(next) = var.domain.above(*value) {
             *value = next;
@@ -106,7 +106,7 @@ fn advance(model: &Model, values: &mut [i64]) -> bool {
 }
 
 /// Whether each constraint of the model says so.
-fn all_hold(model: &Model, values: &[i64]) -> bool
+pub(crate) fn all_hold(model: &Model, values: &[i64]) -> bool
     requires { IsWellFormed model.now }
 {
     if values.len() != model.vars.len() {

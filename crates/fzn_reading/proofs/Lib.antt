@@ -1,2 +1,3 @@
 mod FrontLemmas
 mod LimitLemmas
+mod OneModel

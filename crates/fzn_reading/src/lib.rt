@@ -6,9 +6,11 @@
 
 mod fault;
 mod input;
+mod law;
 mod model;
 
 pub use fault::ModelFault;
+pub use law::one_model;
 pub use model::read_model;
 
 #[cfg(test)]

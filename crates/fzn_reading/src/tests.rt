@@ -127,3 +127,8 @@ fn messages(rt: HostRuntime) -> Result<(), Fail> {
     assert_eq!(rt; memory.as_str(), "fault 19 Memory");
     Ok(())
 }
+
+#[test]
+fn one_model_of_a_file(rt: HostRuntime) {
+    assert_eq!(rt; one_model(), ());
+}

@@ -20,4 +20,6 @@ mod solved;
 #[cfg(test)]
 mod solver_rows;
 #[cfg(test)]
+mod sweeps;
+#[cfg(test)]
 mod tests;

@@ -8,9 +8,7 @@ pub use fzn_state::{Possible, State};
 pub use refutation::refutes;
 pub use rule::Rule;
 
-#[cfg(test)]
-mod builtin_tests;
-#[cfg(test)]
-mod global_tests;
 mod refutation;
 mod rule;
+#[cfg(test)]
+mod tests;

@@ -1,4 +1,5 @@
--- The faults of the parts as those of a run.
+-- The faults of the parts as those of a run, and their exit statuses.
+use Rattle.std.specs.Prelude.{ℕ}
 use Rattle.fzn_engine.specs.declared.fault.Fault.{Fault}
 use Rattle.fzn_engine.specs.declared.fault.Fault.TheVariants as engine
 use Rattle.fzn_propagators.specs.declared.lacking.Lacking.{Lacking}
@@ -22,3 +23,13 @@ fault_of_engine engine.Memory = Memory
 fault_of_engine engine.WriteOutput = WriteOutput
 fault_of_engine engine.WriteCert = WriteCert
 fault_of_engine engine.StepTooLong = StepTooLong
+
+-- the exit status of a program that answers the fault
+abbrev pub status_of : RunFault → ℕ
+status_of (File fault) = 2
+status_of (NoPropagator number) = 2
+status_of Read = 4
+status_of WriteOutput = 4
+status_of WriteCert = 4
+status_of Memory = 5
+status_of StepTooLong = 5

@@ -1,7 +1,7 @@
 // Why a run has no answer.
 ghost use Rattle.std.specs.Prelude.{◌≡◌};
 ghost use Rattle.fzn_solver.specs.declared.fault.RunFault.TheVariants.{Memory};
-ghost use Rattle.fzn_solver.specs.FaultsFrom.{fault_of_model, fault_of_engine, fault_of_lacking};
+ghost use Rattle.fzn_solver.specs.FaultsFrom.{fault_of_model, fault_of_engine, fault_of_lacking, status_of};
 
 use fzn_engine::Fault as EngineFault;
 use fzn_lexer::Fault;
@@ -33,7 +33,9 @@ pub enum RunFault {
 
 impl RunFault {
     /// The exit status of a program that answers it.
-    pub fn status(self) -> u8 {
+    pub fn status(self) -> u8
+        ensures { result ≡ status_of self }
+    {
         match self {
             RunFault::File(_) | RunFault::NoPropagator(_) => 2,
             RunFault::Read | RunFault::WriteOutput | RunFault::WriteCert => 4,

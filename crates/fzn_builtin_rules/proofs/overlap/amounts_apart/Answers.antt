@@ -1,6 +1,6 @@
 use Rattle.std.proofs.Common.{rules, pos}
 use Rattle.std.proofs.lemmas.Int.{to_z-of_z}
-use Rattle.fzn_builtin_rules.proofs.OverlapLemmas.{width_falls}
+use Rattle.fzn_domain.proofs.SetLemmas.{width_falls}
 use Rattle.fzn_builtin_rules.proofs.overlap.amounts_apart.Goals as goal
 use mir.Syntax.{w64}
 use mir.Val.{to_z, SFits}

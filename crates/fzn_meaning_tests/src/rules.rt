@@ -1,0 +1,208 @@
+// Each rule on each choice of small sets, for each of the 51 names: where values of the sets meet the constraint, no rule says yes, and
+// where none do, `enum` says so of a builtin, and some rule says so of a global at least once.
+ghost use Rattle.std.specs.Prelude.{◌≡◌, false, length};
+ghost use Rattle.fzn_domain.specs.Narrow.{is_some_empty};
+ghost use Rattle.fzn_meaning.specs.Meaning.{IsWellFormed as IsWellFormedConstraint};
+ghost use Rattle.fzn_meaning.specs.WellFormed.{IsWellFormed};
+
+use crate::kinds::{ROWS, advance, all_hold, first_values};
+use fzn_domain::{Lit, Op, VarId};
+use fzn_list::Items;
+use fzn_meaning::{Constraint, Model};
+use fzn_reading::read_model;
+use fzn_rules::{Rule, State, refutes};
+use std::alloc::{AllocError, Global};
+use std::test::*;
+
+/// Each rule, with each hint from -1 to 4, or up to three places.
+fn rules_with_hints(alloc: Global) -> Result<Vec<Rule>, AllocError> {
+    let mut rules = Vec::new(alloc);
+    rules.push(Rule::Lin)?;
+    rules.push(Rule::Rows)?;
+    rules.push(Rule::Box)?;
+    rules.push(Rule::Fixed)?;
+    rules.push(Rule::Enum)?;
+    for first in -1..5i64 {
+        rules.push(Rule::Load(first))?;
+        for second in -1..5i64 {
+            rules.push(Rule::Hall(first, second))?;
+            rules.push(Rule::Energy(first, second))?;
+            rules.push(Rule::Pair(first, second))?;
+        }
+    }
+    for places in [
+        [1].as_slice(),
+        &[2],
+        &[3],
+        &[1, 2],
+        &[1, 3],
+        &[2, 3],
+        &[1, 2, 3],
+        &[2, 1],
+        &[],
+    ] {
+        let mut items = Items::new(alloc);
+        for place in places {
+            items.push(*place)?;
+        }
+        rules.push(Rule::Cut(items))?;
+    }
+    Ok(rules)
+}
+
+/// The values, one for each variable, that meet the constraints.
+fn meeting(alloc: Global, model: &Model) -> Result<Vec<Vec<i64>>, AllocError>
+    requires { IsWellFormed model.now }
+{
+    let mut found = Vec::new(alloc);
+    let mut values = first_values(alloc, model)?;
+    for _ in 0..1000 {
+        if all_hold(model, &values) {
+            found.push(values.clone()?)?;
+        }
+        if !advance(model, &mut values) {
+            break;
+        }
+    }
+    Ok(found)
+}
+
+/// A literal for each value of each variable, which takes it out.
+fn exclusions(alloc: Global, model: &Model) -> Result<Vec<Lit>, AllocError> {
+    let mut lits = Vec::new(alloc);
+    for (place, var) in model.vars.as_slice().iter().enumerate() {
+        let mut last = i64::MIN;
+        for _ in 0..var.domain.len() {
+            if let Some(value) = var.domain.above(last) {
+                lits.push(Lit {
+                    var: VarId(place + 1),
+                    op: Op::NotEqual,
+                    value,
+                })?;
+                last = value;
+            }
+        }
+    }
+    Ok(lits)
+}
+
+fn declared(alloc: Global, model: &Model) -> Result<State, AllocError> {
+    let mut domains = Vec::new(alloc);
+    for var in model.vars.as_slice() {
+        domains.push(var.domain.copy()?)?;
+    }
+    Ok(State::new(alloc, domains))
+}
+
+/// Takes out the values whose bit is 1 in the number, and says whether it has no bit beyond them.
+fn narrow(state: &mut State, exclusions: &[Lit], number: usize) -> Result<bool, AllocError> {
+    state.restore();
+    let mut rest = number;
+    for lit in exclusions {
+        if rest % 2 == 1 && 0 < lit.var.0 && lit.var.0 <= state.len() {
+            state.restrict(*lit)?;
+        }
+        rest /= 2;
+    }
+    Ok(rest == 0)
+}
+
+/// Whether each of the values is in its variable's set.
+fn is_among(state: &State, values: &[i64]) -> bool {
+    for (place, value) in values.iter().enumerate() {
+        if place >= state.len() || !state.domain(VarId(place + 1)).contains(*value) {
+            return false;
+        }
+    }
+    true
+}
+
+/// Whether some rule is met.
+fn is_refuted(constraint: &Constraint, state: &State, rules: &[Rule]) -> bool
+    requires constraint { IsWellFormedConstraint (length state.now.sets) constraint.now }
+    requires nonempty { is_some_empty state.now.sets ≡ false }
+{
+    for rule in rules {
+        if refutes(constraint, state, rule) {
+            return true;
+        }
+    }
+    false
+}
+
+/// How a constraint fares on one choice of sets.
+#[derive(Clone, Copy, Debug, PartialEq)]
+enum Outcome {
+    /// Values of the sets meet it, and no rule is met; or no values do, and no rule is met.
+    Kept,
+    /// No values of the sets meet it, and some rule is met.
+    Refuted,
+    /// A rule is met though values of the sets meet it, or `enum` is not met though it is to be.
+    Wrong,
+}
+
+fn judged(
+    constraint: &Constraint,
+    state: &State,
+    rules: &[Rule],
+    has_values: bool,
+    is_builtin: bool,
+) -> Outcome
+    requires constraint { IsWellFormedConstraint (length state.now.sets) constraint.now }
+    requires nonempty { is_some_empty state.now.sets ≡ false }
+{
+    let by_enum = refutes(constraint, state, &Rule::Enum);
+    match is_refuted(constraint, state, rules) {
+        true if has_values => Outcome::Wrong,
+        false if has_values => Outcome::Kept,
+        _ if is_builtin && !by_enum => Outcome::Wrong,
+        true => Outcome::Refuted,
+        false => Outcome::Kept,
+    }
+}
+
+/// Whether the rules are right on each choice of sets, and one is met on some choice.
+fn are_right(
+    alloc: Global,
+    model: &Model,
+    rules: &[Rule],
+    is_builtin: bool,
+) -> Result<bool, AllocError>
+    requires { IsWellFormed model.now }
+{
+    let Some(constraint) = model.constraints.as_slice().first() else {
+        return Ok(false);
+    };
+    let meeting = meeting(alloc, model)?;
+    let exclusions = exclusions(alloc, model)?;
+    let mut state = declared(alloc, model)?;
+    let mut refuted = false;
+    for number in 0..1_000_000 {
+        if !narrow(&mut state, &exclusions, number)? {
+            return Ok(refuted);
+        }
+        if state.len() != model.vars.len() || state.has_empty() {
+            continue;
+        }
+        let has_values = meeting.iter().any(|values| is_among(&state, values));
+        match judged(constraint, &state, rules, has_values, is_builtin) {
+            Outcome::Kept => {}
+            Outcome::Refuted => refuted = true,
+            Outcome::Wrong => return Ok(false),
+        }
+    }
+    Ok(false)
+}
+
+#[test]
+fn rules_on_all_sets(rt: HostRuntime) -> Result<(), Fail> {
+    let rules = rules_with_hints(rt.alloc())?;
+    for row in ROWS.trim().lines() {
+        let (items, _) = row.split_once(" => ").ok_or("a line has two parts")?;
+        let file = format!(in rt.alloc(); "{items} solve satisfy;")?;
+        let model = read_model(rt.alloc(), &mut file.as_bytes())?;
+        let is_builtin = !row.contains("fzn_");
+        assert!(rt; are_right(rt.alloc(), &model, &rules, is_builtin)?, "{row}");
+    }
+    Ok(())
+}
