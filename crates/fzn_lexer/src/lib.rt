@@ -27,6 +27,3 @@ pub use lexer::{MAX_FILE, tokens};
 pub use list::{Parts, TokenList};
 pub use places::Places;
 pub use token::{Kind, Place, Span, Symbol, Token};
-
-#[cfg(test)]
-mod tests;

@@ -19,5 +19,3 @@ mod fault;
 mod flag;
 mod output;
 mod param;
-#[cfg(test)]
-mod tests;

@@ -12,6 +12,3 @@ mod model;
 pub use fault::ModelFault;
 pub use law::one_model;
 pub use model::read_model;
-
-#[cfg(test)]
-mod tests;

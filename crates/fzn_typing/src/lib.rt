@@ -13,7 +13,5 @@ mod given;
 mod goal;
 mod law;
 mod table;
-#[cfg(test)]
-mod tests;
 mod tree;
 mod written;

@@ -1,5 +1,6 @@
-use super::*;
+// The trees of files, and the faults of the parser.
 use fzn_lexer::{Fault, Place, ReadError, tokens};
+use fzn_parser::{Arg, Basic, Con, Int, Literal, Param, ParamValue, Tree, one_reading, parse};
 use std::alloc::{AllocError, Global};
 use std::string::String;
 use std::test::*;

@@ -1,7 +1,7 @@
 // Models of small files, each part as text.
-use crate::read_model;
 use fzn_domain::{Domain, VarId};
 use fzn_meaning::{Constraint, Goal, IndexRange, Kind, Model, OutputItem, Place, Term};
+use fzn_reading::read_model;
 use std::alloc::{AllocError, Global};
 use std::string::String;
 use std::test::*;
@@ -477,7 +477,7 @@ fn constraints_up_to_the_limit(rt: HostRuntime) -> Result<(), Fail> {
     ] {
         let file = long_file(rt.alloc(), count)?;
         let mut bytes = file.as_str().as_bytes();
-        let text = super::shown(rt.alloc(), &mut bytes)?;
+        let text = crate::reading::shown(rt.alloc(), &mut bytes)?;
         assert_eq!(rt; text.as_str(), want, "with {count}");
     }
     Ok(())

@@ -1,5 +1,5 @@
 // Faults of items, and items without one.
-use crate::tests::shown;
+use crate::reading::shown;
 use std::alloc::{AllocError, Global};
 use std::string::String;
 use std::test::*;

@@ -3,12 +3,12 @@ ghost use Rattle.std.specs.Prelude.{◌≡◌, [], ◌∷◌, IfOk};
 ghost use Rattle.fzn_names.specs.Limits.{IsVarWithin};
 ghost use Rattle.fzn_typing.specs.Limits.{IsConWithin, IsWithinLimits};
 
-use super::*;
 use fzn_domain::VarId;
 use fzn_lexer::{FaultKind, Place, ReadError};
 use fzn_list::{Items, Text};
 use fzn_meaning::{Constraint, Model};
 use fzn_tree::{Ann, Arg, Base, Basic, Con, Goal, Literal, Name, SingleVar, Solve, Tree, Var};
+use fzn_typing::{one_model, type_check};
 use std::alloc::{AllocError, Global};
 use std::test::*;
 

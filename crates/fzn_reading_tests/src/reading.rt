@@ -1,13 +1,11 @@
-use super::*;
+// Reading a file from a reader that gives its bytes in pieces or fails, and the messages of faults.
 use fzn_lexer::{Fault, FaultKind, Place};
+use fzn_reading::{ModelFault, one_model, read_model};
 use std::alloc::{AllocError, Global};
 use std::io;
 use std::io::Read;
 use std::string::String;
 use std::test::*;
-
-mod items;
-mod models;
 
 /// Gives `most` bytes a call, and at the end fails where it is to.
 #[derive(Drop)]
@@ -30,7 +28,7 @@ impl Read for Pieces<'_> {
 }
 
 /// What is printed of the fault, and nothing where a model is read.
-fn shown<R: Read>(alloc: Global, input: &mut R) -> Result<String, AllocError> {
+pub(crate) fn shown<R: Read>(alloc: Global, input: &mut R) -> Result<String, AllocError> {
     match read_model(alloc, input) {
         Ok(_) => Ok(String::new(alloc)),
         Err(fault) => format!(in alloc; "{fault}"),

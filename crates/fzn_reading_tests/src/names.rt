@@ -6,11 +6,15 @@ ghost use Rattle.fzn_tree.specs.declared.tree.Var.TheVariants as vars;
 ghost use Rattle.fzn_symbols.specs.Limits.{AreValuesWithin, IsParamWithin, IsVarWithin};
 ghost use Rattle.fzn_symbols.specs.Variables.{vars_of};
 
-use super::*;
 use fzn_domain::VarId;
 use fzn_lexer::{FaultKind, Place, ReadError};
 use fzn_list::{Items, Text};
 use fzn_meaning::{Kind, OutputItem, Term};
+use fzn_names::{
+    array_of, first_set_in, first_unknown_in, first_wrong_in, kind_of, names_of, no_values,
+    outputs_of, place_of, set_of, shown_of, term_of, terms_of, unknown_in, values_in, variable_of,
+    vars_of, wrong_in,
+};
 use fzn_registry::Argument;
 use fzn_symbols::{literal_terms, place_of_literal, set_literal, wrong_literal};
 use fzn_tree::{
