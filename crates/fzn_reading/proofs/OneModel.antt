@@ -1,5 +1,5 @@
 -- The bytes of a file have one model or one fault.
-use Rattle.std.proofs.Common.{◌≡◌, ◌≢◌, ◌⊎◌, ℕ, List, Result, Ok, Err, inl, inr, refl, sym, ◌∙◌, ap, subst}
+use Rattle.std.proofs.Common.{◌≡◌, ◌≢◌, ◌⊎◌, ℕ, List, Result, Ok, Err, inl, inr, refl, ap, subst}
 use Rattle.fzn_lexer.specs.declared.fault.Fault.{Fault}
 use Rattle.fzn_lexer.specs.declared.fault.ReadError.{ReadError}
 use Rattle.fzn_lexer.specs.declared.fault.ReadError.TheVariants as errors

@@ -1,38 +1,31 @@
 -- The whole answer with its certificate.
-use Rattle.std.proofs.Common.{◌≡◌, ◌≢◌, ℕ, zero, suc, ◌-◌, ◌==◌, not, Bool, true, false, ℤ, List, [], ◌∷◌, ◌++◌, length, drop, Option, Some, None, refl, sym, ap, ◌∙◌, subst, arith, append_assoc, append-nil, cond, inr, slice_index_or}
-use Rattle.std.specs.List.{flat_map}
+use Rattle.std.proofs.Common.{◌≡◌, ◌≢◌, ℕ, zero, suc, ◌==◌, not, Bool, true, false, ℤ, List, [], ◌∷◌, ◌++◌, length, Option, Some, refl, sym, ap, ◌∙◌, subst, arith, append_assoc, append-nil, cond, inr, slice_index_or}
 use Rattle.std.specs.Borrow.{GName}
 use Rattle.std.specs.Io.KnownBytes.{Appends}
 use Rattle.std.proofs.lemmas.Bool.Decides.{nat_tests}
 use Rattle.fzn_meaning.specs.declared.model.Goal.{Goal}
 use Rattle.fzn_meaning.specs.declared.model.Goal.TheVariants.{Satisfy, Minimize, Maximize}
 use Rattle.fzn_meaning.specs.declared.model.Model.{Model}
-use Rattle.fzn_meaning.specs.Solutions.{declared_sets, IsExhausted}
+use Rattle.fzn_meaning.specs.Solutions.{IsExhausted}
 use Rattle.fzn_meaning.specs.WellFormed.{IsWellFormed}
 use Rattle.fzn_cert.specs.declared.step.Step.{Step}
 use Rattle.fzn_cert.specs.declared.step.Version.TheVariants.{One}
-use Rattle.fzn_cert.specs.declared.writer.StepWriter.{StepWriter}
 use Rattle.fzn_cert.specs.Accepted.{AllAccepted, past_of}
-use Rattle.fzn_cert.specs.Past.{start}
 use Rattle.fzn_cert.specs.Spelling.{header_lines, end_line}
 use Rattle.fzn_cert.specs.Verdict.{Verdict, accepted, header_of, lines_of, AllHaveLines}
-use Rattle.fzn_cert.specs.Writer.{contents_of as cert_contents, out_name as cert_name}
+use Rattle.fzn_cert.specs.Writer.{contents_of as cert_contents}
 use Rattle.fzn_engine.specs.declared.limits.Ending.{Ending as EngineEnding}
 use Rattle.fzn_engine.specs.declared.limits.Ending.TheVariants as engine
 use Rattle.fzn_engine.specs.declared.limits.Limits.{Limits}
-use Rattle.fzn_engine.specs.Outcome.{HasRoom, IsReached, IsRefuted, EndsTruly as EndsTrulyThere, IsExhaustedIf, IsOutcome}
-use Rattle.fzn_engine.specs.Volume.{volume}
-use Rattle.fzn_printer.specs.declared.printer.Ending.{Ending}
-use Rattle.fzn_printer.specs.declared.printer.Ending.TheVariants.{Complete, Unsatisfiable, NodeLimit, SolutionLimit}
-use Rattle.fzn_printer.specs.declared.printer.Printer.{Printer}
-use Rattle.fzn_printer.specs.Printer.{contents_of as out_contents, out_name}
+use Rattle.fzn_engine.specs.Outcome.{HasRoom, IsReached, EndsTruly as EndsTrulyThere, IsExhaustedIf, IsOutcome}
+use Rattle.fzn_printer.specs.declared.printer.Ending.TheVariants.{Complete, Unsatisfiable, NodeLimit}
+use Rattle.fzn_printer.specs.Printer.{contents_of as out_contents}
 use Rattle.fzn_printer.specs.Answer.{answer_text}
-use Rattle.fzn_printer.specs.Shown.{shown, ending_text, is_closed}
-use Rattle.fzn_solver.specs.declared.report.Report.{Report}
+use Rattle.fzn_printer.specs.Shown.{ending_text, is_closed}
 use Rattle.fzn_solver.specs.declared.writers.Writers.{Writers}
 use Rattle.fzn_solver.specs.Endings.{ending_for}
 use Rattle.fzn_solver.specs.Standing.{found_by, is_alone, early, late, certificate, shown_all}
-use Rattle.fzn_solver.specs.Answer.{wanted, EndsTruly, IsCertified, IsBounded, IsAnswer}
+use Rattle.fzn_solver.specs.Answer.{wanted, EndsTruly, IsAnswer}
 use Rattle.fzn_solver.specs.Writers.{taken, origin, IsFresh, IsClosed}
 
 -- ---- the verdict on the certificate

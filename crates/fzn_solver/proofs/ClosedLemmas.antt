@@ -1,6 +1,5 @@
 -- The end of the certificate, and the rest of the answer.
-use Rattle.std.proofs.Common.{◌≡◌, ℕ, zero, suc, ◌-◌, ◌==◌, ◌||◌, not, Bool, true, false, ℤ, List, [], ◌∷◌, ◌++◌, length, drop, Option, Some, None, Result, Ok, Err, is_some, refl, sym, ap, ◌∙◌, subst, arith, append_assoc, append-nil, inl, inr}
-use Rattle.std.specs.List.{flat_map}
+use Rattle.std.proofs.Common.{◌≡◌, ℕ, zero, suc, ◌-◌, ◌==◌, ◌||◌, not, Bool, true, false, ℤ, List, ◌++◌, length, drop, Option, Some, None, Result, Ok, Err, is_some, refl, sym, ap, ◌∙◌, subst, arith, append_assoc, inl, inr}
 use Rattle.std.specs.Option.{option_to_list}
 use Rattle.std.specs.Io.KnownBytes.{Appends, Keeps}
 use Rattle.std.proofs.lemmas.Bool.{cases_Bool}
@@ -17,16 +16,14 @@ use Rattle.fzn_cert.specs.declared.fault.FaultKind.TheVariants.{Failed}
 use Rattle.fzn_cert.specs.declared.fault.FaultKind.TheVariants as faults
 use Rattle.fzn_printer.specs.declared.printer.PrintFault.{PrintFault}
 use Rattle.fzn_printer.specs.declared.printer.PrintFault.TheVariants.{Failed as NoMore}
-use Rattle.fzn_cert.specs.declared.writer.StepWriter.{StepWriter}
 use Rattle.fzn_cert.specs.Spelling.{end_line}
 use Rattle.fzn_cert.specs.Writer.{contents_of as cert_contents, stage_of, Leaves}
-use Rattle.fzn_printer.specs.declared.printer.Printer.{Printer}
-use Rattle.fzn_printer.specs.Printer.{contents_of as out_contents, out_name, is_open, has_printed}
+use Rattle.fzn_printer.specs.Printer.{contents_of as out_contents, is_open, has_printed}
 use Rattle.fzn_printer.specs.Shown.{shown, ending_text}
 use Rattle.fzn_solver.specs.declared.writers.Writers.{Writers}
 use Rattle.fzn_solver.specs.Standing.{found_by, early, late, begun_certificate, shown_all, IsOutInStep}
 use Rattle.fzn_solver.proofs.StandingLemmas.{front-kept}
-use Rattle.fzn_solver.specs.Writers.{taken, IsKept, IsLastShown, IsAllSame, IsClosed, IsCutOff}
+use Rattle.fzn_solver.specs.Writers.{taken, IsKept, IsLastShown, IsClosed, IsCutOff}
 
 -- a solution was printed early or waits exactly where there is one
 some-waits : (last : Option (List ℤ)) (xs : List (List ℤ)) → option_to_list last ≡ xs → is_some last ≡ not (length xs == 0)

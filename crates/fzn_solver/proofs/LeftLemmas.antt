@@ -1,19 +1,16 @@
 -- What a fault leaves.
-use Rattle.std.proofs.Common.{◌≡◌, ℕ, ◌==◌, ◌||◌, not, Bool, true, false, ℤ, List, [], ◌∷◌, ◌++◌, length, Option, Some, None, Result, Ok, Err, IfSome, IfErr, is_some, refl, sym, ap, ◌∙◌, subst, inl, inr}
+use Rattle.std.proofs.Common.{◌≡◌, ℕ, ◌==◌, not, Bool, List, [], ◌∷◌, ◌++◌, length, Option, Result, Ok, Err, IfSome, IfErr, refl, sym, ap, ◌∙◌, subst, inl, inr}
 use Rattle.std.specs.Result.{IsErrAnd}
 use Rattle.std.specs.Borrow.{GName}
-use Rattle.std.specs.Option.{option_to_list}
-use Rattle.std.specs.Io.KnownBytes.{Appends, Keeps}
-use Rattle.std.proofs.lemmas.Bool.{cases_Bool}
+use Rattle.std.specs.Io.KnownBytes.{Appends}
 use Rattle.fzn_output.specs.Output.{AppendsFront}
-use Rattle.fzn_output.proofs.CallerLemmas.{Appends-then, front-none, front-left, front-then}
+use Rattle.fzn_output.proofs.CallerLemmas.{Appends-then, front-none}
 use Rattle.fzn_meaning.specs.declared.model.Model.{Model}
 use Rattle.fzn_meaning.specs.WellFormed.{IsWellFormed}
-use Rattle.fzn_meaning.specs.Solutions.{IsExhausted}
 use Rattle.fzn_cert.specs.declared.step.Step.{Step}
-use Rattle.fzn_cert.specs.Accepted.{AllAccepted, past_of}
+use Rattle.fzn_cert.specs.Accepted.{AllAccepted}
 use Rattle.fzn_cert.specs.Spelling.{end_line}
-use Rattle.fzn_cert.specs.Writer.{contents_of as cert_contents, out_name as cert_name}
+use Rattle.fzn_cert.specs.Writer.{contents_of as cert_contents}
 use Rattle.fzn_cert.proofs.SoundLaws.{accepted-proper}
 use Rattle.fzn_engine.specs.declared.fault.Fault.{Fault}
 use Rattle.fzn_engine.specs.declared.fault.Fault.TheVariants as engine
@@ -22,20 +19,20 @@ use Rattle.fzn_engine.specs.declared.limits.Limits.{Limits}
 use Rattle.fzn_engine.specs.Outcome.{IsOutcome}
 use Rattle.fzn_printer.specs.declared.printer.Printer.{Printer}
 use Rattle.fzn_printer.specs.Printer.{contents_of as out_contents, is_open, has_printed}
-use Rattle.fzn_printer.specs.Shown.{shown, ending_text, is_closed}
+use Rattle.fzn_printer.specs.Shown.{ending_text, is_closed}
 use Rattle.fzn_solver.specs.declared.writers.Writers.{Writers}
 use Rattle.fzn_solver.specs.Endings.{ending_for}
 use Rattle.fzn_solver.specs.FaultsFrom.{fault_of_model, fault_of_engine}
-use Rattle.fzn_solver.specs.Standing.{found_by, is_alone, early, late, begun_certificate, certificate, shown_all, IsStanding, IsOutInStep}
+use Rattle.fzn_solver.specs.Standing.{found_by, is_alone, early, late, begun_certificate, certificate, shown_all, IsStanding}
 use Rattle.fzn_reading.specs.declared.fault.ModelFault.{ModelFault}
 use Rattle.fzn_reading.specs.declared.fault.ModelFault.TheVariants as reading
 use Rattle.fzn_reading.specs.Reads.{Answers}
 use Rattle.fzn_solver.specs.declared.fault.RunFault.{RunFault}
 use Rattle.fzn_solver.specs.declared.fault.RunFault.TheVariants as run
 use Rattle.fzn_solver.specs.Run.{States, IsRunFault}
-use Rattle.fzn_solver.specs.Left.{IsStopped, IsInterrupted, IsLater, IsLeft}
-use Rattle.fzn_solver.specs.Writers.{taken, origin, IsFresh, IsKept, IsUnbegun, IsUnfinished, IsCutOff, IsUnclosed}
-use Rattle.fzn_solver.proofs.StandingLemmas.{standing-refused, front-kept}
+use Rattle.fzn_solver.specs.Left.{IsStopped, IsLater, IsLeft}
+use Rattle.fzn_solver.specs.Writers.{taken, origin, IsFresh, IsKept, IsUnbegun, IsUnclosed}
+use Rattle.fzn_solver.proofs.StandingLemmas.{standing-refused}
 use Rattle.fzn_solver.proofs.WritersLemmas.{Keeps-same}
 use Rattle.fzn_solver.proofs.ClosedLemmas.{answer-front}
 use Rattle.fzn_solver.proofs.AnswerLemmas.{certificate-verdict, closed-refuted, closed-exhausted, answer-is, first-pair}

@@ -1,6 +1,6 @@
 -- One more step on the writers of a run.
-use Rattle.std.proofs.Common.{◌≡◌, ◌≢◌, ℕ, ◌+◌, ◌-◌, ◌<◌, ◌==◌, ◌⊎◌, not, Bool, true, false, ℤ, List, [], ◌∷◌, ◌++◌, length, drop, take, map, Option, Some, None, refl, sym, ap, ◌∙◌, subst, arith, append_assoc, inl, inr}
-use Rattle.std.specs.List.{flat_map, fold}
+use Rattle.std.proofs.Common.{◌≡◌, ◌≢◌, ℕ, ◌+◌, ◌-◌, Bool, true, false, ℤ, List, [], ◌∷◌, ◌++◌, length, drop, take, Option, Some, None, refl, sym, ap, ◌∙◌, subst, arith, append_assoc}
+use Rattle.std.specs.List.{fold}
 use Rattle.std.specs.Option.{option_to_list}
 use Rattle.std.specs.Io.KnownBytes.{Appends, Keeps}
 use Rattle.std.proofs.lemmas.List.{append-nil, length-append}
@@ -9,16 +9,15 @@ use Rattle.std.proofs.lemmas.List.Concat.{flat_map-append}
 use Rattle.fzn_output.specs.Output.{AppendsFront}
 use Rattle.fzn_output.proofs.CallerLemmas.{Appends-then, front-left, front-then}
 use Rattle.fzn_meaning.specs.declared.model.Model.{Model}
-use Rattle.fzn_meaning.specs.Solutions.{IsSolution}
 use Rattle.fzn_cert.specs.declared.step.Step.{Step}
 use Rattle.fzn_cert.specs.declared.step.Step.TheVariants.{Infer, Resolve, Solution, Delete}
 use Rattle.fzn_cert.specs.declared.step.Version.TheVariants.{One}
 use Rattle.fzn_cert.specs.Past.{Past, start}
-use Rattle.fzn_cert.specs.Accepted.{IsAccepted, AllAcceptedAfter, AllAccepted, after, past_of}
+use Rattle.fzn_cert.specs.Accepted.{IsAccepted, AllAcceptedAfter, after, past_of}
 use Rattle.fzn_cert.specs.Spelling.{step_line, header_lines, IsSpelled, HasRoom, HasLine}
 use Rattle.fzn_cert.specs.Verdict.{header_of, lines_of, AllHaveLines}
 use Rattle.fzn_printer.specs.Shown.{shown}
-use Rattle.fzn_solver.specs.Standing.{found_by, early, late, begun_certificate, shown_all, IsStanding, IsCertInStep, IsOutInStep}
+use Rattle.fzn_solver.specs.Standing.{found_by, early, begun_certificate, shown_all, IsStanding, IsCertInStep, IsOutInStep}
 
 -- ---- the certificate
 

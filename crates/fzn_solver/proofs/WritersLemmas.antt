@@ -1,6 +1,6 @@
 -- What the writers of a run keep from one call to the next.
 use Rattle.std.specs.Prelude.{⊤}
-use Rattle.std.proofs.Common.{◌≡◌, ◌≢◌, ℕ, ◌+◌, ◌<◌, ◌^◌, Bool, true, false, ℤ, List, [], ◌∷◌, ◌++◌, length, map, Option, Some, None, IfSome, Result, Ok, Err, OnOk, OnErr, refl, sym, ap, ap₂, ◌∙◌, subst, arith, inl, inr}
+use Rattle.std.proofs.Common.{◌≡◌, ◌≢◌, ℕ, ◌+◌, ◌<◌, ◌^◌, Bool, true, false, ℤ, List, [], ◌∷◌, ◌++◌, length, map, Option, Some, None, IfSome, Result, Ok, Err, OnOk, OnErr, refl, sym, ap, ◌∙◌, subst, arith, inl, inr}
 use Rattle.std.specs.Borrow.{MutBor}
 use Rattle.std.specs.Io.KnownBytes.{Appends, Keeps}
 use Rattle.std.proofs.lemmas.Bool.{cases_Bool}
@@ -13,8 +13,7 @@ use Rattle.fzn_engine.specs.declared.fault.Fault.{Fault}
 use Rattle.fzn_cert.specs.declared.step.Step.{Step}
 use Rattle.fzn_cert.specs.declared.step.Step.TheVariants.{Solution}
 use Rattle.fzn_cert.specs.declared.step.Version.TheVariants.{One}
-use Rattle.fzn_cert.specs.declared.writer.Stage.{Stage}
-use Rattle.fzn_cert.specs.declared.writer.Stage.TheVariants.{Fresh, Open, Shut}
+use Rattle.fzn_cert.specs.declared.writer.Stage.TheVariants.{Open, Shut}
 use Rattle.fzn_cert.specs.declared.writer.StepWriter.{StepWriter}
 use Rattle.fzn_cert.specs.Past.{start}
 use Rattle.fzn_cert.specs.Accepted.{AllAccepted}
@@ -22,13 +21,13 @@ use Rattle.fzn_cert.specs.Spelling.{step_line, header_text, header_lines, IsSpel
 use Rattle.fzn_cert.specs.Verdict.{header_of}
 use Rattle.fzn_cert.specs.Writer.{contents_of as cert_contents, out_name as cert_name, stage_of, step_count, version_of}
 use Rattle.fzn_printer.specs.declared.printer.Printer.{Printer}
-use Rattle.fzn_printer.specs.Printer.{contents_of as out_contents, out_name, is_open, has_printed}
+use Rattle.fzn_printer.specs.Printer.{contents_of as out_contents, is_open, has_printed}
 use Rattle.fzn_printer.specs.Shown.{shown}
-use Rattle.fzn_solver.specs.Standing.{found_by, early, late, begun_certificate, shown_all, IsStanding, IsCertInStep, IsOutInStep}
+use Rattle.fzn_solver.specs.Standing.{found_by, early, shown_all, IsCertInStep, IsOutInStep}
 use Rattle.http_server.specs.declared.log.Log.{Log}
 use Rattle.fzn_solver.specs.declared.writers.Writers.{Writers}
 use Rattle.fzn_solver.specs.Writers.{taken, origin, IsLogged, IsKeptBy, IsKept, IsFresh, IsLineTaken, IsLineRefused, IsRestSame, IsAllSame, IsPrinted}
-use Rattle.fzn_solver.proofs.StandingLemmas.{cert-push, cert-kept, found-solution, found-infer, last-accepted, out-held, out-printed, out-kept, standing-in_step, standing-refused, front-kept, front-found, front-printed, Appends-kept}
+use Rattle.fzn_solver.proofs.StandingLemmas.{cert-push, found-solution, found-infer, last-accepted, out-held, out-printed, standing-in_step, standing-refused, front-kept, front-found, front-printed, Appends-kept}
 
 shut_open : Shut ≡ Open → ⊥
 shut_open h = cc

@@ -1,5 +1,5 @@
 -- What the search wrote is the answer with its certificate.
-use Rattle.std.proofs.Common.{◌≡◌, refl, sym, subst, ◌∙◌}
+use Rattle.std.proofs.Common.{sym, subst, ◌∙◌}
 use Rattle.fzn_cert.specs.Writer.{contents_of as cert_contents}
 use Rattle.fzn_printer.specs.Printer.{contents_of as out_contents}
 use Rattle.fzn_printer.specs.Shown.{is_closed}

@@ -1,8 +1,8 @@
 -- The end of the certificate stands, and then the rest of the answer.
-use Rattle.std.proofs.Common.{◌≡◌, Bool, refl, inr, sym, subst}
+use Rattle.std.proofs.Common.{refl, inr, sym, subst}
 use Rattle.std.specs.Io.KnownBytes.{Appends}
 use Rattle.fzn_cert.specs.Spelling.{end_line}
-use Rattle.fzn_cert.specs.Writer.{contents_of as cert_contents, out_name as cert_name}
+use Rattle.fzn_cert.specs.Writer.{contents_of as cert_contents}
 use Rattle.fzn_cert.specs.declared.writer.StepWriter.{StepWriter}
 use Rattle.fzn_printer.specs.Shown.{is_closed}
 use Rattle.fzn_solver.proofs.ClosedLemmas.{closed-by, cut-off}

@@ -1,5 +1,5 @@
 -- The line stands, and the solution waits.
-use Rattle.std.proofs.Common.{◌≡◌, Some, refl, sym, ◌∙◌, rules}
+use Rattle.std.proofs.Common.{◌≡◌, refl, ◌∙◌, rules}
 use Rattle.fzn_solver.proofs.WritersLemmas.{refused-kept, flushed-held, on_ok}
 use Rattle.fzn_solver.proofs.writers.Writers.hold_back.Goals as goal
 

@@ -1,8 +1,7 @@
 -- The line stands, and the solution is printed.
-use Rattle.std.proofs.Common.{◌≡◌, sym, subst}
+use Rattle.std.proofs.Common.{subst}
 use Rattle.fzn_cert.specs.declared.step.Step.{Step}
 use Rattle.fzn_cert.specs.Accepted.{AllAccepted}
-use Rattle.fzn_cert.specs.declared.step.Step.TheVariants.{Solution}
 use Rattle.std.proofs.Common.{[], ◌∷◌, ◌++◌}
 use Rattle.fzn_solver.specs.Writers.{taken}
 use Rattle.fzn_solver.proofs.WritersLemmas.{refused-kept, unflushed-kept, shown-kept, assignment-of}

@@ -1,5 +1,4 @@
 -- The line of a step that is no solution.
-use Rattle.std.proofs.Common.{◌≡◌, inl, inr, Ok, Err, refl}
 use Rattle.fzn_solver.proofs.WritersLemmas.{line-step}
 use Rattle.fzn_solver.proofs.writers.WritersSink.step.Goals as goal
 
