@@ -11,7 +11,7 @@ use fzn_lexer::{FaultKind, Place, ReadError};
 use fzn_list::{Items, Text};
 use fzn_meaning::{Kind, OutputItem, Term};
 use fzn_names::{
-    array_of, first_set_in, first_unknown_in, first_wrong_in, kind_of, names_of, no_values,
+    Names, array_of, first_set_in, first_unknown_in, first_wrong_in, kind_of, names_of, no_values,
     outputs_of, place_of, set_of, shown_of, term_of, terms_of, unknown_in, values_in, variable_of,
     vars_of, wrong_in,
 };
@@ -147,12 +147,58 @@ fn vars(alloc: Global) -> Result<Items<Var>, AllocError>
     )
 }
 
-#[test]
-fn values_of_names(rt: HostRuntime) -> Result<(), Fail> {
-    let alloc = rt.alloc();
+/// What is wanted of a name as a value.
+#[derive(Clone, Copy)]
+struct Wanted {
+    letter: u8,
+    term: Term,
+    unknown: Option<Place>,
+    wrong: Option<Place>,
+    set: Option<Place>,
+}
+
+fn is_value_as_wanted(names: &Names, basic: &Basic, wanted: Wanted) -> bool {
+    place_of(basic) == HERE
+        && term_of(names, basic) == wanted.term
+        && unknown_in(names, basic) == wanted.unknown
+        && wrong_in(names, Argument::Integer, basic) == wanted.wrong
+        && (array_of(names, basic).len() == 2) == (wanted.letter == b'q')
+}
+
+fn are_entries_as_wanted(names: &Names, entries: &[Basic], wanted: Wanted) -> bool {
+    first_unknown_in(names, entries) == wanted.unknown
+        && first_wrong_in(names, Argument::Integer, entries) == wanted.wrong
+        && first_set_in(names, entries) == wanted.set
+}
+
+/// Whether the name, as a name, as a value and as the one entry of a list, is what it is to be.
+fn is_as_wanted(alloc: Global, names: &Names, wanted: Wanted) -> Result<bool, AllocError> {
+    let name = name(alloc, &[wanted.letter], HERE)?;
+    let is_unknown = names.meaning(&name.text).is_none();
+    let is_named = is_unknown == wanted.unknown.is_some()
+        && variable_of(names, &name) == wanted.term;
+    let basic = Basic::Name(name);
+    let is_set = set_of(alloc, names, &basic)?.contains(2) == wanted.set.is_some();
+    let is_value = is_value_as_wanted(names, &basic, wanted);
+    let entries = one(alloc, basic)?;
+    let is_entry = are_entries_as_wanted(names, entries.as_slice(), wanted);
+    let terms = terms_of(alloc, names, entries.as_slice())?;
+    let is_term = terms.as_slice() == [wanted.term].as_slice();
+    Ok(is_named && is_set && is_value && is_entry && is_term)
+}
+
+/// The names of the file's declarations.
+fn names_of_file(alloc: Global) -> Result<Names, ReadError> {
     let params = params(alloc)?;
     let vars = vars(alloc)?;
-    let names = names_of(alloc, params.as_slice(), vars.as_slice(), 99_999)?;
+    names_of(alloc, params.as_slice(), vars.as_slice(), 99_999)
+}
+
+#[test]
+fn values_of_names(rt: HostRuntime) -> Result<(), Fail> {
+    let Ok(names) = names_of_file(rt.alloc()) else {
+        return Err("the file has names")?;
+    };
     for (letter, term, unknown, wrong, set) in [
         (b'k', Term::Constant(3), None, None, None),
         (b'x', Term::Variable(VarId(1)), None, None, None),
@@ -160,34 +206,14 @@ fn values_of_names(rt: HostRuntime) -> Result<(), Fail> {
         (b's', Term::Constant(0), None, Some(HERE), Some(HERE)),
         (b'y', Term::Constant(0), Some(HERE), Some(HERE), None),
     ] {
-        let name = name(alloc, &[letter], HERE)?;
-        let is_unknown = names.meaning(&name.text).is_none();
-        assert_eq!(rt; is_unknown, unknown.is_some(), "{letter}");
-        assert_eq!(rt; variable_of(&names, &name), term, "{letter}");
-        let basic = Basic::Name(name);
-        assert_eq!(rt; place_of(&basic), HERE);
-        assert_eq!(rt; term_of(&names, &basic), term, "{letter}");
-        assert_eq!(rt; unknown_in(&names, &basic), unknown, "{letter}");
-        assert_eq!(rt;
-            wrong_in(&names, Argument::Integer, &basic),
+        let wanted = Wanted {
+            letter,
+            term,
+            unknown,
             wrong,
-            "{letter}"
-        );
-        let is_in_set = set_of(alloc, &names, &basic)?.contains(2);
-        assert_eq!(rt; is_in_set, set.is_some(), "{letter}");
-        let count = array_of(&names, &basic).len();
-        assert_eq!(rt; count == 2, letter == b'q', "{letter}");
-        let entries = one(alloc, basic)?;
-        let entries = entries.as_slice();
-        assert_eq!(rt; first_unknown_in(&names, entries), unknown, "{letter}");
-        assert_eq!(rt;
-            first_wrong_in(&names, Argument::Integer, entries),
-            wrong,
-            "{letter}"
-        );
-        assert_eq!(rt; first_set_in(&names, entries), set, "{letter}");
-        let terms = terms_of(alloc, &names, entries)?;
-        assert_eq!(rt; terms.as_slice(), [term].as_slice(), "{letter}");
+            set,
+        };
+        assert!(rt; is_as_wanted(rt.alloc(), &names, wanted)?, "{letter}");
     }
     Ok(())
 }
