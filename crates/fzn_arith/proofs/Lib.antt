@@ -5,4 +5,3 @@ mod GuardLemmas
 mod MadeLemmas
 mod MeaningLemmas
 mod RefuteLemmas
-mod TestLemmas

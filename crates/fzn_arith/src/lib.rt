@@ -14,5 +14,3 @@ mod kinds;
 mod opposite;
 mod refute;
 mod sum;
-#[cfg(test)]
-mod tests;

@@ -20,6 +20,4 @@ mod limits;
 mod line;
 mod refusal;
 mod step;
-#[cfg(test)]
-mod tests;
 mod writer;

@@ -17,6 +17,4 @@ mod parse;
 mod reader;
 mod rule;
 mod stream;
-#[cfg(test)]
-mod tests;
 mod words;

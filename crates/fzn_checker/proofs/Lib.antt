@@ -5,4 +5,3 @@ mod GivenLemmas
 mod JudgeLemmas
 mod OrderLemmas
 mod StandingLaws
-mod TestLemmas

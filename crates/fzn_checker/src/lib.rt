@@ -23,5 +23,3 @@ mod judge;
 mod next;
 mod solution;
 mod steps;
-#[cfg(test)]
-mod tests;

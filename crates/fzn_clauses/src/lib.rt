@@ -10,5 +10,3 @@ pub use clauses::Clauses;
 
 mod clauses;
 mod state;
-#[cfg(test)]
-mod tests;

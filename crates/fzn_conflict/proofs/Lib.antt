@@ -5,4 +5,3 @@ pub mod DecisionLemmas
 pub mod EntryLemmas
 pub mod NarrowerLemmas
 pub mod PropagationLemmas
-mod TestLemmas

@@ -8,5 +8,3 @@
 pub use analysis::{Learn, Learned, analyse};
 
 mod analysis;
-#[cfg(test)]
-mod tests;

@@ -11,6 +11,5 @@ mod SolverLemmas
 mod SpelledLemmas
 mod StateLemmas
 mod TakenLemmas
-mod TestLemmas
 mod VolumeLemmas
 mod WithinLemmas

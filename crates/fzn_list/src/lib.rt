@@ -8,6 +8,4 @@ pub use items::Items;
 pub use text::Text;
 
 mod items;
-#[cfg(test)]
-mod tests;
 mod text;

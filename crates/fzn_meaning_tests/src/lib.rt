@@ -1,4 +1,4 @@
-//! Tests of domains, of what models mean, and of the rules of certificates.
+//! Tests of domains, of states, of what models mean, and of the rules of certificates.
 //!
 //! In: ranges and listed values, a small model for each goal, a constraint for each name. Out: the calls of `Domain`, and `holds`, `is_solution`,
 //! `better` and `cut` of `fzn_meaning` on lists of values, against tables written by hand; each rule of `fzn_rules` on each choice of small
@@ -14,3 +14,5 @@ mod kinds;
 mod models;
 #[cfg(test)]
 mod rules;
+#[cfg(test)]
+mod state;

@@ -7,5 +7,3 @@
 pub use output::{WriteFailed, put};
 
 mod output;
-#[cfg(test)]
-mod tests;

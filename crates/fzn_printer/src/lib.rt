@@ -10,6 +10,4 @@ pub use printer::{Ending, PrintFault, Printer};
 mod answer;
 mod item;
 mod printer;
-#[cfg(test)]
-mod tests;
 mod value;

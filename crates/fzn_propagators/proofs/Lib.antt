@@ -1,4 +1,3 @@
 mod FoundLemmas
 mod MadeLemmas
 mod SpelledLemmas
-mod TestLemmas

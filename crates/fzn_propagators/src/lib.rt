@@ -12,5 +12,3 @@ pub use propagators::Propagators;
 mod kinds;
 mod lacking;
 mod propagators;
-#[cfg(test)]
-mod tests;

@@ -1,8 +1,8 @@
 //! Tests of the crates that read a file, from its bytes to its model.
 //!
-//! In: files, and trees made by hand. Out: the calls of `fzn_lexer`, `fzn_parser`, `fzn_names`, `fzn_typing` and `fzn_reading` against tables of
-//! tokens, of faults with their places and of models. Nothing is proved here beyond that the tests are safe; they stand apart so that the
-//! crates below are not proved a second time with them.
+//! In: files. Out: the calls of `fzn_list`, `fzn_lexer`, `fzn_parser`, `fzn_registry` and `fzn_reading`, which calls `fzn_names` and
+//! `fzn_typing`, against tables of tokens, of names, of faults with their places and of models. Nothing is proved here beyond that the tests
+//! are safe; they stand apart so that the crates below are not proved a second time with them.
 #![tactic(auto)]
 
 #[cfg(test)]
@@ -10,12 +10,12 @@ mod items;
 #[cfg(test)]
 mod lexer;
 #[cfg(test)]
-mod models;
+mod list;
 #[cfg(test)]
-mod names;
+mod models;
 #[cfg(test)]
 mod parser;
 #[cfg(test)]
 mod reading;
 #[cfg(test)]
-mod typing;
+mod registry;

@@ -91,35 +91,20 @@ fn failed_reads(rt: HostRuntime) -> Result<(), Fail> {
 }
 
 #[test]
-fn messages(rt: HostRuntime) -> Result<(), Fail> {
+fn messages_of_rare_faults(rt: HostRuntime) -> Result<(), Fail> {
+    let place = Place {
+        line: 12,
+        column: 7,
+    };
     for (kind, want) in [
-        (FaultKind::BadByte, "fault 1 BadByte"),
-        (FaultKind::BadToken, "fault 2 BadToken"),
-        (FaultKind::Syntax, "fault 3 Syntax"),
-        (FaultKind::TooDeep, "fault 4 TooDeep"),
-        (FaultKind::Float, "fault 5 Float"),
-        (FaultKind::SetRefused, "fault 6 SetRefused"),
-        (FaultKind::UnboundedInt, "fault 7 UnboundedInt"),
-        (FaultKind::LiteralRange, "fault 8 LiteralRange"),
-        (FaultKind::DuplicateName, "fault 9 DuplicateName"),
-        (FaultKind::UnknownName, "fault 10 UnknownName"),
-        (FaultKind::UnknownConstraint, "fault 11 UnknownConstraint"),
-        (FaultKind::Arity, "fault 12 Arity"),
-        (FaultKind::Type, "fault 13 Type"),
-        (FaultKind::Length, "fault 14 Length"),
-        (FaultKind::Argument, "fault 15 Argument"),
-        (FaultKind::TooMany, "fault 16 TooMany"),
-        (FaultKind::OutputAnnotation, "fault 17 OutputAnnotation"),
-        (FaultKind::FileTooLong, "fault 18 FileTooLong"),
+        (FaultKind::TooDeep, "line 12 column 7: fault 4 TooDeep"),
+        (
+            FaultKind::FileTooLong,
+            "line 12 column 7: fault 18 FileTooLong",
+        ),
     ] {
-        let place = Place {
-            line: 12,
-            column: 7,
-        };
-        let fault = ModelFault::File(Fault { kind, place });
-        let text = format!(in rt.alloc(); "{fault}")?;
-        let want = format!(in rt.alloc(); "line 12 column 7: {want}")?;
-        assert_eq!(rt; text, want);
+        let text = format!(in rt.alloc(); "{}", ModelFault::File(Fault { kind, place }))?;
+        assert_eq!(rt; text.as_str(), want);
     }
     let memory = format!(in rt.alloc(); "{}", ModelFault::Memory)?;
     assert_eq!(rt; memory.as_str(), "fault 19 Memory");
@@ -128,5 +113,5 @@ fn messages(rt: HostRuntime) -> Result<(), Fail> {
 
 #[test]
 fn one_model_of_a_file(rt: HostRuntime) {
-    assert_eq!(rt; one_model(), ());
+    assert_eq!(rt; (one_model(), fzn_typing::one_model()), ((), ()));
 }

@@ -12,6 +12,3 @@ mod spelling;
 pub use name::Name;
 pub use registry::{lookup, lookup_bytes};
 pub use signature::{Argument, Lengths, Signature};
-
-#[cfg(test)]
-mod tests;

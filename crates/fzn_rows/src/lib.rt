@@ -1,8 +1,8 @@
 //! Worked files, the words that they are solved with, and their certificates.
 //!
-//! In: files, and what solving them, or checking a certificate of them, has to print. Out: tests of the solver and of the checker on them,
-//! from bytes to bytes. Nothing is proved here beyond that the tests are safe; what the programs promise stands on `run` of `fzn_solver` and
-//! on `check` of `fzn_checker`.
+//! In: files, what solving them, or checking a certificate of them, has to print, and words of command lines. Out: tests of the solver and of
+//! the checker on them, from bytes to bytes, and of `fzn_words`. Nothing is proved here beyond that the tests are safe; what the programs
+//! promise stands on `run` of `fzn_solver` and on `check` of `fzn_checker`.
 #![tactic(auto)]
 
 #[cfg(test)]
@@ -16,6 +16,8 @@ mod rows;
 #[cfg(test)]
 mod rule_rows;
 #[cfg(test)]
+mod runs;
+#[cfg(test)]
 mod solved;
 #[cfg(test)]
 mod solver_rows;
@@ -23,3 +25,5 @@ mod solver_rows;
 mod sweeps;
 #[cfg(test)]
 mod tests;
+#[cfg(test)]
+mod words;

@@ -10,5 +10,3 @@ pub use rule::Rule;
 
 mod refutation;
 mod rule;
-#[cfg(test)]
-mod tests;

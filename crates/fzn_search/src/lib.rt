@@ -9,5 +9,3 @@ pub use fzn_meaning::cut;
 pub use search::{Search, values_of};
 
 mod search;
-#[cfg(test)]
-mod tests;

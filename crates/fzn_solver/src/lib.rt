@@ -12,6 +12,4 @@ pub use report::Report;
 mod answer;
 mod fault;
 mod report;
-#[cfg(test)]
-mod tests;
 mod writers;

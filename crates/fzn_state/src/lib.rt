@@ -9,5 +9,3 @@ pub use term::{greatest_value, is_fixed_to, is_index, least_value, may_be, term_
 
 mod state;
 mod term;
-#[cfg(test)]
-mod tests;

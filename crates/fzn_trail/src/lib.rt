@@ -8,6 +8,4 @@
 
 pub use trail::{ClauseId, Entry, Reason, Trail};
 
-#[cfg(test)]
-mod tests;
 mod trail;

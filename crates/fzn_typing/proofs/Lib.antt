@@ -1,4 +1,5 @@
 pub mod ArgumentLemmas
+mod EqualityLemmas
 pub mod FirstLemmas
 pub mod ItemLemmas
 pub mod MadeLemmas

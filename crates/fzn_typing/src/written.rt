@@ -6,7 +6,6 @@ ghost use Rattle.fzn_names.specs.Known.{known};
 ghost use Rattle.fzn_names.specs.Limits.{AreValuesWithin, IsVarWithin};
 ghost use Rattle.fzn_names.specs.Values.{term_of};
 ghost use Rattle.fzn_names.specs.Variables.{values_in};
-ghost use Rattle.fzn_typing.specs.Constraints.{constraint_for};
 ghost use Rattle.fzn_typing.specs.Models.{equalities, written};
 
 use fzn_list::Items;
@@ -16,7 +15,7 @@ use fzn_tree::{Base, Basic, SingleVar, Values, Var};
 use std::alloc::{AllocError, Global};
 
 /// That the variable has the written value.
-#[tactic(auto, unfolding(crate::specs::Constraints::constraint_for))]
+#[tactic(auto, using(crate::proofs::EqualityLemmas::equalities_made))]
 fn equality(names: &Names, var: &SingleVar, value: &Basic) -> Constraint
     ensures { equalities (known names.now) var.now (Some value.now) ≡ result ∷ [] }
 {

@@ -12,5 +12,3 @@ mod check;
 mod fault;
 mod node_limit;
 mod solve;
-#[cfg(test)]
-mod tests;

@@ -1,6 +1,0 @@
-use Rattle.std.specs.List.{AllByRecursion}
-use Rattle.fzn_cert.specs.Spelling.{IsNumber}
-use Rattle.fzn_cert.proofs.tests.ones.Given as goal
-
-abbrev pub invariant-loop : goal.invariant-loop
-invariant-loop l = AllByRecursion IsNumber l.ids

@@ -1,6 +1,0 @@
-use Rattle.std.proofs.Common.{refl}
-use Rattle.fzn_checker.proofs.TestLemmas.{least_bit_well_formed}
-use Rattle.fzn_checker.proofs.tests.least_bit.Goals as goal
-
-pub returns : goal.returns
-returns c = least_bit_well_formed c.in_ok-bit.field-0 _ c.in_ok-one.ensures c.in_ok-bit.ensures c.new.ensures refl c.in_ok-one-2.ensures c.new-2.ensures

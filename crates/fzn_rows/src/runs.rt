@@ -1,0 +1,42 @@
+use fzn_solver::{RunFault, run};
+use fzn_words::Options;
+use std::alloc::Global;
+use std::io;
+use std::str::from_utf8;
+
+mod answers;
+mod faults;
+mod writes;
+
+const TWO_BOOLEANS: &str =
+    "var bool: a :: output_var; var bool: b :: output_var; constraint bool_clause([a,b],[]); constraint bool_clause([],[a]); solve satisfy;";
+
+const ANSWER: &[u8] = b"a = false;\nb = true;\n----------\n==========\n";
+
+const SOLUTION: &[u8] = b"a = false;\nb = true;\n----------\n";
+
+const LEAST: &str =
+    "var 0..10: x :: output_var; constraint int_lin_le([-2],[x],-7); solve minimize x;";
+
+const GREATEST: &str = "var 0..3: x :: output_var; solve maximize x;";
+
+fn options(alloc: Global, all: bool, nodes: u64) -> Options {
+    Options {
+        all,
+        nodes,
+        model: String::new(alloc),
+        cert: None,
+    }
+}
+
+fn text_of(bytes: &[u8]) -> &str {
+    from_utf8(bytes).unwrap_or("no text")
+}
+
+/// The certificate of a run that meets no fault.
+fn certificate_of(alloc: Global, file: &str) -> Result<Vec<u8>, RunFault> {
+    let mut cert: Vec<u8> = Vec::new(alloc);
+    let options = options(alloc, true, 9);
+    run(alloc, file.as_bytes(), &options, &mut io::sink(), &mut cert)?;
+    Ok(cert)
+}

@@ -1,0 +1,4 @@
+mod DecisionLemmas
+mod OneLemmas
+mod PairLemmas
+mod TrailLemmas
