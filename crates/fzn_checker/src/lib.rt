@@ -8,10 +8,6 @@
 pub use answer::check;
 pub use certificate::{Accepted, Verdict, check_certificate};
 pub use fault::CheckFault;
-pub use given::Given;
-pub use history::History;
-pub use judge::fault_of;
-pub use steps::take_step;
 
 mod answer;
 mod certificate;
