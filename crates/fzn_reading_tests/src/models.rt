@@ -336,7 +336,7 @@ var bool: b = true; var {4, 2, 4}: x; array [1..2] of var 1..2: q = [x, 7]; var 
 AtMost v2 v3;Equal v1 1;In v2 1..2#2;In 7 1..2#2;Equal v3 v2;In v3 5..5#1;
 -
 -
-Minimize(VarId(3))
+Minimize(VarId(2))
 
 array [1..2] of bool: c = [true, false]; var 1..3: x; array [1..2] of var int: q = [x, 2]; var bool: b; array [1..2] of var bool: p = [b, true]; constraint fzn_all_different_int(q); constraint array_bool_element(x, c, b); constraint bool_clause(p, c); solve satisfy;
 1..3#3 Integer;0..1#2 Boolean;
