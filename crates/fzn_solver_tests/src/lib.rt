@@ -1,7 +1,7 @@
 //! Tests of the crates that search.
 //!
 //! In: trails, clauses and small models made by hand. Out: the calls of `fzn_trail`, `fzn_clauses`, `fzn_conflict`, `fzn_search`, `fzn_arith`,
-//! `fzn_propagators` and `fzn_engine`, against entries, clauses and endings worked out by hand. Nothing is proved here beyond that the tests
+//! `fzn_propagators` and `fzn_engine`, against clauses, decisions and endings worked out by hand. Nothing is proved here beyond that the tests
 //! are safe; they stand apart so that the crates below are not proved a second time with them.
 #![tactic(auto)]
 
