@@ -7,7 +7,7 @@ ghost use Rattle.fzn_arith.specs.Kinds.{IsFormOf};
 
 use fzn_domain::Memory;
 use fzn_list::Items;
-use fzn_meaning::{Comparison, Constraint, Gate, Model, Operation, Place, Relation, Term};
+use fzn_meaning::{Comparison, Constraint, Gate, Model, Operation, Place, Relation, Sum, Term};
 use std::alloc::Global;
 
 /// The sum over the places compares so with the bound; with a switch, exactly where this term is 1.
@@ -52,13 +52,13 @@ pub fn form_of(
             bound,
             switch,
         } => SumForm {
-            places: copied(alloc, sum.as_slice())?,
+            places: copied(alloc, sum)?,
             comparison: *comparison,
             bound: *bound,
             switch: *switch,
         },
         Constraint::BoolLinEq { sum, total } => {
-            let mut places = copied(alloc, sum.as_slice())?;
+            let mut places = copied(alloc, sum)?;
             places.push(weighted(-1, *total))?;
             equal(places, 0)
         }
@@ -168,12 +168,12 @@ fn push_each(places: &mut Items<Place>, coefficient: i64, terms: &[Term]) -> Res
     Ok(())
 }
 
-fn copied(alloc: Global, places: &[Place]) -> Result<Items<Place>, Memory>
+fn copied(alloc: Global, places: &Sum) -> Result<Items<Place>, Memory>
     ensures { IfOk result (λ all. all ≡ places.now) }
 {
     let mut all = Items::new(alloc);
-    for place in places {
-        all.push(*place)?;
+    for i in 0..places.len() {
+        all.push(places.place(i))?;
     }
     Ok(all)
 }

@@ -6,7 +6,7 @@ ghost use Rattle.fzn_builtin_rules.specs.Form.{form_of};
 ghost use Rattle.fzn_builtin.specs.Parts.{ArePartsOf};
 
 use fzn_domain::{Domain, Memory};
-use fzn_list::Items;
+use fzn_list::{Items, Shared};
 use fzn_meaning::{Constraint, Extreme, Operation, Term};
 use std::alloc::Global;
 
@@ -14,7 +14,7 @@ use std::alloc::Global;
 #[derive(Drop)]
 pub struct Parts {
     pub constraint: Constraint,
-    pub inputs: Items<Term>,
+    pub inputs: Shared<Term>,
     pub result: Option<Term>,
 }
 
@@ -41,19 +41,19 @@ pub fn parts_of(alloc: Global, constraint: &Constraint) -> Result<Option<Parts>,
             extreme,
             entries,
             result,
-        } => extremum(alloc, *extreme, entries.as_slice(), *result)?,
+        } => extremum(*extreme, entries, *result)?,
         Constraint::Element {
             index,
             entries,
             value,
-        } => element(alloc, *index, entries.as_slice(), *value)?,
+        } => element(alloc, *index, entries, *value)?,
         Constraint::SetIn { term, set, switch } => member(alloc, *term, set, *switch)?,
         Constraint::BoolXor {
             left,
             right,
             result,
         } => one_of_two(alloc, *left, *right, *result)?,
-        Constraint::ArrayBoolXor { inputs } => odd(alloc, inputs.as_slice())?,
+        Constraint::ArrayBoolXor { inputs } => odd(inputs)?,
         _ => return Ok(None),
     };
     Ok(Some(parts))
@@ -93,33 +93,34 @@ fn amount(alloc: Global, of: Term, amount: Term) -> Result<Parts, Memory>
 }
 
 #[tactic(auto, unfolding(fzn_builtin_rules::specs::Choices::inputs_of, fzn_builtin_rules::specs::Choices::result_of))]
-fn extremum(alloc: Global, extreme: Extreme, entries: &[Term], value: Term) -> Result<Parts, Memory>
+fn extremum(extreme: Extreme, entries: &Shared<Term>, value: Term) -> Result<Parts, Memory>
     ensures { IfOk result (ArePartsOf (constraint.Extremum extreme entries.now value)) }
 {
     Ok(Parts {
         constraint: Constraint::Extremum {
             extreme,
-            entries: listed(alloc, entries)?,
+            entries: entries.share()?,
             result: value,
         },
-        inputs: listed(alloc, entries)?,
+        inputs: entries.share()?,
         result: Some(value),
     })
 }
 
 #[tactic(auto, unfolding(fzn_builtin_rules::specs::Choices::inputs_of, fzn_builtin_rules::specs::Choices::result_of))]
-fn element(alloc: Global, index: Term, entries: &[Term], value: Term) -> Result<Parts, Memory>
+fn element(alloc: Global, index: Term, entries: &Shared<Term>, value: Term) -> Result<Parts, Memory>
     ensures { IfOk result (ArePartsOf (constraint.Element index entries.now value)) }
 {
-    let mut inputs = listed(alloc, &[index])?;
-    push_each(&mut inputs, entries)?;
+    let mut inputs = Items::new(alloc);
+    inputs.push(index)?;
+    push_each(&mut inputs, entries.as_slice())?;
     Ok(Parts {
         constraint: Constraint::Element {
             index,
-            entries: listed(alloc, entries)?,
+            entries: entries.share()?,
             value,
         },
-        inputs,
+        inputs: Shared::new(alloc, inputs)?,
         result: Some(value),
     })
 }
@@ -155,24 +156,24 @@ fn one_of_two(alloc: Global, left: Term, right: Term, value: Term) -> Result<Par
 }
 
 #[tactic(auto, unfolding(fzn_builtin_rules::specs::Choices::inputs_of, fzn_builtin_rules::specs::Choices::result_of))]
-fn odd(alloc: Global, inputs: &[Term]) -> Result<Parts, Memory>
+fn odd(inputs: &Shared<Term>) -> Result<Parts, Memory>
     ensures { IfOk result (ArePartsOf (constraint.ArrayBoolXor inputs.now)) }
 {
     Ok(Parts {
         constraint: Constraint::ArrayBoolXor {
-            inputs: listed(alloc, inputs)?,
+            inputs: inputs.share()?,
         },
-        inputs: listed(alloc, inputs)?,
+        inputs: inputs.share()?,
         result: None,
     })
 }
 
-fn listed(alloc: Global, terms: &[Term]) -> Result<Items<Term>, Memory>
+fn listed(alloc: Global, terms: &[Term]) -> Result<Shared<Term>, Memory>
     ensures { IfOk result (λ all. all ≡ terms.now) }
 {
     let mut all = Items::new(alloc);
     push_each(&mut all, terms)?;
-    Ok(all)
+    Shared::new(alloc, all)
 }
 
 fn push_each(all: &mut Items<Term>, terms: &[Term]) -> Result<(), Memory>

@@ -8,7 +8,7 @@ ghost use Rattle.fzn_builtin_rules.specs.Choices.{inputs_of, count_of, choices, 
 
 use crate::numbered::count_of;
 use crate::outcome::fails_at;
-use fzn_meaning::{Constraint, Place, Term};
+use fzn_meaning::{Constraint, Sum, Term};
 use fzn_state::State;
 
 /// The most choices that `enum` goes over.
@@ -70,7 +70,7 @@ fn count_choices(constraint: &Constraint, state: &State) -> Option<usize>
         | Constraint::IntAbs { of: term, .. }
         | Constraint::SetIn { term, .. } => times_each(state, 1, &[*term]),
         Constraint::Linear { sum, .. } | Constraint::BoolLinEq { sum, .. } => {
-            times_places(state, sum.as_slice())
+            times_places(state, sum)
         }
         Constraint::Extremum { entries: terms, .. }
         | Constraint::Gated { inputs: terms, .. }
@@ -135,7 +135,7 @@ fn times_both(state: &State, front: &[Term], back: &[Term]) -> Option<usize>
 }
 
 /// How many choices there are for the terms of the places.
-fn times_places(state: &State, places: &[Place]) -> Option<usize>
+fn times_places(state: &State, places: &Sum) -> Option<usize>
     requires places { All (IsPlace (length state.now.sets)) places.now }
     requires nonempty { is_some_empty state.now.sets ≡ false }
     ensures value { IfSome result (λ product. product ≡ choices state.now.sets (map (λ place. place.term) places.now)) }
@@ -143,8 +143,8 @@ fn times_places(state: &State, places: &[Place]) -> Option<usize>
     ensures none { IfNone result (4096 < choices state.now.sets (map (λ place. place.term) places.now)) }
 {
     let mut product = 1;
-    for place in places {
-        product = times(state, product, place.term)?;
+    for i in 0..places.len() {
+        product = times(state, product, places.place(i).term)?;
     }
     Some(product)
 }

@@ -10,7 +10,7 @@ ghost use Rattle.fzn_builtin_rules.specs.Choices.{weighted_sum};
 ghost use Rattle.fzn_builtin_rules.specs.Numbered.{value_in, choice_at, rest_after, further};
 
 use crate::numbered::{rest_in, value_in};
-use fzn_meaning::{Extreme, Place, Term};
+use fzn_meaning::{Extreme, Place, Sum, Term};
 use fzn_state::State;
 
 /// How many of the terms have this value.
@@ -44,7 +44,7 @@ pub(crate) fn rest_after(state: &State, terms: &[Term], number: usize) -> usize
 }
 
 /// The sum of the coefficients times the values of their terms.
-pub(crate) fn weighted_sum(state: &State, places: &[Place], number: usize) -> i128
+pub(crate) fn weighted_sum(state: &State, places: &Sum, number: usize) -> i128
     requires places { All (IsPlace (length state.now.sets)) places.now }
     requires short { length places.now ≤ 100000 }
     requires nonempty { is_some_empty state.now.sets ≡ false }
@@ -52,8 +52,9 @@ pub(crate) fn weighted_sum(state: &State, places: &[Place], number: usize) -> i1
 {
     let mut sum: i128 = 0;
     let mut left = number;
-    for place in places {
-        sum += product_in(state, *place, left);
+    for i in 0..places.len() {
+        let place = places.place(i);
+        sum += product_in(state, place, left);
         left = rest_in(state, place.term, left);
     }
     sum

@@ -7,7 +7,7 @@ ghost use Rattle.fzn_meaning.specs.Term.{IsTerm, IsPlace};
 ghost use Rattle.fzn_builtin_rules.specs.Linear.{low_end, high_end, low_product, high_product, least_sum, greatest_sum};
 ghost use Rattle.fzn_builtin_rules.specs.Form.{each_with};
 
-use fzn_meaning::{Place, Term};
+use fzn_meaning::{Place, Sum, Term};
 use fzn_state::{State, greatest_value, least_value};
 
 /// The least and the greatest value of a sum.
@@ -123,7 +123,7 @@ pub(crate) fn no_ends() -> Ends
     }
 }
 
-pub(crate) fn ends_of(state: &State, places: &[Place]) -> Ends
+pub(crate) fn ends_of(state: &State, places: &Sum) -> Ends
     requires places { All (IsPlace (length state.now.sets)) places.now }
     requires short { length places.now ≤ 100000 }
     requires nonempty { is_some_empty state.now.sets ≡ false }
@@ -133,8 +133,8 @@ pub(crate) fn ends_of(state: &State, places: &[Place]) -> Ends
     ensures bounded_above { unsigned_abs result.greatest ≤ 100000 * 1000000000000000000 }
 {
     let mut ends = no_ends();
-    for place in places {
-        ends = ends.plus(state, *place);
+    for i in 0..places.len() {
+        ends = ends.plus(state, places.place(i));
     }
     ends
 }

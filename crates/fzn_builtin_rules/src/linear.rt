@@ -69,13 +69,13 @@ fn test_of(constraint: &Constraint, state: &State) -> Option<SumTest>
             bound,
             switch,
         } => Some(SumTest {
-            ends: ends_of(state, sum.as_slice()),
+            ends: ends_of(state, sum),
             comparison: *comparison,
             bound: *bound,
             switch: *switch,
         }),
         Constraint::BoolLinEq { sum, total } => {
-            let ends = ends_of(state, sum.as_slice()).plus(state, weighted(-1, *total));
+            let ends = ends_of(state, sum).plus(state, weighted(-1, *total));
             Some(plain(ends, Comparison::Equal, 0))
         }
         Constraint::Arithmetic {

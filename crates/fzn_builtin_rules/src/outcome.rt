@@ -57,11 +57,11 @@ pub(crate) fn fails_at(constraint: &Constraint, state: &State, number: usize) ->
             bound,
             switch,
         } => {
-            let value = weighted_sum(state, sum.as_slice(), number);
+            let value = weighted_sum(state, sum, number);
             switch_fails(state, *switch, compares(*comparison, &value, bound))
         }
         Constraint::BoolLinEq { sum, total } => {
-            !may_be_wide(state, *total, &weighted_sum(state, sum.as_slice(), number))
+            !may_be_wide(state, *total, &weighted_sum(state, sum, number))
         }
         Constraint::Extremum {
             extreme,

@@ -2,7 +2,7 @@
 ghost use Rattle.std.specs.Prelude.{◌≡◌, ◌↔◌, ◌+◌, ◌*◌, ◌<◌, ◌≤◌, IsTrue, false, length};
 ghost use Rattle.std.specs.List.{All, Any};
 ghost use Rattle.fzn_domain.specs.Narrow.{is_some_empty};
-ghost use Rattle.fzn_meaning.specs.Term.{IsTerm};
+ghost use Rattle.fzn_meaning.specs.Term.{IsTerm, numbers_in};
 ghost use Rattle.fzn_meaning.specs.Meaning.{IsWellFormed};
 ghost use Rattle.fzn_global_rules.specs.GlobalRows.{IsRowOut, AreRowsOut, HasNoIndex, IsBelowZero, HasAmountBelowZero, IsGlobalRowsMet};
 
@@ -19,7 +19,7 @@ pub fn is_global_rows_met(constraint: &Constraint, state: &State) -> bool
 {
     match constraint {
         Constraint::Table { places, rows } => {
-            are_rows_out(state, places.as_slice(), rows.as_slice())
+            are_rows_out(state, places.as_slice(), rows.constants())
         }
         Constraint::Circuit { successors } => has_no_index_somewhere(state, successors.as_slice()),
         Constraint::Inverse { forward, backward } => {
@@ -36,10 +36,10 @@ pub fn is_global_rows_met(constraint: &Constraint, state: &State) -> bool
     }
 }
 
-fn are_rows_out(state: &State, places: &[Term], rows: &[i64]) -> bool
+fn are_rows_out(state: &State, places: &[Term], rows: &[Term]) -> bool
     requires places { All (IsTerm (length state.now.sets)) places.now }
     requires some { 0 < length places.now }
-    ensures { IsTrue result ↔ AreRowsOut state.now.sets places.now rows.now }
+    ensures { IsTrue result ↔ AreRowsOut state.now.sets places.now (numbers_in rows.now) }
 {
     for r in 0..rows.len() / places.len() {
         if !is_row_out(state, places, rows, r) {
@@ -50,13 +50,13 @@ fn are_rows_out(state: &State, places: &[Term], rows: &[i64]) -> bool
 }
 
 /// Whether some value of row r, counted from 0, is not in its place's set.
-fn is_row_out(state: &State, places: &[Term], rows: &[i64], r: usize) -> bool
+fn is_row_out(state: &State, places: &[Term], rows: &[Term], r: usize) -> bool
     requires places { All (IsTerm (length state.now.sets)) places.now }
     requires whole { r * length places.now + length places.now ≤ length rows.now }
-    ensures { IsTrue result ↔ IsRowOut state.now.sets places.now rows.now r }
+    ensures { IsTrue result ↔ IsRowOut state.now.sets places.now (numbers_in rows.now) r }
 {
     for k in 0..places.len() {
-        if !may_be(state, places[k], &rows[r * places.len() + k]) {
+        if !may_be(state, places[k], &rows[r * places.len() + k].number()) {
             return true;
         }
     }

@@ -5,7 +5,9 @@
 #![tactic(auto)]
 
 pub use items::Items;
+pub use shared::Shared;
 pub use text::Text;
 
 mod items;
+mod shared;
 mod text;

@@ -5,6 +5,8 @@ pub mod CountLemmas
 mod CumulativeLemmas
 pub mod CutLemmas
 mod InverseLemmas
+mod LoadProfileLemmas
 pub mod OrderLemmas
 mod ReturnLemmas
 pub mod SumLemmas
+pub mod WeightedLemmas

@@ -10,6 +10,7 @@ pub mod Extrema
 pub mod Families
 pub mod Inverse
 pub mod Linear
+pub mod LoadProfile
 pub mod Meaning
 pub mod Sets
 pub mod Solutions

@@ -1,6 +1,6 @@
 -- Terms, and weighted sums of them.
 use Rattle.std.specs.Prelude.{ℕ, ◌≤◌, ℤ, pos, ◌+ℤ◌, ◌*ℤ◌, ◌≤ℤ◌, List, map, unsigned_abs}
-use Rattle.std.specs.List.{fold}
+use Rattle.std.specs.List.{fold, zip}
 use Rattle.fzn_domain.specs.Limits.{IsInLimits}
 use Rattle.fzn_domain.specs.Narrow.{IsVariable, value_of}
 use Rattle.fzn_meaning.specs.declared.term.Term.{Term}
@@ -15,6 +15,18 @@ term_value values (Variable var) = value_of values var
 -- the values of the terms, in order
 abbrev pub values_of : List ℤ → List Term → List ℤ
 values_of values terms = map (term_value values) terms
+
+-- the number that a constant is, else 0
+abbrev pub number_in : Term → ℤ
+number_in (Constant k) = k
+number_in (Variable var) = pos 0
+
+abbrev pub numbers_in : List Term → List ℤ
+numbers_in terms = map number_in terms
+
+-- each number with the term that it is multiplied with
+abbrev pub weighted : List Term → List Term → List Place
+weighted numbers terms = map (λ pair. record { coefficient = number_in pair.0; term = pair.1 }) (zip numbers terms)
 
 -- the sum over the places of what each gives
 abbrev pub total_by : (Place → ℤ) → List Place → ℤ

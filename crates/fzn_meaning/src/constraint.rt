@@ -4,9 +4,11 @@ use crate::arithmetic::Operation;
 use crate::boolean::Gate;
 use crate::extremum::Extreme;
 use crate::relation::{Comparison, Relation};
-use crate::term::{Place, Term};
+use crate::sum::Sum;
+use crate::table::Rows;
+use crate::term::Term;
 use fzn_domain::Domain;
-use fzn_list::Items;
+use fzn_list::Shared;
 
 /// A numbered constraint. A switch is a Boolean term that is 1 exactly when the constraint without it holds.
 #[derive(Drop)]
@@ -30,14 +32,14 @@ pub enum Constraint {
     },
     /// `int_lin_eq`, `int_lin_le`, `int_lin_ne`, `bool_lin_le`, and with a switch the `_reif` forms of the first three.
     Linear {
-        sum: Items<Place>,
+        sum: Sum,
         comparison: Comparison,
         bound: i64,
         switch: Option<Term>,
     },
     /// The sum is the value of a term.
     BoolLinEq {
-        sum: Items<Place>,
+        sum: Sum,
         total: Term,
     },
     /// `int_plus`, `int_times`, `int_div`, `int_mod`
@@ -55,13 +57,13 @@ pub enum Constraint {
     /// `int_min`, `int_max` with two entries, `array_int_minimum`, `array_int_maximum`
     Extremum {
         extreme: Extreme,
-        entries: Items<Term>,
+        entries: Shared<Term>,
         result: Term,
     },
     /// The four element constraints.
     Element {
         index: Term,
-        entries: Items<Term>,
+        entries: Shared<Term>,
         value: Term,
     },
     /// `set_in`, and with a switch `set_in_reif`.
@@ -73,7 +75,7 @@ pub enum Constraint {
     /// `bool_and`, `bool_or` with two inputs, `array_bool_and`, `array_bool_or`
     Gated {
         gate: Gate,
-        inputs: Items<Term>,
+        inputs: Shared<Term>,
         result: Term,
     },
     /// The result is 1 exactly when one of the two is.
@@ -84,36 +86,36 @@ pub enum Constraint {
     },
     /// An odd number of inputs are 1.
     ArrayBoolXor {
-        inputs: Items<Term>,
+        inputs: Shared<Term>,
     },
     /// Some positive term is 1, or some negative one is 0.
     BoolClause {
-        positive: Items<Term>,
-        negative: Items<Term>,
+        positive: Shared<Term>,
+        negative: Shared<Term>,
     },
     /// No two places have one value.
     AllDifferent {
-        places: Items<Term>,
+        places: Shared<Term>,
     },
     /// Some row equals the places. The rows stand one after another.
     Table {
-        places: Items<Term>,
-        rows: Items<i64>,
+        places: Shared<Term>,
+        rows: Rows,
     },
     /// The tasks that run at one time use no more than the capacity together.
     Cumulative {
-        starts: Items<Term>,
-        durations: Items<Term>,
-        uses: Items<Term>,
+        starts: Shared<Term>,
+        durations: Shared<Term>,
+        uses: Shared<Term>,
         capacity: Term,
     },
     /// From each place to its successor is one cycle through all places.
     Circuit {
-        successors: Items<Term>,
+        successors: Shared<Term>,
     },
     /// Each list leads back from the places that the other names.
     Inverse {
-        forward: Items<Term>,
-        backward: Items<Term>,
+        forward: Shared<Term>,
+        backward: Shared<Term>,
     },
 }

@@ -5,7 +5,7 @@ ghost use Rattle.fzn_meaning.specs.Term.{values_of, IsTerm};
 ghost use Rattle.fzn_meaning.specs.Entries.{IsIndex, entry_at};
 
 use crate::term::Term;
-use fzn_list::Items;
+use fzn_list::Shared;
 use std::marker::Model;
 
 /// The values of some terms where the variables have given values, seen as the list of these values.
@@ -31,7 +31,7 @@ impl<'a> Model for Entries<'a> {
 }
 
 impl<'a> Entries<'a> {
-    pub(crate) fn new(terms: &'a Items<Term>, values: &'a [i64]) -> Entries<'a>
+    pub(crate) fn new(terms: &'a Shared<Term>, values: &'a [i64]) -> Entries<'a>
         requires { All (IsTerm (length values.now)) terms.now }
         ensures { result ≡ values_of values.now terms.now }
     {

@@ -13,7 +13,8 @@ pub use meaning::holds;
 pub use model::{Goal, IndexRange, Kind, Model, OutputItem, Var, better, is_solution};
 pub use relation::{Comparison, Relation};
 pub use solution_cut::cut;
-pub use sum::plus_product;
+pub use sum::{Sum, plus_product};
+pub use table::Rows;
 pub use term::{Place, Term};
 
 mod all_different;
@@ -28,6 +29,7 @@ mod entries;
 mod extremum;
 mod inverse;
 mod linear;
+mod load_profile;
 mod meaning;
 mod model;
 mod relation;

@@ -74,13 +74,13 @@ fn holds_compared(constraint: &Constraint, values: &[i64]) -> bool
             switch,
         } => is_switched_linear(
             *comparison,
-            sum_at(sum.as_slice(), values),
+            sum_at(sum, values),
             *bound,
             switch_value(*switch, values),
         ),
         Constraint::BoolLinEq { sum, total } => is_linear(
             Comparison::Equal,
-            sum_at(sum.as_slice(), values),
+            sum_at(sum, values),
             total.value(values),
         ),
         Constraint::SetIn { term, set, switch } => is_in_set(
@@ -173,7 +173,7 @@ fn holds_global(constraint: &Constraint, values: &[i64]) -> bool
         Constraint::AllDifferent { places } => is_all_different(&Entries::new(places, values)),
         Constraint::Table { places, rows } => is_table(
             &Entries::new(places, values),
-            rows.as_slice(),
+            rows.constants(),
         ),
         Constraint::Cumulative {
             starts,

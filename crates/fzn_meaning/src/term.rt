@@ -1,6 +1,6 @@
 // Terms, and terms with a coefficient.
 ghost use Rattle.std.specs.Prelude.{◌≡◌, length};
-ghost use Rattle.fzn_meaning.specs.Term.{term_value, IsTerm};
+ghost use Rattle.fzn_meaning.specs.Term.{number_in, term_value, IsTerm};
 
 use fzn_domain::VarId;
 
@@ -20,6 +20,16 @@ impl Term {
         match self {
             Term::Constant(k) => k,
             Term::Variable(var) => values[var.0 - 1],
+        }
+    }
+
+    /// The number that a constant is, else 0.
+    pub fn number(self) -> i64
+        ensures { result ≡ number_in self }
+    {
+        match self {
+            Term::Constant(number) => number,
+            Term::Variable(_) => 0,
         }
     }
 }

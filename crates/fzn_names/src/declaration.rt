@@ -13,7 +13,7 @@ use crate::param::param_names;
 use fzn_domain::VarId;
 use fzn_lexer::ReadError;
 use fzn_list::Text;
-use fzn_symbols::{Declared, Names, kind_of, terms_of};
+use fzn_symbols::{Declared, NamedList, Names, kind_of, terms_of};
 use fzn_tree::{Param, Var};
 use std::alloc::{AllocError, Global};
 
@@ -49,7 +49,7 @@ fn var_value(
         Var::Single(single) => Ok(Declared::Variable(kind_of(&single.base), VarId(number))),
         Var::Array(array) => {
             let terms = terms_of(alloc, earlier, array.array.entries.as_slice())?;
-            Ok(Declared::Array(kind_of(&array.base), terms))
+            Ok(Declared::Array(kind_of(&array.base), NamedList::new(alloc, terms)?))
         }
     }
 }

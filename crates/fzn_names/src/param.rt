@@ -13,7 +13,9 @@ use fzn_domain::Domain;
 use fzn_lexer::{Fault, FaultKind, Place, ReadError};
 use fzn_meaning::Kind;
 use fzn_registry::Argument;
-use fzn_symbols::{Declared, Names, literal_terms, place_of_literal, set_literal, wrong_literal};
+use fzn_symbols::{
+    Declared, NamedList, Names, literal_terms, place_of_literal, set_literal, wrong_literal,
+};
 use fzn_tree::{Literal, Param, ParamBase, ParamValue, Size};
 use std::alloc::{AllocError, Global};
 
@@ -175,7 +177,7 @@ fn param_value(alloc: Global, param: &Param) -> Result<Declared, AllocError>
         ParamValue::Literal(literal) => literal_value(alloc, literal),
         ParamValue::Array(_, entries) => {
             let terms = literal_terms(alloc, entries.as_slice())?;
-            Ok(Declared::Constants(kind_by(param.base), terms))
+            Ok(Declared::Constants(kind_by(param.base), NamedList::new(alloc, terms)?))
         }
     }
 }

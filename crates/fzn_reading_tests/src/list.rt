@@ -1,4 +1,4 @@
-use fzn_list::{Items, Text};
+use fzn_list::{Items, Shared, Text};
 use std::test::Fail;
 
 #[test]
@@ -10,6 +10,20 @@ fn lists_what_was_pushed(rt: HostRuntime) -> Result<(), Fail> {
     }
     assert_eq!(rt; items.len(), 3);
     assert_eq!(rt; items.as_slice(), [3, 1, 2].as_slice());
+    Ok(())
+}
+
+#[test]
+fn one_list_of_two_owners(rt: HostRuntime) -> Result<(), Fail> {
+    let mut items: Items<u64> = Items::new(rt.alloc());
+    for value in [3, 1] {
+        items.push(value)?;
+    }
+    let list = Shared::new(rt.alloc(), items)?;
+    let same = list.share()?;
+    drop(list);
+    assert_eq!(rt; same.len(), 2);
+    assert_eq!(rt; same.as_slice(), [3, 1].as_slice());
     Ok(())
 }
 

@@ -1,6 +1,6 @@
 // Models of small files, each part as text.
 use fzn_domain::{Domain, VarId};
-use fzn_meaning::{Constraint, Model, OutputItem, Place, Term};
+use fzn_meaning::{Constraint, Model, OutputItem, Sum, Term};
 use fzn_reading::read_model;
 use std::alloc::{AllocError, Global};
 use std::fmt::Write;
@@ -24,9 +24,10 @@ fn list(text: &mut String, entries: &[Term]) -> Result<(), AllocError> {
     text.push_str(" ]")
 }
 
-fn sum(text: &mut String, places: &[Place]) -> Result<(), AllocError> {
+fn sum(text: &mut String, sum: &Sum) -> Result<(), AllocError> {
     text.push_str("Sum [")?;
-    for place in places {
+    for i in 0..sum.len() {
+        let place = sum.place(i);
         write!(text, " {}*", place.coefficient)?;
         match place.term {
             Term::Constant(number) => write!(text, "{number}")?,
@@ -78,12 +79,12 @@ fn constraint(text: &mut String, constraint: &Constraint) -> Result<(), AllocErr
             bound,
             switch,
         } => {
-            sum(text, places.as_slice())?;
+            sum(text, places)?;
             write!(text, " {comparison:?} {bound}")?;
             switched(text, *switch)
         }
         Constraint::BoolLinEq { sum: places, total } => {
-            sum(text, places.as_slice())?;
+            sum(text, places)?;
             terms(text, &[*total])
         }
         Constraint::Arithmetic {
@@ -168,7 +169,7 @@ fn on_lists(text: &mut String, constraint: &Constraint) -> Result<(), AllocError
         Constraint::Table { places, rows } => {
             text.push_str("Table")?;
             list(text, places.as_slice())?;
-            write!(text, " {:?}", rows.as_slice())
+            list(text, rows.constants())
         }
         Constraint::Cumulative {
             starts,
@@ -252,7 +253,7 @@ array_bool_xor([a, true]) => Odd [ v1 1 ]
 bool_clause([a, b], [r]) => Clause [ v1 v2 ] [ v3 ]
 bool2int(a, x) => ToInt v1 v4
 fzn_all_different_int([x, y]) => Different [ v4 v5 ]
-fzn_table_int([x, y], [1, 2, -3, 4]) => Table [ v4 v5 ] [1, 2, -3, 4]
+fzn_table_int([x, y], [1, 2, -3, 4]) => Table [ v4 v5 ] [ 1 2 -3 4 ]
 fzn_cumulative([x], [y], [2], z) => Cumulative [ v4 ] [ v5 ] [ 2 ] v6
 fzn_circuit([x, y]) => Circuit [ v4 v5 ]
 fzn_inverse([x], [y]) => Inverse [ v4 ] [ v5 ]

@@ -5,11 +5,11 @@ ghost use Rattle.fzn_meaning.specs.Meaning.{HasBooleanSets, IsWellFormed as IsWe
 ghost use Rattle.fzn_meaning.specs.Solutions.{declared_sets};
 ghost use Rattle.fzn_meaning.specs.WellFormed.{IsWellFormed};
 
-use crate::two_variables::{keep_bounds, place, sum_of, trail_of, two, var};
+use crate::two_variables::{constant, keep_bounds, sum_of, trail_of, two, var};
 use fzn_arith::{Inference, Propagator, propagator_of};
 use fzn_domain::{Memory, Op, VarId};
-use fzn_list::Items;
-use fzn_meaning::{Comparison, Constraint, Goal, Model, Term};
+use fzn_list::{Items, Shared};
+use fzn_meaning::{Comparison, Constraint, Goal, Model, Sum, Term};
 use fzn_rules::Rule;
 use std::alloc::Global;
 use std::test::*;
@@ -39,6 +39,12 @@ fn one<T: Drop>(alloc: Global, item: T) -> Result<Items<T>, Memory>
     Ok(items)
 }
 
+fn alone(alloc: Global, term: Term) -> Result<Shared<Term>, Memory>
+    ensures { IfOk result (λ list. list ≡ term ∷ []) }
+{
+    Shared::new(alloc, one(alloc, term)?)
+}
+
 #[tactic(auto, unfolding(fzn_meaning::specs::Meaning::IsWellFormed, fzn_meaning::specs::Meaning::booleans_of))]
 fn of_bits(alloc: Global, bits: Bits) -> Result<Constraint, Memory>
     ensures well_formed { IfOk result (IsWellFormedConstraint 2) }
@@ -48,14 +54,14 @@ fn of_bits(alloc: Global, bits: Bits) -> Result<Constraint, Memory>
     let y = Term::Variable(VarId(2));
     Ok(match bits {
         Bits::Switch(a, comparison, bound) => Constraint::Linear {
-            sum: one(alloc, place(a, x))?,
+            sum: Sum::new(alone(alloc, constant(a))?, alone(alloc, x)?),
             comparison,
             bound: i64::from(bound),
             switch: Some(y),
         },
         Bits::Clause => Constraint::BoolClause {
-            positive: one(alloc, x)?,
-            negative: one(alloc, y)?,
+            positive: alone(alloc, x)?,
+            negative: alone(alloc, y)?,
         },
     })
 }

@@ -3,12 +3,12 @@ ghost use Rattle.std.specs.Prelude.{◌≡◌, IsTrue, List, pos, [], ◌∷◌,
 ghost use Rattle.fzn_domain.specs.IntSet.{IntSet, range};
 ghost use Rattle.fzn_domain.specs.Narrow.{IsVariable, NoneEmpty};
 ghost use Rattle.fzn_meaning.specs.Meaning.{HasBooleanSets, IsWellFormed as IsWellFormedConstraint};
-ghost use Rattle.fzn_meaning.specs.Term.{IsTerm, IsPlace};
+ghost use Rattle.fzn_meaning.specs.declared.term.Term.TheVariants.{Constant};
 ghost use Rattle.fzn_trail.specs.Levels.{fresh};
 
 use fzn_domain::{Domain, Lit, Memory, Op, VarId};
-use fzn_list::{Items, Text};
-use fzn_meaning::{Comparison, Constraint, Kind, Place, Term, Var};
+use fzn_list::{Items, Shared, Text};
+use fzn_meaning::{Comparison, Constraint, Kind, Sum, Term, Var};
 use fzn_trail::{Reason, Trail};
 use std::alloc::Global;
 
@@ -21,14 +21,10 @@ pub(crate) fn two<T: Drop>(alloc: Global, first: T, second: T) -> Result<Items<T
     Ok(items)
 }
 
-pub(crate) fn place(coefficient: i16, term: Term) -> Place
-    requires { IsTerm 2 term }
-    ensures { IsPlace 2 result }
+pub(crate) fn constant(number: i16) -> Term
+    ensures { result ≡ Constant number }
 {
-    Place {
-        coefficient: i64::from(coefficient),
-        term,
-    }
+    Term::Constant(i64::from(number))
 }
 
 /// a x + b y compares so with the bound.
@@ -43,10 +39,10 @@ pub(crate) fn sum_of(
     ensures well_formed { IfOk result (IsWellFormedConstraint 2) }
     ensures boolean { (sets : List IntSet) → IfOk result (HasBooleanSets sets) }
 {
-    let x = place(a, Term::Variable(VarId(1)));
-    let y = place(b, Term::Variable(VarId(2)));
+    let numbers = two(alloc, constant(a), constant(b))?;
+    let terms = two(alloc, Term::Variable(VarId(1)), Term::Variable(VarId(2)))?;
     Ok(Constraint::Linear {
-        sum: two(alloc, x, y)?,
+        sum: Sum::new(Shared::new(alloc, numbers)?, Shared::new(alloc, terms)?),
         comparison,
         bound: i64::from(bound),
         switch: None,

@@ -1,6 +1,7 @@
 pub mod Known
 pub mod Limits
 pub mod Places
+pub mod Signs
 pub mod Types
 pub mod Values
 pub mod Variables

@@ -7,13 +7,15 @@
 
 pub use domain::{kind_of, no_values, set_of, values_in, vars_of};
 pub use entry::{first_set_in, first_unknown_in, first_wrong_in};
+pub use named_list::{NamedList, is_negative};
 pub use names::{Declared, Names};
 pub use value::{
-    array_of, literal_terms, place_of, place_of_literal, set_literal, term_of, terms_of,
-    unknown_in, variable_of, wrong_in, wrong_literal,
+    array_of, has_negative_entry, list_of, literal_terms, place_of, place_of_literal, set_literal,
+    term_of, terms_of, unknown_in, variable_of, wrong_in, wrong_literal,
 };
 
 mod domain;
 mod entry;
+mod named_list;
 mod names;
 mod value;

@@ -3,9 +3,10 @@ ghost use Rattle.std.specs.Prelude.{◌≡◌, [], ◌∷◌, ◌++◌, None, On
 ghost use Rattle.fzn_symbols.specs.Known.{known};
 ghost use Rattle.fzn_symbols.specs.Values.{meaning_of};
 
+use crate::named_list::NamedList;
 use fzn_domain::{Domain, VarId};
-use fzn_list::{Items, Text};
-use fzn_meaning::{Kind, Term};
+use fzn_list::Text;
+use fzn_meaning::Kind;
 use indexmap::IndexMap;
 use std::alloc::{AllocError, Global};
 
@@ -17,9 +18,9 @@ pub enum Declared {
     /// A set of numbers.
     Set(Domain),
     /// An array of constants.
-    Constants(Kind, Items<Term>),
+    Constants(Kind, NamedList),
     /// An array of variables and constants.
-    Array(Kind, Items<Term>),
+    Array(Kind, NamedList),
     /// A variable, by its number.
     Variable(Kind, VarId),
 }

@@ -1,13 +1,15 @@
 // What the values in a file stand for, and where they are faulty.
 ghost use Rattle.std.specs.Prelude.{◌≡◌, map, Some, IfOk};
+ghost use Rattle.std.specs.List.{list_any};
 ghost use Rattle.fzn_symbols.specs.Known.{known};
 ghost use Rattle.fzn_symbols.specs.Places.{first, place_of_literal, place_of};
+ghost use Rattle.fzn_symbols.specs.Signs.{is_negative};
 ghost use Rattle.fzn_symbols.specs.Types.{fits, is_wanted, is_set, set_literals, sets_in, unknown_in, wrong_literals, wrong_in};
 ghost use Rattle.fzn_symbols.specs.Values.{literal_value, value_of, value_term, term_of, terms_of, term_in, terms_in, meaning_of};
 
 use crate::names::{Declared, Names};
 use fzn_lexer::Place;
-use fzn_list::Items;
+use fzn_list::{Items, Shared};
 use fzn_meaning::{Kind, Term};
 use fzn_registry::Argument;
 use fzn_tree::{Basic, Literal, Name};
@@ -249,6 +251,34 @@ pub fn array_of<'a>(names: &'a Names, basic: &Basic) -> &'a [Term]
             Some(Declared::Constants(_, entries)) => entries.as_slice(),
             Some(Declared::Array(_, entries)) => entries.as_slice(),
             _ => &[],
+        },
+    }
+}
+
+/// The list of the array that is named, for one more owner, else an empty list.
+pub fn list_of(alloc: Global, names: &Names, basic: &Basic) -> Result<Shared<Term>, AllocError>
+    ensures { IfOk result (λ list. list ≡ terms_in (value_of (known names.now) basic.now)) }
+{
+    match basic {
+        Basic::Literal(_) => Shared::new(alloc, Items::new(alloc)),
+        Basic::Name(name) => match names.meaning(&name.text) {
+            Some(Declared::Constants(_, entries)) => entries.share(),
+            Some(Declared::Array(_, entries)) => entries.share(),
+            _ => Shared::new(alloc, Items::new(alloc)),
+        },
+    }
+}
+
+/// Whether a constant below 0 is among the entries of the array that is named.
+pub fn has_negative_entry(names: &Names, basic: &Basic) -> bool
+    ensures { result ≡ list_any is_negative (terms_in (value_of (known names.now) basic.now)) }
+{
+    match basic {
+        Basic::Literal(_) => false,
+        Basic::Name(name) => match names.meaning(&name.text) {
+            Some(Declared::Constants(_, entries)) => entries.has_negative(),
+            Some(Declared::Array(_, entries)) => entries.has_negative(),
+            _ => false,
         },
     }
 }

@@ -9,9 +9,10 @@ use Rattle.fzn_domain.specs.Limits.{IsInLimits, IsLimited}
 use Rattle.fzn_meaning.specs.declared.term.Term.{Term}
 use Rattle.fzn_meaning.specs.declared.term.Term.TheVariants as terms
 use Rattle.fzn_meaning.specs.Meaning.{IsBoolean, AreTerms, IsNotNegative}
-use Rattle.fzn_meaning.specs.Term.{IsTerm, IsPlace}
+use Rattle.fzn_meaning.specs.Term.{number_in, weighted, IsTerm, IsPlace}
 use Rattle.fzn_names.specs.Places.{place_of}
 use Rattle.fzn_names.specs.Types.{is_wanted}
+use Rattle.fzn_symbols.specs.Signs.{is_negative}
 use Rattle.fzn_names.specs.Values.{NameList, value_of, terms_in, set_in}
 use Rattle.fzn_symbols.specs.declared.names.Declared.{Declared}
 use Rattle.fzn_names.proofs.FirstLemmas.{left_empty, right_empty}
@@ -21,7 +22,7 @@ use Rattle.fzn_tree.specs.declared.tree.Arg.{Arg}
 use Rattle.fzn_tree.specs.declared.tree.Arg.TheVariants as args
 use Rattle.fzn_registry.specs.declared.signature.Argument.{Argument}
 use Rattle.fzn_registry.specs.declared.signature.Argument.TheVariants.{Boolean, BooleanList}
-use Rattle.fzn_typing.specs.Arguments.{wrong_values, wrong_arguments, term_given, terms_given, set_given, number_in, weighted, is_negative}
+use Rattle.fzn_typing.specs.Arguments.{wrong_values, wrong_arguments, term_given, terms_given, set_given}
 use Rattle.fzn_typing.specs.Limits.{IsArgWithin}
 
 -- ---- numbers

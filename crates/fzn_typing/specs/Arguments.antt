@@ -1,13 +1,14 @@
 -- Arguments of constraints: where they are faulty, and what they stand for.
-use Rattle.std.specs.Prelude.{ℕ, ◌%◌, Bool, true, ◌&&◌, ◌||◌, ℤ, pos, List, [], ◌∷◌, ◌++◌, Option, Some, None, map, flat_map, length, slice_get, nat_eq, nat_lt, int_lt}
-use Rattle.std.specs.List.{zip, list_any}
+use Rattle.std.specs.Prelude.{ℕ, ◌%◌, Bool, true, ◌&&◌, ◌||◌, ℤ, pos, List, [], ◌∷◌, ◌++◌, Option, Some, None, map, flat_map, length, slice_get, nat_eq, nat_lt}
+use Rattle.std.specs.List.{list_any}
 use Rattle.fzn_domain.specs.IntSet.{IntSet, no_values}
 use Rattle.fzn_lexer.specs.declared.token.Place.{Place}
 use Rattle.fzn_meaning.specs.declared.term.Term.{Term}
 use Rattle.fzn_meaning.specs.declared.term.Term.TheVariants as terms
-use Rattle.fzn_meaning.specs.declared.term.Place.{Place as Product}
+use Rattle.fzn_meaning.specs.Term.{number_in, numbers_in}
 use Rattle.fzn_names.specs.Types.{sets_in, unknown_in, wrong_in}
 use Rattle.fzn_names.specs.Values.{NameList, value_of, term_of, terms_of, terms_in, set_in}
+use Rattle.fzn_symbols.specs.Signs.{is_negative}
 use Rattle.fzn_tree.specs.declared.tree.Arg.{Arg}
 use Rattle.fzn_tree.specs.declared.tree.Arg.TheVariants as args
 use Rattle.fzn_tree.specs.declared.tree.Array.{Array}
@@ -74,19 +75,11 @@ terms_at names all i = terms_given names (slice_get all i)
 abbrev pub set_at : NameList → List Arg → ℕ → IntSet
 set_at names all i = set_given names (slice_get all i)
 
-abbrev pub number_in : Term → ℤ
-number_in (terms.Constant k) = k
-number_in (terms.Variable var) = pos 0
-
 abbrev pub number_at : NameList → List Arg → ℕ → ℤ
 number_at names all i = number_in (term_at names all i)
 
 abbrev pub numbers_at : NameList → List Arg → ℕ → List ℤ
-numbers_at names all i = map number_in (terms_at names all i)
-
--- each number with the term that it is multiplied with
-abbrev pub weighted : List Term → List Term → List Product
-weighted numbers values = map (λ pair. record { coefficient = number_in pair.0; term = pair.1 }) (zip numbers values)
+numbers_at names all i = numbers_in (terms_at names all i)
 
 -- ---- lengths and signs
 
@@ -100,10 +93,6 @@ has_lengths names (NotEmpty a) all = nat_lt 0 (length_at names all a)
 has_lengths names (Table row table) all = nat_lt 0 (length_at names all row) && nat_eq (length_at names all table % length_at names all row) 0
 has_lengths names (Tasks a b c) all = nat_eq (length_at names all a) (length_at names all b) && nat_eq (length_at names all b) (length_at names all c)
 
--- a constant below 0
-abbrev pub is_negative : Term → Bool
-is_negative term = int_lt (number_in term) (pos 0)
-
--- at this place is one, alone or among entries
+-- a constant below 0 is at this place, alone or among entries
 abbrev pub has_negative : NameList → List Arg → ℕ → Bool
 has_negative names all i = is_negative (term_at names all i) || list_any is_negative (terms_at names all i)

@@ -13,7 +13,8 @@ use Rattle.fzn_names.specs.Values.{NameList}
 use Rattle.fzn_tree.specs.declared.tree.Arg.{Arg}
 use Rattle.fzn_registry.specs.declared.name.Name.{Name}
 use Rattle.fzn_registry.specs.declared.name.Name.TheVariants as n
-use Rattle.fzn_typing.specs.Arguments.{term_at, terms_at, set_at, number_at, numbers_at, weighted}
+use Rattle.fzn_meaning.specs.Term.{weighted}
+use Rattle.fzn_typing.specs.Arguments.{term_at, terms_at, set_at, number_at, numbers_at}
 
 module _ (names : NameList) (given : List Arg) where
   abbrev pub term : ℕ → Term

@@ -1,15 +1,19 @@
 // What the arguments of a constraint stand for.
-ghost use Rattle.std.specs.Prelude.{◌≡◌, Some, map, IfOk};
+ghost use Rattle.std.specs.Prelude.{◌≡◌, Some, IfOk};
 ghost use Rattle.std.specs.List.{All, list_any};
 ghost use Rattle.fzn_names.specs.Known.{known};
-ghost use Rattle.fzn_typing.specs.Arguments.{term_at, terms_at, set_at, number_in, number_at, numbers_at, weighted, length_at, has_lengths, is_negative, has_negative};
+ghost use Rattle.fzn_typing.specs.Arguments.{term_at, terms_at, set_at, number_at, numbers_at, length_at, has_lengths, has_negative};
 ghost use Rattle.fzn_typing.specs.Limits.{IsArgWithin};
+ghost use Rattle.fzn_meaning.specs.Term.{weighted};
 ghost use Rattle.fzn_names.specs.Values.{terms_of};
+ghost use Rattle.fzn_symbols.specs.Signs.{is_negative};
 
 use fzn_domain::Domain;
-use fzn_list::Items;
-use fzn_meaning::{Place, Term};
-use fzn_names::{Names, array_of, no_values, set_of, term_of, terms_of};
+use fzn_list::{Items, Shared};
+use fzn_meaning::{Rows, Sum, Term};
+use fzn_names::{
+    Names, array_of, has_negative_entry, is_negative, list_of, no_values, set_of, term_of, terms_of,
+};
 use fzn_registry::Lengths;
 use fzn_tree::{Arg, Basic};
 use std::alloc::{AllocError, Global};
@@ -24,30 +28,22 @@ pub fn term_at(names: &Names, args: &[Arg], i: usize) -> Term
     }
 }
 
-fn copied(alloc: Global, mut terms: &[Term]) -> Result<Items<Term>, AllocError>
-    ensures { IfOk result (λ copy. copy ≡ terms.now) }
-{
-    let mut copy = Items::new(alloc);
-    while let [term, rest @ ..] = terms {
-        copy.push(*term)?;
-        terms = rest;
-    }
-    Ok(copy)
-}
-
 /// The terms of the list that is the argument at this place.
 pub fn terms_at(
     alloc: Global,
     names: &Names,
     args: &[Arg],
     i: usize,
-) -> Result<Items<Term>, AllocError>
+) -> Result<Shared<Term>, AllocError>
     ensures { IfOk result (λ terms. terms ≡ terms_at (known names.now) args.now i) }
 {
     match args.get(i) {
-        Some(Arg::Basic(basic)) => copied(alloc, array_of(names, basic)),
-        Some(Arg::Array(array)) => terms_of(alloc, names, array.entries.as_slice()),
-        None => Ok(Items::new(alloc)),
+        Some(Arg::Basic(basic)) => list_of(alloc, names, basic),
+        Some(Arg::Array(array)) => {
+            let terms = terms_of(alloc, names, array.entries.as_slice())?;
+            Shared::new(alloc, terms)
+        }
+        None => Shared::new(alloc, Items::new(alloc)),
     }
 }
 
@@ -64,75 +60,27 @@ pub fn set_at(alloc: Global, names: &Names, args: &[Arg], i: usize) -> Result<Do
 
 // ---- numbers
 
-fn number_in(term: Term) -> i64
-    ensures { result ≡ number_in term }
-{
-    match term {
-        Term::Constant(number) => number,
-        Term::Variable(_) => 0,
-    }
-}
-
 /// The number that is the argument at this place.
 pub fn number_at(names: &Names, args: &[Arg], i: usize) -> i64
     ensures { result ≡ number_at (known names.now) args.now i }
 {
-    number_in(term_at(names, args, i))
-}
-
-fn numbers_in(alloc: Global, mut terms: &[Term]) -> Result<Items<i64>, AllocError>
-    ensures { IfOk result (λ numbers. numbers ≡ map number_in terms.now) }
-{
-    let mut numbers = Items::new(alloc);
-    while let [term, rest @ ..] = terms {
-        numbers.push(number_in(*term))?;
-        terms = rest;
-    }
-    Ok(numbers)
+    term_at(names, args, i).number()
 }
 
 /// The numbers of the list that is the argument at this place.
-pub fn numbers_at(
-    alloc: Global,
-    names: &Names,
-    args: &[Arg],
-    i: usize,
-) -> Result<Items<i64>, AllocError>
+pub fn numbers_at(alloc: Global, names: &Names, args: &[Arg], i: usize) -> Result<Rows, AllocError>
     ensures { IfOk result (λ numbers. numbers ≡ numbers_at (known names.now) args.now i) }
 {
-    let terms = terms_at(alloc, names, args, i)?;
-    numbers_in(alloc, terms.as_slice())
-}
-
-fn weighted(
-    alloc: Global,
-    mut numbers: &[Term],
-    mut values: &[Term],
-) -> Result<Items<Place>, AllocError>
-    ensures { IfOk result (λ sum. sum ≡ weighted numbers.now values.now) }
-{
-    let mut sum = Items::new(alloc);
-    while let [number, more @ ..] = numbers {
-        let [value, others @ ..] = values else {
-            return Ok(sum);
-        };
-        sum.push(Place {
-            coefficient: number_in(*number),
-            term: *value,
-        })?;
-        numbers = more;
-        values = others;
-    }
-    Ok(sum)
+    Ok(Rows::new(terms_at(alloc, names, args, i)?))
 }
 
 /// Each number of the first list with the term of the second that it is multiplied with.
-pub fn sum_of(alloc: Global, names: &Names, args: &[Arg]) -> Result<Items<Place>, AllocError>
+pub fn sum_of(alloc: Global, names: &Names, args: &[Arg]) -> Result<Sum, AllocError>
     ensures { IfOk result (λ sum. sum ≡ weighted (terms_at (known names.now) args.now 0) (terms_at (known names.now) args.now 1)) }
 {
     let numbers = terms_at(alloc, names, args, 0)?;
-    let values = terms_at(alloc, names, args, 1)?;
-    weighted(alloc, numbers.as_slice(), values.as_slice())
+    let terms = terms_at(alloc, names, args, 1)?;
+    Ok(Sum::new(numbers, terms))
 }
 
 // ---- lengths and signs
@@ -166,25 +114,7 @@ pub fn has_lengths(names: &Names, wanted: Lengths, args: &[Arg]) -> bool
     }
 }
 
-fn is_negative(term: Term) -> bool
-    ensures { result ≡ is_negative term }
-{
-    number_in(term) < 0
-}
-
-fn has_negative_term(mut terms: &[Term]) -> bool
-    ensures { result ≡ list_any is_negative terms.now }
-{
-    while let [term, rest @ ..] = terms {
-        if is_negative(*term) {
-            return true;
-        }
-        terms = rest;
-    }
-    false
-}
-
-fn has_negative_entry(names: &Names, mut entries: &[Basic]) -> bool
+fn has_negative_value(names: &Names, mut entries: &[Basic]) -> bool
     ensures { result ≡ list_any is_negative (terms_of (known names.now) entries.now) }
 {
     while let [basic, rest @ ..] = entries {
@@ -201,9 +131,9 @@ fn has_negative(names: &Names, args: &[Arg], i: usize) -> bool
 {
     match args.get(i) {
         Some(Arg::Basic(basic)) => {
-            is_negative(term_of(names, basic)) || has_negative_term(array_of(names, basic))
+            is_negative(term_of(names, basic)) || has_negative_entry(names, basic)
         }
-        Some(Arg::Array(array)) => has_negative_entry(names, array.entries.as_slice()),
+        Some(Arg::Array(array)) => has_negative_value(names, array.entries.as_slice()),
         None => false,
     }
 }

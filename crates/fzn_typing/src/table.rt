@@ -8,7 +8,7 @@ ghost use Rattle.fzn_typing.specs.Constraints.{sum, constraint_for};
 ghost use Rattle.fzn_typing.specs.Limits.{IsArgWithin};
 
 use crate::given::{number_at, numbers_at, set_at, sum_of, term_at, terms_at};
-use fzn_list::Items;
+use fzn_list::{Items, Shared};
 use fzn_meaning::{Comparison, Constraint, Extreme, Gate, Operation, Relation, Term};
 use fzn_names::Names;
 use fzn_registry::Name;
@@ -55,13 +55,13 @@ fn compute(names: &Names, args: &[Arg], operation: Operation) -> Constraint
 }
 
 /// The first two arguments as a list.
-fn pair(alloc: Global, names: &Names, args: &[Arg]) -> Result<Items<Term>, AllocError>
+fn pair(alloc: Global, names: &Names, args: &[Arg]) -> Result<Shared<Term>, AllocError>
     ensures { IfOk result (λ found. found ≡ term_at (known names.now) args.now 0 ∷ term_at (known names.now) args.now 1 ∷ []) }
 {
     let mut terms = Items::new(alloc);
     terms.push(term_at(names, args, 0))?;
     terms.push(term_at(names, args, 1))?;
-    Ok(terms)
+    Shared::new(alloc, terms)
 }
 
 fn extremum_of_two(

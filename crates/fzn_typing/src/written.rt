@@ -3,11 +3,11 @@ ghost use Rattle.std.specs.Prelude.{◌≡◌, ◌∷◌, ◌++◌, [], map, fla
 ghost use Rattle.std.specs.List.{All};
 ghost use Rattle.fzn_meaning.specs.declared.constraint.Constraint.TheVariants.{SetIn};
 ghost use Rattle.fzn_names.specs.Known.{known};
-ghost use Rattle.fzn_names.specs.Limits.{AreValuesWithin, IsVarWithin};
+ghost use Rattle.fzn_names.specs.Limits.{IsVarWithin};
 ghost use Rattle.fzn_names.specs.Values.{term_of};
-ghost use Rattle.fzn_names.specs.Variables.{values_in};
 ghost use Rattle.fzn_typing.specs.Models.{equalities, written};
 
+use fzn_domain::Domain;
 use fzn_list::Items;
 use fzn_meaning::{Constraint, Relation, Term};
 use fzn_names::{Names, term_of, values_in, variable_of};
@@ -27,36 +27,27 @@ fn equality(names: &Names, var: &SingleVar, value: &Basic) -> Constraint
     }
 }
 
-fn element_domain(
-    alloc: Global,
-    names: &Names,
-    values: &Values,
-    entry: &Basic,
-) -> Result<Constraint, AllocError>
-    requires { AreValuesWithin values.now }
-    ensures { IfOk result (λ found. found ≡ SetIn (term_of (known names.now) entry.now) (values_in values.now) None) }
+fn element_domain(names: &Names, set: &Domain, entry: &Basic) -> Result<Constraint, AllocError>
+    ensures { IfOk result (λ found. found ≡ SetIn (term_of (known names.now) entry.now) set.now None) }
 {
     Ok(Constraint::SetIn {
         term: term_of(names, entry),
-        set: values_in(alloc, values)?,
+        set: set.copy()?,
         switch: None,
     })
 }
 
 /// Puts a constraint for each entry at the end.
 fn write_domains(
-    alloc: Global,
     names: &Names,
-    values: &Values,
+    set: &Domain,
     mut entries: &[Basic],
     constraints: &mut Items<Constraint>,
 ) -> Result<(), AllocError>
-    requires { AreValuesWithin values.now }
-    ensures { OnOk result (constraints.new ≡ constraints.old
-        ++ map (λ entry. SetIn (term_of (known names.now) entry) (values_in values.now) None) entries.now) }
+    ensures { OnOk result (constraints.new ≡ constraints.old ++ map (λ entry. SetIn (term_of (known names.now) entry) set.now None) entries.now) }
 {
     while let [entry, rest @ ..] = entries {
-        constraints.push(element_domain(alloc, names, values, entry)?)?;
+        constraints.push(element_domain(names, set, entry)?)?;
         entries = rest;
     }
     Ok(())
@@ -81,13 +72,8 @@ fn write(
         }
         Var::Array(array) => match &array.base {
             Base::Values(values) => {
-                write_domains(
-                    alloc,
-                    names,
-                    values,
-                    array.array.entries.as_slice(),
-                    constraints,
-                )
+                let set = values_in(alloc, values)?;
+                write_domains(names, &set, array.array.entries.as_slice(), constraints)
             }
             _ => Ok(()),
         },

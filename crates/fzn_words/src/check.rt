@@ -2,8 +2,8 @@
 ghost use Rattle.std.specs.Prelude.{◌≢◌, IfOk, string_bytes};
 
 use crate::fault::{OptionsFault, fault_of};
-use crate::solve::help;
-use clap::{Arg, ArgAction, ArgMatches, Command};
+use crate::solve::{all, help, model};
+use clap::{Arg, ArgMatches, Command};
 use std::alloc::{AllocError, Global};
 use std::convert::AsStr;
 
@@ -28,26 +28,21 @@ pub fn check_options_of<S: AsStr>(alloc: Global, words: &[S]) -> Result<CheckOpt
 }
 
 fn command<'a>(alloc: Global) -> Result<Command<'a>, AllocError> {
-    let all = Arg::new(alloc, "all")
-        .short('a')
-        .action(ArgAction::SetTrue)
-        .help("Print every solution");
-    let model = Arg::new(alloc, "model")
-        .value_name("MODEL")
-        .required(true)
-        .help("The FlatZinc file");
-    let cert = Arg::new(alloc, "cert")
-        .value_name("CERT")
-        .required(true)
-        .help("The certificate of its answer");
     Command::new(alloc, "fzncheck")
         .about("Check the certificate of a FlatZinc file's answer")
         .no_binary_name(true)
         .disable_help_flag(true)
-        .arg(all)?
-        .arg(model)?
-        .arg(cert)?
+        .arg(all(alloc))?
+        .arg(model(alloc))?
+        .arg(cert(alloc))?
         .arg(help(alloc))
+}
+
+fn cert<'a>(alloc: Global) -> Arg<'a> {
+    Arg::new(alloc, "cert")
+        .value_name("CERT")
+        .required(true)
+        .help("The certificate of its answer")
 }
 
 fn options_in(alloc: Global, matches: &ArgMatches<'_>) -> Result<CheckOptions, OptionsFault>

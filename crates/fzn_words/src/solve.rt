@@ -35,31 +35,45 @@ pub fn options_of<S: AsStr>(alloc: Global, words: &[S]) -> Result<Options, Optio
 }
 
 fn command<'a>(alloc: Global) -> Result<Command<'a>, AllocError> {
-    let all = Arg::new(alloc, "all")
-        .short('a')
-        .action(ArgAction::SetTrue)
-        .help("Print every solution");
-    let nodes = Arg::new(alloc, "nodes")
-        .long("nodes")
-        .value_name("N")
-        .help("Make at most N decisions (0 to 10^12, default 10^7)");
-    let cert = Arg::new(alloc, "cert")
-        .long("cert")
-        .value_name("FILE")
-        .help("Write the certificate to FILE");
-    let model = Arg::new(alloc, "model")
-        .value_name("MODEL")
-        .required(true)
-        .help("The FlatZinc file");
     Command::new(alloc, "fznsolve")
         .about("Solve a FlatZinc file, with a certificate for the answer")
         .no_binary_name(true)
         .disable_help_flag(true)
-        .arg(all)?
-        .arg(nodes)?
-        .arg(cert)?
-        .arg(model)?
+        .arg(all(alloc))?
+        .arg(nodes(alloc))?
+        .arg(cert(alloc))?
+        .arg(model(alloc))?
         .arg(help(alloc))
+}
+
+/// The option for all solutions.
+pub(crate) fn all<'a>(alloc: Global) -> Arg<'a> {
+    Arg::new(alloc, "all")
+        .short('a')
+        .action(ArgAction::SetTrue)
+        .help("Print every solution")
+}
+
+fn nodes<'a>(alloc: Global) -> Arg<'a> {
+    Arg::new(alloc, "nodes")
+        .long("nodes")
+        .value_name("N")
+        .help("Make at most N decisions (0 to 10^12, default 10^7)")
+}
+
+fn cert<'a>(alloc: Global) -> Arg<'a> {
+    Arg::new(alloc, "cert")
+        .long("cert")
+        .value_name("FILE")
+        .help("Write the certificate to FILE")
+}
+
+/// The path of the model.
+pub(crate) fn model<'a>(alloc: Global) -> Arg<'a> {
+    Arg::new(alloc, "model")
+        .value_name("MODEL")
+        .required(true)
+        .help("The FlatZinc file")
 }
 
 /// The option that asks for help.

@@ -1,5 +1,5 @@
 use Rattle.std.proofs.Common.{◌≡◌, take}
 use Rattle.fzn_arith.proofs.form.copied.Given as goal
 
-abbrev pub invariant-loop-place : goal.invariant-loop-place
-invariant-loop-place l = l.all ≡ take l.place-index l.places
+abbrev pub invariant-loop-i : goal.invariant-loop-i
+invariant-loop-i l = l.all ≡ take l.i l.places

@@ -1,6 +1,7 @@
-use Rattle.std.proofs.Common.{ℕ, ◌<◌, ◌≤ℤ◌, get_or, pos}
+use Rattle.std.proofs.Common.{◌*◌, ◌≤ℤ◌, take}
+use Rattle.std.specs.List.{All}
 use Rattle.fzn_meaning.specs.Cumulative.{tasks, load_at}
 use Rattle.fzn_meaning.proofs.cumulative.is_kept_at_starts.Given as goal
 
-abbrev pub invariant-loop-task : goal.invariant-loop-task
-invariant-loop-task l = (k : ℕ) → k < l.task → load_at (get_or l.starts k (pos 0)) (tasks l.starts l.durations l.uses) ≤ℤ l.capacity
+abbrev pub invariant-loop-block : goal.invariant-loop-block
+invariant-loop-block l = All (λ t. load_at t (tasks l.starts l.durations l.uses) ≤ℤ l.capacity) (take (l.block * 512) l.starts)

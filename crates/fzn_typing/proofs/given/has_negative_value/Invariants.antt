@@ -1,9 +1,9 @@
 use Rattle.std.proofs.Common.{◌≡◌, length}
 use Rattle.std.specs.List.{list_any}
 use Rattle.fzn_names.specs.Known.{known}
+use Rattle.fzn_symbols.specs.Signs.{is_negative}
 use Rattle.fzn_names.specs.Values.{terms_of}
-use Rattle.fzn_typing.specs.Arguments.{is_negative}
-use Rattle.fzn_typing.proofs.given.has_negative_entry.Given as goal
+use Rattle.fzn_typing.proofs.given.has_negative_value.Given as goal
 
 -- what is found from here on is what is found from the start
 abbrev pub invariant-loop-entries : goal.invariant-loop-entries

@@ -1,7 +1,7 @@
 use Rattle.std.proofs.Common.{◌≡◌, length}
 use Rattle.std.specs.List.{list_any}
-use Rattle.fzn_typing.specs.Arguments.{is_negative}
-use Rattle.fzn_typing.proofs.given.has_negative_term.Given as goal
+use Rattle.fzn_symbols.specs.Signs.{is_negative}
+use Rattle.fzn_symbols.proofs.named_list.is_any_negative.Given as goal
 
 -- what is found from here on is what is found from the start
 abbrev pub invariant-loop-terms : goal.invariant-loop-terms
