@@ -42,100 +42,85 @@ fn least_bit(alloc: Global) -> Result<Model, Memory>
     })
 }
 
-fn found(solutions: usize, closed: bool) -> Result<Verdict, CheckFault> {
-    Ok(Verdict { solutions, closed })
+/// What follows the first two lines of a certificate, where `|` stands for a line feed, and its verdict.
+const STEPS: &str = "
+s 1|s 0|r ; 2|e closed| => 2 solutions, closed
+s 1|e open| => 1 solutions
+e open| => 0 solutions
+r 1<=1 ;|e open| => 0 solutions
+s 0|s 1| => certificate line 4: fault 47 CutByEarlier
+s 1|s 1| => certificate line 4: fault 47 CutByEarlier
+s 2| => certificate line 3: fault 46 NotASolution
+s 0 0| => certificate line 3: fault 46 NotASolution
+i 1 lin ; 1<=0| => certificate line 3: fault 41 NoSuchConstraint
+r 2<=0 ;| => certificate line 3: fault 49 NoSuchVariable
+r 1>=2 ; 1| => certificate line 3: fault 43 NoSuchClause
+s 1|r ; 1| => certificate line 4: fault 45 NoConflict
+r 1<=0 1>=1 ;|r ; 1| => certificate line 4: fault 44 NotUnit
+e closed| => certificate line 3: fault 48 NotClosed
+e closed|x => certificate line 3: fault 48 NotClosed
+s 0|r ; 1|e closed|x => certificate line 6: fault 33 Trailing
+e open|x => certificate line 4: fault 33 Trailing
+e open => certificate line 3: fault 32 Truncated
+s 01| => certificate line 3: fault 31 Spelling
+s 1|d 1| => certificate line 4: fault 31 Spelling
+";
+
+/// Certificates, where `|` stands for a line feed, and their verdicts.
+const WHOLE: &str = "
+fzc 2|vars 1 cons 0|s 1|s 0|d 1|r ; 2|e closed| => 2 solutions, closed
+fzc 2|vars 1 cons 0|s 1|d 1|r ; 1| => certificate line 5: fault 43 NoSuchClause
+fzc 3|vars 1 cons 0| => certificate line 1: fault 30 Header
+fzc 1|vars 1 cons| => certificate line 2: fault 30 Header
+fzc 1|vars 1 cons 1|s 5| => certificate line 2: fault 40 Counts
+fzc 1|vars 2 cons 0| => certificate line 2: fault 40 Counts
+ => certificate line 1: fault 32 Truncated
+fzc => certificate line 1: fault 32 Truncated
+";
+
+/// The verdict on a certificate for the model.
+fn judged(alloc: Global, model: &Model, certificate: &str) -> Result<String, Memory>
+    requires { IsWellFormed model.now }
+{
+    match check_certificate(alloc, model, certificate.as_bytes()) {
+        Ok(answer) => {
+            let Verdict { solutions, closed } = answer.verdict();
+            let ending = if closed { ", closed" } else { "" };
+            format!(in alloc; "{solutions} solutions{ending}")
+        }
+        Err(fault) => format!(in alloc; "{fault}"),
+    }
 }
 
-fn refused(line: u64, refusal: Refusal) -> Result<Verdict, CheckFault> {
-    Err(CheckFault::Refused { line, refusal })
+/// Whether a row of a table, behind these first lines, has the verdict that it tells.
+fn is_as_told(alloc: Global, model: &Model, first: &str, row: &str) -> Result<bool, Memory>
+    requires { IsWellFormed model.now }
+{
+    let Some((steps, want)) = row.split_once(" => ") else {
+        return Ok(false);
+    };
+    let steps = steps.replace(alloc, '|', "\n")?;
+    let certificate = format!(in alloc; "{first}{steps}")?;
+    Ok(judged(alloc, model, certificate.as_str())?.as_str() == want)
 }
 
 #[test]
 fn verdicts(rt: HostRuntime) -> Result<(), Fail> {
-    let alloc = rt.alloc();
-    let model = least_bit(alloc)?;
-    let cases = [
-        // the steps and the ending after the first two lines, the verdict
-        (b"s 1\ns 0\nr ; 2\ne closed\n".as_slice(), found(2, true)),
-        (b"s 1\ne open\n".as_slice(), found(1, false)),
-        (b"e open\n".as_slice(), found(0, false)),
-        (b"r 1<=1 ;\ne open\n".as_slice(), found(0, false)),
-        (b"s 0\ns 1\n".as_slice(), refused(4, Refusal::CutByEarlier)),
-        (b"s 1\ns 1\n".as_slice(), refused(4, Refusal::CutByEarlier)),
-        (b"s 2\n".as_slice(), refused(3, Refusal::NotASolution)),
-        (b"s 0 0\n".as_slice(), refused(3, Refusal::NotASolution)),
-        (
-            b"i 1 lin ; 1<=0\n".as_slice(),
-            refused(3, Refusal::NoSuchConstraint),
-        ),
-        (
-            b"r 2<=0 ;\n".as_slice(),
-            refused(3, Refusal::NoSuchVariable),
-        ),
-        (
-            b"r 1>=2 ; 1\n".as_slice(),
-            refused(3, Refusal::NoSuchClause),
-        ),
-        (b"s 1\nr ; 1\n".as_slice(), refused(4, Refusal::NoConflict)),
-        (
-            b"r 1<=0 1>=1 ;\nr ; 1\n".as_slice(),
-            refused(4, Refusal::NotUnit),
-        ),
-        (b"e closed\n".as_slice(), refused(3, Refusal::NotClosed)),
-        (b"e closed\nx".as_slice(), refused(3, Refusal::NotClosed)),
-        (
-            b"s 0\nr ; 1\ne closed\nx".as_slice(),
-            refused(6, Refusal::Trailing),
-        ),
-        (b"e open\nx".as_slice(), refused(4, Refusal::Trailing)),
-        (b"e open".as_slice(), refused(3, Refusal::Truncated)),
-        (b"s 01\n".as_slice(), refused(3, Refusal::Spelling)),
-        (b"s 1\nd 1\n".as_slice(), refused(4, Refusal::Spelling)),
-    ];
-    for (rest, want) in cases {
-        let mut cert = Vec::from_slice(alloc, b"fzc 1\nvars 1 cons 0\n")?;
-        cert.extend_from_slice(rest)?;
-        let got = check_certificate(alloc, &model, cert.as_slice()).map(|answer| answer.verdict());
-        assert_eq!(rt; got, want, "{:?}", rest);
+    let model = least_bit(rt.alloc())?;
+    assert_eq!(rt; STEPS.trim().lines().count(), 20);
+    for row in STEPS.trim().lines() {
+        let first = "fzc 1\nvars 1 cons 0\n";
+        assert!(rt; is_as_told(rt.alloc(), &model, first, row)?, "{row}");
     }
     Ok(())
 }
 
 #[test]
 fn first_lines_and_deletions(rt: HostRuntime) -> Result<(), Fail> {
-    let alloc = rt.alloc();
-    let model = least_bit(alloc)?;
-    let cases = [
-        // the certificate, the verdict
-        (
-            b"fzc 2\nvars 1 cons 0\ns 1\ns 0\nd 1\nr ; 2\ne closed\n".as_slice(),
-            found(2, true),
-        ),
-        (
-            b"fzc 2\nvars 1 cons 0\ns 1\nd 1\nr ; 1\n".as_slice(),
-            refused(5, Refusal::NoSuchClause),
-        ),
-        (
-            b"fzc 3\nvars 1 cons 0\n".as_slice(),
-            refused(1, Refusal::Header),
-        ),
-        (
-            b"fzc 1\nvars 1 cons\n".as_slice(),
-            refused(2, Refusal::Header),
-        ),
-        (
-            b"fzc 1\nvars 1 cons 1\ns 5\n".as_slice(),
-            refused(2, Refusal::Counts),
-        ),
-        (
-            b"fzc 1\nvars 2 cons 0\n".as_slice(),
-            refused(2, Refusal::Counts),
-        ),
-        (b"".as_slice(), refused(1, Refusal::Truncated)),
-    ];
-    for (cert, want) in cases {
-        let got = check_certificate(alloc, &model, cert).map(|answer| answer.verdict());
-        assert_eq!(rt; got, want, "{:?}", cert);
+    let model = least_bit(rt.alloc())?;
+    assert_eq!(rt; WHOLE.trim().lines().count(), 8);
+    for row in WHOLE.trim().lines() {
+        assert!(rt; is_as_told(rt.alloc(), &model, "", row)?, "{row}");
     }
     Ok(())
 }

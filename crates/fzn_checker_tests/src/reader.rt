@@ -1,5 +1,6 @@
 use fzn_cert::{CertFault, FaultKind, Step, StepWriter, Version};
 use fzn_cert_reader::StepReader;
+use fzn_domain::Memory;
 use fzn_list::Items;
 use fzn_rules::Rule;
 use std::alloc::Global;
@@ -73,93 +74,91 @@ fn reads_a_step_of_each_kind(rt: HostRuntime) {
     assert_eq!(rt; outcome_of(alloc, text), (5, Ok(Some(true))));
 }
 
+/// The fault of a certificate, or how many steps it has.
+fn told(alloc: Global, bytes: &[u8], most: usize) -> Result<String, Memory> {
+    let input = Cut {
+        bytes,
+        most,
+        fails: false,
+    };
+    match outcome_of(alloc, input) {
+        (_, Err(CertFault { kind, line })) => format!(in alloc; "{kind:?} {line}"),
+        (steps, Ok(_)) => format!(in alloc; "{steps} step"),
+    }
+}
+
+/// Certificates, where `|` stands for a line feed, and their faults with the line.
+const FAULTS: &str = "
+fzc 9| => Header 1
+ => Truncated 1
+fzc 1| => Truncated 2
+fzc 1|vars 02 cons 2| => Header 2
+fzc 1|vars 2 cons 2| => Truncated 3
+fzc 1|vars 2 cons 2|s 0 1 => Truncated 3
+fzc 1|vars 2 cons 2|s 0 1| => Truncated 4
+fzc 1|vars 2 cons 2|s 0 1|e closed => Truncated 4
+fzc 1|vars 2 cons 2|s 0 1|e closed|x => Trailing 5
+fzc 1|vars 2 cons 2|d 1| => Spelling 3
+fzc 2|vars 2 cons 2|d 2 1| => Spelling 3
+fzc 2|vars 2 cons 2|d| => Spelling 3
+";
+
 #[test]
-fn tells_the_fault_and_its_line(rt: HostRuntime) {
-    let alloc = rt.alloc();
-    let cases: [(&[u8], FaultKind, u64); 12] = [
-        (b"", FaultKind::Truncated, 1),
-        (b"fzc 9\n", FaultKind::Header, 1),
-        (b"fzc 1\n", FaultKind::Truncated, 2),
-        (b"fzc 1\nvars 02 cons 2\n", FaultKind::Header, 2),
-        (b"fzc 1\nvars 2 cons 2\n", FaultKind::Truncated, 3),
-        (b"fzc 1\nvars 2 cons 2\ns 0 1", FaultKind::Truncated, 3),
-        (b"fzc 1\nvars 2 cons 2\ns 0 1\n", FaultKind::Truncated, 4),
-        (
-            b"fzc 1\nvars 2 cons 2\ns 0 1\ne closed",
-            FaultKind::Truncated,
-            4,
-        ),
-        (
-            b"fzc 1\nvars 2 cons 2\ns 0 1\ne closed\nx",
-            FaultKind::Trailing,
-            5,
-        ),
-        (b"fzc 1\nvars 2 cons 2\nd 1\n", FaultKind::Spelling, 3),
-        (b"fzc 2\nvars 2 cons 2\nd 2 1\n", FaultKind::Spelling, 3),
-        (b"fzc 2\nvars 2 cons 2\nd\n", FaultKind::Spelling, 3),
-    ];
-    for (text, kind, line) in cases {
+fn tells_the_fault_and_its_line(rt: HostRuntime) -> Result<(), Fail> {
+    assert_eq!(rt; FAULTS.trim().lines().count(), 12);
+    for row in FAULTS.trim().lines() {
+        let (text, want) = row.split_once(" => ").ok_or("a line has two parts")?;
+        let text = text.replace(rt.alloc(), '|', "\n")?;
         for most in [1, 7, 4096] {
-            let outcome = outcome_of(
-                alloc,
-                Cut {
-                    bytes: text,
-                    most,
-                    fails: false,
-                },
-            );
-            assert_eq!(rt;
-                outcome.1,
-                Err(CertFault { kind, line }),
-                "{text:?} by {most}"
-            );
+            let got = told(rt.alloc(), text.as_bytes(), most)?;
+            assert!(rt; got.as_str() == want, "{row} by {most}");
         }
     }
+    Ok(())
+}
+
+/// Steps, and whether they are read or refused for their spelling in line 3.
+const STEPS: &str = "
+i 2 lin ; 1<=0 => 1 step
+i 2 lin ; 01<=0 => Spelling 3
+i 02 lin ; 1<=0 => Spelling 3
+i 2 lin ;  1<=0 => Spelling 3
+i 2 lin ; 1<=0  => Spelling 3
+i 2 lin ; 1=<0 => Spelling 3
+i 2 lin 1 ; 1<=0 => Spelling 3
+i 2 lin ; 1<=1000000001 => 1 step
+i 2 lin ; 1<=1000000002 => Spelling 3
+i 2 lin ; 1!=-1000000001 2==-1 => 1 step
+i 2 lin ; 1<=-0 => Spelling 3
+i 1 load 4000000000 ; => 1 step
+i 1 load 4000000001 ; => Spelling 3
+i 1 cut -1 1 ; => 1 step
+i 1 cut 1 1 ; => Spelling 3
+i 1 cut ; => 1 step
+i 1 hall 1 ; => Spelling 3
+i 1 hall 1 -1 ; => 1 step
+r ; 0 => Spelling 3
+r 1<=0 ; => 1 step
+r ; 999999999999999999 => 1 step
+r ; 1000000000000000000 => Spelling 3
+s => 1 step
+s +1 => Spelling 3
+";
+
+/// Whether a certificate with the step of the row fares as the row tells.
+fn is_as_told(alloc: Global, row: &str) -> Result<bool, Memory> {
+    let Some((step, want)) = row.split_once(" => ") else {
+        return Ok(false);
+    };
+    let text = format!(in alloc; "fzc 1\nvars 2 cons 2\n{step}\ne open\n")?;
+    Ok(told(alloc, text.as_bytes(), 4096)?.as_str() == want)
 }
 
 #[test]
 fn a_line_has_one_spelling(rt: HostRuntime) -> Result<(), Fail> {
-    let alloc = rt.alloc();
-    let cases: [(&[u8], bool); 24] = [
-        (b"i 2 lin ; 1<=0", true),
-        (b"i 2 lin ; 01<=0", false),
-        (b"i 02 lin ; 1<=0", false),
-        (b"i 2 lin ;  1<=0", false),
-        (b"i 2 lin ; 1<=0 ", false),
-        (b"i 2 lin ; 1=<0", false),
-        (b"i 2 lin 1 ; 1<=0", false),
-        (b"i 2 lin ; 1<=1000000001", true),
-        (b"i 2 lin ; 1<=1000000002", false),
-        (b"i 2 lin ; 1!=-1000000001 2==-1", true),
-        (b"i 2 lin ; 1<=-0", false),
-        (b"i 1 load 4000000000 ;", true),
-        (b"i 1 load 4000000001 ;", false),
-        (b"i 1 cut -1 1 ;", true),
-        (b"i 1 cut 1 1 ;", false),
-        (b"i 1 cut ;", true),
-        (b"i 1 hall 1 ;", false),
-        (b"i 1 hall 1 -1 ;", true),
-        (b"r ; 0", false),
-        (b"r 1<=0 ;", true),
-        (b"r ; 999999999999999999", true),
-        (b"r ; 1000000000000000000", false),
-        (b"s", true),
-        (b"s +1", false),
-    ];
-    for (step, is_spelled) in cases {
-        let mut text = Vec::from_slice(alloc, b"fzc 1\nvars 2 cons 2\n")?;
-        text.extend_from_slice(step)?;
-        text.extend_from_slice(b"\ne open\n")?;
-        let fault = CertFault {
-            kind: FaultKind::Spelling,
-            line: 3,
-        };
-        let want = if is_spelled {
-            (1, Ok(Some(false)))
-        } else {
-            (0, Err(fault))
-        };
-        assert_eq!(rt; outcome_of(alloc, text.as_slice()), want, "{step:?}");
+    assert_eq!(rt; STEPS.trim().lines().count(), 24);
+    for row in STEPS.trim().lines() {
+        assert!(rt; is_as_told(rt.alloc(), row)?, "{row}");
     }
     Ok(())
 }
@@ -225,35 +224,41 @@ fn tells_what_the_lines_say(rt: HostRuntime) {
     );
 }
 
-#[test]
-fn reads_what_was_written(rt: HostRuntime) -> Result<(), Fail> {
-    let alloc = rt.alloc();
+/// A certificate of an inference and a solution.
+fn written(alloc: Global) -> Result<Vec<u8>, FaultKind> {
     let mut out: Vec<u8> = Vec::new(alloc);
     let mut writer = StepWriter::new(alloc, &mut out, 2, 8)?;
-    writer.write(
-        alloc,
-        &Step::Infer {
-            constraint: 8,
-            rule: Rule::Hall(2, -3),
-            clause: Items::new(alloc),
-        },
-    )?;
+    let step = Step::Infer {
+        constraint: 8,
+        rule: Rule::Hall(2, -3),
+        clause: Items::new(alloc),
+    };
+    writer.write(alloc, &step)?;
     writer.write(alloc, &Step::Solution(Items::new(alloc)))?;
     writer.finish(true)?;
     let _ = writer;
-    assert_eq!(rt; outcome_of(alloc, out.as_slice()), (2, Ok(Some(true))));
-    let mut reader = StepReader::new(alloc, out.as_slice());
-    assert!(rt;
-        matches!(
-            reader.next(alloc),
-            Ok(Some(Step::Infer {
-                constraint: 8,
-                rule: Rule::Hall(2, -3),
-                ..
-            }))
-        )
+    Ok(out)
+}
+
+/// Whether the first step that is read is the inference.
+fn begins_with_the_inference(alloc: Global, bytes: &[u8]) -> bool {
+    let mut reader = StepReader::new(alloc, bytes);
+    let is_read = matches!(
+        reader.next(alloc),
+        Ok(Some(Step::Infer {
+            constraint: 8,
+            rule: Rule::Hall(2, -3),
+            ..
+        }))
     );
-    assert_eq!(rt; reader.counts(), Some((2, 8)));
+    is_read && reader.counts() == Some((2, 8))
+}
+
+#[test]
+fn reads_what_was_written(rt: HostRuntime) -> Result<(), Fail> {
+    let out = written(rt.alloc())?;
+    assert_eq!(rt; outcome_of(rt.alloc(), out.as_slice()), (2, Ok(Some(true))));
+    assert!(rt; begins_with_the_inference(rt.alloc(), out.as_slice()));
     Ok(())
 }
 

@@ -1,7 +1,7 @@
 // Examples worked out by hand.
 ghost use Rattle.std.specs.Prelude.{◌≡◌};
 
-use fzn_domain::{Domain, GREATEST_VALUE, LEAST_VALUE, Lit, Op, VarId, place_of};
+use fzn_domain::{Domain, GREATEST_VALUE, LEAST_VALUE, Lit, Memory, Op, VarId, place_of};
 use std::test::Fail;
 
 fn lit(op: Op, value: i64) -> Lit
@@ -41,21 +41,22 @@ fn a_listed_set(rt: HostRuntime) -> Result<(), Fail> {
     Ok(())
 }
 
+/// Keeps the values at which the literal is true, and says whether any is left.
+fn keep(domain: &mut Domain, op: Op, value: i64) -> Result<bool, Memory> {
+    domain.restrict(lit(op, value))
+}
+
 #[test]
 fn holes_at_the_ends(rt: HostRuntime) -> Result<(), Fail> {
     let mut domain = Domain::range(rt.alloc(), 1, 5)?;
-    assert!(rt; domain.restrict(lit(Op::NotEqual, 3))?);
-    assert!(rt; domain.restrict(lit(Op::NotEqual, 4))?);
+    assert!(rt; keep(&mut domain, Op::NotEqual, 3)? && keep(&mut domain, Op::NotEqual, 4)?);
     let kept = domain.copy()?;
-    assert!(rt; domain.restrict(lit(Op::NotEqual, 5))?);
-    assert_eq!(rt; domain.len(), 2);
-    assert_eq!(rt; domain.above(2), None);
-    assert_eq!(rt; kept.above(2), Some(5));
-    assert!(rt; domain.restrict(lit(Op::AtLeast, 2))?);
+    assert!(rt; keep(&mut domain, Op::NotEqual, 5)?);
+    assert_eq!(rt; (domain.len(), domain.above(2)), (2, None));
+    assert!(rt; keep(&mut domain, Op::AtLeast, 2)?);
     assert!(rt; domain.is_false(lit(Op::NotEqual, 2)));
-    assert!(rt; !domain.restrict(lit(Op::AtMost, 1))?);
-    assert_eq!(rt; domain.len(), 0);
-    assert_eq!(rt; kept.len(), 3);
+    assert!(rt; !keep(&mut domain, Op::AtMost, 1)?);
+    assert_eq!(rt; (domain.len(), kept.len(), kept.above(2)), (0, 3, Some(5)));
     Ok(())
 }
 
@@ -63,10 +64,10 @@ fn holes_at_the_ends(rt: HostRuntime) -> Result<(), Fail> {
 fn a_wide_range(rt: HostRuntime) -> Result<(), Fail> {
     let mut domain = Domain::range(rt.alloc(), LEAST_VALUE, GREATEST_VALUE)?;
     assert_eq!(rt; domain.len(), 2_000_000_001);
-    assert!(rt; domain.restrict(lit(Op::NotEqual, 0))?);
+    assert!(rt; keep(&mut domain, Op::NotEqual, 0)?);
     assert_eq!(rt; domain.len(), 2_000_000_000);
     assert_eq!(rt; (domain.above(-1), domain.below(1)), (Some(1), Some(-1)));
-    assert!(rt; domain.restrict(lit(Op::Equal, 5))?);
+    assert!(rt; keep(&mut domain, Op::Equal, 5)?);
     assert_eq!(rt; domain.len(), 1);
     Ok(())
 }
@@ -102,7 +103,7 @@ fn run_end(domain: &Domain, value: i64) -> Option<i64> {
 #[test]
 fn places_and_runs(rt: HostRuntime) -> Result<(), Fail> {
     let mut range = Domain::range(rt.alloc(), 1, 6)?;
-    assert!(rt; range.restrict(lit(Op::NotEqual, 3))?);
+    assert!(rt; keep(&mut range, Op::NotEqual, 3)?);
     let listed = Domain::listed(rt.alloc(), &[5, 1, 3, 4])?;
     assert_eq!(rt;
         (nth(&range, 1), nth(&range, 2), nth(&range, 4)),

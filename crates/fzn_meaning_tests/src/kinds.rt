@@ -1,4 +1,5 @@
 // Each of the 51 names on all values of small sets, against the values that meet it by the Handbook and the Catalog.
+ghost use Rattle.std.specs.Prelude.{IfOk};
 ghost use Rattle.fzn_meaning.specs.WellFormed.{IsWellFormed};
 
 use fzn_meaning::{Model, holds};
@@ -72,6 +73,13 @@ var 0..2: a; constraint fzn_circuit([a]); => 1
 var 0..3: a; var 0..3: b; var 0..3: c; var 0..3: d; constraint fzn_inverse([a,b],[c,d]); => 1,2,1,2 2,1,2,1
 ";
 
+/// The model of a file.
+pub(crate) fn model_of(alloc: Global, file: &str) -> Result<Model, Fail>
+    ensures { IfOk result IsWellFormed }
+{
+    Ok(read_model(alloc, &mut file.as_bytes())?)
+}
+
 /// The values, with commas between them.
 fn spelled(alloc: Global, values: &[i64]) -> Result<String, AllocError> {
     let mut word = String::new(alloc);
@@ -144,7 +152,7 @@ fn meanings_of_all_names(rt: HostRuntime) -> Result<(), Fail> {
     for row in ROWS.trim().lines() {
         let (items, meeting) = row.split_once(" => ").ok_or("a line has two parts")?;
         let file = format!(in rt.alloc(); "{items} solve satisfy;")?;
-        let model = read_model(rt.alloc(), &mut file.as_bytes())?;
+        let model = model_of(rt.alloc(), file.as_str())?;
         assert!(rt; holds_at(rt.alloc(), &model, meeting)?, "{row}");
     }
     Ok(())

@@ -2,9 +2,9 @@
 ghost use Rattle.std.specs.Prelude.{◌≡◌, IfOk, length};
 ghost use Rattle.fzn_meaning.specs.WellFormed.{IsWellFormed};
 
+use crate::kinds::model_of;
 use fzn_domain::{Lit, Op, VarId};
 use fzn_meaning::{Model, better, cut, is_solution, plus_product};
-use fzn_reading::read_model;
 use std::alloc::Global;
 use std::test::*;
 
@@ -16,7 +16,7 @@ fn small_model(alloc: Global, goal: &str) -> Result<Model, Fail>
     ensures { IfOk result IsWellFormed }
 {
     let file = format!(in alloc; "{ITEMS} solve {goal};")?;
-    Ok(read_model(alloc, &mut file.as_bytes())?)
+    model_of(alloc, file.as_str())
 }
 
 #[test]

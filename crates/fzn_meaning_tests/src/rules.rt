@@ -5,23 +5,16 @@ ghost use Rattle.fzn_domain.specs.Narrow.{is_some_empty};
 ghost use Rattle.fzn_meaning.specs.Meaning.{IsWellFormed as IsWellFormedConstraint};
 ghost use Rattle.fzn_meaning.specs.WellFormed.{IsWellFormed};
 
-use crate::kinds::{ROWS, advance, all_hold, first_values};
+use crate::kinds::{ROWS, advance, all_hold, first_values, model_of};
 use fzn_domain::{Lit, Op, VarId};
 use fzn_list::Items;
 use fzn_meaning::{Constraint, Model};
-use fzn_reading::read_model;
 use fzn_rules::{Rule, State, refutes};
 use std::alloc::{AllocError, Global};
 use std::test::*;
 
-/// Each rule, with each hint from -1 to 4, or up to three places.
-fn rules_with_hints(alloc: Global) -> Result<Vec<Rule>, AllocError> {
-    let mut rules = Vec::new(alloc);
-    rules.push(Rule::Lin)?;
-    rules.push(Rule::Rows)?;
-    rules.push(Rule::Box)?;
-    rules.push(Rule::Fixed)?;
-    rules.push(Rule::Enum)?;
+/// The rules with numbers as hints, each from -1 to 4.
+fn push_hinted(rules: &mut Vec<Rule>) -> Result<(), AllocError> {
     for first in -1..5i64 {
         rules.push(Rule::Load(first))?;
         for second in -1..5i64 {
@@ -30,6 +23,19 @@ fn rules_with_hints(alloc: Global) -> Result<Vec<Rule>, AllocError> {
             rules.push(Rule::Pair(first, second))?;
         }
     }
+    Ok(())
+}
+
+fn cut_of(alloc: Global, places: &[i64]) -> Result<Rule, AllocError> {
+    let mut items = Items::new(alloc);
+    for place in places {
+        items.push(*place)?;
+    }
+    Ok(Rule::Cut(items))
+}
+
+/// Cuts of up to three places, two of them in no order, and of none.
+fn push_cuts(alloc: Global, rules: &mut Vec<Rule>) -> Result<(), AllocError> {
     for places in [
         [1].as_slice(),
         &[2],
@@ -41,12 +47,19 @@ fn rules_with_hints(alloc: Global) -> Result<Vec<Rule>, AllocError> {
         &[2, 1],
         &[],
     ] {
-        let mut items = Items::new(alloc);
-        for place in places {
-            items.push(*place)?;
-        }
-        rules.push(Rule::Cut(items))?;
+        rules.push(cut_of(alloc, places)?)?;
     }
+    Ok(())
+}
+
+/// Each rule, with its hints.
+fn rules_with_hints(alloc: Global) -> Result<Vec<Rule>, AllocError> {
+    let mut rules = Vec::new(alloc);
+    for rule in [Rule::Lin, Rule::Rows, Rule::Box, Rule::Fixed, Rule::Enum] {
+        rules.push(rule)?;
+    }
+    push_hinted(&mut rules)?;
+    push_cuts(alloc, &mut rules)?;
     Ok(rules)
 }
 
@@ -200,7 +213,7 @@ fn rules_on_all_sets(rt: HostRuntime) -> Result<(), Fail> {
     for row in ROWS.trim().lines() {
         let (items, _) = row.split_once(" => ").ok_or("a line has two parts")?;
         let file = format!(in rt.alloc(); "{items} solve satisfy;")?;
-        let model = read_model(rt.alloc(), &mut file.as_bytes())?;
+        let model = model_of(rt.alloc(), file.as_str())?;
         let is_builtin = !row.contains("fzn_");
         assert!(rt; are_right(rt.alloc(), &model, &rules, is_builtin)?, "{row}");
     }

@@ -259,12 +259,16 @@ fzn_circuit([x, y]) => Circuit [ v4 v5 ]
 fzn_inverse([x], [y]) => Inverse [ v4 ] [ v5 ]
 ";
 
+fn model_of(alloc: Global, file: &str) -> Result<Model, Fail> {
+    Ok(read_model(alloc, &mut file.as_bytes())?)
+}
+
 /// The constraints of a model with three Booleans, three integers and this constraint.
 fn read_back(alloc: Global, text: &mut String, stated: &str) -> Result<(), Fail> {
     let file = format!(in alloc;
         "var bool: a; var bool: b; var bool: r; var 1..9: x; var 1..9: y; var 1..9: z; constraint {stated}; solve satisfy;"
     )?;
-    let model = read_model(alloc, &mut file.as_str().as_bytes())?;
+    let model = model_of(alloc, file.as_str())?;
     constraints(text, &model)?;
     Ok(())
 }
@@ -393,7 +397,7 @@ fn parts(text: &mut String, model: &Model) -> Result<(), AllocError> {
 }
 
 fn parts_of(alloc: Global, text: &mut String, file: &str) -> Result<(), Fail> {
-    let model = read_model(alloc, &mut file.as_bytes())?;
+    let model = model_of(alloc, file)?;
     parts(text, &model)?;
     Ok(())
 }

@@ -35,38 +35,41 @@ pub(crate) fn shown<R: Read>(alloc: Global, input: &mut R) -> Result<String, All
     }
 }
 
+/// Files, where `|` stands for a line feed, and their faults. A fault of the lexer stands before one of the parser that is nearer.
+const FAULTS: &str = "
+solve satisfy;\u{7f} => line 1 column 15: fault 1 BadByte
+var|| @ => line 3 column 2: fault 2 BadToken
+ => line 1 column 1: fault 3 Syntax
+solve satisfy => line 1 column 14: fault 3 Syntax
+% a\r|\tx => line 2 column 2: fault 3 Syntax
+var 1.5..2: x; => line 1 column 5: fault 5 Float
+int: k = 1000000001; => line 1 column 10: fault 8 LiteralRange
+array [1..100001] of int: k = []; => line 1 column 11: fault 16 TooMany
+satisfy solve 1e5 => line 1 column 15: fault 5 Float
+";
+
+/// Whether the file has the fault where so many bytes are read a call.
+fn has_fault(alloc: Global, file: &str, most: usize, fault: &str) -> Result<bool, AllocError> {
+    let mut input = Pieces {
+        bytes: file.as_bytes(),
+        most,
+        fails: None,
+    };
+    Ok(shown(alloc, &mut input)?.as_str() == fault)
+}
+
 #[test]
 fn faults_of_files(rt: HostRuntime) -> Result<(), Fail> {
-    for (file, most, want) in [
-        ("solve satisfy;\x7f", 1, "line 1 column 15: fault 1 BadByte"),
-        ("var\n\n @", 3, "line 3 column 2: fault 2 BadToken"),
-        ("", 1, "line 1 column 1: fault 3 Syntax"),
-        ("solve satisfy", 20_000, "line 1 column 14: fault 3 Syntax"),
-        ("% a\r\n\tx", 2, "line 2 column 2: fault 3 Syntax"),
-        ("var 1.5..2: x;", 4, "line 1 column 5: fault 5 Float"),
-        (
-            "int: k = 1000000001;",
-            7,
-            "line 1 column 10: fault 8 LiteralRange",
-        ),
-        (
-            "array [1..100001] of int: k = [];",
-            1,
-            "line 1 column 11: fault 16 TooMany",
-        ),
-        // A fault of the lexer stands before one of the parser that is nearer.
-        ("satisfy solve 1e5", 5, "line 1 column 15: fault 5 Float"),
-    ] {
-        let mut input = Pieces {
-            bytes: file.as_bytes(),
-            most,
-            fails: None,
-        };
-        let text = shown(rt.alloc(), &mut input)?;
-        assert_eq!(rt; text.as_str(), want, "in {file:?}");
-        let mut bytes = file.as_bytes();
-        let text = shown(rt.alloc(), &mut bytes)?;
-        assert_eq!(rt; text.as_str(), want, "in {file:?}, at once");
+    assert_eq!(rt; FAULTS.trim().lines().count(), 9);
+    for row in FAULTS.trim().lines() {
+        let (file, fault) = row.split_once(" => ").ok_or("a line has two parts")?;
+        let file = file.replace(rt.alloc(), '|', "\n")?;
+        for most in [1, 2, 7, 20_000] {
+            assert!(rt;
+                has_fault(rt.alloc(), file.as_str(), most, fault)?,
+                "{row} by {most}"
+            );
+        }
     }
     Ok(())
 }

@@ -37,7 +37,16 @@ const ACCEPTED: &str = "=====UNKNOWN=====\n";
 
 const REFUSED: &str = "certificate line 3: fault 42 RuleFails";
 
-/// What checking prints, or the line of its fault, where the certificate has this one step.
+/// What checking prints, or the line of its fault.
+fn checked(alloc: Global, file: &str, cert: &str) -> Result<String, AllocError> {
+    let mut out: Vec<u8> = Vec::new(alloc);
+    match check(alloc, file.as_bytes(), cert.as_bytes(), true, &mut out) {
+        Ok(_) => String::from_utf8_lossy(alloc, &out),
+        Err(fault) => format!(in alloc; "{fault}"),
+    }
+}
+
+/// The same, where the certificate has this one step.
 fn judged(
     alloc: Global,
     declarations: &str,
@@ -47,41 +56,34 @@ fn judged(
     let count = declarations.matches(';').count();
     let file = format!(in alloc; "{declarations} constraint {constraint}; solve satisfy;")?;
     let cert = format!(in alloc; "fzc 1\nvars {count} cons 1\ni 1 {step}\ne open\n")?;
-    let mut out: Vec<u8> = Vec::new(alloc);
-    match check(
-        alloc,
-        file.as_str().as_bytes(),
-        cert.as_str().as_bytes(),
-        true,
-        &mut out,
-    ) {
-        Ok(_) => String::from_utf8_lossy(alloc, &out),
-        Err(fault) => format!(in alloc; "{fault}"),
-    }
+    checked(alloc, file.as_str(), cert.as_str())
 }
 
-fn columns<'a>(alloc: Global, line: &'a str) -> Result<Vec<&'a str>, AllocError> {
-    line.split('|').map(|column| column.trim()).collect(alloc)
+/// Whether a line's step fares so with the number.
+fn fares(alloc: Global, line: &str, number: &str, want: &str) -> Result<bool, Fail> {
+    let line = line.replace(alloc, '#', number)?;
+    let columns: Vec<&str> = line.as_str().split('|').map(|it| it.trim()).collect(alloc)?;
+    let [constraint, declarations, step, ..] = columns.as_slice() else {
+        return Err("a line has three columns before its numbers")?;
+    };
+    Ok(judged(alloc, declarations, constraint, step)?.as_str() == want)
+}
+
+/// Whether a line's step is accepted with its first number and refused with the second.
+fn is_pair(alloc: Global, line: &str) -> Result<bool, Fail> {
+    let (before, refused) = line.rsplit_once('|').ok_or("a line has numbers")?;
+    let (_, accepted) = before.rsplit_once('|').ok_or("a line has two numbers")?;
+    Ok(
+        fares(alloc, line, accepted.trim(), ACCEPTED)?
+            && fares(alloc, line, refused.trim(), REFUSED)?,
+    )
 }
 
 #[test]
 fn pairs(rt: HostRuntime) -> Result<(), Fail> {
-    let alloc = rt.alloc();
     for table in [SUMS, SHARED, FIXED, CHOICES, GLOBALS] {
         for line in table.trim().lines() {
-            let columns = columns(alloc, line)?;
-            let [constraint, declarations, step, accepted, refused] = columns.as_slice() else {
-                return Err("a line has five columns")?;
-            };
-            for (number, want) in [(*accepted, ACCEPTED), (*refused, REFUSED)] {
-                let got = judged(
-                    alloc,
-                    declarations.replace(alloc, '#', number)?.as_str(),
-                    constraint.replace(alloc, '#', number)?.as_str(),
-                    step.replace(alloc, '#', number)?.as_str(),
-                )?;
-                assert_eq!(rt; got.as_str(), want, "{number} in {line}");
-            }
+            assert!(rt; is_pair(rt.alloc(), line)?, "{line}");
         }
     }
     Ok(())
@@ -102,24 +104,31 @@ fn has_pair(name: &str, rule: &str) -> bool {
     false
 }
 
+/// Whether the rule is met by the constraint without variables where it is named, and then has a pair with it; else it is refused.
+fn is_as_named(
+    alloc: Global,
+    constraint: &str,
+    named: &str,
+    rule: &str,
+) -> Result<bool, AllocError> {
+    let step = format!(in alloc; "{rule} ;")?;
+    let got = judged(alloc, "", constraint, step.as_str())?;
+    let word = rule.split(' ').next().unwrap_or("");
+    if !named.split(' ').any(|other| other == word) {
+        return Ok(got.as_str() == REFUSED);
+    }
+    let name = constraint.split('(').next().unwrap_or("");
+    Ok(got.as_str() == ACCEPTED && has_pair(name, word))
+}
+
 #[test]
 fn rules_of_each_name(rt: HostRuntime) -> Result<(), Fail> {
-    let alloc = rt.alloc();
     assert_eq!(rt; NAMED.trim().lines().count(), 51);
     for line in NAMED.trim().lines() {
         let (constraint, named) = line.split_once('|').ok_or("a line has two columns")?;
-        let name = constraint.split('(').next().unwrap_or("");
         for rule in RULES {
-            let word = rule.split(' ').next().unwrap_or("");
-            let is_named = named.split(' ').any(|other| other == word);
-            let step = format!(in alloc; "{rule} ;")?;
-            let got = judged(alloc, "", constraint.trim(), step.as_str())?;
-            let want = if is_named { ACCEPTED } else { REFUSED };
-            assert_eq!(rt; got.as_str(), want, "{rule} of {line}");
-            assert!(rt;
-                !is_named || has_pair(name, word),
-                "no pair of {rule} and {name}"
-            );
+            let is_right = is_as_named(rt.alloc(), constraint.trim(), named, rule)?;
+            assert!(rt; is_right, "{rule} of {line}");
         }
     }
     Ok(())

@@ -1,40 +1,41 @@
 use super::{TWO_BOOLEANS, options, text_of};
 use fzn_lexer::{Fault, FaultKind, Place};
 use fzn_solver::{RunFault, run};
+use std::alloc::Global;
 use std::io;
 use std::io::Read;
 use std::test::Fail;
 
+/// The fault of a run that leaves both writers as they were.
+fn fault_of<R: Read + Drop>(alloc: Global, input: R) -> Result<String, Fail> {
+    let mut out = Vec::from_slice(alloc, b"before")?;
+    let mut cert = Vec::from_slice(alloc, b"first")?;
+    let Err(fault) = run(alloc, input, &options(alloc, true, 9), &mut out, &mut cert) else {
+        return Err("the file is answered")?;
+    };
+    if text_of(&out) != "before" || text_of(&cert) != "first" {
+        return Err("bytes were written")?;
+    }
+    Ok(format!(in alloc; "{fault}")?)
+}
+
+/// Files of one line, and where and what their fault is.
+const FAULTS: &str = "
+solve satisfy;\u{7f} => column 15: fault 1 BadByte
+solve @ => column 7: fault 2 BadToken
+ => column 1: fault 3 Syntax
+var float: f; solve satisfy; => column 5: fault 5 Float
+var int: x; solve satisfy; => column 5: fault 7 UnboundedInt
+constraint int_pow(1,2,3); solve satisfy; => column 12: fault 11 UnknownConstraint
+";
+
 #[test]
 fn faults_of_the_file(rt: HostRuntime) -> Result<(), Fail> {
-    let alloc = rt.alloc();
-    for (file, kind, column) in [
-        ("solve satisfy;\x7f", FaultKind::BadByte, 15),
-        ("solve @", FaultKind::BadToken, 7),
-        ("", FaultKind::Syntax, 1),
-        ("var float: f; solve satisfy;", FaultKind::Float, 5),
-        ("var int: x; solve satisfy;", FaultKind::UnboundedInt, 5),
-        (
-            "constraint int_pow(1,2,3); solve satisfy;",
-            FaultKind::UnknownConstraint,
-            12,
-        ),
-    ] {
-        let mut out = Vec::from_slice(alloc, b"before")?;
-        let mut cert = Vec::from_slice(alloc, b"first")?;
-        let options = options(alloc, true, 9);
-        let result = run(alloc, file.as_bytes(), &options, &mut out, &mut cert);
-        let place = Place { line: 1, column };
-        assert_eq!(rt;
-            result,
-            Err(RunFault::File(Fault { kind, place })),
-            "{file:?}"
-        );
-        assert_eq!(rt;
-            (text_of(&out), text_of(&cert)),
-            ("before", "first"),
-            "{file:?}"
-        );
+    assert_eq!(rt; FAULTS.trim().lines().count(), 6);
+    for row in FAULTS.trim().lines() {
+        let (file, want) = row.split_once(" => ").ok_or("a line has two parts")?;
+        let got = fault_of(rt.alloc(), file.as_bytes())?;
+        assert!(rt; got.as_str().strip_prefix("line 1 ") == Some(want), "{row}");
     }
     Ok(())
 }
@@ -57,18 +58,9 @@ impl Read for Torn<'_> {
 
 #[test]
 fn failed_reads(rt: HostRuntime) -> Result<(), Fail> {
-    let alloc = rt.alloc();
     for file in ["", "solve", TWO_BOOLEANS] {
-        let mut out = Vec::from_slice(alloc, b"before")?;
-        let mut cert = Vec::from_slice(alloc, b"first")?;
-        let options = options(alloc, true, 9);
-        let result = run(alloc, Torn(file.as_bytes()), &options, &mut out, &mut cert);
-        assert_eq!(rt; result, Err(RunFault::Read), "{file:?}");
-        assert_eq!(rt;
-            (text_of(&out), text_of(&cert)),
-            ("before", "first"),
-            "{file:?}"
-        );
+        let got = fault_of(rt.alloc(), Torn(file.as_bytes()))?;
+        assert_eq!(rt; got.as_str(), "fault 20 Read", "{file:?}");
     }
     Ok(())
 }
