@@ -1,15 +1,15 @@
 -- Times in order, the places among them, and what a change at a place does to the load.
-use Rattle.std.proofs.Common.{◌≡◌, ℕ, zero, suc, ◌+◌, ◌*◌, ◌^◌, ◌<◌, ◌≤◌, Bool, true, false, cond, ◌&&◌, not, List, [], ◌∷◌, length, get_or, set, take, replicate, refl, ap, sym, ◌∙◌, subst, inl, inr, ℤ, pos, ◌+ℤ◌, ◌≤ℤ◌, ◌<ℤ◌, neg_ℤ, int_lt, int_cmp, unsigned_abs, IsPermutation, add-one, arith}
+use Rattle.std.proofs.Common.{◌≡◌, ℕ, zero, suc, ◌+◌, ◌*◌, ◌^◌, ◌<◌, ◌≤◌, Bool, true, false, cond, ◌&&◌, not, List, [], ◌∷◌, ◌++◌, length, get_or, set, take, replicate, refl, ap, sym, ◌∙◌, subst, inl, inr, ℤ, pos, ◌+ℤ◌, ◌≤ℤ◌, ◌<ℤ◌, neg_ℤ, int_lt, int_cmp, unsigned_abs, IsPermutation, add-one, arith}
 use Rattle.std.specs.Prelude.{int_le}
-use Rattle.std.specs.List.{All, AllPairs, Contains}
+use Rattle.std.specs.List.{All, AllPairs}
 use Rattle.std.specs.List.Sorted.{IsSorted, IsPartitionedBy}
 use Rattle.std.specs.Cmp.{int_cmp_total}
 use Rattle.std.specs.Ordering.{is_lt}
 use Rattle.std.proofs.lemmas.Int.{ints}
 use Rattle.std.proofs.lemmas.Bool.{cases_lt, cases_order}
-use Rattle.std.proofs.lemmas.List.{get_or_default}
-use Rattle.std.proofs.lemmas.List.Elements.{All-contains, All-set, All-from_get_or}
-use Rattle.std.proofs.lemmas.List.Sorted.{sorted_far, ranks_by, All-permutation, Contains-permutation}
+use Rattle.std.proofs.lemmas.List.{length-append, get_or_append_left}
+use Rattle.std.proofs.lemmas.List.Elements.{All-set, All-from_get_or}
+use Rattle.std.proofs.lemmas.List.Sorted.{sorted_far, ranks_by, All-permutation, IsPermutation-sym}
 use Rattle.fzn_domain.specs.Ascending.{IsPlaceOf}
 use Rattle.fzn_meaning.specs.Cumulative.{Task, tasks, load_at, use_at}
 use Rattle.fzn_meaning.proofs.CumulativeLemmas.{load_at-more}
@@ -91,10 +91,10 @@ not_yet : (old new change time t : ℤ) → t <ℤ time → new ≡ old → new 
 not_yet old new change time t lt e = grind (arith, ints)
 
 -- a change at the place of a time
-pub IsChangedFrom-set : (times changes : List ℤ) (time change : ℤ) (p : ℕ) → length changes ≡ length times + 1 → IsPlaceOf times time p → IsChangedFrom time change times changes (set changes p (get_or changes p (pos 0) +ℤ change))
-IsChangedFrom-set times changes time change p long place k lt = elim (cases_lt k p) [
+pub IsChangedFrom-set : (times changes : List ℤ) (time change : ℤ) (p : ℕ) → length changes ≡ length times → p < length changes → IsPlaceOf times time p → IsChangedFrom time change times changes (set changes p (get_or changes p (pos 0) +ℤ change))
+IsChangedFrom-set times changes time change p long at place k lt = elim (cases_lt k p) [
   | inl before ↦ not_yet (load_after (k + 1) changes) _ change time (get_or times k (pos 0)) (place.before k (pos 0) (omega arith) before) (load_after-later (k + 1) p changes (get_or changes p (pos 0) +ℤ change) (omega arith))
-  | inr from ↦ from_here (load_after (k + 1) changes) _ change time (get_or times k (pos 0)) (place.after k (pos 0) from lt) (load_after-changed (k + 1) p changes change (omega arith) (omega (arith, place.in_list)))
+  | inr from ↦ from_here (load_after (k + 1) changes) _ change time (get_or times k (pos 0)) (place.after k (pos 0) from lt) (load_after-changed (k + 1) p changes change (omega arith) at)
 ]
 
 -- ---- the two changes of a task
@@ -148,11 +148,11 @@ changed_is xs p change lt room small = plain (get_or xs p (pos 0)) change (room 
 
 -- ---- the running sum
 
-module _ (xs : List ℤ) (n : ℕ) (load : ℤ) (lt : n < length xs) (below : n < 512) (room : AreWithin (2 ^ 100) xs) (bound : unsigned_abs load ≤ n * 2 ^ 100) where
+module _ (xs : List ℤ) (n : ℕ) (load : ℤ) (lt : n < length xs) (below : n < 8192) (room : AreWithin (2 ^ 100) xs) (bound : unsigned_abs load ≤ n * 2 ^ 100) where
   summed : to_z w128 (of_z w128 (load +ℤ to_z w128 (of_z w128 (get_or xs n (pos 0))))) ≡ load +ℤ get_or xs n (pos 0)
   summed = plain load (get_or xs n (pos 0)) (omega arith) (room n (pos 0) lt)
     where
-      plain : (a b : ℤ) → unsigned_abs a ≤ 2 ^ 109 → unsigned_abs b ≤ 2 ^ 100 → to_z w128 (of_z w128 (a +ℤ to_z w128 (of_z w128 b))) ≡ a +ℤ b
+      plain : (a b : ℤ) → unsigned_abs a ≤ 2 ^ 113 → unsigned_abs b ≤ 2 ^ 100 → to_z w128 (of_z w128 (a +ℤ to_z w128 (of_z w128 b))) ≡ a +ℤ b
       plain a b p q = omega (arith, ints)
 
   pub summed-is : load ≡ load_after n xs → to_z w128 (of_z w128 (load +ℤ to_z w128 (of_z w128 (get_or xs n (pos 0))))) ≡ load_after (n + 1) xs
@@ -169,31 +169,16 @@ IsProfile-more times ss ds rs old new i s d r lt e f es ed er so_far used k with
     ∙ ap (λ b. b +ℤ use_at (get_or times k (pos 0)) (record { start = s; duration = d; uses = r })) (so_far k within)
     ∙ rw (es, ed, er) (sym (load_at-more (get_or times k (pos 0)) ss ds rs i (pos 0) lt e f))
 
--- ---- the starts of a block among the times
+-- ---- the capacity at the starts of a block, which are the first times in another order
 
-module _ (block times : List ℤ) (some : 0 < length block) (short : length block ≤ length times) (written : (k : ℕ) → k < length block → get_or times k (pos 0) ≡ get_or block k (pos 0)) (first : (k : ℕ) → length block ≤ k → k < length times → get_or times k (pos 0) ≡ get_or block 0 (pos 0)) where
-  time_found : (k : ℕ) → k < length times → Contains block (get_or times k (pos 0))
-  time_found k lt = elim (cases_lt k (length block)) [
-    | inl front ↦ (k, front, get_or_default block k (get_or times k (pos 0)) (pos 0) front ∙ sym (written k front))
-    | inr back ↦ (0, some, get_or_default block 0 (get_or times k (pos 0)) (pos 0) some ∙ sym (first k back lt))
-  ]
+module _ (block front rest changes : List ℤ) (chosen : List Task) (capacity : ℤ) (same : IsPermutation block front) (profile : IsProfile (front ++ rest) chosen changes) where
+  load_here : (k : ℕ) → k < length front → load_after (k + 1) changes ≡ load_at (get_or front k (pos 0)) chosen
+  load_here k lt = profile k (simp length-append (omega arith)) ∙ ap (λ t. load_at t chosen) (get_or_append_left front rest (pos 0) k lt)
 
-  pub found_in_block : (sorted : List ℤ) → IsPermutation times sorted → All (Contains block) sorted
-  found_in_block sorted moved = All-permutation (Contains block) times sorted moved (All-from_get_or (Contains block) times (pos 0) time_found)
+  pub kept_at_starts : ((k : ℕ) → k < length front → load_after (k + 1) changes ≤ℤ capacity) → All (λ t. load_at t chosen ≤ℤ capacity) block
+  kept_at_starts within =
+      All-permutation (λ t. load_at t chosen ≤ℤ capacity) front block (IsPermutation-sym block front same)
+      (All-from_get_or (λ t. load_at t chosen ≤ℤ capacity) front (pos 0) (λ k lt. subst (λ x. x ≤ℤ capacity) (load_here k lt) (within k lt)))
 
-  pub found_in_times : (sorted : List ℤ) → IsPermutation times sorted → All (Contains sorted) block
-  found_in_times sorted moved k d lt =
-      Contains-permutation times sorted (get_or block k d) moved
-      (k, omega arith, get_or_default times k (get_or block k d) (pos 0) (omega arith) ∙ written k lt ∙ get_or_default block k (pos 0) d lt)
-
--- ---- the capacity at the times, and at the starts of the block
-
-module _ (block times changes : List ℤ) (chosen : List Task) (capacity : ℤ) (profile : IsProfile times chosen changes) where
-  pub kept_at_starts : All (Contains times) block → ((k : ℕ) → k < length times → load_after (k + 1) changes ≤ℤ capacity) → All (λ t. load_at t chosen ≤ℤ capacity) block
-  kept_at_starts all within k d lt =
-      All-contains (λ t. load_at t chosen ≤ℤ capacity) times (get_or block k d)
-      (All-from_get_or (λ t. load_at t chosen ≤ℤ capacity) times (pos 0) (λ j l. subst (λ x. x ≤ℤ capacity) (profile j l) (within j l)))
-      (all k d lt)
-
-  pub kept_at_times : All (Contains block) times → All (λ t. load_at t chosen ≤ℤ capacity) block → (k : ℕ) → k < length times → load_after (k + 1) changes ≤ℤ capacity
-  kept_at_times found kept k lt = subst (λ x. x ≤ℤ capacity) (sym (profile k lt)) (All-contains (λ t. load_at t chosen ≤ℤ capacity) block (get_or times k (pos 0)) kept (found k (pos 0) lt))
+  pub kept_at_times : All (λ t. load_at t chosen ≤ℤ capacity) block → (k : ℕ) → k < length front → load_after (k + 1) changes ≤ℤ capacity
+  kept_at_times kept k lt = subst (λ x. x ≤ℤ capacity) (sym (load_here k lt)) (All-permutation (λ t. load_at t chosen ≤ℤ capacity) block front same kept k (pos 0) lt)

@@ -6,4 +6,5 @@ pub mod MadeLemmas
 pub mod OneModel
 pub mod RisingLemmas
 pub mod TreeLemmas
+mod TypedLemmas
 pub mod WellFormedLemmas

@@ -105,12 +105,12 @@ module _ (sets : List IntSet) (names : NameList) (known : AreMeanings sets names
       let wrong = at WrongType (wrong_arguments names (arguments_of name) con.args) in
       let lengths = at Length (when (not (has_lengths names (lengths_of name) con.args)) con.name.place) in
       let signs = at Argument (when (list_any (has_negative names con.args) (non_negative_of name)) con.name.place) in
-      let upto = left_empty (arity ++ wrong ++ lengths) signs right in
-      let types = at-empty WrongType (wrong_arguments names (arguments_of name) con.args) (right_empty arity wrong (left_empty (arity ++ wrong) lengths upto)) in
+      let values = right_empty (arity ++ wrong) (lengths ++ signs) right in
+      let types = at-empty WrongType (wrong_arguments names (arguments_of name) con.args) (right_empty arity wrong (left_empty (arity ++ wrong) (lengths ++ signs) right)) in
       let fit = when_not (has_lengths names (lengths_of name) con.args) con.name.place
-      (at-empty Length (when (not (has_lengths names (lengths_of name) con.args)) con.name.place) (right_empty (arity ++ wrong) lengths upto)) in
+      (at-empty Length (when (not (has_lengths names (lengths_of name) con.args)) con.name.place) (left_empty lengths signs values)) in
       let above = when_false (list_any (has_negative names con.args) (non_negative_of name)) con.name.place
-      (at-empty Argument (when (list_any (has_negative names con.args) (non_negative_of name)) con.name.place) (right_empty (arity ++ wrong ++ lengths) signs right)) in
+      (at-empty Argument (when (list_any (has_negative names con.args) (non_negative_of name)) con.name.place) (right_empty lengths signs values)) in
       All-cons IsGood (constraint_for names con.args name) [] (made_right sets names known con.args within name types fit above) (All-nil IsGood)
 
   stated_good : (con : Con) → All IsArgWithin con.args → constraint_faults names con ≡ [] → All IsGood (stated names con)

@@ -1,11 +1,12 @@
 -- Arguments of constraints: where they are faulty, and what they stand for.
-use Rattle.std.specs.Prelude.{ℕ, ◌%◌, Bool, true, ◌&&◌, ◌||◌, ℤ, pos, List, [], ◌∷◌, ◌++◌, Option, Some, None, map, flat_map, length, slice_get, nat_eq, nat_lt}
+use Rattle.std.specs.Prelude.{ℕ, ◌%◌, Bool, true, ◌&&◌, ◌||◌, ℤ, pos, List, [], ◌∷◌, ◌++◌, Option, Some, None, flat_map, length, slice_get, nat_eq, nat_lt, is_none}
 use Rattle.std.specs.List.{list_any}
 use Rattle.fzn_domain.specs.IntSet.{IntSet, no_values}
 use Rattle.fzn_lexer.specs.declared.token.Place.{Place}
 use Rattle.fzn_meaning.specs.declared.term.Term.{Term}
 use Rattle.fzn_meaning.specs.declared.term.Term.TheVariants as terms
 use Rattle.fzn_meaning.specs.Term.{number_in, numbers_in}
+use Rattle.fzn_names.specs.Places.{first}
 use Rattle.fzn_names.specs.Types.{sets_in, unknown_in, wrong_in}
 use Rattle.fzn_names.specs.Values.{NameList, value_of, term_of, terms_of, terms_in, set_in}
 use Rattle.fzn_symbols.specs.Signs.{is_negative}
@@ -49,6 +50,10 @@ wrong_values names wanted (args.Array array) = wrong_entries names (entry_of wan
 abbrev pub wrong_arguments : NameList → List Argument → List Arg → List Place
 wrong_arguments names (wanted ∷ more) (arg ∷ others) = wrong_values names wanted arg ++ wrong_arguments names more others
 wrong_arguments names _ _ = []
+
+-- as many arguments as are wanted, and none of another type
+abbrev pub has_types : NameList → List Argument → List Arg → Bool
+has_types names wanted all = nat_eq (length all) (length wanted) && is_none (first (wrong_arguments names wanted all))
 
 -- ---- what arguments stand for; else 0, no entries and no values, which no model has where nothing is faulty
 

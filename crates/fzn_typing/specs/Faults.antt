@@ -22,14 +22,19 @@ use Rattle.fzn_typing.specs.Arguments.{set_entries, unknown_names, wrong_argumen
 
 -- ---- constraints
 
+-- the faults of lengths and signs
+abbrev pub value_faults : NameList → Con → Name → List Fault
+value_faults names con name =
+    at Length (when (not (has_lengths names (lengths_of name) con.args)) con.name.place)
+    ++ at Argument (when (list_any (has_negative names con.args) (non_negative_of name)) con.name.place)
+
 -- the faults of a constraint by its name
 abbrev pub named_faults : NameList → Con → Option Name → List Fault
 named_faults names con None = at UnknownConstraint (con.name.place ∷ [])
 named_faults names con (Some name) =
     at Arity (when (not (nat_eq (length con.args) (length (arguments_of name)))) con.name.place)
     ++ at WrongType (wrong_arguments names (arguments_of name) con.args)
-    ++ at Length (when (not (has_lengths names (lengths_of name) con.args)) con.name.place)
-    ++ at Argument (when (list_any (has_negative names con.args) (non_negative_of name)) con.name.place)
+    ++ value_faults names con name
 
 unfoldable pub constraint_faults : NameList → Con → List Fault
 constraint_faults names con =

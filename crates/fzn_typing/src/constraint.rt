@@ -5,7 +5,8 @@ ghost use Rattle.fzn_names.specs.Given.{Gives};
 ghost use Rattle.fzn_names.specs.Known.{known};
 ghost use Rattle.fzn_names.specs.Places.{first};
 ghost use Rattle.fzn_registry.specs.Registry.{IsRow};
-ghost use Rattle.fzn_typing.specs.Faults.{named_faults, constraint_faults};
+ghost use Rattle.fzn_typing.specs.Arguments.{has_types};
+ghost use Rattle.fzn_typing.specs.Faults.{value_faults, named_faults, constraint_faults};
 ghost use Rattle.fzn_typing.specs.Limits.{IsConWithin};
 ghost use Rattle.fzn_typing.specs.Models.{stated};
 
@@ -16,9 +17,31 @@ use fzn_lexer::{Fault, FaultKind, ReadError};
 use fzn_list::Items;
 use fzn_meaning::Constraint;
 use fzn_names::Names;
-use fzn_registry::{Signature, lookup_bytes};
-use fzn_tree::Con;
+use fzn_registry::{Argument, Signature, lookup_bytes};
+use fzn_tree::{Arg, Con};
 use std::alloc::{AllocError, Global};
+
+/// The first fault of a constraint's values, where their types are right.
+#[tactic(auto, using(crate::proofs::FirstLemmas::firsts))]
+fn value_fault(names: &Names, con: &Con, signature: &Signature) -> Option<Fault>
+    requires { IsRow signature.now }
+    ensures { result ≡ first (value_faults (known names.now) con.now signature.now.name) }
+{
+    let args = con.args.as_slice();
+    if !has_lengths(names, signature.lengths, args) {
+        return Some(Fault {
+            kind: FaultKind::Length,
+            place: con.name.place,
+        });
+    }
+    if has_negatives(names, args, signature.non_negative) {
+        return Some(Fault {
+            kind: FaultKind::Argument,
+            place: con.name.place,
+        });
+    }
+    None
+}
 
 #[tactic(auto, using(crate::proofs::FirstLemmas::firsts))]
 fn named_fault(names: &Names, con: &Con, signature: &Signature) -> Option<Fault>
@@ -38,24 +61,12 @@ fn named_fault(names: &Names, con: &Con, signature: &Signature) -> Option<Fault>
             place,
         });
     }
-    if !has_lengths(names, signature.lengths, args) {
-        return Some(Fault {
-            kind: FaultKind::Length,
-            place: con.name.place,
-        });
-    }
-    if has_negatives(names, args, signature.non_negative) {
-        return Some(Fault {
-            kind: FaultKind::Argument,
-            place: con.name.place,
-        });
-    }
-    None
+    value_fault(names, con, signature)
 }
 
-/// The first fault of a constraint.
+/// The first fault of a constraint by all its arguments in turn.
 #[tactic(auto, using(crate::proofs::FirstLemmas::firsts), unfolding(crate::specs::Faults::constraint_faults))]
-fn constraint_fault(names: &Names, con: &Con) -> Option<Fault>
+fn any_fault(names: &Names, con: &Con) -> Option<Fault>
     ensures { result ≡ first (constraint_faults (known names.now) con.now) }
 {
     let args = con.args.as_slice();
@@ -77,6 +88,27 @@ fn constraint_fault(names: &Names, con: &Con) -> Option<Fault>
             place: con.name.place,
         }),
         Some(signature) => named_fault(names, con, &signature),
+    }
+}
+
+/// Whether the arguments are as many as are wanted, each of its type.
+fn has_types(names: &Names, wanted: &[Argument], args: &[Arg]) -> bool
+    ensures { result ≡ has_types (known names.now) wanted.now args.now }
+{
+    args.len() == wanted.len() && first_wrong(names, wanted, args).is_none()
+}
+
+/// The first fault of a constraint. Where the types are right, each name is declared and no entry is a set, so most constraints are
+/// looked through once.
+fn constraint_fault(names: &Names, con: &Con) -> Option<Fault>
+    ensures { result ≡ first (constraint_faults (known names.now) con.now) }
+{
+    let args = con.args.as_slice();
+    match lookup_bytes(con.name.text.as_slice()) {
+        Some(signature) if has_types(names, signature.arguments, args) => {
+            value_fault(names, con, &signature)
+        }
+        _ => any_fault(names, con),
     }
 }
 

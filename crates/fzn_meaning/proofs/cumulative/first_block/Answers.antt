@@ -10,4 +10,4 @@ take-min n xs = elim (cases_lt n (length xs)) [
 ]
 
 pub returns : goal.returns
-returns c = c.before-2.ensures ∙ ap (λ k. take k c.args.rest.now) (c.min.ensures ∙ ap (λ n. min n 512) c.len.ensures) ∙ take-min 512 c.args.rest.now
+returns c = c.before-2.ensures ∙ ap (λ k. take k c.args.rest.now) (c.min.ensures ∙ ap (λ n. min n 8192) c.len.ensures) ∙ take-min 8192 c.args.rest.now

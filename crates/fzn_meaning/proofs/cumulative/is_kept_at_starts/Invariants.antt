@@ -4,4 +4,4 @@ use Rattle.fzn_meaning.specs.Cumulative.{tasks, load_at}
 use Rattle.fzn_meaning.proofs.cumulative.is_kept_at_starts.Given as goal
 
 abbrev pub invariant-loop-block : goal.invariant-loop-block
-invariant-loop-block l = All (λ t. load_at t (tasks l.starts l.durations l.uses) ≤ℤ l.capacity) (take (l.block * 512) l.starts)
+invariant-loop-block l = All (λ t. load_at t (tasks l.starts l.durations l.uses) ≤ℤ l.capacity) (take (l.block * 8192) l.starts)

@@ -4,7 +4,7 @@ use Rattle.fzn_meaning.proofs.LoadProfileLemmas.{before_first, tested_before, te
 use Rattle.fzn_meaning.proofs.load_profile.place_of.Goals as goal
 
 pub returns : goal.returns
-returns c =
+returns g c =
     let point = c.partition_point.ensures.partitioned (λ t. int_lt t c.args.time) (always_returns_same _ _ _ (λ a r f q. search (rules, of_calls))) (before_first c.args.times.now c.args.time c.requires.order) in
     record {
       in_list = c.partition_point.ensures.bound;

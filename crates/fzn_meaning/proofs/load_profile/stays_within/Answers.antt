@@ -17,10 +17,10 @@ pub loop-place-preserved : goal.loop-place-preserved
 loop-place-preserved c =
     let lt : c.loop-place.place < length c.args.changes.now = omega arith in
     let here = c.loop-place.invariant in
-    let now = summed-is c.args.changes.now c.loop-place.place (to_z w128 c.loop-place.load-bits) lt c.loop-place-test.true c.requires.room here.bound here.value in
+    let now = summed-is c.args.changes.now c.loop-place.place (to_z w128 c.loop-place.load-bits) lt (omega arith) c.requires.room here.bound here.value in
     record {
       value = now;
-      bound = summed-bound c.args.changes.now c.loop-place.place (to_z w128 c.loop-place.load-bits) lt c.loop-place-test.true c.requires.room here.bound;
+      bound = summed-bound c.args.changes.now c.loop-place.place (to_z w128 c.loop-place.load-bits) lt (omega arith) c.requires.room here.bound;
       within = below_more (λ k. load_after (k + 1) c.args.changes.now ≤ℤ to_z w64 (of_z w64 c.args.capacity)) c.loop-place.place here.within (at_most c.args.capacity _ _ c.ranges.capacity c.if-capacity-load.false now);
     }
 
@@ -29,7 +29,7 @@ pub returns-then-capacity-load : goal.returns-then-capacity-load
 returns-then-capacity-load c =
     let lt : c.loop-place.place < length c.args.changes.now = omega arith in
     let here = c.loop-place.invariant in
-    let now = summed-is c.args.changes.now c.loop-place.place (to_z w128 c.loop-place.load-bits) lt c.loop-place-test.true c.requires.room here.bound here.value in (
+    let now = summed-is c.args.changes.now c.loop-place.place (to_z w128 c.loop-place.load-bits) lt (omega arith) c.requires.room here.bound here.value in (
       (λ y. absurd (cc y)),
       (λ h. absurd (above c.args.capacity _ _ c.ranges.capacity c.if-capacity-load.true now (h c.loop-place.place c.loop-place-test.true))),
     )

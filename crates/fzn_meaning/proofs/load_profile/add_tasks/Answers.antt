@@ -1,21 +1,23 @@
-use Rattle.std.proofs.Common.{◌+◌, ◌*◌, ◌^◌, ◌≤◌, pos, unsigned_abs, sym, refl, ◌∙◌, rules, arith}
+use Rattle.std.proofs.Common.{◌+◌, ◌*◌, ◌^◌, ◌≤◌, pos, unsigned_abs, length, sym, subst, ap, ◌∙◌, rules, arith}
 use Rattle.std.proofs.lemmas.Int.{to_z-of_z}
+use Rattle.std.proofs.lemmas.List.{length-replicate}
 use Rattle.std.proofs.lemmas.List.Elements.{All-replicate}
+use Rattle.fzn_meaning.specs.LoadProfile.{load_after, AreWithin}
 use Rattle.fzn_meaning.proofs.LoadProfileLemmas.{IsProfile-more, AreWithin-more, load_after-none}
-use Rattle.fzn_meaning.proofs.load_profile.changes_of.Goals as goal
+use Rattle.fzn_meaning.proofs.load_profile.add_tasks.Goals as goal
 use mir.Syntax.{w64}
 use mir.Val.{to_z, of_z, SFits}
 
 pub loop-task-init : goal.loop-task-init
-loop-task-init c = record {
-  length = refl;
-  profile = λ k lt. load_after-none (k + 1) 513;
-  bound = All-replicate (λ x. unsigned_abs x ≤ 0) 513 (pos 0) (omega arith);
+loop-task-init g c = record {
+  length = ap length c.requires.none ∙ length-replicate g.row.N (pos 0);
+  profile = λ k lt. ap (load_after (k + 1)) c.requires.none ∙ load_after-none (k + 1) g.row.N;
+  bound = subst (AreWithin 0) (sym c.requires.none) (All-replicate (λ x. unsigned_abs x ≤ 0) g.row.N (pos 0) (omega arith));
 }
 
 -- one more task
 pub loop-task-preserved : goal.loop-task-preserved
-loop-task-preserved c =
+loop-task-preserved g c =
     let s : SFits w64 c.get.result = search rules in
     let d : SFits w64 c.get-in-loop-task.result = search rules in
     let r : SFits w64 c.get-in-loop-task-2.result = search rules in
