@@ -7,11 +7,11 @@ use fzn_cert::Refusal;
 use fzn_checker::{CheckFault, Verdict, check_certificate};
 use fzn_domain::{Domain, Memory, VarId};
 use fzn_list::{Items, Text};
-use fzn_meaning::{Goal, Kind, Model, Var};
+use fzn_meaning::{Goal, Kind, Model, OutputItem, Var};
 use std::alloc::Global;
 use std::test::Fail;
 
-fn one<T: Drop>(alloc: Global, item: T) -> Result<Items<T>, Memory>
+pub(crate) fn one<T: Drop>(alloc: Global, item: T) -> Result<Items<T>, Memory>
     ensures { IfOk result (λ items. items ≡ item ∷ []) }
 {
     let mut items = Items::new(alloc);
@@ -29,16 +29,21 @@ fn bit(alloc: Global) -> Result<Var, Memory>
     })
 }
 
-/// The least x in 0..1.
-fn least_bit(alloc: Global) -> Result<Model, Memory>
+/// The least x in 0..1, which is printed.
+pub(crate) fn least_bit(alloc: Global) -> Result<Model, Memory>
     ensures { IfOk result IsWellFormed }
 {
+    let x = OutputItem::Single {
+        name: Text::from_slice(alloc, b"x")?,
+        kind: Kind::Integer,
+        var: VarId(1),
+    };
     Ok(Model {
         vars: one(alloc, bit(alloc)?)?,
         constraints: Items::new(alloc),
         goal: Goal::Minimize(VarId(1)),
         outputs: one(alloc, VarId(1))?,
-        shown: Items::new(alloc),
+        shown: one(alloc, x)?,
     })
 }
 

@@ -74,7 +74,16 @@ fn reads_a_step_of_each_kind(rt: HostRuntime) {
     assert_eq!(rt; outcome_of(alloc, text), (5, Ok(Some(true))));
 }
 
-/// The fault of a certificate, or how many steps it has.
+/// What the last line says.
+fn ending(closed: Option<bool>) -> &'static str {
+    match closed {
+        Some(true) => "closed",
+        Some(false) => "open",
+        None => "no end",
+    }
+}
+
+/// How many steps a certificate has and what its last line says, or its fault and how many steps come before it.
 fn told(alloc: Global, bytes: &[u8], most: usize) -> Result<String, Memory> {
     let input = Cut {
         bytes,
@@ -82,25 +91,27 @@ fn told(alloc: Global, bytes: &[u8], most: usize) -> Result<String, Memory> {
         fails: false,
     };
     match outcome_of(alloc, input) {
-        (_, Err(CertFault { kind, line })) => format!(in alloc; "{kind:?} {line}"),
-        (steps, Ok(_)) => format!(in alloc; "{steps} step"),
+        (steps, Err(CertFault { kind, line })) => {
+            format!(in alloc; "{kind:?} {line} behind {steps}")
+        }
+        (steps, Ok(closed)) => format!(in alloc; "{steps} step, {}", ending(closed)),
     }
 }
 
-/// Certificates, where `|` stands for a line feed, and their faults with the line.
+/// Certificates, where `|` stands for a line feed, and their faults with the line and the number of steps before it.
 const FAULTS: &str = "
-fzc 9| => Header 1
- => Truncated 1
-fzc 1| => Truncated 2
-fzc 1|vars 02 cons 2| => Header 2
-fzc 1|vars 2 cons 2| => Truncated 3
-fzc 1|vars 2 cons 2|s 0 1 => Truncated 3
-fzc 1|vars 2 cons 2|s 0 1| => Truncated 4
-fzc 1|vars 2 cons 2|s 0 1|e closed => Truncated 4
-fzc 1|vars 2 cons 2|s 0 1|e closed|x => Trailing 5
-fzc 1|vars 2 cons 2|d 1| => Spelling 3
-fzc 2|vars 2 cons 2|d 2 1| => Spelling 3
-fzc 2|vars 2 cons 2|d| => Spelling 3
+fzc 9| => Header 1 behind 0
+ => Truncated 1 behind 0
+fzc 1| => Truncated 2 behind 0
+fzc 1|vars 02 cons 2| => Header 2 behind 0
+fzc 1|vars 2 cons 2| => Truncated 3 behind 0
+fzc 1|vars 2 cons 2|s 0 1 => Truncated 3 behind 0
+fzc 1|vars 2 cons 2|s 0 1| => Truncated 4 behind 1
+fzc 1|vars 2 cons 2|s 0 1|e closed => Truncated 4 behind 1
+fzc 1|vars 2 cons 2|s 0 1|e closed|x => Trailing 5 behind 1
+fzc 1|vars 2 cons 2|d 1| => Spelling 3 behind 0
+fzc 2|vars 2 cons 2|d 2 1| => Spelling 3 behind 0
+fzc 2|vars 2 cons 2|d| => Spelling 3 behind 0
 ";
 
 #[test]
@@ -119,30 +130,30 @@ fn tells_the_fault_and_its_line(rt: HostRuntime) -> Result<(), Fail> {
 
 /// Steps, and whether they are read or refused for their spelling in line 3.
 const STEPS: &str = "
-i 2 lin ; 1<=0 => 1 step
-i 2 lin ; 01<=0 => Spelling 3
-i 02 lin ; 1<=0 => Spelling 3
-i 2 lin ;  1<=0 => Spelling 3
-i 2 lin ; 1<=0  => Spelling 3
-i 2 lin ; 1=<0 => Spelling 3
-i 2 lin 1 ; 1<=0 => Spelling 3
-i 2 lin ; 1<=1000000001 => 1 step
-i 2 lin ; 1<=1000000002 => Spelling 3
-i 2 lin ; 1!=-1000000001 2==-1 => 1 step
-i 2 lin ; 1<=-0 => Spelling 3
-i 1 load 4000000000 ; => 1 step
-i 1 load 4000000001 ; => Spelling 3
-i 1 cut -1 1 ; => 1 step
-i 1 cut 1 1 ; => Spelling 3
-i 1 cut ; => 1 step
-i 1 hall 1 ; => Spelling 3
-i 1 hall 1 -1 ; => 1 step
-r ; 0 => Spelling 3
-r 1<=0 ; => 1 step
-r ; 999999999999999999 => 1 step
-r ; 1000000000000000000 => Spelling 3
-s => 1 step
-s +1 => Spelling 3
+i 2 lin ; 1<=0 => 1 step, open
+i 2 lin ; 01<=0 => Spelling 3 behind 0
+i 02 lin ; 1<=0 => Spelling 3 behind 0
+i 2 lin ;  1<=0 => Spelling 3 behind 0
+i 2 lin ; 1<=0  => Spelling 3 behind 0
+i 2 lin ; 1=<0 => Spelling 3 behind 0
+i 2 lin 1 ; 1<=0 => Spelling 3 behind 0
+i 2 lin ; 1<=1000000001 => 1 step, open
+i 2 lin ; 1<=1000000002 => Spelling 3 behind 0
+i 2 lin ; 1!=-1000000001 2==-1 => 1 step, open
+i 2 lin ; 1<=-0 => Spelling 3 behind 0
+i 1 load 4000000000 ; => 1 step, open
+i 1 load 4000000001 ; => Spelling 3 behind 0
+i 1 cut -1 1 ; => 1 step, open
+i 1 cut 1 1 ; => Spelling 3 behind 0
+i 1 cut ; => 1 step, open
+i 1 hall 1 ; => Spelling 3 behind 0
+i 1 hall 1 -1 ; => 1 step, open
+r ; 0 => Spelling 3 behind 0
+r 1<=0 ; => 1 step, open
+r ; 999999999999999999 => 1 step, open
+r ; 1000000000000000000 => Spelling 3 behind 0
+s => 1 step, open
+s +1 => Spelling 3 behind 0
 ";
 
 /// Whether a certificate with the step of the row fares as the row tells.

@@ -99,7 +99,8 @@ fn exclusions(alloc: Global, model: &Model) -> Result<Vec<Lit>, AllocError> {
     Ok(lits)
 }
 
-fn declared(alloc: Global, model: &Model) -> Result<State, AllocError> {
+/// The declared sets.
+pub(crate) fn declared(alloc: Global, model: &Model) -> Result<State, AllocError> {
     let mut domains = Vec::new(alloc);
     for var in model.vars.as_slice() {
         domains.push(var.domain.copy()?)?;

@@ -11,7 +11,7 @@ use fzn_domain::{Lit, Memory, Op, VarId};
 use fzn_trail::{ClauseId, Trail};
 use std::test::Fail;
 
-fn lit(var: usize, op: Op, value: i64) -> Lit
+pub(crate) fn lit(var: usize, op: Op, value: i64) -> Lit
     ensures { result.var.0 ≡ var }
 {
     Lit {

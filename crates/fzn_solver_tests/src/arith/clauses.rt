@@ -2,7 +2,7 @@
 use super::*;
 
 /// The clause of the inference in letters, and no letter where there is none.
-fn clause_of(alloc: Global, found: &Option<Inference>) -> Result<String, Memory> {
+pub(crate) fn clause_of(alloc: Global, found: &Option<Inference>) -> Result<String, Memory> {
     let mut text = String::new(alloc);
     let Some(inference) = found else {
         return Ok(text);
