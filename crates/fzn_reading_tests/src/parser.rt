@@ -1,6 +1,9 @@
 // The trees of files, and the faults of the parser.
 use fzn_lexer::{Fault, Place, ReadError, tokens};
-use fzn_parser::{Arg, Basic, Con, Int, Literal, Param, ParamValue, Tree, one_reading, parse};
+use fzn_list::Items;
+use fzn_parser::{
+    Arg, Basic, Con, Int, Listed, Literal, Param, ParamValue, Tree, one_reading, parse,
+};
 use std::alloc::{AllocError, Global};
 use std::string::String;
 use std::test::*;
@@ -159,4 +162,14 @@ fn a_tree(rt: HostRuntime) -> Result<(), Fail> {
 #[test]
 fn an_entry_takes_40_bytes(rt: HostRuntime) {
     assert_eq!(rt; size_of::<Basic>(), 40);
+}
+
+#[test]
+fn listed_values(rt: HostRuntime) -> Result<(), Fail> {
+    let mut values = Items::new(rt.alloc());
+    values.push(4)?;
+    values.push(2)?;
+    let listed = Listed::new(rt.alloc(), values)?;
+    assert_eq!(rt; listed.as_slice(), [4, 2].as_slice());
+    Ok(())
 }

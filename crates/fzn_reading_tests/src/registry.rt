@@ -1,5 +1,6 @@
-use fzn_registry::{lookup, lookup_bytes};
+use fzn_registry::{Name, lookup, lookup_bytes};
 use std::alloc::{AllocError, Global};
+use std::fmt::Write;
 use std::string::String;
 use std::test::*;
 
@@ -99,4 +100,34 @@ fn names_that_are_not_there(rt: HostRuntime) {
         assert!(rt; lookup(text).is_none(), "{text}");
         assert!(rt; lookup_bytes(text.as_bytes()).is_none(), "{text}");
     }
+}
+
+/// Names with the kinds of their arguments, what is asked of the lengths, and the places whose constants must not be below 0.
+const SIGNATURES: &str = "
+ArrayBoolElement => [Integer, BooleanConstantList, Boolean] Free []
+IntLinLeReif => [IntegerConstantList, IntegerList, IntegerConstant, Boolean] SameLength(0, 1) []
+ArrayIntMaximum => [Integer, IntegerList] NotEmpty(1) []
+FznTableInt => [IntegerList, IntegerConstantList] Table { row: 0, table: 1 } []
+FznCumulative => [IntegerList, IntegerList, IntegerList, Integer] Tasks(0, 1, 2) [1, 2, 3]
+";
+
+fn signature(text: &mut String, name: Name) -> Result<(), AllocError> {
+    write!(text, "{name:?} => {:?}", name.arguments())?;
+    write!(text, " {:?} {:?}\n", name.lengths(), name.non_negative())
+}
+
+#[test]
+fn signatures_of_names(rt: HostRuntime) -> Result<(), Fail> {
+    let mut text = String::new(rt.alloc());
+    for name in [
+        Name::ArrayBoolElement,
+        Name::IntLinLeReif,
+        Name::ArrayIntMaximum,
+        Name::FznTableInt,
+        Name::FznCumulative,
+    ] {
+        signature(&mut text, name)?;
+    }
+    assert_eq!(rt; text.as_str().trim(), SIGNATURES.trim());
+    Ok(())
 }
