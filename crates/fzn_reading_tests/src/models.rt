@@ -46,7 +46,7 @@ fn switched(text: &mut String, switch: Option<Term>) -> Result<(), AllocError> {
 }
 
 /// The bounds and how many values there are.
-pub(crate) fn set(text: &mut String, domain: &Domain) -> Result<(), AllocError> {
+fn set(text: &mut String, domain: &Domain) -> Result<(), AllocError> {
     if domain.is_empty() {
         return text.push_str("none");
     }
@@ -381,7 +381,7 @@ fn end_line(text: &mut String, from: usize) -> Result<(), AllocError> {
 }
 
 /// The parts of a model, a line each.
-pub(crate) fn parts(text: &mut String, model: &Model) -> Result<(), AllocError> {
+fn parts(text: &mut String, model: &Model) -> Result<(), AllocError> {
     vars(text, model)?;
     end_line(text, 0)?;
     let from = text.len();

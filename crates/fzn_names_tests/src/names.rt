@@ -5,7 +5,7 @@ ghost use Rattle.fzn_meaning.specs.WellFormed.{IsOutputItem};
 ghost use Rattle.fzn_symbols.specs.Limits.{AreDeclarationsWithin, AreEntriesWithin, IsBaseWithin, IsParamWithin, IsValueWithin};
 ghost use Rattle.fzn_typing.specs.Limits.{IsConWithin, IsWithinLimits};
 
-use crate::models::{parts, set};
+use crate::symbols::set;
 use fzn_domain::VarId;
 use fzn_lexer::{ReadError, tokens};
 use fzn_list::{Items, Text};
@@ -34,8 +34,8 @@ constraint bool_not(b, c);
 solve minimize x;
 ";
 
-/// What each name stands for, what is printed, the variables that are printed, and the variables; then the model, a line each for its
-/// variables, its constraints, its output variables, what is shown and the goal.
+/// What each name stands for, what is printed, the variables that are printed, and the variables; then the goal of the model, its output
+/// variables, how many variables and how many constraints it has.
 static TOLD: &str = "
 k Integer -4
 b Boolean v1
@@ -49,11 +49,7 @@ b 0..1#2 Boolean
 x 2..5#4 Integer
 c 0..1#2 Boolean
 d 0..1#2 Boolean
-0..1#2 Boolean;2..5#4 Integer;0..1#2 Boolean;0..1#2 Boolean;
-Not v1 v3;Equal v2 -4;
-v2;v3;v4;
-v3 Boolean;array 3..5 [ v2 -4 v2 ] Integer;v4 Boolean;
-Minimize(VarId(2))
+Minimize(VarId(2)) [VarId(2), VarId(3), VarId(4)] 4 2
 ";
 
 fn tree_of(alloc: Global, file: &str) -> Result<Tree, Fail> {
@@ -236,7 +232,8 @@ fn model(alloc: Global, text: &mut String, tree: &Tree) -> Result<(), ReadError>
     requires { IsWithinLimits tree.now }
 {
     let model = type_check(alloc, tree)?;
-    parts(text, &model)?;
+    write!(text, "{:?} {:?}", model.goal, model.outputs.as_slice())?;
+    write!(text, " {} {}", model.vars.len(), model.constraints.len())?;
     Ok(())
 }
 

@@ -1,5 +1,4 @@
 // What names and values stand for, and where they are faulty.
-use crate::models::set;
 use fzn_cursor::{Tokens, array, listed};
 use fzn_domain::{Domain, VarId};
 use fzn_lexer::{Place, Symbol, tokens};
@@ -71,6 +70,14 @@ fn place(text: &mut String, place: Option<Place>) -> Result<(), AllocError> {
         None => text.push_str(" -"),
         Some(Place { line, column }) => write!(text, " {line}:{column}"),
     }
+}
+
+/// The bounds and how many values there are.
+pub(crate) fn set(text: &mut String, domain: &Domain) -> Result<(), AllocError> {
+    if domain.is_empty() {
+        return text.push_str("none");
+    }
+    write!(text, "{}..{}#{}", domain.min(), domain.max(), domain.len())
 }
 
 static VALUES: &str = "[7, k,\n x, zzz, true, c, q, s, {4, 2}, yyy]";
