@@ -1,6 +1,5 @@
 use crate::builtin_rows::BUILTIN_ROWS;
 use crate::solver_rows::SOLVER_ROWS;
-use crate::tests::{lines_of, spelled};
 use fzn_checker::check;
 use fzn_solver::run;
 use fzn_words::options_of;
@@ -49,7 +48,7 @@ fn solve_and_check(alloc: Global, words: &[&str], model: &str) -> Result<Solved,
 fn printed(alloc: Global, head: &str, file: &str) -> Result<String, Fail> {
     let mut words: Vec<&str> = head.split_whitespace().skip(1).collect(alloc)?;
     words.push("m.fzn")?;
-    let file = spelled(alloc, file)?;
+    let file = file.replace(alloc, '|', "\n")?;
     let solved = solve_and_check(alloc, &words, file.as_str())?;
     if solved.checked.as_slice() != solved.out.as_slice() {
         return Err("the checker prints something else")?;
@@ -61,7 +60,7 @@ fn printed(alloc: Global, head: &str, file: &str) -> Result<String, Fail> {
 /// Whether one of the lines stands for the text.
 fn is_one_of(alloc: Global, text: &str, answers: &[&str]) -> Result<bool, AllocError> {
     for answer in answers {
-        if text == spelled(alloc, answer)?.as_str() {
+        if text == answer.replace(alloc, '|', "\n")?.as_str() {
             return Ok(true);
         }
     }
@@ -71,7 +70,7 @@ fn is_one_of(alloc: Global, text: &str, answers: &[&str]) -> Result<bool, AllocE
 /// Each row is solved and checked, and prints what it is to print.
 fn solve_rows(rt: &impl Abort, alloc: Global, table: &str) -> Result<(), Fail> {
     for row in table.split("\n\n") {
-        let lines = lines_of(alloc, row)?;
+        let lines: Vec<&str> = row.trim().lines().collect(alloc)?;
         let [head, file, answers @ ..] = lines.as_slice() else {
             return Err("a row has a head and a file")?;
         };

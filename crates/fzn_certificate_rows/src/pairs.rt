@@ -2,9 +2,9 @@
 //
 // A line has the constraint, the declarations, the step, and the two numbers that stand at `#`: the step is accepted with the first of
 // them and refused with the second.
+use crate::checked::checked;
 use choices::CHOICES;
 use fixed::FIXED;
-use fzn_checker::check;
 use globals::GLOBALS;
 use named::NAMED;
 use shared::SHARED;
@@ -37,16 +37,7 @@ const ACCEPTED: &str = "=====UNKNOWN=====\n";
 
 const REFUSED: &str = "certificate line 3: fault 42 RuleFails";
 
-/// What checking prints, or the line of its fault.
-fn checked(alloc: Global, file: &str, cert: &str) -> Result<String, AllocError> {
-    let mut out: Vec<u8> = Vec::new(alloc);
-    match check(alloc, file.as_bytes(), cert.as_bytes(), true, &mut out) {
-        Ok(_) => String::from_utf8_lossy(alloc, &out),
-        Err(fault) => format!(in alloc; "{fault}"),
-    }
-}
-
-/// The same, where the certificate has this one step.
+/// What checking answers where the certificate has this one step.
 fn judged(
     alloc: Global,
     declarations: &str,
@@ -56,7 +47,7 @@ fn judged(
     let count = declarations.matches(';').count();
     let file = format!(in alloc; "{declarations} constraint {constraint}; solve satisfy;")?;
     let cert = format!(in alloc; "fzc 1\nvars {count} cons 1\ni 1 {step}\ne open\n")?;
-    checked(alloc, file.as_str(), cert.as_str())
+    checked(alloc, file.as_str(), cert.as_bytes(), true, 4096)
 }
 
 /// Whether a line's step fares so with the number.
