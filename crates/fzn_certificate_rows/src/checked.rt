@@ -21,7 +21,7 @@ impl Read for Pieces<'_> {
 }
 
 /// What checking prints, and the line of its fault, where so many bytes are read at once.
-pub fn checked(
+pub(crate) fn checked(
     alloc: Global,
     file: &str,
     certificate: &[u8],
