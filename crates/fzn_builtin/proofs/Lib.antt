@@ -1,4 +1,6 @@
 mod DenialLemmas
+mod ElementLemmas
+mod ExtremumLemmas
 mod FixedLemmas
 mod MeaningLemmas
 mod OutcomeLemmas

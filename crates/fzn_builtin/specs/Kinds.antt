@@ -9,8 +9,10 @@ use Rattle.fzn_meaning.specs.Meaning.{Meets}
 use Rattle.fzn_builtin_rules.specs.Choices.{IsFixedMet}
 use Rattle.fzn_trail.specs.Levels.{Levels}
 use Rattle.fzn_trail.specs.Unit.{IsFalseOrUnit}
-use Rattle.fzn_propagator.specs.Inference.{IsWritable, AllFixed}
+use Rattle.fzn_propagator.specs.Inference.{IsWritable, HasWritableHints, AllFixed}
+use Rattle.fzn_explain.specs.Claims.{IsJustified}
 use Rattle.fzn_builtin.specs.declared.kinds.BuiltinPropagator.{BuiltinPropagator}
+use Rattle.fzn_builtin.specs.declared.narrow.Found.{Found}
 use Rattle.fzn_builtin.specs.Parts.{IsReady}
 
 abbrev pub builtin_number : BuiltinPropagator → ℕ
@@ -33,3 +35,8 @@ pub record IsFixedClause (trail : Levels) (constraint : Constraint) (clause : Li
 abbrev pub HoldsWhereFixed : Levels → Constraint → Type 0
 HoldsWhereFixed trail constraint =
     AllFixed trail.sets → (values : List ℤ) → IsWithin trail.declared values → IsWithin trail.sets values → Meets constraint values
+
+-- a clause that is false or forces one literal, and from the constraint by the rule with it
+pub record IsFound (trail : Levels) (constraint : Constraint) (found : Found) : Type 0 where
+  pub hints : HasWritableHints found.rule
+  pub justified : IsJustified trail constraint found.rule found.clause

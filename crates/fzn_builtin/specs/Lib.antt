@@ -3,3 +3,4 @@ pub mod Denial
 pub mod Kinds
 pub mod Outcome
 pub mod Parts
+pub mod Rows

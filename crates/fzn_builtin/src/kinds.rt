@@ -8,6 +8,7 @@ ghost use Rattle.fzn_builtin_rules.specs.Form.{form_of};
 ghost use Rattle.fzn_builtin.specs.Kinds.{builtin_number, BuiltinIsFor, BuiltinFits};
 
 use crate::fixed::refute_fixed;
+use crate::narrow::narrow;
 use crate::parts::{Parts, parts_of};
 use fzn_domain::Memory;
 use fzn_meaning::Model;
@@ -31,6 +32,13 @@ impl Propagator for BuiltinPropagator {
     ghost fits = { BuiltinFits };
 
     fn propagate(&self, alloc: Global, trail: &Trail) -> Result<Option<Inference>, Memory> {
+        if let Some(found) = narrow(alloc, trail, &self.parts.constraint)? {
+            return Ok(Some(Inference {
+                constraint: self.number,
+                rule: found.rule,
+                clause: found.clause,
+            }));
+        }
         let Some(clause) = refute_fixed(alloc, trail, &self.parts)? else {
             return Ok(None);
         };

@@ -9,8 +9,12 @@ pub use kinds::{BuiltinPropagator, propagator_of};
 pub use parts::Parts;
 
 mod demand;
+mod element;
+mod extremum;
 mod fixed;
 mod kinds;
+mod narrow;
 mod outcome;
 mod parts;
+mod terms;
 mod values;

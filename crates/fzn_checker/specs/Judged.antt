@@ -1,12 +1,12 @@
 -- What a step must have to be judged, and how a chain's outcome is told.
-use Rattle.std.specs.Prelude.{◌≡◌, Bool, pos, negsuc, ◌≤ℤ◌, Option, Some, None}
+use Rattle.std.specs.Prelude.{◌≡◌, Bool, Option, Some, None}
 use Rattle.std.specs.List.{All}
-use Rattle.fzn_domain.specs.declared.literal.Lit.{Lit}
 use Rattle.fzn_domain.specs.Narrow.{ChainOutcome, accepted, not_unit, no_conflict, is_some_empty}
 use Rattle.fzn_meaning.specs.declared.model.Model.{Model}
 use Rattle.fzn_meaning.specs.Solutions.{declared_sets}
 use Rattle.fzn_meaning.specs.WellFormed.{IsWellFormed}
 use Rattle.fzn_state.specs.State.{Sets, start}
+use Rattle.fzn_chain.specs.Link.{IsBound}
 use Rattle.fzn_cert.specs.declared.step.Step.{Step}
 use Rattle.fzn_cert.specs.declared.step.Step.TheVariants.{Infer, Resolve, Solution, Delete}
 use Rattle.fzn_cert.specs.declared.refusal.Refusal.{Refusal}
@@ -20,10 +20,6 @@ pub record IsReady (model : Model) (past : Past) (state : Sets) (has_empty : Boo
   pub sound : IsSound model past
   pub fresh : state ≡ start (declared_sets model.vars)
   pub empty : has_empty ≡ is_some_empty (declared_sets model.vars)
-
--- the number of a literal in a certificate: at most one past the limits of a value
-abbrev pub IsBound : Lit → Type 0
-IsBound lit = (negsuc 1000000000 ≤ℤ lit.value) × (lit.value ≤ℤ pos 1000000001)
 
 -- the numbers of the step's literals are in their range
 abbrev pub HasBounds : Step → Type 0

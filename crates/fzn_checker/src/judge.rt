@@ -11,13 +11,15 @@ ghost use Rattle.fzn_cert.specs.Past.{Past};
 ghost use Rattle.fzn_cert.specs.Accepted.{IsJudged};
 ghost use Rattle.fzn_cert.specs.Sound.{IsSound};
 ghost use Rattle.fzn_checker.specs.Given.{AreGiven};
-ghost use Rattle.fzn_checker.specs.Judged.{IsReady, IsBound, HasBounds};
+ghost use Rattle.fzn_chain.specs.Link.{IsBound};
+ghost use Rattle.fzn_checker.specs.Judged.{IsReady, HasBounds};
 
-use crate::chain::{are_held, deny, follow};
+use crate::chain::{are_held, follow};
 use crate::given::Given;
 use crate::history::History;
 use crate::solution::passes_cuts;
 use fzn_cert::{Refusal, Step};
+use fzn_chain::deny;
 use fzn_domain::{Lit, Memory};
 use fzn_meaning::{Model, is_solution};
 use fzn_rules::{Rule, State, refutes};

@@ -1,139 +1,443 @@
-// Every clause is looked at, round by round.
-ghost use Rattle.std.specs.Prelude.{◌≡◌, [], ◌∷◌, ◌++◌, length, IfOk, OnOk, OnErr, IfSome, IfNone};
-ghost use Rattle.std.specs.List.{All};
-ghost use Rattle.fzn_domain.specs.Narrow.{IsClauseOver};
-ghost use Rattle.fzn_trail.specs.Levels.{NoneEmpty};
-ghost use Rattle.fzn_clauses.specs.Held.{IsHeld, clause_of};
+// Two places of each clause are watched: it is looked at again where one of them may have become false.
+ghost use Rattle.std.specs.Prelude.{◌≡◌, ◌≢◌, ◌↔◌, ◌<◌, ◌≤◌, [], ◌∷◌, ◌++◌, List, length, true, Some, slice_set, IsTrue, IfOk, OnOk, OnErr, IfSome, IfNone, None};
+ghost use Rattle.std.specs.Bool.{OnTrue, OnFalse};
+ghost use Rattle.fzn_domain.specs.IntSet.{IntSet};
+ghost use Rattle.fzn_domain.specs.Narrow.{IsVariable, IsClauseOver};
+ghost use Rattle.fzn_trail.specs.Levels.{NoneEmpty, fresh};
+ghost use Rattle.fzn_clauses.specs.Guard.{literal_at, IsPair, IsPossibleAt};
+ghost use Rattle.fzn_clauses.specs.Held.{IsHeld, clause_of, AllHeld, held_in};
+ghost use Rattle.fzn_clauses.specs.Kept.{IsLast, KeepsRuns, KeepsRunning, KeepsWatching, LooksAt, Unwinds, Visits, VisitsAll, VisitsEntry};
 ghost use Rattle.fzn_clauses.specs.Propagation.{IsPropagated, IsConflict, AllSettled};
-ghost use Rattle.fzn_clauses.specs.State.{IsReady, IsForcedBy, SettledIfSame};
+ghost use Rattle.fzn_clauses.specs.Watched.{watched_at, removed, added};
+ghost use Rattle.fzn_clauses.specs.Watching.{held_by, IsOn, IsTidy, Enlists, IsRewatched, IsReady, IsWatching, AreVariables, Ran, Settles};
+ghost use Rattle.fzn_clauses.specs.Lists.{list_at};
+ghost use Rattle.fzn_clauses.specs.State.{AreBothPossible};
+ghost use Rattle.fzn_clauses.specs.declared.clauses.Look.TheVariants.{Conflict};
+ghost use Rattle.fzn_clauses.specs.declared.clauses.Visit.TheVariants.{Refuted, Leaves};
+ghost use Rattle.fzn_clauses.specs.Looks.{IsForced, LooksAs};
 
-use crate::state::{ClauseState, state_of};
+use crate::arena::{Arena, Pair};
+use crate::keys::{OPERATORS, key_of, operator_at};
+use crate::lists::Lists;
+use crate::state::{ClauseState, can_fail, can_falsify, is_possible_at, state_of};
 use fzn_domain::{Lit, Memory};
-use fzn_list::Items;
 use fzn_trail::{ClauseId, Reason, Trail};
 use std::alloc::Global;
-use std::marker::Model;
+
+/// A clause that was looked at when this many entries stood, and had one possible literal.
+#[derive(Clone, Copy, Debug)]
+struct Again {
+    k: usize,
+    entries: usize,
+}
+
+/// What came of looking at a clause.
+#[derive(Clone, Copy, Debug, PartialEq, Eq)]
+enum Look {
+    /// It is false.
+    Conflict,
+    /// One literal is possible, and true.
+    One,
+    /// Two literals are possible.
+    Two,
+}
+
+/// What becomes of a clause in a list.
+#[derive(Clone, Copy, Debug, PartialEq, Eq)]
+enum Visit {
+    Refuted,
+    Stays,
+    Leaves,
+}
 
 /// Clauses by their numbers, from 0 in the order in which they were added.
 #[derive(Drop)]
 pub struct Clauses {
-    alloc: Global,
-    held: Items<Items<Lit>>,
-}
-
-impl Model for Clauses {
-    ghost use Rattle.std.specs.Prelude.{List};
-    ghost use Rattle.fzn_domain.specs.declared.literal.Lit.{Lit};
-
-    ghost Value = { List (List Lit) };
-
-    ghost view = { λ clauses. clauses.held };
+    arena: Arena,
+    lists: Lists,
+    pending: Vec<usize>,
+    again: Vec<Again>,
+    looked: u64,
 }
 
 impl Clauses {
     /// No clause is held.
     pub fn new(alloc: Global) -> Clauses
-        ensures { result ≡ [] }
+        ensures none { held_by result ≡ [] }
+        ensures watching { (declared : List IntSet) → IsWatching result (fresh declared) }
     {
         Clauses {
-            alloc,
-            held: Items::new(alloc),
+            arena: Arena::new(alloc),
+            lists: Lists::new(alloc),
+            pending: Vec::new(alloc),
+            again: Vec::new(alloc),
+            looked: 0,
         }
     }
 
     /// Holds one more clause.
     pub fn add(&mut self, clause: &[Lit]) -> Result<ClauseId, Memory>
-        ensures ok { OnOk result (self.new ≡ self.old ++ clause.now ∷ []) }
-        ensures id { IfOk result (λ id. id.0 ≡ length self.old) }
-        ensures err { OnErr result (self.new ≡ self.old) }
+        ensures ok { OnOk result (held_by self.new ≡ held_by self.old ++ Some clause.now ∷ []) }
+        ensures id { IfOk result (λ id. id.0 ≡ length (held_by self.old)) }
+        ensures err { OnErr result (held_by self.new ≡ held_by self.old) }
+        ensures watching { KeepsWatching self.old self.new }
     {
-        let id = ClauseId(self.held.len() as u64);
-        let literals = copied(self.alloc, clause)?;
-        self.held.push(literals)?;
-        Ok(id)
+        let k = self.arena.len();
+        self.pending.push(k)?;
+        self.arena.add(clause)?;
+        Ok(ClauseId(k as u64))
+    }
+
+    /// Takes out the clause of this number alone. No other number changes.
+    pub fn remove(&mut self, id: ClauseId)
+        requires { IsHeld (held_by self.old) id }
+        ensures held { held_by self.new ≡ slice_set (held_by self.old) id.0 None }
+        ensures watching { KeepsWatching self.old self.new }
+    {
+        self.arena.remove(id.0 as usize);
     }
 
     /// The clause of this number.
     pub fn clause(&self, id: ClauseId) -> &[Lit]
-        requires { IsHeld self.now id }
-        ensures { result.now ≡ clause_of self.now id }
+        requires { IsHeld (held_by self.now) id }
+        ensures { result.now ≡ clause_of (held_by self.now) id }
     {
-        self.held.as_slice()[id.0 as usize].as_slice()
+        self.arena.clause(id.0 as usize)
     }
 
-    /// How many clauses are held.
-    pub fn len(&self) -> usize
-        ensures { result ≡ length self.now }
+    /// Whether the clause of this number was added and not taken out.
+    pub fn is_held(&self, id: ClauseId) -> bool
+        ensures { IsTrue result ↔ IsHeld (held_by self.now) id }
     {
-        self.held.len()
+        let k = id.0 as usize;
+        k < self.arena.len() && self.arena.is_live(k)
+    }
+
+    /// How many clauses were added.
+    pub fn len(&self) -> usize
+        ensures { result ≡ length (held_by self.now) }
+    {
+        self.arena.len()
+    }
+
+    /// How many times the literals of a clause were read by `propagate`.
+    pub fn looked(&self) -> u64 {
+        self.looked
     }
 
     /// Asserts what the clauses force, until one is false, which is given, or none forces a literal.
     pub fn propagate(&mut self, trail: &mut Trail) -> Result<Option<ClauseId>, Memory>
-        requires over { All (IsClauseOver (length trail.old.declared)) self.old }
+        requires over { AllHeld (IsClauseOver (length trail.old.declared)) (held_by self.old) }
         requires not_empty { NoneEmpty trail.old.sets }
+        requires watching { IsWatching self.old trail.old }
 
         // With and without an error.
-        ensures same { self.new ≡ self.old }
-        ensures propagated { IsPropagated self.old trail.old trail.new }
+        ensures same { held_by self.new ≡ held_by self.old }
+        ensures propagated { IsPropagated (held_by self.old) trail.old trail.new }
         ensures left { NoneEmpty trail.new.sets }
 
-        ensures conflict { IfOk result (λ id. IfSome id (IsConflict self.old trail.new.sets)) }
-        ensures none { IfOk result (λ id. IfNone id (AllSettled self.old trail.new.sets)) }
+        ensures watching { OnOk result (IsWatching self.new trail.new) }
+        ensures none { IfOk result (λ id. IfNone id (AllSettled (held_by self.old) trail.new.sets)) }
+        ensures seen { IfOk result (λ id. IfNone id (trail.new.mark ≡ length trail.new.entries)) }
+        ensures conflict { IfOk result (λ id. IfSome id (IsConflict (held_by self.old) trail.new.sets)) }
     {
-        'rounds: loop {
-            let before = trail.len();
-            if let Some(id) = self.round(trail)? {
-                return Ok(Some(id));
-            }
-            if trail.len() == before {
-                return Ok(None);
-            }
+        let _entries = trail.len(); // A trail has a set for each variable.
+        self.unwind(trail.seen())?;
+        if let Some(k) = self.look_at_pending(trail)? {
+            return Ok(Some(ClauseId(k as u64)));
+        }
+        match self.go_over_entries(trail)? {
+            Some(k) => Ok(Some(ClauseId(k as u64))),
+            None => Ok(None),
         }
     }
 
-    /// Asserts what each clause forces in turn, up to one that is false.
-    fn round(&self, trail: &mut Trail) -> Result<Option<ClauseId>, Memory>
-        requires { IsReady self.now trail.old }
-        ensures propagated { IsPropagated self.now trail.old trail.new }
-        ensures conflict { IfOk result (λ id. IfSome id (IsConflict self.now trail.new.sets)) }
-        ensures none { IfOk result (λ id. IfNone id (SettledIfSame self.now trail.old trail.new)) }
+    /// What was looked at when as many entries stood, or more, is to be looked at again.
+    fn unwind(&mut self, entries: usize) -> Result<(), Memory>
+        ensures arena { self.new.arena ≡ self.old.arena }
+        ensures lists { self.new.lists ≡ self.old.lists }
+        ensures unwinds { OnOk result (Unwinds entries self.old self.new) }
     {
-        for k in 0..self.len() {
-            let id = ClauseId(k as u64);
-            let clause = self.clause(id);
-            if force(clause, id, trail)? {
-                return Ok(Some(id));
+        while let Some(last) = self.last_again() {
+            if last.entries < entries {
+                return Ok(());
+            }
+            self.pending.push(last.k)?;
+            self.again.pop();
+        }
+        Ok(())
+    }
+
+    fn last_again(&self) -> Option<Again>
+        ensures found { IfSome result (λ last. IsLast last self.now.again.items) }
+        ensures none { IfNone result (length self.now.again.items ≡ 0) }
+    {
+        let count = self.again.len();
+        if count == 0 {
+            None
+        } else {
+            Some(self.again[count - 1])
+        }
+    }
+
+    /// Looks at each clause that is to be looked at.
+    fn look_at_pending(&mut self, trail: &mut Trail) -> Result<Option<usize>, Memory>
+        requires { IsReady self.old trail.old }
+        ensures ran { Ran self.old self.new trail.old trail.new }
+        ensures ready { OnOk result (IsReady self.new trail.new) }
+        ensures conflict { IfOk result (λ found. IfSome found (λ k. IsConflict (held_by self.old) trail.new.sets (record { 0 = k }))) }
+        ensures keeps { OnOk result (KeepsRuns self.old self.new trail.old trail.new) }
+        ensures none { IfOk result (λ found. IfNone found (length self.new.pending.items ≡ 0)) }
+    {
+        while self.pending.len() > 0 {
+            let k = self.pending[self.pending.len() - 1];
+            if self.look(k, trail)? {
+                return Ok(Some(k));
+            }
+            self.pending.pop();
+        }
+        Ok(None)
+    }
+
+    /// Looks at a clause, if it is held, and says whether it is false.
+    fn look(&mut self, k: usize, trail: &mut Trail) -> Result<bool, Memory>
+        requires { IsReady self.old trail.old }
+        ensures ran { Ran self.old self.new trail.old trail.new }
+        ensures ready { OnOk result (IsReady self.new trail.new) }
+        ensures conflict { IfOk result (λ found. IsTrue found → IsConflict (held_by self.old) trail.new.sets (record { 0 = k })) }
+        ensures pending { OnOk result (self.new.pending ≡ self.old.pending) }
+        ensures keeps { OnOk result (KeepsRuns self.old self.new trail.old trail.new) }
+        ensures past { IfOk result (λ found. OnFalse found (LooksAt k self.old self.new trail.old trail.new)) }
+    {
+        if k >= self.arena.len() || !self.arena.is_live(k) {
+            return Ok(false);
+        }
+        match self.settle(k, trail)? {
+            Look::Conflict => Ok(true),
+            Look::One => {
+                let again = Again {
+                    k,
+                    entries: trail.len(),
+                };
+                self.again.push(again)?;
+                Ok(false)
+            }
+            Look::Two => Ok(false),
+        }
+    }
+
+    /// Visits the lists of each entry from the mark on.
+    fn go_over_entries(&mut self, trail: &mut Trail) -> Result<Option<usize>, Memory>
+        requires ready { IsReady self.old trail.old }
+        requires variables { AreVariables trail.old.mark trail.old }
+        ensures ran { Ran self.old self.new trail.old trail.new }
+        ensures ready { OnOk result (IsReady self.new trail.new) }
+        ensures conflict { IfOk result (λ found. IfSome found (λ k. IsConflict (held_by self.old) trail.new.sets (record { 0 = k }))) }
+        ensures keeps { OnOk result (KeepsRunning self.old self.new trail.old trail.new) }
+        ensures pending { OnOk result (self.new.pending ≡ self.old.pending) }
+        ensures seen { IfOk result (λ found. IfNone found (trail.new.mark ≡ length trail.new.entries)) }
+    {
+        while trail.seen() < trail.len() {
+            let mark = trail.seen();
+            let entry = trail.entry(mark);
+            if let Some(k) = self.visit_entry(entry.lit, trail)? {
+                return Ok(Some(k));
+            }
+            trail.see(mark + 1);
+        }
+        Ok(None)
+    }
+
+    /// Visits the clauses that watch a literal which an entry with this one may have made false.
+    fn visit_entry(&mut self, lit: Lit, trail: &mut Trail) -> Result<Option<usize>, Memory>
+        requires var { IsVariable (length trail.old.declared) lit.var }
+        requires ready { IsReady self.old trail.old }
+        ensures ran { Ran self.old self.new trail.old trail.new }
+        ensures ready { OnOk result (IsReady self.new trail.new) }
+        ensures conflict { IfOk result (λ found. IfSome found (λ k. IsConflict (held_by self.old) trail.new.sets (record { 0 = k }))) }
+        ensures keeps { OnOk result (KeepsRuns self.old self.new trail.old trail.new) }
+        ensures pending { OnOk result (self.new.pending ≡ self.old.pending) }
+        ensures mark { OnOk result (trail.new.mark ≡ trail.old.mark) }
+        ensures all { IfOk result (λ found. IfNone found (VisitsEntry lit self.old self.new trail.old trail.new)) }
+    {
+        let mut place = 0;
+        while place < OPERATORS {
+            let op = operator_at(place);
+            if can_falsify(trail.domain(lit.var), lit, op) {
+                if let Some(k) = self.visit_all(key_of(lit.var, op), trail)? {
+                    return Ok(Some(k));
+                }
+            }
+            place += 1;
+        }
+        Ok(None)
+    }
+
+    /// Visits the clauses that watch a literal of this key.
+    fn visit_all(&mut self, key: usize, trail: &mut Trail) -> Result<Option<usize>, Memory>
+        requires { IsReady self.old trail.old }
+        ensures ran { Ran self.old self.new trail.old trail.new }
+        ensures ready { OnOk result (IsReady self.new trail.new) }
+        ensures conflict { IfOk result (λ found. IfSome found (λ k. IsConflict (held_by self.old) trail.new.sets (record { 0 = k }))) }
+        ensures keeps { OnOk result (KeepsRuns self.old self.new trail.old trail.new) }
+        ensures pending { OnOk result (self.new.pending ≡ self.old.pending) }
+        ensures mark { OnOk result (trail.new.mark ≡ trail.old.mark) }
+        ensures all { IfOk result (λ found. IfNone found (VisitsAll key self.old self.new trail.old trail.new)) }
+    {
+        let mut j = 0;
+        while j < self.lists.len(key) {
+            let k = self.lists.at(key, j);
+            match self.visit(k, key, trail)? {
+                Visit::Refuted => return Ok(Some(k)),
+                Visit::Stays => j += 1,
+                Visit::Leaves => self.lists.take_out(key, j),
             }
         }
         Ok(None)
     }
+
+    /// Visits a clause in the list of this key.
+    fn visit(&mut self, k: usize, key: usize, trail: &mut Trail) -> Result<Visit, Memory>
+        requires { IsReady self.old trail.old }
+        ensures ran { Ran self.old self.new trail.old trail.new }
+        ensures ready { OnOk result (IsReady self.new trail.new) }
+        ensures conflict { IfOk result (λ visit. visit ≡ Refuted → IsConflict (held_by self.old) trail.new.sets (record { 0 = k })) }
+        ensures same { OnOk result (list_at self.new.lists key ≡ list_at self.old.lists key) }
+        ensures leaves { IfOk result (λ visit. visit ≡ Leaves → ¬ (IsOn self.new.arena k key)) }
+        ensures visits { IfOk result (Visits k key self.old self.new trail.old trail.new) }
+    {
+        if !self.is_watching(k, key) {
+            return Ok(Visit::Leaves);
+        }
+        if self.is_quiet(k, trail) {
+            return Ok(Visit::Stays);
+        }
+        match self.settle(k, trail)? {
+            Look::Conflict => Ok(Visit::Refuted),
+            _ => {
+                if self.is_watching(k, key) {
+                    Ok(Visit::Stays)
+                } else {
+                    Ok(Visit::Leaves)
+                }
+            }
+        }
+    }
+
+    /// Whether the clause is held and watches a literal of this key.
+    fn is_watching(&self, k: usize, key: usize) -> bool
+        requires { IsTidy self.now.arena self.now.lists }
+        ensures { IsTrue result ↔ IsOn self.now.arena k key }
+    {
+        if k >= self.arena.len() || !self.arena.is_live(k) || !self.arena.is_listed(k) {
+            return false;
+        }
+        let clause = self.arena.clause(k);
+        let pair = self.arena.pair(k);
+        let first = clause[pair.first];
+        let second = clause[pair.second];
+        key_of(first.var, first.op) == key || key_of(second.var, second.op) == key
+    }
+
+    /// Whether both watched literals are possible.
+    fn is_quiet(&self, k: usize, trail: &Trail) -> bool
+        requires in_range { k < length self.now.arena }
+        requires over { IsClauseOver (length trail.now.declared) (watched_at self.now.arena k).clause }
+        ensures { OnTrue result (AreBothPossible trail.now.sets
+            (watched_at self.now.arena k).clause (watched_at self.now.arena k).pair) }
+    {
+        let pair = self.arena.pair(k);
+        let clause = self.arena.clause(k);
+        pair.first != pair.second
+            && is_possible_at(clause, trail, pair.first)
+            && is_possible_at(clause, trail, pair.second)
+    }
+
+    /// Watches two possible literals of the clause; or asserts the one that is possible, if it is not yet true.
+    fn settle(&mut self, k: usize, trail: &mut Trail) -> Result<Look, Memory>
+        requires in_range { k < length self.old.arena }
+        requires live { (watched_at self.old.arena k).live ≡ true }
+        requires ready { IsReady self.old trail.old }
+        ensures ok { IfOk result (LooksAs k self.old self.new trail.old trail.new) }
+        ensures settled { OnOk result (Settles k self.old self.new) }
+        ensures ran { Ran self.old self.new trail.old trail.new }
+        ensures ready { OnOk result (IsReady self.new trail.new) }
+        ensures conflict { IfOk result (λ look. look ≡ Conflict → IsConflict (held_by self.old) trail.new.sets (record { 0 = k })) }
+    {
+        self.looked = self.looked.saturating_add(1);
+        let pair = self.arena.pair(k);
+        match state_of(self.arena.clause(k), pair, trail) {
+            ClauseState::Conflict => Ok(Look::Conflict),
+            ClauseState::Two(pair) => {
+                self.watch(k, pair)?;
+                Ok(Look::Two)
+            }
+            ClauseState::One(place) => {
+                let lit = self.arena.clause(k)[place];
+                self.watch(k, with_one(pair, place))?;
+                force(lit, ClauseId(k as u64), trail)?;
+                Ok(Look::One)
+            }
+        }
+    }
+
+    /// Watches these two places of the clause.
+    fn watch(&mut self, k: usize, pair: Pair) -> Result<(), Memory>
+        requires in_range { k < length self.old.arena }
+        requires tidy { IsTidy self.old.arena self.old.lists }
+        requires fits { IsPair (watched_at self.old.arena k).clause pair }
+        ensures ok { OnOk result (IsRewatched k pair self.old self.new) }
+        ensures err { OnErr result (self.new.arena ≡ self.old.arena) }
+    {
+        let first = self.arena.clause(k)[pair.first];
+        let second = self.arena.clause(k)[pair.second];
+        self.enlist(k, key_of(first.var, first.op))?;
+        self.enlist(k, key_of(second.var, second.op))?;
+        self.arena.watch(k, pair);
+        Ok(())
+    }
+
+    /// Puts the clause into the list of this key, if it is not there.
+    fn enlist(&mut self, k: usize, key: usize) -> Result<(), Memory>
+        requires { IsTidy self.old.arena self.old.lists }
+        ensures ok { OnOk result (Enlists k key self.old self.new) }
+        ensures err { OnErr result (self.new.arena ≡ self.old.arena) }
+    {
+        if self.is_watching(k, key) {
+            return Ok(());
+        }
+        self.lists.push(key, k)?;
+        Ok(())
+    }
 }
 
-/// Asserts what the clause forces, and says whether it is false.
-fn force(clause: &[Lit], id: ClauseId, trail: &mut Trail) -> Result<bool, Memory>
-    requires over { IsClauseOver (length trail.old.declared) clause.now }
+/// Asserts the literal, if it is not yet true.
+fn force(lit: Lit, id: ClauseId, trail: &mut Trail) -> Result<(), Memory>
+    requires var { IsVariable (length trail.old.declared) lit.var }
     requires not_empty { NoneEmpty trail.old.sets }
-    ensures ok { IfOk result (IsForcedBy clause.now id trail.old trail.new) }
+    ensures ok { OnOk result (IsForced lit id trail.old trail.new) }
+    ensures one_each { length trail.old.sets ≡ length trail.old.declared }
     ensures err { OnErr result (trail.new ≡ trail.old) }
 {
-    match state_of(clause, trail) {
-        ClauseState::Conflict => Ok(true),
-        ClauseState::Unit(lit) => {
-            trail.assert(lit, Reason::Clause(id))?;
-            Ok(false)
-        }
-        ClauseState::Open => Ok(false),
+    if can_fail(trail.domain(lit.var), lit) {
+        trail.assert(lit, Reason::Clause(id))?;
     }
+    Ok(())
 }
 
-/// The same literals.
-fn copied(alloc: Global, clause: &[Lit]) -> Result<Items<Lit>, Memory>
-    ensures { IfOk result (λ literals. literals ≡ clause.now) }
+/// The place, and one of the watched two beside it.
+fn with_one(pair: Pair, place: usize) -> Pair
+    ensures place { result.first ≡ place }
+    ensures same { pair.first ≡ place → result.second ≡ pair.second }
+    ensures other { pair.first ≢ place → result.second ≡ pair.first }
 {
-    let mut literals = Items::new(alloc);
-    for lit in clause {
-        literals.push(*lit)?;
+    let second = if pair.first == place {
+        pair.second
+    } else {
+        pair.first
+    };
+    Pair {
+        first: place,
+        second,
     }
-    Ok(literals)
 }

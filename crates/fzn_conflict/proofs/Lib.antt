@@ -1,7 +1,10 @@
 mod AnalysisLemmas
 pub mod CallerLemmas
+mod KnownLemmas
 mod ChainLemmas
+mod TrialLemmas
 pub mod DecisionLemmas
 pub mod EntryLemmas
 pub mod NarrowerLemmas
 pub mod PropagationLemmas
+mod StandingLemmas

@@ -1,14 +1,15 @@
 -- Unit propagation keeps a trail reasoned, with the same decisions.
-use Rattle.std.proofs.Common.{◌≡◌, List, [], ◌∷◌, length, sym, ap, subst, ◌∙◌, All}
-use Rattle.std.proofs.lemmas.List.Elements.{All-get_or}
+use Rattle.std.proofs.Common.{◌≡◌, List, [], ◌∷◌, length, sym, ap, subst, ◌∙◌}
 use Rattle.fzn_domain.specs.declared.literal.Lit.{Lit}
 use Rattle.fzn_domain.specs.IntSet.{IntSet}
 use Rattle.fzn_domain.specs.Narrow.{IsClauseOver}
 use Rattle.fzn_trail.specs.declared.trail.Reason.TheVariants.{Clause}
+use Rattle.fzn_conflict.specs.declared.source.Source.TheVariants.{Held}
 use Rattle.fzn_trail.specs.Levels.{Levels, asserted}
 use Rattle.fzn_trail.specs.Unit.{IsUnit}
+use Rattle.fzn_clauses.specs.Held.{AllHeld}
 use Rattle.fzn_clauses.specs.Propagation.{Forced, Propagates, IsPropagated}
-use Rattle.fzn_conflict.specs.Reasoned.{clause_at, IsForced, opens, IsReasoned}
+use Rattle.fzn_conflict.specs.Reasoned.{Known, clause_of, IsForced, opens, IsReasoned}
 use Rattle.fzn_conflict.proofs.NarrowerLemmas.{IsVariable-unit}
 use Rattle.fzn_conflict.proofs.CallerLemmas.{IsReasoned-forced, IsReasoned-marked, opens-forced}
 
@@ -21,34 +22,34 @@ pub record KeepsDecisions (old new : Levels) : Type 0 where
   pub saved : new.saved ≡ old.saved
   pub same_opens : opens new.declared new.entries ≡ opens old.declared old.entries
 
-pub record StaysReasoned (held : List (List Lit)) (old new : Levels) : Type 0 where
-  pub reasoned : IsReasoned held new
+pub record StaysReasoned (known : Known) (old new : Levels) : Type 0 where
+  pub reasoned : IsReasoned known new
   pub keeps : KeepsDecisions old new
 
-along : (held : List (List Lit)) (forced : List Forced) (old new : Levels) → All (IsClauseOver (length old.declared)) held → IsReasoned held old → Propagates held old forced new → StaysReasoned held old new
-along held [] old new over reasoned is = record {
-  reasoned = subst (λ (t : Levels). IsReasoned held t) (sym is) (IsReasoned-marked held old new.mark reasoned);
+along : (known : Known) (forced : List Forced) (old new : Levels) → AllHeld (IsClauseOver (length old.declared)) known.held → IsReasoned known old → Propagates known.held old forced new → StaysReasoned known old new
+along known [] old new over reasoned is = record {
+  reasoned = subst (λ (t : Levels). IsReasoned known t) (sym is) (IsReasoned-marked known old new.mark reasoned);
   keeps = record {
     declared = ap (λ (t : Levels). t.declared) is;
     saved = ap (λ (t : Levels). t.saved) is;
     same_opens = ap (λ (t : Levels). opens t.declared t.entries) is;
   };
 }
-along held (forced ∷ rest) old new over reasoned is =
+along known (forced ∷ rest) old new over reasoned is =
     let unit = is.0.unit in
-    let over_here : IsClauseOver (length old.declared) (clause_at held forced.id) = All-get_or (IsClauseOver (length old.declared)) held forced.id.0 [] is.0.is_held over in
-    let var = IsVariable-unit old.sets (clause_at held forced.id) forced.lit (length old.declared) over_here unit.only in
-    let next : IsReasoned held (asserted forced.lit (Clause forced.id) old) =
-    IsReasoned-forced held old forced.lit forced.id reasoned var is.0.is_held (IsForced-from_unit old.sets (clause_at held forced.id) forced.lit unit) in
-    let later = along held rest (asserted forced.lit (Clause forced.id) old) new over next is.1 in
+    let over_here : IsClauseOver (length old.declared) (clause_of known (Held forced.id)) = over forced.id is.0.is_held in
+    let var = IsVariable-unit old.sets (clause_of known (Held forced.id)) forced.lit (length old.declared) over_here unit.only in
+    let next : IsReasoned known (asserted forced.lit (Clause forced.id) old) =
+    IsReasoned-forced known old forced.lit (Held forced.id) reasoned var (is.0.is_held, IsForced-from_unit old.sets (clause_of known (Held forced.id)) forced.lit unit) in
+    let later = along known rest (asserted forced.lit (Clause forced.id) old) new over next is.1 in
     record {
       reasoned = later.reasoned;
       keeps = record {
         declared = later.keeps.declared;
         saved = later.keeps.saved;
-        same_opens = later.keeps.same_opens ∙ opens-forced held old forced.lit forced.id reasoned;
+        same_opens = later.keeps.same_opens ∙ opens-forced known old forced.lit (Held forced.id) reasoned;
       };
     }
 
-pub IsReasoned-propagated : (held : List (List Lit)) (old new : Levels) → All (IsClauseOver (length old.declared)) held → IsReasoned held old → IsPropagated held old new → StaysReasoned held old new
-IsReasoned-propagated held old new over reasoned propagated = along held propagated.0 old new over reasoned propagated.1
+pub IsReasoned-propagated : (known : Known) (old new : Levels) → AllHeld (IsClauseOver (length old.declared)) known.held → IsReasoned known old → IsPropagated known.held old new → StaysReasoned known old new
+IsReasoned-propagated known old new over reasoned propagated = along known propagated.0 old new over reasoned propagated.1

@@ -1,16 +1,24 @@
-// The clause that the decisions are wrong together.
-ghost use Rattle.std.specs.Prelude.{◌≡◌, ◌++◌, ◌∷◌, [], IfOk};
+// What is learned, in both ways.
+ghost use Rattle.std.specs.Prelude.{◌≡◌, ◌++◌, ◌∷◌, [], IfOk, OnOk, length};
 ghost use Rattle.std.specs.List.{All};
 ghost use Rattle.fzn_domain.specs.Limits.{IsLimited};
-ghost use Rattle.fzn_clauses.specs.Propagation.{IsConflict};
+ghost use Rattle.fzn_state.specs.State.{start};
 ghost use Rattle.fzn_conflict.specs.declared.analysis.Learn.TheVariants.{Plain};
-ghost use Rattle.fzn_conflict.specs.Learned.{reasons, IsLearned, IsPlain};
-ghost use Rattle.fzn_conflict.specs.Reasoned.{IsReasoned, negated_decisions};
+ghost use Rattle.fzn_conflict.specs.Learned.{IsConflicting, IsLearned, IsPlain};
+ghost use Rattle.fzn_conflict.specs.Reasoned.{known_of, AreOver, IsReasoned};
 
+use crate::first_uip::first_uip;
+use crate::implications::Implications;
+use crate::marks::Marks;
+use crate::plain::{plain_clause, plain_sources};
+use crate::source::Source;
+use crate::trial::is_sound;
 use fzn_clauses::Clauses;
 use fzn_domain::{Lit, Memory};
+use fzn_inferences::Inferences;
 use fzn_list::Items;
-use fzn_trail::{ClauseId, Reason, Trail};
+use fzn_state::State;
+use fzn_trail::Trail;
 use std::alloc::Global;
 
 /// Which clause is learned.
@@ -18,68 +26,105 @@ use std::alloc::Global;
 pub enum Learn {
     /// One of the decisions is wrong.
     Plain,
+    /// That of the first unique implication point, and where it does not serve the plain one.
+    First,
 }
 
-/// A clause that follows by unit propagation from the clauses with these ids, in this order.
+/// A clause that follows by unit propagation from the clauses of these sources, in this order.
 #[derive(Debug, Drop)]
 pub struct Learned {
     pub clause: Items<Lit>,
-    pub ids: Items<ClauseId>,
+    pub sources: Items<Source>,
     /// Where the search goes back to.
     pub level: usize,
+    /// What was needed of the entries that the analysis looked at, once for each; none for the plain clause.
+    pub marked: Items<Lit>,
 }
 
-/// What is learned from a held clause that is false on the trail.
+/// The plain clause.
+fn plain(
+    alloc: Global,
+    trail: &Trail,
+    clauses: &Clauses,
+    inferences: &Inferences,
+    conflict: Source,
+) -> Result<Learned, Memory>
+    requires reasoned { IsReasoned (known_of clauses.now inferences.now) trail.now }
+    requires limited { All IsLimited trail.now.declared }
+    requires conflict { IsConflicting (known_of clauses.now inferences.now) trail.now.sets conflict }
+    ensures learned { IfOk result (IsLearned (known_of clauses.now inferences.now) trail.now) }
+    ensures plain { IfOk result (IsPlain trail.now conflict) }
+{
+    Ok(Learned {
+        clause: plain_clause(alloc, trail, clauses, inferences)?,
+        sources: plain_sources(alloc, trail, conflict)?,
+        level: trail.level().saturating_sub(1),
+        marked: Items::new(alloc),
+    })
+}
+
+/// What is learned from a known clause that is false on the trail. The state has the declared sets, and is restored.
 pub fn analyse(
     alloc: Global,
     trail: &Trail,
     clauses: &Clauses,
-    conflict: ClauseId,
+    inferences: &Inferences,
+    state: &mut State,
+    marks: &mut Marks,
+    conflict: Source,
     learn: Learn,
 ) -> Result<Learned, Memory>
-    requires reasoned { IsReasoned clauses.now trail.now }
+    requires reasoned { IsReasoned (known_of clauses.now inferences.now) trail.now }
     requires limited { All IsLimited trail.now.declared }
-    requires conflict { IsConflict clauses.now trail.now.sets conflict }
-    ensures learned { IfOk result (IsLearned clauses.now trail.now) }
+    requires over { AreOver (length trail.now.declared) (known_of clauses.now inferences.now) }
+    requires conflict { IsConflicting (known_of clauses.now inferences.now) trail.now.sets conflict }
+    requires fresh { state.old ≡ start trail.now.declared }
+    ensures learned { IfOk result (IsLearned (known_of clauses.now inferences.now) trail.now) }
     ensures plain { learn ≡ Plain → IfOk result (IsPlain trail.now conflict) }
+    ensures fresh { OnOk result (state.new ≡ start trail.now.declared) }
 {
     match learn {
-        Learn::Plain => Ok(Learned {
-            clause: plain_clause(alloc, trail, clauses)?,
-            ids: plain_ids(alloc, trail, conflict)?,
-            level: trail.level().saturating_sub(1),
-        }),
+        Learn::Plain => {
+            let learned = plain(alloc, trail, clauses, inferences, conflict)?;
+            Ok(learned)
+        }
+        Learn::First => {
+            let learned = first_or_plain(
+                alloc, trail, clauses, inferences, state, marks, conflict,
+            )?;
+            Ok(learned)
+        }
     }
 }
 
-/// The negated decisions.
-fn plain_clause(alloc: Global, trail: &Trail, clauses: &Clauses) -> Result<Items<Lit>, Memory>
-    requires reasoned { IsReasoned clauses.now trail.now }
+/// The clause of the first unique implication point where it may be learned, else the plain one.
+fn first_or_plain(
+    alloc: Global,
+    trail: &Trail,
+    clauses: &Clauses,
+    inferences: &Inferences,
+    state: &mut State,
+    marks: &mut Marks,
+    conflict: Source,
+) -> Result<Learned, Memory>
+    requires reasoned { IsReasoned (known_of clauses.now inferences.now) trail.now }
     requires limited { All IsLimited trail.now.declared }
-    ensures { IfOk result (λ it. it ≡ negated_decisions trail.now.declared trail.now.entries) }
+    requires over { AreOver (length trail.now.declared) (known_of clauses.now inferences.now) }
+    requires conflict { IsConflicting (known_of clauses.now inferences.now) trail.now.sets conflict }
+    requires fresh { state.old ≡ start trail.now.declared }
+    ensures learned { IfOk result (IsLearned (known_of clauses.now inferences.now) trail.now) }
+    ensures fresh { OnOk result (state.new ≡ start trail.now.declared) }
 {
-    let mut clause = Items::new(alloc);
-    for i in 0..trail.len() {
-        let entry = trail.entry(i);
-        match entry.reason {
-            Reason::Decision => clause.push(entry.lit.negated())?,
-            Reason::Clause(_) => {}
-        }
+    let graph = Implications {
+        trail,
+        clauses,
+        inferences,
+        vars: state.len(),
+    };
+    let found = first_uip(alloc, graph, marks, conflict)?;
+    if is_sound(trail, clauses, inferences, state, &found)? {
+        return Ok(found);
     }
-    Ok(clause)
-}
-
-/// The reasons of all other entries, and then the conflict.
-fn plain_ids(alloc: Global, trail: &Trail, conflict: ClauseId) -> Result<Items<ClauseId>, Memory>
-    ensures { IfOk result (λ ids. ids ≡ reasons trail.now.entries ++ conflict ∷ []) }
-{
-    let mut ids = Items::new(alloc);
-    for place in 0..trail.len() {
-        match trail.entry(place).reason {
-            Reason::Decision => {}
-            Reason::Clause(id) => ids.push(id)?,
-        }
-    }
-    ids.push(conflict)?;
-    Ok(ids)
+    let learned = plain(alloc, trail, clauses, inferences, conflict)?;
+    Ok(learned)
 }

@@ -1,8 +1,7 @@
 -- What the values are where each variable has one.
-use Rattle.std.proofs.Common.{◌≡◌, ◌≢◌, ℕ, zero, suc, ◌+◌, ◌-◌, ◌*◌, ◌<◌, ◌≤◌, true, ℤ, pos, List, [], ◌∷◌, ◌++◌, length, get_or, All, refl, sym, ap, ◌∙◌, subst, arith}
+use Rattle.std.proofs.Common.{◌≡◌, ◌≢◌, ℕ, zero, suc, ◌+◌, ◌-◌, ◌*◌, ◌<◌, ℤ, List, [], ◌∷◌, ◌++◌, length, get_or, All, Some, sym, ap, ◌∙◌, subst, arith}
 use Rattle.std.proofs.lemmas.List.{length-map}
 use Rattle.std.proofs.lemmas.List.Elements.{All-head, All-tail}
-use Rattle.fzn_domain.specs.declared.literal.Lit.{Lit}
 use Rattle.fzn_domain.specs.IntSet.{IntSet, size, no_values}
 use Rattle.fzn_domain.specs.Narrow.{IsClauseOver, IsWithin, NoneEmpty, possible_in}
 use Rattle.fzn_meaning.specs.declared.model.Model.{Model}
@@ -14,10 +13,13 @@ use Rattle.fzn_cert.specs.declared.step.Step.{Step}
 use Rattle.fzn_cert.specs.declared.step.Step.TheVariants.{Solution}
 use Rattle.fzn_cert.specs.Accepted.{IsAccepted, past_of}
 use Rattle.fzn_trail.specs.Levels.{Levels}
+use Rattle.fzn_clauses.specs.Held.{AllHeld}
+use Rattle.fzn_conflict.specs.declared.analysis.Learn.{Learn}
+use Rattle.fzn_conflict.specs.declared.analysis.Learn.TheVariants.{Plain}
 use Rattle.fzn_conflict.proofs.CallerLemmas.{IsReasoned-grown}
 use Rattle.fzn_search.specs.Fixed.{AllFixed}
 use Rattle.fzn_engine.specs.Volume.{volume}
-use Rattle.fzn_engine.specs.State.{StateOf}
+use Rattle.fzn_engine.specs.State.{Stock, known_in, with_held, StateOf}
 use Rattle.fzn_engine.proofs.VolumeLemmas.{volume-filled}
 use Rattle.fzn_engine.proofs.WithinLemmas.{IsWithin-larger}
 use Rattle.fzn_engine.proofs.CutLemmas.{cut_of-false}
@@ -37,12 +39,12 @@ many-choices (s ∷ sets) (suc k) filled within many =
     times : (m n : ℕ) → 0 < m → 1 < n → 1 < m * n
     times m n p q = grind arith
 
-module _ (model : Model) (held : List (List Lit)) (steps : List Step) (trail : Levels) (nodes : ℕ) (h : StateOf model held steps trail nodes) where
+module _ (model : Model) (learn : Learn) (stock : Stock) (steps : List Step) (trail : Levels) (nodes : ℕ) (h : StateOf model learn stock steps trail nodes) where
   -- where a decision is wanted two choices are left
-  pub choices-left : (k : ℕ) → k < length trail.sets → 1 < size (get_or trail.sets k no_values) → nodes < volume (declared_sets model.vars) - 1
-  choices-left k within many =
-      let parts = h.plain.nodes_by_parts in
-      let two = many-choices trail.sets k (State-filled model held steps trail nodes h) within many in
+  pub choices-left : (k : ℕ) → k < length trail.sets → 1 < size (get_or trail.sets k no_values) → learn ≡ Plain → nodes < volume (declared_sets model.vars) - 1
+  choices-left k within many in_plain =
+      let parts = (h.plain in_plain).nodes_by_parts in
+      let two = many-choices trail.sets k (State-filled model learn stock steps trail nodes h) within many in
       let e = ap volume h.core.declared in
       omega arith
 
@@ -54,21 +56,21 @@ module _ (model : Model) (held : List (List Lit)) (steps : List Step) (trail : L
         subst O (sym sizes) (cut_of-variables model values good)
 
     -- the values are an accepted step
-    pub solution-accepted : All (λ clause. possible_in trail.sets clause ≢ []) held → All (λ constraint. Meets constraint values) model.constraints → IsAccepted model (past_of model steps) (Solution values)
+    pub solution-accepted : AllHeld (λ clause. possible_in trail.sets clause ≢ []) stock.held → All (λ constraint. Meets constraint values) model.constraints → IsAccepted model (past_of model steps) (Solution values)
     solution-accepted quiet meets =
-        let same = State-length model held steps trail nodes h in
+        let same = State-length model learn stock steps trail nodes h in
         let D : List IntSet → Type 0 = λ d. IsWithin d values in
-        let H : ℕ → Type 0 = λ n. All (IsClauseOver n) held in (
-          (subst D h.core.declared (IsWithin-larger trail.sets trail.declared values same (State-within model held steps trail nodes h) within), meets),
-          passes-held trail.sets values fixed within model held (past_of model steps).solutions (subst H (sym same) h.core.held_over) quiet h.core.cuts_held,
+        let H : ℕ → Type 0 = λ n. AllHeld (IsClauseOver n) stock.held in (
+          (subst D h.core.declared (IsWithin-larger trail.sets trail.declared values same (State-within model learn stock steps trail nodes h) within), meets),
+          passes-held trail.sets values fixed within model stock.held (past_of model steps).solutions (subst H (sym same) h.core.held_over) quiet h.core.cuts_held,
         )
 
-    pub solution-state : IsAccepted model (past_of model steps) (Solution values) → StateOf model (held ++ cut_of model values ∷ []) (steps ++ Solution values ∷ []) trail nodes
-    solution-state accepted =
-        State-found model held steps trail nodes h values accepted cut-over (IsReasoned-grown held (cut_of model values ∷ []) trail h.core.reasoned)
+    pub solution-state : (number : ℕ) → number ≡ length steps + 1 → IsAccepted model (past_of model steps) (Solution values) → StateOf model learn (with_held (cut_of model values) number stock) (steps ++ Solution values ∷ []) trail nodes
+    solution-state number next accepted =
+        State-found model learn stock steps trail nodes h values number next accepted cut-over (IsReasoned-grown (known_in stock) (Some (cut_of model values) ∷ []) trail h.core.reasoned)
 
     -- the cut is false there
     pub cut-impossible : possible_in trail.sets (cut_of model values) ≡ []
     cut-impossible =
         let O : ℕ → Type 0 = λ n. IsClauseOver n (cut_of model values) in
-        false-clause trail.sets values fixed within (cut_of model values) (subst O (sym (State-length model held steps trail nodes h)) cut-over) (cut_of-false model values)
+        false-clause trail.sets values fixed within (cut_of model values) (subst O (sym (State-length model learn stock steps trail nodes h)) cut-over) (cut_of-false model values)

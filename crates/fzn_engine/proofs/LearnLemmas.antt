@@ -1,106 +1,120 @@
 -- What a learned clause makes of a search.
-use Rattle.std.proofs.Common.{◌≡◌, ℕ, ◌+◌, ◌-◌, ◌<◌, ◌≤◌, true, List, [], ◌∷◌, ◌++◌, length, map, All, refl, sym, ap, ◌∙◌, subst, arith}
-use Rattle.std.proofs.lemmas.List.{length_push, length-map, get_or_push}
-use Rattle.std.proofs.lemmas.List.Elements.{All-head, All-filter}
+use Rattle.std.proofs.Common.{◌≡◌, ◌≢◌, ℕ, zero, suc, ◌+◌, ◌<◌, ◌⊎◌, inl, inr, List, [], ◌∷◌, ◌++◌, length, map, Some, refl, sym, ap, ◌∙◌, subst, arith}
+use Rattle.std.proofs.lemmas.List.{length-map}
 use Rattle.fzn_domain.specs.declared.literal.Lit.{Lit}
-use Rattle.fzn_domain.specs.Literal.{negated}
-use Rattle.fzn_domain.specs.IntSet.{IntSet, is_possible}
-use Rattle.fzn_domain.specs.Narrow.{IsVariable, IsClauseOver, IsAcceptedFrom, set_of, possible_in, can_fail}
+use Rattle.fzn_domain.specs.IntSet.{IntSet}
+use Rattle.fzn_domain.specs.Narrow.{IsVariable, IsClauseOver, IsAcceptedFrom, chain_outcome, accepted, possible_in}
 use Rattle.fzn_meaning.specs.declared.model.Model.{Model}
 use Rattle.fzn_meaning.specs.Solutions.{declared_sets}
 use Rattle.fzn_cert.specs.declared.step.Step.{Step}
 use Rattle.fzn_cert.specs.declared.step.Step.TheVariants.{Resolve}
-use Rattle.fzn_cert.specs.Accepted.{IsAccepted, past_of}
+use Rattle.fzn_cert.specs.Past.{clauses_held}
+use Rattle.fzn_cert.specs.Accepted.{IsTrivial, IsAccepted, denying, past_of}
 use Rattle.fzn_trail.specs.declared.trail.ClauseId.{ClauseId}
 use Rattle.fzn_trail.specs.declared.trail.Reason.TheVariants.{Clause}
 use Rattle.fzn_trail.specs.Levels.{Levels, level_of, asserted, returned}
 use Rattle.fzn_trail.proofs.CallerLemmas.{declared-returned}
+use Rattle.fzn_clauses.proofs.HeldLemmas.{IsHeld-newest, clause_of-newest}
+use Rattle.fzn_conflict.specs.declared.analysis.Learn.{Learn}
+use Rattle.fzn_conflict.specs.declared.analysis.Learn.TheVariants.{Plain}
 use Rattle.fzn_conflict.specs.declared.analysis.Learned.{Learned}
-use Rattle.fzn_conflict.specs.Learned.{IsLearned, IsPlain}
-use Rattle.fzn_conflict.specs.Reasoned.{clause_at, IsForced, IsReasoned}
+use Rattle.fzn_conflict.specs.declared.source.Source.{Source}
+use Rattle.fzn_conflict.specs.declared.source.Source.TheVariants.{Held}
+use Rattle.fzn_conflict.specs.Learned.{IsEmptyOrForces, IsLearned, IsPlain}
+use Rattle.fzn_conflict.specs.Reasoned.{IsKnown, clause_of, reason_of, IsForced, IsReasoned}
 use Rattle.fzn_conflict.proofs.CallerLemmas.{IsReasoned-grown, IsReasoned-returned, IsReasoned-forced}
-use Rattle.fzn_engine.specs.Learned.{step_numbers}
-use Rattle.fzn_engine.specs.State.{StateOf, work}
+use Rattle.fzn_engine.specs.State.{Stock, known_in, with_held, StateOf, work}
+use Rattle.fzn_engine.specs.Search.{GiveSources}
 use Rattle.fzn_engine.specs.Outcome.{IsCertified, IsRefuted}
-use Rattle.fzn_engine.proofs.AcceptedLemmas.{resolve-accepted}
+use Rattle.fzn_engine.proofs.NumberLemmas.{Give-chain}
+use Rattle.fzn_engine.proofs.VariableLemmas.{variable-of}
 use Rattle.fzn_engine.proofs.TakenLemmas.{forced-possible}
-use Rattle.fzn_engine.proofs.ChangeLemmas.{State-learned, work-learned, State-closed, State-asserted, work-asserted, State-length}
+use Rattle.fzn_engine.proofs.ChangeLemmas.{Core-learned, Plain-back, work-learned, State-closed, State-asserted, work-asserted, State-length}
 
--- a clause's one possible literal is of one of its variables
-pub variable-of : (sets : List IntSet) (count : ℕ) (clause : List Lit) (lit : Lit) (rest : List Lit) → IsClauseOver count clause → possible_in sets clause ≡ lit ∷ rest → IsVariable count lit.var
-variable-of sets count clause lit rest over e =
-    let P : List Lit → Type 0 = λ ls. IsClauseOver count ls in
-    All-head (λ (l : Lit). IsVariable count l.var) lit rest (subst P e (All-filter (λ (l : Lit). is_possible (set_of sets l.var) l) (λ (l : Lit). IsVariable count l.var) clause over))
-
--- a held clause that forces a literal
-module _ (model : Model) (held : List (List Lit)) (steps : List Step) (trail : Levels) (nodes : ℕ) (h : StateOf model held steps trail nodes) (id : ClauseId) (lit : Lit) (within : id.0 < length held) (over : IsClauseOver (length trail.declared) (clause_at held id)) (forced : IsForced trail.sets (clause_at held id) lit) where
-  pub forced-state : StateOf model held steps (asserted lit (Clause id) trail) nodes
+-- a known clause that forces a literal
+module _ (model : Model) (learn : Learn) (stock : Stock) (steps : List Step) (trail : Levels) (nodes : ℕ) (h : StateOf model learn stock steps trail nodes) (source : Source) (lit : Lit) (known : IsKnown (known_in stock) source) (over : IsClauseOver (length trail.declared) (clause_of (known_in stock) source)) (forced : IsForced trail.sets (clause_of (known_in stock) source) lit) where
+  pub forced-state : StateOf model learn stock steps (asserted lit (reason_of source) trail) nodes
   forced-state =
-      State-asserted model held steps trail nodes h lit id
-      (IsReasoned-forced held trail lit id h.core.reasoned (variable-of trail.sets (length trail.declared) (clause_at held id) lit [] over forced.0) within forced)
+      State-asserted model learn stock steps trail nodes h lit source
+      (IsReasoned-forced (known_in stock) trail lit source h.core.reasoned (variable-of trail.sets (length trail.declared) (clause_of (known_in stock) source) lit [] over forced.0) (known, forced))
 
-  pub forced-works : (limit : ℕ) → work limit nodes (asserted lit (Clause id) trail) < work limit nodes trail
+  pub forced-works : (limit : ℕ) → work limit nodes (asserted lit (reason_of source) trail) < work limit nodes trail
   forced-works limit =
-      let var = variable-of trail.sets (length trail.sets) (clause_at held id) lit [] (subst (λ (n : ℕ). IsClauseOver n (clause_at held id)) (sym (State-length model held steps trail nodes h)) over) forced.0 in
-      work-asserted model held steps trail nodes limit lit id var (forced-possible trail.sets (clause_at held id) lit forced.0) forced.1
+      let O : ℕ → Type 0 = λ n. IsClauseOver n (clause_of (known_in stock) source) in
+      let var = variable-of trail.sets (length trail.sets) (clause_of (known_in stock) source) lit [] (subst O (sym (State-length model learn stock steps trail nodes h)) over) forced.0 in
+      work-asserted model learn stock steps trail nodes limit lit (reason_of source) var (forced-possible trail.sets (clause_of (known_in stock) source) lit forced.0) forced.1
 
-module _ (model : Model) (held : List (List Lit)) (steps : List Step) (trail : Levels) (nodes : ℕ) (h : StateOf model held steps trail nodes) (learned : Learned) (conflict : ClauseId) (is : IsLearned held trail learned) (plain : IsPlain trail conflict learned) where
+module _ (model : Model) (learn : Learn) (stock : Stock) (steps : List Step) (trail : Levels) (nodes : ℕ) (h : StateOf model learn stock steps trail nodes) (learned : Learned) (conflict : Source) (is : IsLearned (known_in stock) trail learned) (plain : learn ≡ Plain → IsPlain trail conflict learned) (numbers : List ℕ) (give : GiveSources (past_of model steps) (known_in stock) numbers learned.sources) where
   -- the learned clause is an accepted step
-  pub learned-accepted : IsAccepted model (past_of model steps) (Resolve learned.clause (step_numbers learned.ids))
+  pub learned-accepted : IsAccepted model (past_of model steps) (Resolve learned.clause numbers)
   learned-accepted =
       let e = h.core.declared in
       let sizes : length trail.declared ≡ length model.vars = ap length e ∙ length-map model.vars (λ var. var.domain) in
       let O : ℕ → Type 0 = λ n. IsClauseOver n learned.clause in
-      let A : List IntSet → Type 0 = λ d. IsAcceptedFrom d learned.clause (map (clause_at held) learned.ids) in
-      resolve-accepted model (past_of model steps) held learned.clause learned.ids h.core.held_is (subst O sizes is.over) is.held_ids (subst A e is.accepted)
+      let A : List IntSet → Type 0 = λ d. IsAcceptedFrom d learned.clause (map (clause_of (known_in stock)) learned.sources) in
+      let chain = Give-chain (past_of model steps) numbers (map (clause_of (known_in stock)) learned.sources) give in
+      (subst O sizes is.over, chain.0, by (subst A e is.accepted) chain.1)
+    where
+      by : IsAcceptedFrom (declared_sets model.vars) learned.clause (map (clause_of (known_in stock)) learned.sources) → clauses_held (past_of model steps) numbers ≡ map (clause_of (known_in stock)) learned.sources → IsTrivial model learned.clause ⊎ (chain_outcome (denying model learned.clause) (clauses_held (past_of model steps) numbers) ≡ accepted)
+      by (inl trivial) same = inl trivial
+      by (inr ends) same = inr (ap (chain_outcome (denying model learned.clause)) same ∙ ends)
 
-  -- at level 0 it is empty, and nothing is left
-  pub learned-closed : level_of trail ≡ 0 → IsCertified model (steps ++ Resolve learned.clause (step_numbers learned.ids) ∷ []) nodes × IsRefuted model (steps ++ Resolve learned.clause (step_numbers learned.ids) ∷ [])
-  learned-closed levels =
-      let none : learned.clause ≡ [] = is.at_level_0 levels in
-      let A : List Lit → Type 0 = λ c. IsAccepted model (past_of model steps) (Resolve c (step_numbers learned.ids)) in
-      let C : List Lit → Type 0 = λ c. IsCertified model (steps ++ Resolve c (step_numbers learned.ids) ∷ []) nodes × IsRefuted model (steps ++ Resolve c (step_numbers learned.ids) ∷ []) in
-      subst C (sym none) (State-closed model held steps trail nodes h levels (step_numbers learned.ids) (subst A none learned-accepted))
+  -- where it is empty nothing is left
+  pub learned-closed : learned.clause ≡ [] → IsCertified model learn (steps ++ Resolve learned.clause numbers ∷ []) nodes × IsRefuted model (steps ++ Resolve learned.clause numbers ∷ [])
+  learned-closed none =
+      let A : List Lit → Type 0 = λ c. IsAccepted model (past_of model steps) (Resolve c numbers) in
+      let C : List Lit → Type 0 = λ c. IsCertified model learn (steps ++ Resolve c numbers ∷ []) nodes × IsRefuted model (steps ++ Resolve c numbers ∷ []) in
+      subst C (sym none) (State-closed model learn stock steps trail nodes h (λ in_plain. sym none ∙ (plain in_plain).clause) numbers (subst A none learned-accepted))
 
-  -- above, it forces a literal one level back
-  module _ (above : 0 < level_of trail) (lit : Lit) (rest : List Lit) (possible : possible_in (returned learned.level trail).sets learned.clause ≡ lit ∷ rest) (id : ClauseId) (newest : id.0 ≡ length held) where
-    forced_there : IsForced (returned learned.level trail).sets learned.clause lit
-    forced_there =
-        let back = plain.back above in
-        let sets = (returned learned.level trail).sets in
-        let other = negated back.last.decision in
-        let S : List IntSet → Type 0 = λ s. IsForced s learned.clause other in
-        let there : IsForced sets learned.clause other = subst S (sym back.stood) back.forced in
-        let L : Lit → Type 0 = λ l. IsForced sets learned.clause l in
-        subst L (sym (first_same lit other rest (sym possible ∙ there.0))) there
+  -- else it forces a literal at a lower level
+  module _ (some : learned.clause ≢ []) where
+    pub learned-above : 0 < level_of trail
+    learned-above = positive (level_of trail) (λ none. some (is.at_level_0 none))
       where
-        first_same : (a b : Lit) (more : List Lit) → a ∷ more ≡ b ∷ [] → a ≡ b
-        first_same a b more e = cc
+        positive : (n : ℕ) → (n ≡ 0 → ⊥) → 0 < n
+        positive zero k = absurd (k refl)
+        positive (suc n) k = omega arith
 
-    reasoned_there : IsReasoned (held ++ learned.clause ∷ []) (asserted lit (Clause id) (returned learned.level trail))
-    reasoned_there =
-        let back = plain.back above in
-        let one = back.one_less in
-        let more = held ++ learned.clause ∷ [] in
-        let grown = IsReasoned-grown held (learned.clause ∷ []) trail h.core.reasoned in
-        let returned_too = IsReasoned-returned more trail learned.level grown (omega arith) in
-        let there = returned learned.level trail in
-        let F : List Lit → Type 0 = λ c. IsForced there.sets c lit in
-        let forced : IsForced there.sets (clause_at more id) lit = subst F (sym (get_or_push held learned.clause [] id.0 (sym newest))) forced_there in
-        let Var : List IntSet → Type 0 = λ d. IsVariable (length d) lit.var in
-        let var = variable-of there.sets (length trail.declared) learned.clause lit [] is.over forced_there.0 in
-        let count = length_push held learned.clause in
-        IsReasoned-forced more there lit id returned_too (subst Var (sym (declared-returned learned.level trail)) var) (omega arith) forced
+    pub learned-forces : (lit : Lit) × IsForced (returned learned.level trail).sets learned.clause lit
+    learned-forces = by (is.forces learned-above)
+      where
+        by : IsEmptyOrForces (returned learned.level trail).sets learned.clause → (lit : Lit) × IsForced (returned learned.level trail).sets learned.clause lit
+        by (inl none) = absurd (some none)
+        by (inr one) = one
 
-    pub learned-state : StateOf model (held ++ learned.clause ∷ []) (steps ++ Resolve learned.clause (step_numbers learned.ids) ∷ []) (asserted lit (Clause id) (returned learned.level trail)) nodes
-    learned-state =
-        let back = plain.back above in
-        let one = back.one_less in
-        let R : ℕ → Type 0 = λ n. IsReasoned (held ++ learned.clause ∷ []) (asserted lit (Clause (record { 0 = n })) (returned learned.level trail)) in
-        let S : ℕ → Type 0 = λ n. StateOf model (held ++ learned.clause ∷ []) (steps ++ Resolve learned.clause (step_numbers learned.ids) ∷ []) (asserted lit (Clause (record { 0 = n })) (returned learned.level trail)) nodes in
-        subst S (sym newest) (State-learned model held steps trail nodes h learned.clause (step_numbers learned.ids) learned.level (sym one) plain.clause learned-accepted lit forced_there.0 (subst R newest reasoned_there))
+    module _ (lit : Lit) (rest : List Lit) (possible : possible_in (returned learned.level trail).sets learned.clause ≡ lit ∷ rest) (id : ClauseId) (newest : id.0 ≡ length stock.held) (number : ℕ) (next : number ≡ length steps + 1) where
+      forced_there : IsForced (returned learned.level trail).sets learned.clause lit
+      forced_there =
+          let there = learned-forces.1 in
+          let L : Lit → Type 0 = λ l. IsForced (returned learned.level trail).sets learned.clause l in
+          subst L (sym (first_same lit learned-forces.0 rest (sym possible ∙ there.0))) there
+        where
+          first_same : (a b : Lit) (more : List Lit) → a ∷ more ≡ b ∷ [] → a ≡ b
+          first_same a b more e = cc
 
-    pub learned-works : (limit : ℕ) → work limit nodes (asserted lit (Clause id) (returned learned.level trail)) < work limit nodes trail
-    learned-works limit =
-        let back = plain.back above in
-        work-learned model held steps trail nodes h limit learned.level (sym back.one_less) lit id
+      reasoned_there : IsReasoned (known_in (with_held learned.clause number stock)) (asserted lit (Clause id) (returned learned.level trail))
+      reasoned_there =
+          let below = is.below learned-above in
+          let more = known_in (with_held learned.clause number stock) in
+          let grown = IsReasoned-grown (known_in stock) (Some learned.clause ∷ []) trail h.core.reasoned in
+          let returned_too = IsReasoned-returned more trail learned.level grown (omega arith) in
+          let there = returned learned.level trail in
+          let F : List Lit → Type 0 = λ c. IsForced there.sets c lit in
+          let forced : IsForced there.sets (clause_of more (Held id)) lit = subst F (sym (clause_of-newest stock.held learned.clause id newest)) forced_there in
+          let Var : List IntSet → Type 0 = λ d. IsVariable (length d) lit.var in
+          let var = variable-of there.sets (length trail.declared) learned.clause lit [] is.over forced_there.0 in
+          let known = IsHeld-newest stock.held learned.clause id newest in
+          IsReasoned-forced more there lit (Held id) returned_too (subst Var (sym (declared-returned learned.level trail)) var) (known, forced)
+
+      pub learned-state : StateOf model learn (with_held learned.clause number stock) (steps ++ Resolve learned.clause numbers ∷ []) (asserted lit (Clause id) (returned learned.level trail)) nodes
+      learned-state =
+          let below = is.below learned-above in
+          record {
+            core = Core-learned model learn stock steps trail nodes h.core learned.clause numbers number learned.level next (omega arith) learned-accepted lit id reasoned_there;
+            plain = λ in_plain.
+                let is_plain = plain in_plain in
+                Plain-back model learn stock steps trail nodes h in_plain learned.clause numbers learned.level (sym (is_plain.back learned-above).one_less) is_plain.clause lit id forced_there.0;
+          }
+
+      pub learned-works : (limit : ℕ) → work limit nodes (asserted lit (Clause id) (returned learned.level trail)) < work limit nodes trail
+      learned-works limit = work-learned model learn stock steps trail nodes h.core limit learned.level (is.below learned-above) lit id

@@ -1,54 +1,87 @@
 -- The changes of a search as the code makes them.
-use Rattle.std.proofs.Common.{◌≡◌, ◌≢◌, ℕ, ◌+◌, ◌-◌, ◌^◌, ◌<◌, ◌≤◌, ◌⊎◌, inl, inr, Bool, true, false, List, [], ◌∷◌, ◌++◌, length, map, All, Option, Some, None, refl, sym, ap, ◌∙◌, subst, arith, ℤ}
-use Rattle.std.proofs.lemmas.List.{length_push, length-map, get_or_push}
-use Rattle.std.proofs.lemmas.List.Elements.{All-push}
+use Rattle.std.proofs.Common.{◌≡◌, ◌≢◌, ℕ, ◌+◌, ◌^◌, ◌<◌, ◌≤◌, ◌⊎◌, inl, inr, Bool, true, false, List, [], ◌∷◌, ◌++◌, length, map, All, Some, refl, sym, ap, ◌∙◌, subst, arith}
+use Rattle.std.proofs.lemmas.List.{length_push, length-map, get_or_push, get_or-map}
+use Rattle.std.proofs.lemmas.List.Elements.{All-push, All-map, All-weaker}
 use Rattle.fzn_domain.specs.declared.literal.Lit.{Lit}
-use Rattle.fzn_domain.specs.IntSet.{IntSet, size, no_values}
-use Rattle.fzn_domain.specs.Narrow.{IsVariable, IsClauseOver, IsOpen, NoneEmpty, IsWithin, possible_in}
+use Rattle.fzn_domain.specs.IntSet.{IntSet}
+use Rattle.fzn_domain.specs.Narrow.{IsVariable, IsClauseOver, possible_in}
 use Rattle.fzn_meaning.specs.declared.model.Model.{Model}
-use Rattle.fzn_meaning.specs.Meaning.{Meets}
-use Rattle.fzn_meaning.specs.Solutions.{declared_sets, cut_of}
 use Rattle.fzn_meaning.specs.WellFormed.{IsWellFormed}
 use Rattle.fzn_cert.specs.declared.step.Step.{Step}
-use Rattle.fzn_cert.specs.declared.step.Step.TheVariants.{Infer, Resolve, Solution}
+use Rattle.fzn_cert.specs.declared.step.Step.TheVariants.{Resolve}
 use Rattle.fzn_cert.specs.declared.step.Version.TheVariants.{One}
 use Rattle.fzn_cert.specs.Past.{Past}
 use Rattle.fzn_cert.specs.Accepted.{IsAccepted, AllAccepted, after, past_of}
 use Rattle.fzn_cert.specs.Spelling.{IsSpelled}
-use Rattle.fzn_rules.specs.declared.rule.Rule.{Rule}
+use Rattle.fzn_state.specs.State.{Sets}
+use Rattle.fzn_inferences.specs.declared.inferences.Inferred.{Inferred}
+use Rattle.fzn_inferences.specs.Inferences.{inferred}
+use Rattle.fzn_search.specs.Fixed.{Searching}
 use Rattle.fzn_trail.specs.declared.trail.ClauseId.{ClauseId}
-use Rattle.fzn_trail.specs.declared.trail.Reason.TheVariants.{Decision, Clause}
-use Rattle.fzn_trail.specs.Levels.{Levels, level_of, pushed, asserted, returned}
-use Rattle.fzn_trail.specs.Unit.{IsUnit, IsFalseOrUnit}
+use Rattle.fzn_trail.specs.declared.trail.Entry.{Entry}
+use Rattle.fzn_trail.specs.declared.trail.Reason.TheVariants.{Clause}
+use Rattle.fzn_trail.specs.Levels.{Levels, level_of, asserted, returned}
+use Rattle.fzn_trail.specs.Unit.{IsFalseOrUnit}
 use Rattle.fzn_trail.proofs.CallerLemmas.{declared-returned}
+use Rattle.fzn_clauses.specs.declared.clauses.Clauses.{Clauses}
+use Rattle.fzn_clauses.specs.Held.{Held as Numbered}
 use Rattle.fzn_clauses.specs.Propagation.{IsPropagated}
+use Rattle.fzn_clauses.specs.Watching.{held_by, IsWatching}
+use Rattle.fzn_clauses.proofs.HeldLemmas.{IsHeld-newest, clause_of-newest}
+use Rattle.fzn_clauses.proofs.WatchingLemmas.{IsWatching-asserted, IsWatching-returned}
+use Rattle.fzn_conflict.specs.declared.analysis.Learn.{Learn}
+use Rattle.fzn_conflict.specs.declared.analysis.Learn.TheVariants.{Plain}
 use Rattle.fzn_conflict.specs.declared.analysis.Learned.{Learned}
-use Rattle.fzn_conflict.specs.Learned.{IsConflict, IsLearned, IsPlain}
-use Rattle.fzn_conflict.specs.Reasoned.{clause_at, IsForced, IsReasoned}
-use Rattle.fzn_conflict.proofs.CallerLemmas.{IsReasoned-grown, IsReasoned-decided}
-use Rattle.fzn_search.specs.Fixed.{AllFixed, Splits}
+use Rattle.fzn_conflict.specs.declared.source.Source.{Source}
+use Rattle.fzn_conflict.specs.declared.source.Source.TheVariants.{Held, Stacked}
+use Rattle.fzn_conflict.specs.Learned.{IsConflicting, IsLearned, IsPlain}
+use Rattle.fzn_conflict.specs.Reasoned.{Known, AreOver, IsKnown, IsBelow, IsReasoned, clause_of, reason_of, IsForced}
+use Rattle.fzn_conflict.proofs.CallerLemmas.{IsReasoned-grown, IsReasoned-returned}
 use Rattle.fzn_engine.specs.declared.inference.Inference.{Inference}
 use Rattle.fzn_engine.specs.declared.solver.Solver.{Solver}
 use Rattle.fzn_engine.specs.Inference.{IsInference}
-use Rattle.fzn_engine.specs.Learned.{step_numbers}
 use Rattle.fzn_engine.specs.Outcome.{count, IsCertified, IsRefuted}
-use Rattle.fzn_engine.specs.Search.{State, work_of, IsForcedBy, IsBehind, IsClosed, Goes, IsKeptBy, IsDecided}
-use Rattle.fzn_engine.specs.State.{StateOf, work}
-use Rattle.fzn_engine.proofs.AcceptedLemmas.{past_of-push, AllAccepted-push}
-use Rattle.fzn_engine.proofs.ChangeLemmas.{State-inferred, State-length, State-filled, State-decided, work-decided}
-use Rattle.fzn_engine.proofs.LearnLemmas.{forced-state, forced-works, learned-accepted, learned-closed, learned-state, learned-works}
+use Rattle.fzn_engine.specs.Search.{IsAfter, stock_of, work_of, GiveSources, IsWritten, Learns, Holds, IsBackAt, IsForcedBy, IsBehind, IsClosed, Goes, IsKeptBy}
+use Rattle.fzn_engine.specs.State.{Stock, known_in, with_held, with_stack, IsJustified, StateOf, work}
+use Rattle.fzn_engine.proofs.AcceptedLemmas.{past_of-push, logged-accepted, length-past_of}
+use Rattle.fzn_engine.proofs.ChangeLemmas.{State-length, State-stacked, State-cut}
+use Rattle.fzn_engine.proofs.LearnLemmas.{forced-state, forced-works, learned-accepted, learned-closed, learned-above, learned-forces, learned-state, learned-works}
 use Rattle.fzn_engine.proofs.PropagationLemmas.{State-propagated}
 use Rattle.fzn_engine.proofs.SpelledLemmas.{resolve-spelled}
+use Rattle.fzn_engine.proofs.TakenLemmas.{Leads-length}
+use Rattle.fzn_engine.proofs.VariableLemmas.{variable-of}
 
-pub record IsSame (old new : Solver) : Type 0 where
-  pub nodes : new.search.nodes ≡ old.search.nodes
-  pub vars : new.search.vars ≡ old.search.vars
-  pub found : new.found ≡ old.found
+-- a search from its parts
+abbrev pub solver_of : Levels → Clauses → List ℕ → List Inferred → Searching → Sets → Learn → ℕ → ℕ → Solver
+solver_of trail clauses numbers stack search scratch learn found steps =
+    record { trail = trail; clauses = clauses; numbers = numbers; inferences = stack; search = search; scratch = scratch; learn = learn; found = found; steps = steps }
 
--- what a sink holds is accepted, whether or not it took one more accepted step
-pub logged-accepted : (model : Model) (before now : List Step) (step : Step) → AllAccepted model before → IsAccepted model (past_of model before) step → (now ≡ before) ⊎ (now ≡ before ++ step ∷ []) → AllAccepted model now
-logged-accepted model before now step all one (inl same) = let P : List Step → Type 0 = λ s. AllAccepted model s in subst P (sym same) all
-logged-accepted model before now step all one (inr more) = let P : List Step → Type 0 = λ s. AllAccepted model s in subst P (sym more) (AllAccepted-push model before step all one)
+pub solver-is : (new : Solver) (trail : Levels) (search : Searching) (scratch : Sets) (learn : Learn) (found steps : ℕ) → new.trail ≡ trail → new.search ≡ search → new.scratch ≡ scratch → new.learn ≡ learn → new.found ≡ found → new.steps ≡ steps → new ≡ solver_of trail new.clauses new.numbers new.inferences search scratch learn found steps
+solver-is new trail search scratch learn found steps a c d e f g =
+    ap (λ (t : Levels). solver_of t new.clauses new.numbers new.inferences new.search new.scratch new.learn new.found new.steps) a
+    ∙ ap (λ (s : Searching). solver_of trail new.clauses new.numbers new.inferences s new.scratch new.learn new.found new.steps) c
+    ∙ ap (λ (s : Sets). solver_of trail new.clauses new.numbers new.inferences search s new.learn new.found new.steps) d
+    ∙ ap (λ (l : Learn). solver_of trail new.clauses new.numbers new.inferences search scratch l new.found new.steps) e
+    ∙ ap (λ (n : ℕ). solver_of trail new.clauses new.numbers new.inferences search scratch learn n new.steps) f
+    ∙ ap (λ (n : ℕ). solver_of trail new.clauses new.numbers new.inferences search scratch learn found n) g
+
+-- the trail is reasoned with one more held clause
+pub holds-reasoned : (model : Model) (clause : List Lit) (old new : Solver) (steps : List Step) → IsAfter model old steps → Holds clause old new → IsReasoned (known_in (stock_of new)) new.trail
+holds-reasoned model clause old new steps h holds =
+    let K : Stock → Type 0 = λ k. IsReasoned (known_in k) old.trail in
+    let T : Levels → Type 0 = λ t. IsReasoned (known_in (stock_of new)) t in
+    subst T (sym holds.trail) (subst K (sym holds.stock) (IsReasoned-grown (known_in (stock_of old)) (Some clause ∷ []) old.trail h.state.core.reasoned))
+
+-- all known clauses are over the variables
+pub known-over : (model : Model) (solver : Solver) (steps : List Step) → IsAfter model solver steps → AreOver (length solver.trail.declared) (known_in (stock_of solver))
+known-over model solver steps h =
+    let sizes : length solver.trail.declared ≡ length model.vars = ap length h.state.core.declared ∙ length-map model.vars (λ var. var.domain) in
+    let O : ℕ → Type 0 = λ n. All (IsClauseOver n) (map (λ (it : Inferred). it.clause) solver.inferences) in
+    record {
+      held = h.state.core.held_over;
+      stacked = subst O (sym sizes) (All-map (IsClauseOver (length model.vars)) (λ (it : Inferred). it.clause) solver.inferences
+          (All-weaker (IsJustified model (past_of model steps)) (λ (it : Inferred). IsClauseOver (length model.vars) it.clause) (λ it j. j.over) solver.inferences h.state.core.justified));
+    }
 
 -- the solutions after a step that is none
 same_count : (model : Model) (before now : List Step) (step : Step) → (after model (past_of model before) step).solutions ≡ (past_of model before).solutions → now ≡ before ++ step ∷ [] → count model now ≡ count model before
@@ -57,234 +90,273 @@ same_count model before now step same is =
 
 -- ---- propagation
 
-pub propagated-kept : (model : Model) (steps : List Step) (old : Solver) (trail : Levels) (clauses : List (List Lit)) → clauses ≡ old.clauses → IsPropagated old.clauses old.trail trail → State model old steps → IsKeptBy model steps old (record old { trail = trail; clauses = clauses })
-propagated-kept model steps old trail clauses same run h =
-    let kept = State-propagated model old.clauses steps old.search.nodes old.trail trail run h.state in
-    let C : List (List Lit) → Type 0 = λ cs. StateOf model cs steps trail old.search.nodes in
+pub propagated-kept : (model : Model) (steps : List Step) (old : Solver) (trail : Levels) (clauses : Clauses) → held_by clauses ≡ held_by old.clauses → IsPropagated (held_by old.clauses) old.trail trail → IsWatching clauses trail → IsAfter model old steps → IsKeptBy model steps old (record old { trail = trail; clauses = clauses })
+propagated-kept model steps old trail clauses same run watching h =
+    let kept = State-propagated model old.learn (stock_of old) steps old.search.nodes old.trail trail run h.state in
+    let C : Numbered → Type 0 = λ cs. StateOf model old.learn (record { held = cs; numbers = old.numbers; stack = old.inferences }) steps trail old.search.nodes in
     record {
       state = record {
         state = subst C (sym same) kept.state;
+        watching = watching;
+        scratch = h.scratch;
         vars = h.vars;
         found_is = h.found_is;
         found_few = h.found_few;
-        one_each = ap length same ∙ h.one_each;
+        steps_are = h.steps_are;
         few_steps = h.few_steps;
       };
       less = kept.less;
       nodes = refl;
       found = refl;
+      learn = refl;
     }
 
 -- ---- a learned clause
 
-module _ (model : Model) (good : IsWellFormed model) (old : Solver) (before : List Step) (h : State model old before) (conflict : ClauseId) (learned : Learned) (is : IsLearned old.clauses old.trail learned) (plain : IsPlain old.trail conflict learned) (numbers : List ℕ) (numbers_is : numbers ≡ step_numbers learned.ids) where
-  learn-accepted : IsAccepted model (past_of model before) (Resolve learned.clause numbers)
-  learn-accepted =
-      let A : List ℕ → Type 0 = λ ns. IsAccepted model (past_of model before) (Resolve learned.clause ns) in
-      subst A (sym numbers_is) (learned-accepted model old.clauses before old.trail old.search.nodes h.state learned conflict is plain)
+-- inferences are written whatever the sets on which learned clauses are tested
+pub written-beside : (model : Model) (first : List Step) (old new : Solver) (scratch : Sets) (steps : List Step) → IsWritten model first (record old { scratch = scratch }) new steps → IsWritten model first old new steps
+written-beside model first old new scratch steps w = record { state = w.state; kept = w.kept; known = w.known; trail = w.trail; nodes = w.nodes; found = w.found; learn = w.learn }
 
-  pub learn-spelled : IsSpelled One (Resolve learned.clause numbers)
-  learn-spelled =
-      let S : List ℕ → Type 0 = λ ns. IsSpelled One (Resolve learned.clause ns) in
+pub learns : (model : Model) (first : List Step) (old new : Solver) (steps : List Step) (conflict : Source) (learned : Learned) (numbers : List ℕ) → IsWritten model first old new steps → IsLearned (known_in (stock_of old)) old.trail learned → (old.learn ≡ Plain → IsPlain old.trail conflict learned) → GiveSources (past_of model steps) (known_in (stock_of old)) numbers learned.sources → Learns model new steps conflict learned numbers
+learns model first old new steps conflict learned numbers written is plain give =
+    let T : Levels → Type 0 = λ t. IsLearned (known_in (stock_of old)) t learned in
+    let K : Known → Type 0 = λ k. IsLearned k new.trail learned in
+    let P : Levels → Type 0 = λ t. IsPlain t conflict learned in
+    let G : Known → Type 0 = λ k. GiveSources (past_of model steps) k numbers learned.sources in
+    record {
+      state = written.state;
+      is = subst K (sym written.known) (subst T (sym written.trail) is);
+      plain = λ in_plain. subst P (sym written.trail) (plain (sym written.learn ∙ in_plain));
+      give = subst G (sym written.known) give;
+    }
+
+module _ (model : Model) (mid : Solver) (before : List Step) (conflict : Source) (learned : Learned) (numbers : List ℕ) (h : Learns model mid before conflict learned numbers) where
+  learn-accepted : IsAccepted model (past_of model before) (Resolve learned.clause numbers)
+  learn-accepted = learned-accepted model mid.learn (stock_of mid) before mid.trail mid.search.nodes h.state.state learned conflict h.is h.plain numbers h.give
+
+  pub learn-spelled : IsWellFormed model → IsSpelled One (Resolve learned.clause numbers)
+  learn-spelled good =
       let few = good.few_vars in
-      let sizes : length old.trail.declared ≡ length model.vars = ap length h.state.core.declared ∙ length-map model.vars (λ var. var.domain) in
-      let each = h.one_each in
-      let room = h.few_steps in
-      subst S (sym numbers_is) (resolve-spelled (length old.trail.declared) (length old.clauses) learned.clause learned.ids (omega arith) (omega arith) is.over is.in_limits is.held_ids)
+      let sizes : length mid.trail.declared ≡ length model.vars = ap length h.state.state.core.declared ∙ length-map model.vars (λ var. var.domain) in
+      let each = length-past_of model before in
+      let room = h.state.few_steps in
+      resolve-spelled (length mid.trail.declared) (past_of model before) learned.clause numbers (map (clause_of (known_in (stock_of mid))) learned.sources) (omega arith) (few_by (length (past_of model before).clauses) (length before) each room) h.is.over h.is.in_limits h.give
+    where
+      few_by : (a b : ℕ) → a ≡ b → b < 10 ^ 18 → a < 10 ^ 18
+      few_by a b e k = omega arith
 
   pub learn-logged : (now : List Step) → (now ≡ before) ⊎ (now ≡ before ++ Resolve learned.clause numbers ∷ []) → AllAccepted model now
-  learn-logged now log = logged-accepted model before now (Resolve learned.clause numbers) h.state.core.accepted learn-accepted log
-
-  pub learn-over : IsClauseOver (length (returned learned.level old.trail).declared) learned.clause
-  learn-over = let O : List IntSet → Type 0 = λ d. IsClauseOver (length d) learned.clause in subst O (sym (declared-returned learned.level old.trail)) is.over
+  learn-logged now log = logged-accepted model before now (Resolve learned.clause numbers) h.state.state.core.accepted learn-accepted log
 
   module _ (now : List Step) (now_is : now ≡ before ++ Resolve learned.clause numbers ∷ []) where
-    steps_are : now ≡ before ++ Resolve learned.clause (step_numbers learned.ids) ∷ []
-    steps_are = now_is ∙ ap (λ (ns : List ℕ). before ++ Resolve learned.clause ns ∷ []) numbers_is
-
     counts : count model now ≡ count model before
     counts = same_count model before now (Resolve learned.clause numbers) refl now_is
 
-    pub learn-closed : level_of old.trail ≡ 0 → (new : Solver) → IsSame old new → IsClosed model old new now
-    learn-closed levels new same =
-        let end = learned-closed model old.clauses before old.trail old.search.nodes h.state learned conflict is plain levels in
-        let C : List Step → Type 0 = λ s. IsCertified model s old.search.nodes in
-        let N : ℕ → Type 0 = λ n. IsCertified model now n in
+    pub learn-closed : learned.clause ≡ [] → (new : Solver) → Holds learned.clause mid new → IsClosed model mid new now
+    learn-closed none new holds =
+        let end = learned-closed model mid.learn (stock_of mid) before mid.trail mid.search.nodes h.state.state learned conflict h.is h.plain numbers h.give none in
+        let C : List Step → Type 0 = λ s. IsCertified model mid.learn s mid.search.nodes in
+        let N : ℕ → Type 0 = λ n. IsCertified model mid.learn now n in
         let R : List Step → Type 0 = λ s. IsRefuted model s in
         record {
-          certified = subst N (sym same.nodes) (subst C (sym steps_are) end.0);
-          refuted = subst R (sym steps_are) end.1;
-          found = same.found;
-          found_is = same.found ∙ h.found_is ∙ sym counts;
+          certified = subst N (sym (ap (λ (s : Searching). s.nodes) holds.search)) (subst C (sym now_is) end.0);
+          refuted = subst R (sym now_is) end.1;
+          found = holds.found;
+          found_is = holds.found ∙ h.state.found_is ∙ sym counts;
         }
 
-    module _ (few : length now < 10 ^ 18) (above : 0 < level_of old.trail) (id : ClauseId) (newest : id.0 ≡ length old.clauses) (mid : Solver) (trail_is : mid.trail ≡ returned learned.level old.trail) (clauses_are : mid.clauses ≡ old.clauses ++ learned.clause ∷ []) (same : IsSame old mid) where
-      clause_is : clause_at mid.clauses id ≡ learned.clause
-      clause_is = ap (λ (cs : List (List Lit)). clause_at cs id) clauses_are ∙ get_or_push old.clauses learned.clause [] id.0 (sym newest)
+    module _ (few : length now < 10 ^ 18) (some : learned.clause ≢ []) (id : ClauseId) (newest : id.0 ≡ length (held_by mid.clauses)) where
+      -- the search at the level, with the clause and fewer inferences
+      module _ (held back : Solver) (holds : Holds learned.clause mid held) (at : IsBackAt learned.level held back) where
+        abbrev there : Solver
+        there = solver_of (returned learned.level mid.trail) back.clauses back.numbers back.inferences mid.search mid.scratch mid.learn mid.found (mid.steps + 1)
 
-      there : (lits : List Lit) → possible_in mid.trail.sets (clause_at mid.clauses id) ≡ lits → possible_in (returned learned.level old.trail).sets learned.clause ≡ lits
-      there lits e =
-          ap (λ (t : Levels). possible_in t.sets learned.clause) (sym trail_is) ∙ ap (possible_in mid.trail.sets) (sym clause_is) ∙ e
+        there-is : back ≡ there
+        there-is =
+            solver-is back (returned learned.level mid.trail) mid.search mid.scratch mid.learn mid.found (mid.steps + 1)
+            (at.trail ∙ ap (returned learned.level) holds.trail)
+            (at.search ∙ holds.search) (at.scratch ∙ holds.scratch) (at.learn ∙ holds.learn) (at.found ∙ holds.found) (at.steps ∙ holds.steps)
 
-      pub learn-there-over : IsClauseOver (length mid.trail.declared) (clause_at mid.clauses id)
-      learn-there-over =
-          let T : Levels → Type 0 = λ t. IsClauseOver (length t.declared) (clause_at mid.clauses id) in
-          let C : List Lit → Type 0 = λ c. IsClauseOver (length (returned learned.level old.trail).declared) c in
-          subst T (sym trail_is) (subst C (sym clause_is) learn-over)
+        stock_is : stock_of back ≡ with_stack at.count (with_held learned.clause (mid.steps + 1) (stock_of mid))
+        stock_is = at.stock ∙ ap (with_stack at.count) holds.stock
 
-      lengths : length now ≡ length before + 1
-      lengths = ap length now_is ∙ length_push before (Resolve learned.clause numbers)
+        clause_is : clause_of (known_in (stock_of back)) (Held id) ≡ learned.clause
+        clause_is = ap (λ (k : Stock). clause_of (known_in k) (Held id)) stock_is ∙ clause_of-newest (held_by mid.clauses) learned.clause id newest
 
-      behind : (lit : Lit) (rest : List Lit) → possible_in (returned learned.level old.trail).sets learned.clause ≡ lit ∷ rest → (new : Solver) → new ≡ record mid { trail = asserted lit (Clause id) mid.trail } → (limit : ℕ) → IsBehind model limit old new now
-      behind lit rest e new new_is limit =
-          let trail = asserted lit (Clause id) (returned learned.level old.trail) in
-          let state = learned-state model old.clauses before old.trail old.search.nodes h.state learned conflict is plain above lit rest e id newest in
-          let works = learned-works model old.clauses before old.trail old.search.nodes h.state learned conflict is plain above lit rest e id newest limit in
-          let S : List Step → Type 0 = λ s. StateOf model (old.clauses ++ learned.clause ∷ []) s trail old.search.nodes in
-          let C : List (List Lit) → Type 0 = λ cs. StateOf model cs now trail old.search.nodes in
-          let N : ℕ → Type 0 = λ n. StateOf model mid.clauses now trail n in
-          let T : Levels → Type 0 = λ t. StateOf model mid.clauses now (asserted lit (Clause id) t) mid.search.nodes in
-          let W : Levels → Type 0 = λ t. work limit old.search.nodes (asserted lit (Clause id) t) < work limit old.search.nodes old.trail in
-          let M : ℕ → Type 0 = λ n. work limit n (asserted lit (Clause id) mid.trail) < work limit old.search.nodes old.trail in
-          let few_before = h.found_few in
-          let each = h.one_each in
-          let one = length_push old.clauses learned.clause in
-          let mid_count = ap length clauses_are in
-          let P : Solver → Type 0 = λ s. IsBehind model limit old s now in
-          subst P (sym new_is) (record {
-            state = record {
-              state = subst T (sym trail_is) (subst N (sym same.nodes) (subst C (sym clauses_are) (subst S (sym steps_are) state)));
-              vars = same.vars ∙ h.vars;
-              found_is = same.found ∙ h.found_is ∙ sym counts;
-              found_few = few_by mid.found old.found (length before) (length now) same.found few_before lengths;
-              one_each = each_by (length mid.clauses) (length old.clauses) (length (old.clauses ++ learned.clause ∷ [])) (length before) (length now) mid_count one each lengths;
-              few_steps = few;
-            };
-            less = subst M (sym same.nodes) (subst W (sym trail_is) works);
-            nodes = same.nodes;
-            found = same.found;
-          })
-        where
-          few_by : (a b c d : ℕ) → a ≡ b → b ≤ c → d ≡ c + 1 → a ≤ d
-          few_by a b c d e f k = omega arith
+        watched : (lit : Lit) (rest : List Lit) → possible_in (returned learned.level mid.trail).sets learned.clause ≡ lit ∷ rest → IsWatching back.clauses (asserted lit (Clause id) (returned learned.level mid.trail))
+        watched lit rest e =
+            let trail = returned learned.level mid.trail in
+            let known = known_in (stock_of mid) in
+            let below = h.is.below (learned-above model mid.learn (stock_of mid) before mid.trail mid.search.nodes h.state.state learned conflict h.is h.plain numbers h.give some) in
+            let leads = (IsReasoned-returned known mid.trail learned.level h.state.state.core.reasoned (omega arith)).leads in
+            let count : length trail.sets ≡ length mid.trail.declared = Leads-length known trail.declared trail.entries trail.sets leads ∙ ap length (declared-returned learned.level mid.trail) in
+            let Over : ℕ → Type 0 = λ n. IsClauseOver n learned.clause in
+            let Watching : Clauses → Type 0 = λ clauses. IsWatching clauses trail in
+            IsWatching-asserted back.clauses trail
+            (subst Watching (sym at.clauses) (IsWatching-returned held.clauses mid.trail (holds.keeps.watching mid.trail h.state.watching) learned.level))
+            lit (Clause id) (variable-of trail.sets (length trail.sets) learned.clause lit rest (subst Over (sym count) h.is.over) e)
 
-          each_by : (a b m c d : ℕ) → a ≡ m → m ≡ b + 1 → b ≡ c → d ≡ c + 1 → a ≡ d
-          each_by a b m c d p q r s = omega arith
+        behind : (lit : Lit) (rest : List Lit) → possible_in (returned learned.level mid.trail).sets learned.clause ≡ lit ∷ rest → (limit : ℕ) → IsBehind model limit mid (record there { trail = asserted lit (Clause id) (returned learned.level mid.trail) }) now
+        behind lit rest e limit =
+            let next : mid.steps + 1 ≡ length before + 1 = ap (λ (n : ℕ). n + 1) h.state.steps_are in
+            let trail = asserted lit (Clause id) (returned learned.level mid.trail) in
+            let stock = with_held learned.clause (mid.steps + 1) (stock_of mid) in
+            let state = learned-state model mid.learn (stock_of mid) before mid.trail mid.search.nodes h.state.state learned conflict h.is h.plain numbers h.give some lit rest e id newest (mid.steps + 1) next in
+            let works = learned-works model mid.learn (stock_of mid) before mid.trail mid.search.nodes h.state.state learned conflict h.is h.plain numbers h.give some lit rest e id newest (mid.steps + 1) next limit in
+            let entry : Entry = record { lit = lit; reason = Clause id; level = level_of (returned learned.level mid.trail) } in
+            let E : Levels → Type 0 = λ t. All (λ (entry : Entry). IsBelow at.count entry.reason) t.entries in
+            let enough = subst E (at.trail ∙ ap (returned learned.level) holds.trail) at.enough in
+            let below : All (λ (entry : Entry). IsBelow at.count entry.reason) trail.entries = All-push (λ (entry : Entry). IsBelow at.count entry.reason) (returned learned.level mid.trail).entries entry enough tt in
+            let cut = State-cut model mid.learn stock (before ++ Resolve learned.clause numbers ∷ []) trail mid.search.nodes state at.count below in
+            let S : List Step → Type 0 = λ s. StateOf model mid.learn (with_stack at.count stock) s trail mid.search.nodes in
+            let K : Stock → Type 0 = λ k. StateOf model mid.learn k now trail mid.search.nodes in
+            let lengths : length now ≡ length before + 1 = ap length now_is ∙ length_push before (Resolve learned.clause numbers) in
+            record {
+              state = record {
+                state = subst K (sym stock_is) (subst S (sym now_is) cut);
+                watching = watched lit rest e;
+                scratch = h.state.scratch;
+                vars = h.state.vars;
+                found_is = h.state.found_is ∙ sym counts;
+                found_few = few_by mid.found (length before) (length now) h.state.found_few lengths;
+                steps_are = next ∙ sym lengths;
+                few_steps = few;
+              };
+              less = works;
+              nodes = refl;
+              found = refl;
+              learn = refl;
+            }
+          where
+            few_by : (a c d : ℕ) → a ≤ c → d ≡ c + 1 → a ≤ d
+            few_by a c d f k = omega arith
 
-      pub learn-behind : (new : Solver) (any : Bool) → IsForcedBy mid id new any → (limit : ℕ) → IsBehind model limit old new now
-      learn-behind new true forced limit = behind forced.0 forced.1 (there (forced.0 ∷ forced.1) forced.2) new forced.3 limit
-      learn-behind new false forced limit =
-          let back = plain.back above in
-          absurd (none_there _ (sym (there [] forced.0) ∙ ap (λ (s : List IntSet). possible_in s learned.clause) back.stood ∙ back.forced.0))
-        where
-          none_there : (l : Lit) → [] ≡ l ∷ [] → ⊥
-          none_there l e = cc
+        forced-there : (new : Solver) (any : Bool) → IsForcedBy there (Held id) new any → (limit : ℕ) → IsBehind model limit mid new now
+        forced-there new true forced limit =
+            let P : Solver → Type 0 = λ s. IsBehind model limit mid s now in
+            subst P (sym forced.3) (behind forced.0 forced.1 (ap (possible_in (returned learned.level mid.trail).sets) (sym clause_is) ∙ forced.2) limit)
+        forced-there new false forced limit =
+            let one = learned-forces model mid.learn (stock_of mid) before mid.trail mid.search.nodes h.state.state learned conflict h.is h.plain numbers h.give some in
+            absurd (none_there one.0 (sym forced.0 ∙ ap (possible_in (returned learned.level mid.trail).sets) clause_is ∙ one.1.0))
+          where
+            none_there : (l : Lit) → [] ≡ l ∷ [] → ⊥
+            none_there l e = cc
+
+        pub learn-known : IsKnown (known_in (stock_of back)) (Held id)
+        learn-known =
+            let K : Stock → Type 0 = λ k. IsKnown (known_in k) (Held id) in
+            subst K (sym stock_is) (IsHeld-newest (held_by mid.clauses) learned.clause id newest)
+
+        pub learn-over : IsClauseOver (length back.trail.declared) (clause_of (known_in (stock_of back)) (Held id))
+        learn-over =
+            let C : List Lit → Type 0 = λ c. IsClauseOver (length back.trail.declared) c in
+            let D : List IntSet → Type 0 = λ d. IsClauseOver (length d) learned.clause in
+            let declared : back.trail.declared ≡ mid.trail.declared = ap (λ (t : Levels). t.declared) (at.trail ∙ ap (returned learned.level) holds.trail) ∙ declared-returned learned.level mid.trail in
+            subst C (sym clause_is) (subst D (sym declared) h.is.over)
+
+        pub learn-behind : (new : Solver) (any : Bool) → IsForcedBy back (Held id) new any → (limit : ℕ) → IsBehind model limit mid new now
+        learn-behind new any forced limit =
+            let F : Solver → Type 0 = λ s. IsForcedBy s (Held id) new any in
+            forced-there new any (subst F there-is forced) limit
 
 -- ---- an inference
 
-module _ (model : Model) (old : Solver) (before : List Step) (h : State model old before) (inference : Inference) (is : IsInference model old.trail inference) where
-  infer-accepted : IsAccepted model (past_of model before) (Infer inference.constraint inference.rule inference.clause)
-  infer-accepted = (is.over, is.numbered, is.justified)
+module _ (model : Model) (old : Solver) (before : List Step) (h : IsAfter model old before) (inference : Inference) (is : IsInference model old.trail inference) where
+  abbrev it : Inferred
+  it = inferred inference.constraint inference.rule inference.clause
 
-  pub infer-logged : (now : List Step) → (now ≡ before) ⊎ (now ≡ before ++ Infer inference.constraint inference.rule inference.clause ∷ []) → AllAccepted model now
-  infer-logged now log = logged-accepted model before now (Infer inference.constraint inference.rule inference.clause) h.state.core.accepted infer-accepted log
+  -- it stands on the stack
+  abbrev pub stacked : Solver
+  stacked = record old { inferences = old.inferences ++ inferred inference.constraint inference.rule inference.clause ∷ [] }
 
-  over-declared : IsClauseOver (length old.trail.declared) inference.clause
-  over-declared =
-      let sizes : length old.trail.declared ≡ length model.vars = ap length h.state.core.declared ∙ length-map model.vars (λ var. var.domain) in
-      let O : ℕ → Type 0 = λ n. IsClauseOver n inference.clause in
-      subst O (sym sizes) is.over
+  pub stacked-state : IsAfter model stacked before
+  stacked-state = record {
+    watching = h.watching;
+    state = State-stacked model old.learn (stock_of old) before old.trail old.search.nodes h.state it (record { over = is.over; numbered = is.numbered; justified = is.justified; spelled = is.spelled; written = tt });
+    scratch = h.scratch;
+    vars = h.vars;
+    found_is = h.found_is;
+    found_few = h.found_few;
+    steps_are = h.steps_are;
+    few_steps = h.few_steps;
+  }
 
-  module _ (now : List Step) (now_is : now ≡ before ++ Infer inference.constraint inference.rule inference.clause ∷ []) (few : length now < 10 ^ 18) (mid : Solver) (trail_is : mid.trail ≡ old.trail) (clauses_are : mid.clauses ≡ old.clauses ++ inference.clause ∷ []) (same : IsSame old mid) where
-    pub infer-state : State model mid now
-    infer-state =
-        let state = State-inferred model old.clauses before old.trail old.search.nodes h.state inference.constraint inference.rule inference.clause infer-accepted (IsReasoned-grown old.clauses (inference.clause ∷ []) old.trail h.state.core.reasoned) in
-        let S : List Step → Type 0 = λ s. StateOf model (old.clauses ++ inference.clause ∷ []) s old.trail old.search.nodes in
-        let C : List (List Lit) → Type 0 = λ cs. StateOf model cs now old.trail old.search.nodes in
-        let N : ℕ → Type 0 = λ n. StateOf model mid.clauses now old.trail n in
-        let T : Levels → Type 0 = λ t. StateOf model mid.clauses now t mid.search.nodes in
-        let lengths = ap length now_is ∙ length_push before (Infer inference.constraint inference.rule inference.clause) in
-        let few_before = h.found_few in
-        let each = h.one_each in
-        let one = length_push old.clauses inference.clause in
-        let mid_count = ap length clauses_are in
-        let found = same.found in
-        record {
-          state = subst T (sym trail_is) (subst N (sym same.nodes) (subst C (sym clauses_are) (subst S (sym now_is) state)));
-          vars = same.vars ∙ h.vars;
-          found_is = same.found ∙ h.found_is ∙ sym (same_count model before now (Infer inference.constraint inference.rule inference.clause) refl now_is);
-          found_few = omega arith;
-          one_each = omega arith;
-          few_steps = few;
-        }
+  module _ (place : ℕ) (newest : place ≡ length old.inferences) where
+    within : place < length (old.inferences ++ it ∷ [])
+    within = let one = length_push old.inferences it in omega arith
 
-    module _ (id : ClauseId) (newest : id.0 ≡ length old.clauses) where
-      clause_in : clause_at mid.clauses id ≡ inference.clause
-      clause_in = ap (λ (cs : List (List Lit)). clause_at cs id) clauses_are ∙ get_or_push old.clauses inference.clause [] id.0 (sym newest)
+    pub stacked-known : IsKnown (known_in (stock_of stacked)) (Stacked place)
+    stacked-known = let count = length-map (old.inferences ++ it ∷ []) (λ (i : Inferred). i.clause) in let inside = within in omega arith
 
-      pub infer-held : id.0 < length mid.clauses
-      infer-held = let one = length_push old.clauses inference.clause in let count = ap length clauses_are in omega arith
+    clause_in : clause_of (known_in (stock_of stacked)) (Stacked place) ≡ inference.clause
+    clause_in =
+        get_or-map (λ (i : Inferred). i.clause) (old.inferences ++ it ∷ []) place it [] within
+        ∙ ap (λ (i : Inferred). i.clause) (get_or_push old.inferences it it place (sym newest))
 
-      pub infer-over : IsClauseOver (length mid.trail.declared) (clause_at mid.clauses id)
-      infer-over =
-          let O : Levels → List Lit → Type 0 = λ t c. IsClauseOver (length t.declared) c in
-          let T : Levels → Type 0 = λ t. O t (clause_at mid.clauses id) in
-          let C : List Lit → Type 0 = λ c. O old.trail c in
-          subst T (sym trail_is) (subst C (sym clause_in) over-declared)
+    pub stacked-over : IsClauseOver (length old.trail.declared) (clause_of (known_in (stock_of stacked)) (Stacked place))
+    stacked-over =
+        let sizes : length old.trail.declared ≡ length model.vars = ap length h.state.core.declared ∙ length-map model.vars (λ var. var.domain) in
+        let O : ℕ → Type 0 = λ n. IsClauseOver n inference.clause in
+        let C : List Lit → Type 0 = λ c. IsClauseOver (length old.trail.declared) c in
+        subst C (sym clause_in) (subst O (sym sizes) is.over)
 
-      forces_there : IsFalseOrUnit mid.trail.sets (clause_at mid.clauses id)
-      forces_there =
-          let T : Levels → Type 0 = λ t. IsFalseOrUnit t.sets (clause_at mid.clauses id) in
-          let C : List Lit → Type 0 = λ c. IsFalseOrUnit old.trail.sets c in
-          subst T (sym trail_is) (subst C (sym clause_in) is.forces)
+    forces_there : IsFalseOrUnit old.trail.sets (clause_of (known_in (stock_of stacked)) (Stacked place))
+    forces_there = let C : List Lit → Type 0 = λ c. IsFalseOrUnit old.trail.sets c in subst C (sym clause_in) is.forces
 
-      forced_by : (lit : Lit) (rest : List Lit) → possible_in mid.trail.sets (clause_at mid.clauses id) ≡ lit ∷ rest → IsFalseOrUnit mid.trail.sets (clause_at mid.clauses id) → IsForced mid.trail.sets (clause_at mid.clauses id) lit
-      forced_by lit rest e (inl none) = absurd (none_there lit rest (sym none ∙ e))
-        where
-          none_there : (l : Lit) (more : List Lit) → [] ≡ l ∷ more → ⊥
-          none_there l more k = cc
-      forced_by lit rest e (inr unit) =
-          let F : Lit → Type 0 = λ l. IsForced mid.trail.sets (clause_at mid.clauses id) l in
-          subst F (first_same unit.0 lit rest (sym unit.1.only ∙ e)) (unit.1.only, unit.1.not_yet_true)
-        where
-          first_same : (a b : Lit) (more : List Lit) → a ∷ [] ≡ b ∷ more → a ≡ b
-          first_same a b more k = cc
+    forced_by : (lit : Lit) (rest : List Lit) (clause : List Lit) → possible_in old.trail.sets clause ≡ lit ∷ rest → IsFalseOrUnit old.trail.sets clause → IsForced old.trail.sets clause lit
+    forced_by lit rest clause e (inl none) = absurd (none_there lit rest (sym none ∙ e))
+      where
+        none_there : (l : Lit) (more : List Lit) → [] ≡ l ∷ more → ⊥
+        none_there l more k = cc
+    forced_by lit rest clause e (inr unit) =
+        let F : Lit → Type 0 = λ l. IsForced old.trail.sets clause l in
+        subst F (first_same unit.0 lit rest (sym unit.1.only ∙ e)) (unit.1.only, unit.1.not_yet_true)
+      where
+        first_same : (a b : Lit) (more : List Lit) → a ∷ [] ≡ b ∷ more → a ≡ b
+        first_same a b more k = cc
 
-      -- the literal that it forces
-      pub infer-behind : (new : Solver) → IsForcedBy mid id new true → (limit : ℕ) → IsBehind model limit old new now
-      infer-behind new forced limit =
-          let lit = forced.0 in
-          let there = forced_by lit forced.1 forced.2 forces_there in
-          let state = infer-state in
-          let W : Levels → ℕ → Type 0 = λ t n. work limit mid.search.nodes (asserted lit (Clause id) mid.trail) < work limit n t in
-          let T : Levels → Type 0 = λ t. W t mid.search.nodes in
-          let N : ℕ → Type 0 = λ n. W old.trail n in
-          let P : Solver → Type 0 = λ s. IsBehind model limit old s now in
-          let works = forced-works model mid.clauses now mid.trail mid.search.nodes state.state id lit infer-held infer-over there limit in
-          subst P (sym forced.3) (record {
-            state = record {
-              state = forced-state model mid.clauses now mid.trail mid.search.nodes state.state id lit infer-held infer-over there;
-              vars = state.vars;
-              found_is = state.found_is;
-              found_few = state.found_few;
-              one_each = state.one_each;
-              few_steps = state.few_steps;
-            };
-            less = subst N same.nodes (subst T trail_is works);
-            nodes = same.nodes;
-            found = same.found;
-          })
+    -- the literal that it forces
+    pub stacked-behind : (new : Solver) → IsForcedBy stacked (Stacked place) new true → (limit : ℕ) → IsBehind model limit old new before
+    stacked-behind new forced limit =
+        let lit = forced.0 in
+        let there = forced_by lit forced.1 (clause_of (known_in (stock_of stacked)) (Stacked place)) forced.2 forces_there in
+        let state = stacked-state in
+        let P : Solver → Type 0 = λ s. IsBehind model limit old s before in
+        let var = variable-of old.trail.sets (length old.trail.declared) (clause_of (known_in (stock_of stacked)) (Stacked place)) lit forced.1 stacked-over forced.2 in
+        let Var : ℕ → Type 0 = λ n. IsVariable n lit.var in
+        subst P (sym forced.3) (record {
+          state = record {
+            watching = IsWatching-asserted old.clauses old.trail h.watching lit (reason_of (Stacked place)) (subst Var (sym (State-length model old.learn (stock_of old) before old.trail old.search.nodes h.state)) var);
+            state = forced-state model old.learn (stock_of stacked) before old.trail old.search.nodes state.state (Stacked place) lit stacked-known stacked-over there;
+            scratch = state.scratch;
+            vars = state.vars;
+            found_is = state.found_is;
+            found_few = state.found_few;
+            steps_are = state.steps_are;
+            few_steps = state.few_steps;
+          };
+          less = forced-works model old.learn (stock_of stacked) before old.trail old.search.nodes state.state (Stacked place) lit stacked-known stacked-over there limit;
+          nodes = refl;
+          found = refl;
+          learn = refl;
+        })
 
-      -- or the search as it was, where the clause is false
-      pub infer-still : (new : Solver) (any : Bool) → any ≡ false → IsForcedBy mid id new any → State model new now
-      infer-still new true e forced = cc
-      infer-still new false e forced = let P : Solver → Type 0 = λ s. State model s now in subst P (sym forced.1) infer-state
+    -- or the search as it was, where its clause is false
+    pub stacked-still : (new : Solver) → IsForcedBy stacked (Stacked place) new false → IsAfter model new before
+    stacked-still new forced = let P : Solver → Type 0 = λ s. IsAfter model s before in subst P (sym forced.1) stacked-state
+
+    pub stacked-conflict : (new : Solver) → IsForcedBy stacked (Stacked place) new false → IsConflicting (known_in (stock_of new)) new.trail.sets (Stacked place)
+    stacked-conflict new forced =
+        let P : Solver → Type 0 = λ s. IsConflicting (known_in (stock_of s)) s.trail.sets (Stacked place) in
+        subst P (sym forced.1) (record { is_known = stacked-known; is_false = forced.0 })
 
 -- a change before it that leaves the trail as it is
-pub goes-from : (model : Model) (old mid new : Solver) (steps : List Step) (above : Bool) → mid.trail ≡ old.trail → mid.search.nodes ≡ old.search.nodes → mid.found ≡ old.found → Goes model mid new steps above → Goes model old new steps above
-goes-from model old mid new steps true trail_is nodes found go = λ limit.
+pub goes-from : (model : Model) (old mid new : Solver) (steps : List Step) (goes_on : Bool) → mid.trail ≡ old.trail → mid.search.nodes ≡ old.search.nodes → mid.found ≡ old.found → mid.learn ≡ old.learn → Goes model mid new steps goes_on → Goes model old new steps goes_on
+goes-from model old mid new steps true trail_is nodes found learn go = λ limit.
     let b = go limit in
     let T : Levels → Type 0 = λ t. work_of limit new < work limit mid.search.nodes t in
     let N : ℕ → Type 0 = λ n. work_of limit new < work limit n old.trail in
-    record { state = b.state; less = subst N nodes (subst T trail_is b.less); nodes = b.nodes ∙ nodes; found = b.found ∙ found }
-goes-from model old mid new steps false trail_is nodes found go = record { certified = go.certified; refuted = go.refuted; found = go.found ∙ found; found_is = go.found_is }
+    record { state = b.state; less = subst N nodes (subst T trail_is b.less); nodes = b.nodes ∙ nodes; found = b.found ∙ found; learn = b.learn ∙ learn }
+goes-from model old mid new steps false trail_is nodes found learn go =
+    let L : Learn → Type 0 = λ l. IsCertified model l steps new.search.nodes in
+    record { certified = subst L learn go.certified; refuted = go.refuted; found = go.found ∙ found; found_is = go.found_is }

@@ -1,39 +1,46 @@
 -- Each change of a search keeps what holds of it.
-use Rattle.std.proofs.Common.{◌≡◌, ℕ, ◌+◌, ◌-◌, ◌*◌, ◌<◌, ◌≤◌, Bool, true, ◌⊎◌, inl, inr, List, [], ◌∷◌, ◌++◌, length, map, All, Contains, Some, refl, sym, ◌∙◌, ap, subst, arith, ℤ, Option}
-use Rattle.std.proofs.lemmas.List.{length_push, length-map, append-nil}
-use Rattle.std.proofs.lemmas.List.Elements.{All-push, All-weaker, Contains-append_left, Contains-push}
+use Rattle.std.proofs.Common.{◌≡◌, ℕ, ◌+◌, ◌-◌, ◌*◌, ◌≤◌, List, [], ◌∷◌, ◌++◌, length, All, Contains, Some, sym, ◌∙◌, ap, subst, arith}
+use Rattle.std.proofs.lemmas.List.{map-append, take-map}
+use Rattle.std.proofs.lemmas.List.Elements.{All-push, All-take, All-weaker, Contains-append_left}
 use Rattle.fzn_domain.specs.declared.literal.Lit.{Lit}
 use Rattle.fzn_domain.specs.Literal.{negated}
-use Rattle.fzn_domain.specs.IntSet.{IntSet, is_possible}
-use Rattle.fzn_domain.specs.Narrow.{IsVariable, IsClauseOver, IsOpen, NoneEmpty, set_of, narrowed, can_fail, possible_in}
+use Rattle.fzn_domain.specs.IntSet.{IntSet}
+use Rattle.fzn_domain.specs.Narrow.{IsVariable, IsClauseOver, IsOpen, NoneEmpty, narrowed}
 use Rattle.fzn_meaning.specs.declared.model.Model.{Model}
-use Rattle.fzn_meaning.specs.Solutions.{declared_sets, cut_of}
+use Rattle.fzn_meaning.specs.Solutions.{cut_of}
 use Rattle.fzn_cert.specs.declared.step.Step.{Step}
-use Rattle.fzn_cert.specs.Past.{Past}
-use Rattle.fzn_cert.specs.Accepted.{IsAccepted, AllAccepted, after, past_of}
+use Rattle.fzn_cert.specs.Past.{Past, clause_held}
+use Rattle.fzn_cert.specs.Accepted.{IsAccepted, after, past_of}
+use Rattle.fzn_inferences.specs.declared.inferences.Inferred.{Inferred}
+use Rattle.fzn_trail.specs.declared.trail.Entry.{Entry}
 use Rattle.fzn_trail.specs.Levels.{Levels}
-use Rattle.fzn_conflict.specs.Reasoned.{IsReasoned, Open, opens}
+use Rattle.fzn_clauses.specs.Held.{AllHeld}
+use Rattle.fzn_clauses.proofs.HeldLemmas.{AllHeld-push}
+use Rattle.fzn_conflict.specs.Reasoned.{IsBelow, IsReasoned, Open}
+use Rattle.fzn_conflict.proofs.CallerLemmas.{IsReasoned-stacked, IsReasoned-cut}
 use Rattle.fzn_engine.specs.Volume.{volume, slack}
-use Rattle.fzn_engine.specs.Learned.{resolved, FreshAfter, HasCertain, negations, LevelsBacked, AllCertain, left_open, other_part}
-use Rattle.fzn_engine.specs.State.{CoreOf, PlainOf, StateOf, work}
-use Rattle.fzn_engine.proofs.AcceptedLemmas.{past_of-push, AllAccepted-push, held-push}
-use Rattle.fzn_engine.proofs.VolumeLemmas.{decided-accounts, slack-narrowed_lt, slack-narrowed_le, volume-narrowed_le}
+use Rattle.fzn_engine.specs.Learned.{resolved, FreshAfter, negations, AllCertain, left_open, other_part}
+use Rattle.fzn_engine.specs.State.{Stock, known_in, with_held, with_inference, with_stack, IsJustified, CoreOf, PlainOf}
+use Rattle.fzn_engine.proofs.AcceptedLemmas.{past_of-push, AllAccepted-push, length-past_of}
+use Rattle.fzn_engine.proofs.NumberLemmas.{Grows, clause_held-newest, AreNumbered-grown, AreNumbered-push, IsJustified-grown}
+use Rattle.fzn_engine.proofs.VolumeLemmas.{decided-accounts}
 use Rattle.fzn_engine.proofs.WithinLemmas.{Within, Within-narrowed, backed-within}
 use Rattle.fzn_engine.proofs.FreshLemmas.{learned-fresh, LevelsBacked-push, LevelsBacked-back, backed-back}
 
-module _ (model : Model) (held : List (List Lit)) (steps : List Step) (trail : Levels) (nodes : ℕ) where
+module _ (model : Model) (stock : Stock) (steps : List Step) (trail : Levels) (nodes : ℕ) where
   -- a change of the trail alone
-  pub Core-moved : CoreOf model held steps trail nodes → (new : Levels) (count : ℕ) → new.declared ≡ trail.declared → IsReasoned held new → count + slack new.sets ≤ nodes + slack trail.sets → CoreOf model held steps new count
+  pub Core-moved : CoreOf model stock steps trail nodes → (new : Levels) (count : ℕ) → new.declared ≡ trail.declared → IsReasoned (known_in stock) new → count + slack new.sets ≤ nodes + slack trail.sets → CoreOf model stock steps new count
   Core-moved h new count e reasoned less =
       let conflicts = h.nodes_by_conflicts in
       let N : List IntSet → Type 0 = λ s. count + slack new.sets ≤ (length (resolved steps) + 1) * slack s in
       let F : List IntSet → Type 0 = λ s. NoneEmpty s in
-      let O : List IntSet → Type 0 = λ s. All (IsClauseOver (length s)) held in
+      let O : List IntSet → Type 0 = λ s. AllHeld (IsClauseOver (length s)) stock.held in
       record {
         declared = e ∙ h.declared;
         filled = subst F (sym e) h.filled;
         accepted = h.accepted;
-        held_is = h.held_is;
+        numbered = h.numbered;
+        justified = h.justified;
         cuts_held = h.cuts_held;
         held_over = subst O (sym e) h.held_over;
         reasoned = reasoned;
@@ -41,29 +48,67 @@ module _ (model : Model) (held : List (List Lit)) (steps : List Step) (trail : L
       }
 
   -- one more step, and its clause held
-  pub Core-step : CoreOf model held steps trail nodes → (step : Step) (clause : List Lit) → IsAccepted model (past_of model steps) step → (after model (past_of model steps) step).clauses ≡ (past_of model steps).clauses ++ Some clause ∷ [] → All (λ values. Contains (held ++ clause ∷ []) (cut_of model values)) (after model (past_of model steps) step).solutions → IsClauseOver (length trail.declared) clause → (new : Levels) → new.declared ≡ trail.declared → IsReasoned (held ++ clause ∷ []) new → nodes + slack new.sets ≤ (length (resolved (steps ++ step ∷ [])) + 1) * slack trail.declared → CoreOf model (held ++ clause ∷ []) (steps ++ step ∷ []) new nodes
-  Core-step h step clause accepted clauses_is cuts over new e reasoned less =
+  pub Core-step : CoreOf model stock steps trail nodes → (step : Step) (clause : List Lit) (number : ℕ) → number ≡ length steps + 1 → IsAccepted model (past_of model steps) step → (after model (past_of model steps) step).clauses ≡ (past_of model steps).clauses ++ Some clause ∷ [] → All (λ values. Contains (stock.held ++ Some clause ∷ []) (Some (cut_of model values))) (after model (past_of model steps) step).solutions → IsClauseOver (length trail.declared) clause → (new : Levels) → new.declared ≡ trail.declared → IsReasoned (known_in (with_held clause number stock)) new → nodes + slack new.sets ≤ (length (resolved (steps ++ step ∷ [])) + 1) * slack trail.declared → CoreOf model (with_held clause number stock) (steps ++ step ∷ []) new nodes
+  Core-step h step clause number newest accepted clauses_is cuts over new e reasoned less =
       let past : past_of model (steps ++ step ∷ []) ≡ after model (past_of model steps) step = past_of-push model steps step in
+      let before = past_of model steps in
+      let now = past_of model (steps ++ step ∷ []) in
+      let grows : Grows before now (Some clause) = ap (λ (p : Past). p.clauses) past ∙ clauses_is in
+      let gives : clause_held now number ≡ Some clause =
+      ap (clause_held now) (newest ∙ ap (λ (n : ℕ). n + 1) (sym (length-past_of model steps))) ∙ clause_held-newest before now clause grows in
       let N : List IntSet → Type 0 = λ s. nodes + slack new.sets ≤ (length (resolved (steps ++ step ∷ [])) + 1) * slack s in
       let F : List IntSet → Type 0 = λ s. NoneEmpty s in
-      let O : List IntSet → Type 0 = λ s. All (IsClauseOver (length s)) (held ++ clause ∷ []) in
-      let C : Past → Type 0 = λ p. All (λ values. Contains (held ++ clause ∷ []) (cut_of model values)) p.solutions in
+      let O : List IntSet → Type 0 = λ s. AllHeld (IsClauseOver (length s)) (stock.held ++ Some clause ∷ []) in
+      let C : Past → Type 0 = λ p. All (λ values. Contains (stock.held ++ Some clause ∷ []) (Some (cut_of model values))) p.solutions in
       record {
         declared = e ∙ h.declared;
         filled = subst F (sym e) h.filled;
         accepted = AllAccepted-push model steps step h.accepted accepted;
-        held_is = ap (λ (p : Past). p.clauses) past ∙ clauses_is ∙ held-push (past_of model steps).clauses held clause h.held_is;
+        numbered = AreNumbered-push now stock.numbers stock.held number clause (AreNumbered-grown before now (Some clause) stock.numbers stock.held grows h.numbered) gives;
+        justified = All-weaker (IsJustified model before) (IsJustified model now) (λ it j. IsJustified-grown model before now (Some clause) it grows j) stock.stack h.justified;
         cuts_held = subst C (sym past) cuts;
-        held_over = subst O (sym e) (All-push (IsClauseOver (length trail.declared)) held clause h.held_over over);
+        held_over = subst O (sym e) (AllHeld-push (IsClauseOver (length trail.declared)) stock.held clause h.held_over over);
         reasoned = reasoned;
         nodes_by_conflicts = subst N (sym e) less;
       }
 
   -- the cuts held so far, and one more clause
-  pub cuts-grown : CoreOf model held steps trail nodes → (clause : List Lit) → All (λ values. Contains (held ++ clause ∷ []) (cut_of model values)) (past_of model steps).solutions
+  pub cuts-grown : CoreOf model stock steps trail nodes → (clause : List Lit) → All (λ values. Contains (stock.held ++ Some clause ∷ []) (Some (cut_of model values))) (past_of model steps).solutions
   cuts-grown h clause =
-      All-weaker (λ values. Contains held (cut_of model values)) (λ values. Contains (held ++ clause ∷ []) (cut_of model values))
-      (λ values c. Contains-append_left held (clause ∷ []) (cut_of model values) c) (past_of model steps).solutions h.cuts_held
+      All-weaker (λ values. Contains stock.held (Some (cut_of model values))) (λ values. Contains (stock.held ++ Some clause ∷ []) (Some (cut_of model values)))
+      (λ values c. Contains-append_left stock.held (Some clause ∷ []) (Some (cut_of model values)) c) (past_of model steps).solutions h.cuts_held
+
+  -- one more inference
+  pub Core-stacked : CoreOf model stock steps trail nodes → (it : Inferred) → IsJustified model (past_of model steps) it → CoreOf model (with_inference it stock) steps trail nodes
+  Core-stacked h it justified =
+      let K : List (List Lit) → Type 0 = λ cs. IsReasoned (record { held = stock.held; stacked = cs }) trail in
+      record {
+        declared = h.declared;
+        filled = h.filled;
+        accepted = h.accepted;
+        numbered = h.numbered;
+        justified = All-push (IsJustified model (past_of model steps)) stock.stack it h.justified justified;
+        cuts_held = h.cuts_held;
+        held_over = h.held_over;
+        reasoned = subst K (sym (map-append (λ (i : Inferred). i.clause) stock.stack (it ∷ []))) (IsReasoned-stacked (known_in stock) (it.clause ∷ []) trail h.reasoned);
+        nodes_by_conflicts = h.nodes_by_conflicts;
+      }
+
+  -- fewer inferences, where no entry rests on the others
+  pub Core-cut : CoreOf model stock steps trail nodes → (count : ℕ) → All (λ (entry : Entry). IsBelow count entry.reason) trail.entries → CoreOf model (with_stack count stock) steps trail nodes
+  Core-cut h count enough =
+      let K : List (List Lit) → Type 0 = λ cs. IsReasoned (record { held = stock.held; stacked = cs }) trail in
+      record {
+        declared = h.declared;
+        filled = h.filled;
+        accepted = h.accepted;
+        numbered = h.numbered;
+        justified = All-take (IsJustified model (past_of model steps)) count stock.stack h.justified;
+        cuts_held = h.cuts_held;
+        held_over = h.held_over;
+        reasoned = subst K (take-map (λ (i : Inferred). i.clause) count stock.stack) (IsReasoned-cut (known_in stock) count trail enough h.reasoned);
+        nodes_by_conflicts = h.nodes_by_conflicts;
+      }
 
 -- ---- plain learning
 

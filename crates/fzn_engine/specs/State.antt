@@ -1,5 +1,5 @@
 -- What holds at each moment of a search.
-use Rattle.std.specs.Prelude.{◌≡◌, ℕ, ◌+◌, ◌-◌, ◌*◌, ◌≤◌, List, [], map, length, Some}
+use Rattle.std.specs.Prelude.{◌≡◌, ◌⊎◌, ℕ, ◌+◌, ◌-◌, ◌*◌, ◌≤◌, List, [], ◌∷◌, ◌++◌, map, take, length, slice_index_or, slice_set, Some, IfSome}
 use Rattle.std.specs.List.{All, Contains}
 use Rattle.fzn_domain.specs.declared.literal.Lit.{Lit}
 use Rattle.fzn_domain.specs.IntSet.{IntSet}
@@ -7,24 +7,79 @@ use Rattle.fzn_domain.specs.Narrow.{IsClauseOver, NoneEmpty}
 use Rattle.fzn_meaning.specs.declared.model.Model.{Model}
 use Rattle.fzn_meaning.specs.Solutions.{declared_sets, cut_of}
 use Rattle.fzn_cert.specs.declared.step.Step.{Step}
-use Rattle.fzn_cert.specs.Accepted.{AllAccepted, past_of}
+use Rattle.fzn_cert.specs.declared.step.Step.TheVariants.{Infer}
+use Rattle.fzn_cert.specs.declared.step.Version.TheVariants.{One}
+use Rattle.fzn_cert.specs.Accepted.{IsConstraintNumber, IsTrivial, IsRuleMet, AllAccepted, past_of}
+use Rattle.fzn_cert.specs.Past.{Past, clause_held}
+use Rattle.fzn_cert.specs.Spelling.{IsSpelled}
+use Rattle.fzn_inferences.specs.declared.inferences.Inferred.{Inferred}
+use Rattle.fzn_inferences.specs.Inferences.{inference_at, with_number}
+use Rattle.fzn_trail.specs.declared.trail.ClauseId.{ClauseId}
 use Rattle.fzn_trail.specs.Levels.{Levels}
-use Rattle.fzn_conflict.specs.Reasoned.{IsReasoned, Open, opens}
+use Rattle.fzn_clauses.specs.Held.{Held, IsHeld, AllHeld, clause_of}
+use Rattle.fzn_conflict.specs.declared.analysis.Learn.{Learn}
+use Rattle.fzn_conflict.specs.declared.analysis.Learn.TheVariants.{Plain}
+use Rattle.fzn_conflict.specs.Reasoned.{Known, known_from, IsReasoned, Open, opens}
 use Rattle.fzn_engine.specs.Volume.{volume, slack}
 use Rattle.fzn_engine.specs.Learned.{resolved, FreshAfter, HasCertain, LevelsBacked, left_open}
 
+-- the clauses that a search has: those that it holds, with the numbers of their steps, and its inferences
+pub record Stock : Type 0 where
+  pub held : Held
+  pub numbers : List ℕ
+  pub stack : List Inferred
+
+abbrev pub known_in : Stock → Known
+known_in stock = known_from stock.held stock.stack
+
+-- one more held clause, which the step of this number gives
+abbrev pub with_held : List Lit → ℕ → Stock → Stock
+with_held clause number stock = record stock { held = stock.held ++ Some clause ∷ []; numbers = stock.numbers ++ number ∷ [] }
+
+-- one more inference
+abbrev pub with_inference : Inferred → Stock → Stock
+with_inference it stock = record stock { stack = stock.stack ++ it ∷ [] }
+
+-- the inference at this place was written as the step of this number
+abbrev pub with_step : ℕ → ℕ → Stock → Stock
+with_step place number stock = record stock { stack = slice_set stock.stack place (with_number number (inference_at stock.stack place)) }
+
+-- so many inferences left
+abbrev pub with_stack : ℕ → Stock → Stock
+with_stack count stock = record stock { stack = take count stock.stack }
+
+-- the steps of these numbers give these clauses
+abbrev pub Give : Past → List ℕ → List (List Lit) → Type 0
+Give past numbers clauses = map (clause_held past) numbers ≡ map Some clauses
+
+-- the step of each held clause's number gives it
+pub record AreNumbered (past : Past) (numbers : List ℕ) (held : Held) : Type 0 where
+  pub one_each : length numbers ≡ length held
+  pub gives :
+      (id : ClauseId) → IsHeld held id
+      → clause_held past (slice_index_or numbers id.0 0) ≡ Some (clause_of held id)
+
+-- the inference's step would be accepted whatever steps stand before it, and where it was written its step gives its clause
+pub record IsJustified (model : Model) (past : Past) (it : Inferred) : Type 0 where
+  pub over : IsClauseOver (length model.vars) it.clause
+  pub numbered : IsConstraintNumber model it.constraint
+  pub justified : IsTrivial model it.clause ⊎ IsRuleMet model it.constraint it.rule it.clause
+  pub spelled : IsSpelled One (Infer it.constraint it.rule it.clause)
+  pub written : IfSome it.number (λ n. clause_held past n ≡ Some it.clause)
+
 -- what holds in both ways of learning
-pub record CoreOf (model : Model) (held : List (List Lit)) (steps : List Step) (trail : Levels) (nodes : ℕ) : Type 0 where
+pub record CoreOf (model : Model) (stock : Stock) (steps : List Step) (trail : Levels) (nodes : ℕ) : Type 0 where
   pub declared : trail.declared ≡ declared_sets model.vars
   pub filled : NoneEmpty trail.declared
-  -- each step was accepted, and held clause k is that of step k + 1
   pub accepted : AllAccepted model steps
-  pub held_is : (past_of model steps).clauses ≡ map Some held
+  -- each held clause has the number of its step, and each inference is justified
+  pub numbered : AreNumbered (past_of model steps) stock.numbers stock.held
+  pub justified : All (IsJustified model (past_of model steps)) stock.stack
   -- the cut of each solution is held
-  pub cuts_held : All (λ values. Contains held (cut_of model values)) (past_of model steps).solutions
-  pub held_over : All (IsClauseOver (length trail.declared)) held
+  pub cuts_held : All (λ values. Contains stock.held (Some (cut_of model values))) (past_of model steps).solutions
+  pub held_over : AllHeld (IsClauseOver (length trail.declared)) stock.held
   -- each entry of the trail has its reason
-  pub reasoned : IsReasoned held trail
+  pub reasoned : IsReasoned (known_in stock) trail
   pub nodes_by_conflicts : nodes + slack trail.sets ≤ (length (resolved steps) + 1) * slack trail.declared
 
 -- what plain learning keeps beside it, from the declared sets to the present ones through the decisions that stand
@@ -34,9 +89,9 @@ pub record PlainOf (declared sets : List IntSet) (taken : List Open) (learned : 
   pub levels_backed : LevelsBacked (length declared) learned taken
   pub nodes_by_parts : nodes + (volume sets - 1) + left_open taken ≤ volume declared - 1
 
-pub record StateOf (model : Model) (held : List (List Lit)) (steps : List Step) (trail : Levels) (nodes : ℕ) : Type 0 where
-  pub core : CoreOf model held steps trail nodes
-  pub plain : PlainOf trail.declared trail.sets (opens trail.declared trail.entries) (resolved steps) nodes
+pub record StateOf (model : Model) (learn : Learn) (stock : Stock) (steps : List Step) (trail : Levels) (nodes : ℕ) : Type 0 where
+  pub core : CoreOf model stock steps trail nodes
+  pub plain : learn ≡ Plain → PlainOf trail.declared trail.sets (opens trail.declared trail.entries) (resolved steps) nodes
 
 -- what is left to do: decisions and levels first, then values
 abbrev pub work : ℕ → ℕ → Levels → ℕ

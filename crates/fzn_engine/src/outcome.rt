@@ -13,8 +13,10 @@ use crate::limits::{Ending, Limits};
 use crate::sink::Sink;
 use crate::solver::Solver;
 use fzn_cert::Step;
+use fzn_conflict::Learn;
 use fzn_list::Items;
 use fzn_meaning::{Model, Var};
+use fzn_search::Choice;
 use std::alloc::Global;
 
 /// What a run tells.
@@ -30,20 +32,21 @@ pub fn solve<S: Sink, C: Constraints>(
     alloc: Global,
     model: &Model,
     limits: Limits,
-    constraints: &C,
+    learn: Learn,
+    constraints: &mut C,
     sink: &mut S,
 ) -> Result<Outcome, Fault>
     requires model { IsWellFormed model.now }
-    requires is_for { C.is_for constraints.now model.now }
+    requires is_for { C.is_for constraints.old model.now }
     requires room { HasRoom model.now.goal limits.solutions 0 }
     requires fresh { S.written sink.old ≡ [] }
     requires kept { S.keeps model.now sink.old }
-    ensures outcome { IfOk result (λ outcome. IsOutcome model.now limits (S.written sink.new) outcome.nodes outcome.ending) }
+    ensures outcome { IfOk result (λ outcome. IsOutcome model.now learn limits (S.written sink.new) outcome.nodes outcome.ending) }
     ensures solutions { IfOk result (λ outcome. outcome.solutions ≡ count model.now (S.written sink.new)) }
     ensures accepted { AllAccepted model.now (S.written sink.new) }
     ensures kept { S.keeps model.now sink.new × (S.origin sink.new ≡ S.origin sink.old) }
 {
-    let outcome = search(alloc, model, limits, constraints, sink)?;
+    let outcome = search(alloc, model, limits, learn, constraints, sink)?;
     Ok(outcome)
 }
 
@@ -51,28 +54,29 @@ fn search<S: Sink, C: Constraints>(
     alloc: Global,
     model: &Model,
     limits: Limits,
-    constraints: &C,
+    learn: Learn,
+    constraints: &mut C,
     sink: &mut S,
 ) -> Result<Outcome, Fault>
     requires model { IsWellFormed model.now }
-    requires is_for { C.is_for constraints.now model.now }
+    requires is_for { C.is_for constraints.old model.now }
     requires room { HasRoom model.now.goal limits.solutions 0 }
     requires fresh { S.written sink.old ≡ [] }
     requires kept { S.keeps model.now sink.old }
-    ensures ended { IfOk result (λ outcome. IsEnded model.now limits (S.written sink.new) outcome.nodes outcome.ending) }
+    ensures ended { IfOk result (λ outcome. IsEnded model.now learn limits (S.written sink.new) outcome.nodes outcome.ending) }
     ensures solutions { IfOk result (λ outcome. outcome.solutions ≡ count model.now (S.written sink.new)) }
     ensures accepted { AllAccepted model.now (S.written sink.new) }
     ensures kept { S.keeps model.now sink.new × (S.origin sink.new ≡ S.origin sink.old) }
 {
     if has_empty(model.vars.as_slice()) {
-        refute(alloc, model, limits, sink)?;
+        refute(alloc, model, limits, learn, sink)?;
         return Ok(Outcome {
             solutions: 0,
             nodes: 0,
             ending: Ending::Closed,
         });
     }
-    let mut solver = Solver::new(alloc, model)?;
+    let mut solver = Solver::new(alloc, model, learn, choice_of(learn))?;
     let ending = solver.run(alloc, model, limits, constraints, sink)?;
     Ok(Outcome {
         solutions: solver.found,
@@ -81,14 +85,32 @@ fn search<S: Sink, C: Constraints>(
     })
 }
 
+/// How decisions are made: only a search that learns the first unique implication point restarts.
+fn choice_of(learn: Learn) -> Choice {
+    Choice {
+        free: false,
+        seed: None,
+        restart_after: match learn {
+            Learn::Plain => None,
+            Learn::First => Some(100),
+        },
+    }
+}
+
 /// Writes the empty clause, which needs no reason where a declared set is empty.
-fn refute<S: Sink>(alloc: Global, model: &Model, limits: Limits, sink: &mut S) -> Result<(), Fault>
+fn refute<S: Sink>(
+    alloc: Global,
+    model: &Model,
+    limits: Limits,
+    learn: Learn,
+    sink: &mut S,
+) -> Result<(), Fault>
     requires model { IsWellFormed model.now }
     requires empty { is_some_empty (declared_sets model.now.vars) ≡ true }
     requires room { HasRoom model.now.goal limits.solutions 0 }
     requires fresh { S.written sink.old ≡ [] }
     requires kept { S.keeps model.now sink.old }
-    ensures ended { OnOk result (IsEnded model.now limits (S.written sink.new) 0 Ending.Closed) }
+    ensures ended { OnOk result (IsEnded model.now learn limits (S.written sink.new) 0 Ending.Closed) }
     ensures none { OnOk result (count model.now (S.written sink.new) ≡ 0) }
     ensures accepted { AllAccepted model.now (S.written sink.new) }
     ensures kept { S.keeps model.now sink.new × (S.origin sink.new ≡ S.origin sink.old) }

@@ -2,7 +2,7 @@ mod AllDifferentLemmas
 pub mod CallerLemmas
 pub mod CircuitLemmas
 pub mod CountLemmas
-mod CumulativeLemmas
+pub mod CumulativeLemmas
 pub mod CutLemmas
 mod InverseLemmas
 mod LoadProfileLemmas

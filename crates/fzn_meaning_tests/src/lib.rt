@@ -1,13 +1,11 @@
 //! Tests of domains, of states, of what models mean, and of the rules of certificates.
 //!
-//! In: ranges and listed values, a small model for each goal, a constraint for each name, one of many tasks. Out: the calls of `Domain`, and
-//! `holds`, `is_solution`, `better` and `cut` of `fzn_meaning` on lists of values, against tables written by hand; each rule by its
+//! In: ranges and listed values, a small model for each goal, a constraint for each name. Out: the calls of `Domain`, of `is_solution`,
+//! `better` and `cut` of `fzn_meaning` on lists of values, against tables written by hand; each rule by its
 //! own call on a choice of sets, and of `fzn_rules` on each choice of small sets, against `holds`. Nothing is proved here beyond that the
 //! tests are safe; they stand apart so that the proofs of the crates below don't wait for theirs.
 #![tactic(auto)]
 
-#[cfg(test)]
-mod blocks;
 #[cfg(test)]
 mod domains;
 #[cfg(test)]

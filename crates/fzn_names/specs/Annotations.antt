@@ -1,5 +1,5 @@
 -- Annotations that say what is printed.
-use Rattle.std.specs.Prelude.{ℕ, ◌*◌, Bool, true, false, not, ◌&&◌, ◌||◌, List, [], ◌∷◌, ◌++◌, Option, Some, None, map, filter, drop, length, nat_eq, nat_lt, is_some, bytes_eq, codes}
+use Rattle.std.specs.Prelude.{ℕ, ◌*◌, Bool, true, false, not, ◌&&◌, ◌||◌, List, [], ◌∷◌, ◌++◌, Option, Some, None, map, filter, take, drop, length, nat_eq, nat_lt, is_some, bytes_eq, codes}
 use Rattle.std.specs.List.{list_any, list_all, filter_map}
 use Rattle.fzn_domain.specs.IntSet.{width}
 use Rattle.fzn_lexer.specs.declared.token.Place.{Place}
@@ -79,6 +79,6 @@ is_bad_mark ann = is_output ann && not (is_mark ann)
 abbrev pub is_bad_array_mark : ℕ → Ann → Bool
 is_bad_array_mark count ann = is_output ann && not (is_array_mark count ann)
 
--- those that are faulty by themselves, then each output annotation behind the first
+-- the first output annotation where it is faulty by itself, and each behind it
 abbrev pub mark_faults : (Ann → Bool) → List Ann → List Place
-mark_faults is_bad anns = map place_of_ann (filter is_bad anns) ++ map place_of_ann (drop 1 (filter is_output anns))
+mark_faults is_bad anns = map place_of_ann (filter is_bad (take 1 (filter is_output anns)) ++ drop 1 (filter is_output anns))

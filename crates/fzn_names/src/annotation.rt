@@ -1,5 +1,5 @@
 // Annotations that say what is printed.
-ghost use Rattle.std.specs.Prelude.{◌≡◌, ◌≤◌, ◌*◌, List, ◌∷◌, Some, is_some, map, filter, drop, IfOk};
+ghost use Rattle.std.specs.Prelude.{◌≡◌, ◌≤◌, ◌*◌, List, ◌∷◌, Some, is_some, map, filter, IfOk};
 ghost use Rattle.std.specs.List.{list_all};
 ghost use Rattle.fzn_domain.specs.IntSet.{width};
 ghost use Rattle.fzn_meaning.specs.Meaning.{longest};
@@ -189,62 +189,35 @@ fn first_output(mut anns: &[Ann]) -> Option<Place>
     None
 }
 
-fn second_output(mut anns: &[Ann]) -> Option<Place>
-    ensures { result ≡ first (map place_of_ann (drop 1 (filter is_output anns.now))) }
+/// The first fault of the annotations of a single variable.
+pub fn mark_fault(mut anns: &[Ann]) -> Option<Place>
+    ensures { result ≡ first (mark_faults is_bad_mark anns.now) }
 {
     while let [ann, rest @ ..] = anns {
         if is_output(ann) {
-            return first_output(rest);
-        }
-        anns = rest;
-    }
-    None
-}
-
-fn first_bad_mark(mut anns: &[Ann]) -> Option<Place>
-    ensures { result ≡ first (map place_of_ann (filter is_bad_mark anns.now)) }
-{
-    while let [ann, rest @ ..] = anns {
-        if is_output(ann) && !is_mark(ann) {
+            if is_mark(ann) {
+                return first_output(rest);
+            }
             return Some(ann.name.place);
         }
         anns = rest;
     }
     None
-}
-
-fn first_bad_array_mark(count: usize, mut anns: &[Ann]) -> Option<Place>
-    requires { count ≤ longest }
-    ensures { result ≡ first (map place_of_ann (filter (is_bad_array_mark count) anns.now)) }
-{
-    while let [ann, rest @ ..] = anns {
-        if is_output(ann) && !is_array_mark(count, ann) {
-            return Some(ann.name.place);
-        }
-        anns = rest;
-    }
-    None
-}
-
-/// The first fault of the annotations of a single variable.
-#[tactic(auto, using(fzn_symbols::proofs::CallerLemmas::firsts))]
-pub fn mark_fault(anns: &[Ann]) -> Option<Place>
-    ensures { result ≡ first (mark_faults is_bad_mark anns.now) }
-{
-    match first_bad_mark(anns) {
-        Some(place) => Some(place),
-        None => second_output(anns),
-    }
 }
 
 /// The first fault of the annotations of an array with this many entries.
-#[tactic(auto, using(fzn_symbols::proofs::CallerLemmas::firsts))]
-pub fn array_mark_fault(count: usize, anns: &[Ann]) -> Option<Place>
+pub fn array_mark_fault(count: usize, mut anns: &[Ann]) -> Option<Place>
     requires { count ≤ longest }
     ensures { result ≡ first (mark_faults (is_bad_array_mark count) anns.now) }
 {
-    match first_bad_array_mark(count, anns) {
-        Some(place) => Some(place),
-        None => second_output(anns),
+    while let [ann, rest @ ..] = anns {
+        if is_output(ann) {
+            if is_array_mark(count, ann) {
+                return first_output(rest);
+            }
+            return Some(ann.name.place);
+        }
+        anns = rest;
     }
+    None
 }

@@ -1,9 +1,9 @@
 // What names and values stand for, and where they are faulty.
-use fzn_cursor::{Tokens, array, listed};
 use fzn_domain::{Domain, VarId};
-use fzn_lexer::{Place, Symbol, tokens};
+use fzn_lexer::{Place, tokens};
 use fzn_list::{Items, Text};
 use fzn_meaning::{Kind, Term};
+use fzn_parser::parse;
 use fzn_registry::Argument;
 use fzn_symbols::{
     Declared, NamedList, Names, array_of, first_set_in, first_unknown_in, first_wrong_in,
@@ -11,7 +11,7 @@ use fzn_symbols::{
     place_of_literal, set_literal, set_of, term_of, terms_of, unknown_in, values_in, variable_of,
     wrong_in, wrong_literal,
 };
-use fzn_tree::{Array, Base, Basic, Int, Literal, Range, Values};
+use fzn_tree::{Arg, Base, Basic, Int, Literal, ParamValue, Range, Tree, Values};
 use std::alloc::{AllocError, Global};
 use std::fmt::Write;
 use std::string::String;
@@ -60,9 +60,17 @@ fn put_all(alloc: Global, names: &mut Names) -> Result<(), AllocError> {
     )
 }
 
-fn entries_of(alloc: Global, file: &str) -> Result<Array, Fail> {
+fn tree_of(alloc: Global, file: &str) -> Result<Tree, Fail> {
     let list = tokens(alloc, file.as_bytes())?;
-    Ok(array(alloc, &mut Tokens::new(&list))?)
+    Ok(parse(alloc, &list)?)
+}
+
+/// The entries of the array that is the one argument of the one constraint.
+fn entries(tree: &Tree) -> Option<&[Basic]> {
+    match tree.cons.as_slice().first()?.args.as_slice().first()? {
+        Arg::Array(array) => Some(array.entries.as_slice()),
+        Arg::Basic(_) => None,
+    }
 }
 
 fn place(text: &mut String, place: Option<Place>) -> Result<(), AllocError> {
@@ -80,21 +88,22 @@ pub(crate) fn set(text: &mut String, domain: &Domain) -> Result<(), AllocError> 
     write!(text, "{}..{}#{}", domain.min(), domain.max(), domain.len())
 }
 
-static VALUES: &str = "[7, k,\n x, zzz, true, c, q, s, {4, 2}, yyy]";
+static VALUES: &str =
+    "constraint p(\n[7, k,\n x, zzz, true, c, q, s, {4, 2}, yyy]);\nsolve satisfy;";
 
 /// For each value the place where it begins, where it is not declared and where it is no integer, its term, the entries of the array that it
 /// names, twice, and whether one is below 0.
 static SAID: &str = "
-at 1:2 - - Constant(7) [] [] false
-at 1:5 - - Constant(-4) [] [] false
-at 2:2 - - Variable(VarId(2)) [] [] false
-at 2:5 2:5 2:5 Constant(0) [] [] false
-at 2:10 - 2:10 Constant(1) [] [] false
-at 2:16 - 2:16 Constant(0) [Constant(1), Constant(-2)] [Constant(1), Constant(-2)] true
-at 2:19 - 2:19 Constant(0) [Variable(VarId(2)), Constant(1)] [Variable(VarId(2)), Constant(1)] false
-at 2:22 - 2:22 Constant(0) [] [] false
-at 2:25 - 2:25 Constant(0) [] [] false
-at 2:33 2:33 2:33 Constant(0) [] [] false
+at 2:2 - - Constant(7) [] [] false
+at 2:5 - - Constant(-4) [] [] false
+at 3:2 - - Variable(VarId(2)) [] [] false
+at 3:5 3:5 3:5 Constant(0) [] [] false
+at 3:10 - 3:10 Constant(1) [] [] false
+at 3:16 - 3:16 Constant(0) [Constant(1), Constant(-2)] [Constant(1), Constant(-2)] true
+at 3:19 - 3:19 Constant(0) [Variable(VarId(2)), Constant(1)] [Variable(VarId(2)), Constant(1)] false
+at 3:22 - 3:22 Constant(0) [] [] false
+at 3:25 - 3:25 Constant(0) [] [] false
+at 3:33 3:33 3:33 Constant(0) [] [] false
 ";
 
 fn places(text: &mut String, names: &Names, value: &Basic) -> Result<(), AllocError> {
@@ -130,9 +139,9 @@ fn said(alloc: Global, text: &mut String, names: &Names, value: &Basic) -> Resul
 fn each_value(rt: HostRuntime) -> Result<(), Fail> {
     let mut names = Names::new(rt.alloc());
     put_all(rt.alloc(), &mut names)?;
-    let values = entries_of(rt.alloc(), VALUES)?;
+    let tree = tree_of(rt.alloc(), VALUES)?;
     let mut text = String::new(rt.alloc());
-    for value in values.entries.as_slice() {
+    for value in entries(&tree).unwrap_or_default() {
         said(rt.alloc(), &mut text, &names, value)?;
     }
     assert_eq!(rt; text.as_str().trim(), SAID.trim());
@@ -149,7 +158,7 @@ Constant(0) none
 Constant(0) none
 Constant(0) 2..5#4
 Constant(0) none
-first 2:22 2:5 2:2
+first 3:22 3:5 3:2
 [Constant(7), Constant(-4), Variable(VarId(2)), Constant(0), Constant(1), Constant(0), Constant(0), Constant(0), Constant(0), Constant(0)]
 ";
 
@@ -188,27 +197,31 @@ fn said_of_all(
 fn all_values(rt: HostRuntime) -> Result<(), Fail> {
     let mut names = Names::new(rt.alloc());
     put_all(rt.alloc(), &mut names)?;
-    let values = entries_of(rt.alloc(), VALUES)?;
+    let tree = tree_of(rt.alloc(), VALUES)?;
+    let values = entries(&tree).unwrap_or_default();
     let mut text = String::new(rt.alloc());
-    said_of_all(rt.alloc(), &mut text, &names, values.entries.as_slice())?;
+    said_of_all(rt.alloc(), &mut text, &names, values)?;
     assert_eq!(rt; text.as_str(), SAID_OF_ALL.trim());
     Ok(())
 }
 
-static LITERALS: &str = "7, true, {4, 2}, 1..3]";
+static LITERALS: &str = "array [1..4] of int: a = [\n7, true, {4, 2}, 1..3];\nsolve satisfy;";
 
 /// For each literal the place where it begins, where it is a set and where it is no Boolean; then the terms.
 static SAID_OF_LITERALS: &str = "
-at 1:1 - 1:1
-at 1:4 - -
-at 1:10 1:10 1:10
-at 1:18 1:18 1:18
+at 2:1 - 2:1
+at 2:4 - -
+at 2:10 2:10 2:10
+at 2:18 2:18 2:18
 [Constant(7), Constant(1), Constant(0), Constant(0)]
 ";
 
-fn literals_of(alloc: Global, file: &str) -> Result<Items<Literal>, Fail> {
-    let list = tokens(alloc, file.as_bytes())?;
-    Ok(listed(alloc, &mut Tokens::new(&list), Symbol::CloseBracket)?)
+/// The entries of the one parameter.
+fn literals_of(tree: &Tree) -> Option<&[Literal]> {
+    match &tree.params.as_slice().first()?.value {
+        ParamValue::Array(_, entries) => Some(entries.as_slice()),
+        ParamValue::Literal(_) => None,
+    }
 }
 
 fn said_of_literals(
@@ -229,9 +242,10 @@ fn said_of_literals(
 
 #[test]
 fn literals(rt: HostRuntime) -> Result<(), Fail> {
-    let literals = literals_of(rt.alloc(), LITERALS)?;
+    let tree = tree_of(rt.alloc(), LITERALS)?;
+    let literals = literals_of(&tree).unwrap_or_default();
     let mut text = String::new(rt.alloc());
-    said_of_literals(rt.alloc(), &mut text, literals.as_slice())?;
+    said_of_literals(rt.alloc(), &mut text, literals)?;
     assert_eq!(rt; text.as_str(), SAID_OF_LITERALS.trim());
     Ok(())
 }

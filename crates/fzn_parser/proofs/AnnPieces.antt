@@ -17,15 +17,14 @@ use Rattle.fzn_tree.specs.declared.tree.Ann.TheShapes as shapes
 use Rattle.fzn_tree.specs.declared.tree.AnnArg.TheVariants as inner_args
 use Rattle.fzn_tree.specs.declared.tree.AnnTerm.TheVariants as terms
 use Rattle.fzn_tree.specs.Grammar as G
-use Rattle.fzn_cursor.specs.Reading.{Reader, next_is}
-use Rattle.fzn_cursor.proofs.Exact.{IsExact, Refuses}
-use Rattle.fzn_cursor.proofs.SequenceLaws.{both, followed_exact}
-use Rattle.fzn_cursor.proofs.FormLaws.{made_exact}
-use Rattle.fzn_cursor.proofs.ChoiceLaws.{clash'}
-use Rattle.fzn_cursor.proofs.NextLaws.{is_symbol-true, is_symbol-same, next_kind, never}
-use Rattle.fzn_cursor.proofs.ListLaws.{before_all}
-use Rattle.fzn_cursor.proofs.TokenLaws.{symbol_exact}
-use Rattle.fzn_cursor.specs.Readers as C
+use Rattle.fzn_parser.specs.Reading.{Reader, next_is}
+use Rattle.fzn_parser.proofs.Exact.{IsExact, Refuses}
+use Rattle.fzn_parser.proofs.SequenceLaws.{both, followed_exact}
+use Rattle.fzn_parser.proofs.FormLaws.{made_exact}
+use Rattle.fzn_parser.proofs.ChoiceLaws.{clash'}
+use Rattle.fzn_parser.proofs.NextLaws.{is_symbol-true, is_symbol-same, next_kind, never}
+use Rattle.fzn_parser.proofs.ListLaws.{before_all}
+use Rattle.fzn_parser.proofs.TokenLaws.{symbol_exact}
 use Rattle.fzn_parser.specs.Readers as R
 
 -- ---- what an annotation spells, one level at a time
@@ -101,7 +100,7 @@ some_ann = roll-Ann (record { name = record { text = 97 ∷ []; place = record {
 -- ---- a bracket, where one more may open or not
 
 abbrev pub is_paren : Token → Bool
-is_paren = C.is s.OpenParen
+is_paren = R.is s.OpenParen
 
 abbrev pub Within : ℕ → Type 0
 Within level = nat_lt level G.deepest ≡ true
@@ -117,7 +116,7 @@ module _ {B : Type 0} (bracket : Symbol) (not_end : bracket ≢ s.End) (level : 
   opened_within : Within level → G.opened bracket level ≡ sign bracket
   opened_within lt = rw lt refl
 
-  too_deep : (ts : List Token) → nat_lt level G.deepest ≡ false → next_is (C.is bracket) ts ≡ true → Refuses bracketed never ts TooDeep (length ts)
+  too_deep : (ts : List Token) → nat_lt level G.deepest ≡ false → next_is (R.is bracket) ts ≡ true → Refuses bracketed never ts TooDeep (length ts)
   too_deep [] deep there = absurd cc
   too_deep (y ∷ ts) deep there = record {
     front = [];
@@ -130,7 +129,7 @@ module _ {B : Type 0} (bracket : Symbol) (not_end : bracket ≢ s.End) (level : 
     why = inr (((is_symbol-true bracket y.kind there, tt), rw deep refl), λ b u v x spelled stops same next. rw deep refl);
   }
 
-  not_opened : (ts : List Token) → next_is (C.is bracket) ts ≡ false → Refuses bracketed never ts Syntax (length ts)
+  not_opened : (ts : List Token) → next_is (R.is bracket) ts ≡ false → Refuses bracketed never ts Syntax (length ts)
   not_opened ts there = record {
     front = [];
     rest = ts;
@@ -139,15 +138,15 @@ module _ {B : Type 0} (bracket : Symbol) (not_end : bracket ≢ s.End) (level : 
     size = refl;
     more = bracketed some;
     begins = record { value = some; pieces = []; parts = refl; spelled = tt; within = tt };
-    why = inl (refl, λ b u v x spelled stops same next. clash' (C.is bracket) ts [] ts (u ++ v) x there refl (next_kind (is_symbol bracket) _ (t b) u v spelled ∙ is_symbol-same bracket) same next);
+    why = inl (refl, λ b u v x spelled stops same next. clash' (R.is bracket) ts [] ts (u ++ v) x there refl (next_kind (is_symbol bracket) _ (t b) u v spelled ∙ is_symbol-same bracket) same next);
   }
 
-  none_by : (b : Bool) (ts : List Token) → nat_lt level G.deepest ≡ false → next_is (C.is bracket) ts ≡ b → IsExact bracketed never ts (cond b (Err (record { kind = TooDeep; left = length ts })) (Err (record { kind = Syntax; left = length ts })))
+  none_by : (b : Bool) (ts : List Token) → nat_lt level G.deepest ≡ false → next_is (R.is bracket) ts ≡ b → IsExact bracketed never ts (cond b (Err (record { kind = TooDeep; left = length ts })) (Err (record { kind = Syntax; left = length ts })))
   none_by true ts deep there = too_deep ts deep there
   none_by false ts deep there = not_opened ts there
 
   pub deeper_exact : (inside : Option (Reader B)) → Inside level t inside → (ts : List Token) → IsExact bracketed never ts (R.deeper bracket inside ts)
-  deeper_exact None deep ts = none_by (next_is (C.is bracket) ts) ts deep refl
+  deeper_exact None deep ts = none_by (next_is (R.is bracket) ts) ts deep refl
   deeper_exact (Some r) law ts =
-      made_exact (both (λ u. sign bracket) t) bracketed never C.second (λ p. ap (λ (z : List Piece). z ++ t p.1) (opened_within law.0)) (λ b. ((tt, b), refl)) ts _
+      made_exact (both (λ u. sign bracket) t) bracketed never R.second (λ p. ap (λ (z : List Piece). z ++ t p.1) (opened_within law.0)) (λ b. ((tt, b), refl)) ts _
       (followed_exact (λ u. sign bracket) never t never (before_all t never) some ts _ r (symbol_exact bracket not_end never ts) (λ a mid p. law.1 mid))

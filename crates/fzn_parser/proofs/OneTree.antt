@@ -9,10 +9,10 @@ use Rattle.fzn_lexer.specs.declared.token.Token.{Token}
 use Rattle.fzn_tree.specs.declared.tree.Tree.{Tree}
 use Rattle.fzn_tree.specs.Piece.{Piece, Fits, AreSpelled, AreWithin, sign}
 use Rattle.fzn_tree.specs.Grammar as G
-use Rattle.fzn_cursor.specs.Reading.{Outcome}
-use Rattle.fzn_cursor.proofs.Exact.{IsExact, Reads, Refuses}
-use Rattle.fzn_cursor.proofs.SpelledLaws.{AreSpelled-append, AreSpelled-split, AreWithin-split, Limited-within, SameNext-refl}
-use Rattle.fzn_cursor.proofs.NextLaws.{never, stops_never}
+use Rattle.fzn_parser.specs.Reading.{Outcome}
+use Rattle.fzn_parser.proofs.Exact.{IsExact, Reads, Refuses}
+use Rattle.fzn_parser.proofs.SpelledLaws.{AreSpelled-append, AreSpelled-split, AreWithin-split, Limited-within, SameNext-refl}
+use Rattle.fzn_parser.proofs.NextLaws.{never, stops_never}
 use Rattle.fzn_parser.specs.Parse.{IsTree, Begins, NoneBegins, IsPast, EachIsPast, IsFault, IsReading}
 use Rattle.fzn_parser.proofs.ItemLaws.{all_exact}
 use Rattle.fzn_parser.specs.Readers as R

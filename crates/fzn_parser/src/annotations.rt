@@ -2,11 +2,12 @@
 
 ghost use Rattle.std.specs.Prelude.{◌<◌, ◌≤◌, length, OnOk};
 ghost use Rattle.fzn_lexer.specs.declared.token.Symbol.TheVariants.{CloseBracket, CloseParen};
-ghost use Rattle.fzn_cursor.specs.Reading.{Gives};
+ghost use Rattle.fzn_parser.specs.Reading.{Gives};
 ghost use Rattle.fzn_parser.specs.Readers as spec;
 
-use crate::repeated::{Repeated, many};
-use fzn_cursor::{MOST, Stop, Tokens, literal};
+use crate::cursor::{MOST, Start, Stop, Tokens};
+use crate::lists::{Part, many};
+use crate::values::literal;
 use fzn_lexer::{FaultKind, Symbol};
 use fzn_list::Items;
 use fzn_tree::{Ann, AnnArg, AnnTerm};
@@ -120,7 +121,7 @@ fn ann_entry(
     if number < MOST {
         ann_term(alloc, tokens, levels)
     } else {
-        Err(tokens.refuse_more(tokens.sees_term()))
+        Err(tokens.refuse_more(Start::Term))
     }
 }
 
@@ -130,18 +131,18 @@ fn ann_term(alloc: Global, tokens: &mut Tokens<'_>, levels: usize) -> Result<Ann
     ensures gives { Gives (spec.ann_term levels tokens.old) result tokens.new }
     ensures never_longer { length tokens.new ≤ length tokens.old }
 {
-    if tokens.sees_text() {
+    if tokens.begins(Start::Text) {
         let (text, place) = tokens.text(alloc)?;
         return Ok(AnnTerm::Text(text, place));
     }
-    if tokens.sees_name() {
+    if tokens.begins(Start::Name) {
         return Ok(AnnTerm::Ann(ann(alloc, tokens, levels)?));
     }
     Ok(AnnTerm::Literal(literal(alloc, tokens)?))
 }
 
 /// An annotation behind its two colons.
-impl Repeated for Ann {
+impl Part for Ann {
     ghost reader = { spec.colons_ann };
 
     fn read(alloc: Global, tokens: &mut Tokens<'_>, _number: usize) -> Result<Ann, Stop> {

@@ -2,11 +2,14 @@
 
 ghost use Rattle.std.specs.Prelude.{◌≡◌, ◌<◌, ◌≤◌, ◌++◌, ℕ, List, Option, length, OnOk, IfOk};
 ghost use Rattle.fzn_tree.specs.Grammar.{singles_with};
-ghost use Rattle.fzn_cursor.specs.Reading.{Gives, made};
+ghost use Rattle.fzn_parser.specs.Reading.{Gives, made};
 ghost use Rattle.fzn_parser.specs.Readers as spec;
 
 use crate::annotations::anns;
-use fzn_cursor::{MOST, Stop, Tokens, array, array_of, base, basic, listed, literal};
+use crate::cursor::{MOST, Start, Stop, Tokens};
+use crate::lists::listed;
+use crate::types::{array_of, base};
+use crate::values::{array, basic, literal};
 use fzn_lexer::Symbol;
 use fzn_list::Items;
 use fzn_tree::{ArrayVar, Basic, Literal, Param, ParamBase, ParamValue, SingleVar, Size, Var};
@@ -139,7 +142,7 @@ fn var(alloc: Global, tokens: &mut Tokens<'_>, singles: usize) -> Result<Var, St
         return Ok(Var::Array(array_rest(alloc, tokens, size)?));
     }
     if singles >= MOST {
-        return Err(tokens.refuse_more(tokens.sees(Symbol::Var)));
+        return Err(tokens.refuse_more(Start::Sign(Symbol::Var)));
     }
     Ok(Var::Single(single_var(alloc, tokens)?))
 }
@@ -165,7 +168,7 @@ fn more_vars(
     ensures never_longer { length tokens.new ≤ length tokens.old }
 {
     let mut singles: usize = 0;
-    'vars: while tokens.sees_var() {
+    'vars: while tokens.begins(Start::Var) {
         let var = var(alloc, tokens, singles)?;
         singles = count_single(singles, &var);
         vars.push(var)?;
@@ -206,7 +209,7 @@ pub fn declarations(
 {
     let mut params = Items::new(alloc);
     let mut vars = Items::new(alloc);
-    'params: while tokens.sees_declaration() {
+    'params: while tokens.begins(Start::Declaration) {
         match declaration(alloc, tokens)? {
             Declared::Param(param) => params.push(param)?,
             Declared::Array(array) => {

@@ -1,13 +1,14 @@
 //! Constraints, the goal and the whole file.
 
 ghost use Rattle.std.specs.Prelude.{◌<◌, ◌≤◌, length, OnOk};
-ghost use Rattle.fzn_cursor.specs.Reading.{Gives};
+ghost use Rattle.fzn_parser.specs.Reading.{Gives};
 ghost use Rattle.fzn_parser.specs.Readers as spec;
 
 use crate::annotations::anns;
+use crate::cursor::{MOST, Start, Stop, Tokens};
 use crate::declarations::declarations;
-use crate::repeated::{Repeated, many};
-use fzn_cursor::{MOST, Stop, Tokens, basic, listed};
+use crate::lists::{Part, listed, many};
+use crate::values::basic;
 use fzn_lexer::Symbol;
 use fzn_list::Items;
 use fzn_tree::{Arg, Con, Goal, Predicate, Solve, Tree};
@@ -28,7 +29,7 @@ fn con(alloc: Global, tokens: &mut Tokens<'_>) -> Result<Con, Stop>
     Ok(Con { name, args, anns })
 }
 
-impl Repeated for Con {
+impl Part for Con {
     ghost reader = { spec.each_con };
 
     #[tactic(auto, unfolding(crate::specs::Readers::Items::each_con))]
@@ -36,7 +37,7 @@ impl Repeated for Con {
         if number < MOST {
             con(alloc, tokens)
         } else {
-            Err(tokens.refuse_more(tokens.sees(Symbol::Constraint)))
+            Err(tokens.refuse_more(Start::Sign(Symbol::Constraint)))
         }
     }
 }

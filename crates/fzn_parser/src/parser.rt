@@ -2,8 +2,8 @@
 
 ghost use Rattle.fzn_parser.specs.Parse.{EndsInEnd, IsTree, Parses, Finds};
 
+use crate::cursor::{Stop, Tokens};
 use crate::items;
-use fzn_cursor::{Stop, Tokens};
 use fzn_lexer::{Fault, ReadError, TokenList};
 use fzn_tree::Tree;
 use std::alloc::Global;

@@ -20,12 +20,11 @@ use Rattle.fzn_propagator.specs.declared.propagator.Inference.{Inference as Foun
 use Rattle.fzn_propagators.specs.AnyCrate.{any_number, AnyIsFor, AnyFits}
 use Rattle.fzn_propagator.specs.Inference.{IsInferenceOf, AreExhausted, IsInference as IsFound}
 use Rattle.fzn_engine.specs.Inference.{IsInference, IsQuiet}
-use Rattle.fzn_propagators.specs.declared.propagators.Propagators.{Propagators}
 use Rattle.fzn_propagators.specs.Propagators.{IsPropagatorOf, AreFor}
 use Rattle.fzn_propagators.proofs.MadeLemmas.{some_member}
 use Rattle.fzn_propagators.proofs.SpelledLemmas.{rule-spelled, few-number, literals-spelled}
 
--- what holds of the item of a loop holds at its place
+-- what holds of the item at a place holds at the place
 pub HoldsAt-item : {X : Type 0} (P : X → Type 0) (xs : List X) (i : ℕ) (x : X) → x ≡ get_or xs i x → i < length xs → P x → HoldsAt P xs i
 HoldsAt-item P xs i x at below h d = subst P (at ∙ get_or_default xs i x d below) h
 
@@ -65,17 +64,14 @@ module _ (model : Model) (trail : Levels) (declared : trail.declared ≡ declare
     inside = λ k below. let same = narrower.one_each in narrower.within k (get_or values k (pos 0)) (h.inside k (omega arith));
   }
 
-  module _ (propagators : Propagators) (are : AreFor propagators model) where
+  module _ (items : List AnyPropagator) (are : AreFor items model) where
     -- the propagator at place k
-    module _ (items : List AnyPropagator) (same : items ≡ propagators.items) (k : ℕ) (p : AnyPropagator) (at : p ≡ get_or items k p) (below : k < length items) where
+    module _ (k : ℕ) (p : AnyPropagator) (at : p ≡ get_or items k p) (below : k < length items) where
       inside : k < length model.constraints
-      inside = let count = ap length same in let one_each = are.one_each in omega arith
-
-      item : p ≡ get_or propagators.items k p
-      item = at ∙ ap (λ (xs : List AnyPropagator). get_or xs k p) same
+      inside = let one_each = are.one_each in omega arith
 
       it-is : (constraint : Constraint) → IsPropagatorOf model (k + 1) (get_or model.constraints k constraint) p
-      it-is constraint = subst (λ (q : AnyPropagator). IsPropagatorOf model (k + 1) (get_or model.constraints k constraint) q) (sym item) (are.each k constraint p inside)
+      it-is constraint = subst (λ (q : AnyPropagator). IsPropagatorOf model (k + 1) (get_or model.constraints k constraint) q) (sym at) (are.each k constraint p inside)
 
       some_constraint : Constraint
       some_constraint = some_member model.constraints k inside
@@ -90,13 +86,11 @@ module _ (model : Model) (trail : Levels) (declared : trail.declared ≡ declare
           inference-at k some_constraint found are.few_vars are.few_constraints inside
           (subst (λ (n : ℕ). IsFound n constraint trail found) here.numbered (h constraint here.is_for))
 
-    pub none-quiet : IsNarrower trail.sets trail.declared → (items : List AnyPropagator) → items ≡ propagators.items → (i : ℕ) → length items ≤ i → AllWithin (λ (p : AnyPropagator). AreExhausted (AnyIsFor p) trail) items 0 i → IsQuiet model trail
-    none-quiet narrower items same i past exhausted fixed values within k constraint inside =
-        let count = ap length same in
+    pub none-quiet : IsNarrower trail.sets trail.declared → (i : ℕ) → length items ≤ i → AllWithin (λ (p : AnyPropagator). AreExhausted (AnyIsFor p) trail) items 0 i → IsQuiet model trail
+    none-quiet narrower i past exhausted fixed values within k constraint inside =
         let one_each = are.one_each in
         let here = get_or model.constraints k constraint in
         let p = some_member items k (omega arith) in
         let B : List IntSet → Type 0 = λ sets. HasBooleanSets sets here in
         let boolean : B trail.declared = subst B (sym declared) (are.booleans k constraint inside) in
-        let is_for : AnyIsFor (get_or items k p) here = subst (λ (xs : List AnyPropagator). AnyIsFor (get_or xs k p) here) (sym same) (are.each k constraint p inside).is_for in
-        (exhausted k p (omega arith) (omega arith) here is_for boolean).holds fixed values (within-declared values narrower within) within
+        (exhausted k p (omega arith) (omega arith) here (are.each k constraint p inside).is_for boolean).holds fixed values (within-declared values narrower within) within

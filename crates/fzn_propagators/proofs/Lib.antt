@@ -1,3 +1,4 @@
 mod FoundLemmas
+mod KindLemmas
 mod MadeLemmas
 mod SpelledLemmas

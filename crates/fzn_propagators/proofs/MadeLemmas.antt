@@ -7,8 +7,7 @@ use Rattle.fzn_meaning.specs.declared.model.Model.{Model}
 use Rattle.fzn_meaning.specs.Solutions.{declared_sets}
 use Rattle.fzn_propagators.specs.declared.kinds.AnyPropagator.{AnyPropagator}
 use Rattle.fzn_propagators.specs.AnyCrate.{any_number, AnyIsFor, AnyFits}
-use Rattle.fzn_propagators.specs.declared.lacking.Lacking.TheVariants.{Propagator}
-use Rattle.fzn_propagators.specs.Propagators.{IsPropagatorOf, IsFirst}
+use Rattle.fzn_propagators.specs.Propagators.{IsPropagatorOf}
 
 -- where a place stands in a list there is a member
 pub some_member : {X : Type 0} (xs : List X) (k : ℕ) → k < length xs → X
@@ -42,10 +41,3 @@ module _ (model : Model) (n : ℕ) (earlier : List AnyPropagator) (next : AnyPro
             let last : n ≡ k = omega arith in
             subst (R k) (sym (at_k ∙ get_or_push earlier next propagator k (omega arith))) (subst (λ (m : ℕ). R m next) last (next-is numbered is_for fits constraint))
       ]
-
--- the constraint after them is the first that has no propagator
-pub AreFirst-lacking : (model : Model) (n : ℕ) (items : List AnyPropagator) → length items ≡ n → AreFirst model n items → (number : ℕ) → number ≡ n + 1 → IsFirst model (Propagator number)
-AreFirst-lacking model n items count first number is k default below =
-    let inside : k < n = omega arith in
-    let p = some_member items k (omega arith) in
-    (get_or items k p, (first k default p inside).is_for)

@@ -1,14 +1,16 @@
-//! A propagator for each constraint of a model, asked in turn.
+//! A propagator for each constraint of a model, and which of them are asked.
 //!
-//! In: a model, and then a trail of its declared sets. Out: the first inference that some propagator finds, in the order of the
-//! constraints, or none; and beforehand the number of a constraint that no propagator is for. Proved against
+//! In: a model, and then a trail of its declared sets. Out: an inference that some propagator finds, or none; a propagator is asked
+//! once a variable that it watches was narrowed, and all are asked where each variable has one value. Proved against
 //! `specs/Propagators.antt`: `AreFor` says which propagators stand for a model, and the search's trait `Constraints` what they owe.
 #![tactic(auto)]
 
 pub use kinds::AnyPropagator;
-pub use lacking::Lacking;
 pub use propagators::Propagators;
 
+mod agenda;
+mod change;
 mod kinds;
-mod lacking;
 mod propagators;
+mod queue;
+mod watchers;

@@ -1,12 +1,10 @@
 //! Tests of the crates that read a file, from its bytes to its model.
 //!
 //! In: files. Out: the calls of `fzn_list`, `fzn_lexer`, `fzn_parser`, `fzn_registry` and `fzn_reading`, against tables of tokens, of names,
-//! of faults with their places and of models. Nothing is proved here beyond that the tests are safe; they stand apart so that the crates
+//! of trees and of a model. Faults of files with their places stand in `rows/`. Nothing is proved here beyond that the tests are safe; they stand apart so that the crates
 //! below are not proved a second time with them.
 #![tactic(auto)]
 
-#[cfg(test)]
-mod items;
 #[cfg(test)]
 mod lexer;
 #[cfg(test)]

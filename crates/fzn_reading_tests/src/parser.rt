@@ -1,113 +1,38 @@
-// The trees of files, and the faults of the parser.
-use fzn_lexer::{Fault, Place, ReadError, tokens};
+// The trees of files.
+use fzn_lexer::{Place, tokens};
 use fzn_list::Items;
 use fzn_parser::{
     Arg, Basic, Con, Int, Listed, Literal, Param, ParamValue, Tree, one_reading, parse,
 };
-use std::alloc::{AllocError, Global};
-use std::string::String;
+use std::alloc::Global;
 use std::test::*;
 
-/// What becomes of a file: its tree is read, or it has a fault at a line and a column.
-fn outcome(alloc: Global, file: &str) -> Result<String, AllocError> {
-    let Ok(tokens) = tokens(alloc, file.as_bytes()) else {
-        return String::from_str(alloc, "no tokens");
-    };
-    match parse(alloc, &tokens) {
-        Ok(_) => String::from_str(alloc, "read"),
-        Err(ReadError::Fault(Fault { kind, place })) => {
-            format!(in alloc; "{kind:?} {} {}", place.line, place.column)
-        }
-        Err(ReadError::Memory) => String::from_str(alloc, "no memory"),
-    }
-}
-
-/// Files and what becomes of them.
+/// Files that the grammar has, most of which state no model.
 const FILES: &str = "
-solve satisfy; => read
-predicate p(array [int] of var int: x, set of 1..3: s); predicate q(); solve satisfy; => read
-predicate p(bool: a, array [1..0] of set of {1, 2}: b, -1..1: c, var {}: d); solve satisfy; => read
-int: k = -3; bool: b = true; set of int: s = {3, 1}; set of int: e = 1..0; solve satisfy; => read
-array [1..2] of int: q = [1, 2]; array [1..0] of set of int: n = []; solve satisfy; => read
-array [1..2] of bool: q = [true, 1..2]; array [1..1] of int: r = [{}]; solve satisfy; => read
-var 1..3: x :: output_var = 2; var bool: b; var int: y = x; var {1, 3}: z; solve maximize x; => read
-array [1..2] of var int: r :: output_array([1..2]) = [1, q]; solve satisfy; => read
-array [1..1] of var set of int: r = []; var set of {}: y; var bool: z; solve satisfy; => read
-constraint p(1..2, {}, [], a, true, [1..2, {3}, false]) :: a(b, [{1}, 2]); solve satisfy; => read
-constraint p(); solve :: c(\"text\", d([e, \"f\"], []), g()) :: h minimize 3; => read
-% nothing => Syntax 1 10
- => Syntax 1 1
-array [2..2] of int: q => Syntax 1 8
-array [1..100001;  => TooMany 1 11
-predicate p(array [1..100001 => TooMany 1 23
-array [1..-1] => Syntax 1 11
-var bool: a; int: k = 3; solve satisfy; => Syntax 1 14
-array [1..1] of var bool: a = [true]; array [1..1] of bool: b => Syntax 1 55
-var {1,}: x => Syntax 1 8
-var 1: x => Syntax 1 6
-int: k = x; => Syntax 1 10
-set of 1..2: s => Syntax 1 8
-constraint p(\"a\"); => Syntax 1 14
-constraint p([[1]]); => Syntax 1 15
-constraint p() solve satisfy; => Syntax 1 16
-solve :: a([[1]]) satisfy; => Syntax 1 13
-solve minimize [1]; => Syntax 1 16
-solve satisfy; solve => Syntax 1 16
-solve satisfy => Syntax 1 14
+solve satisfy;
+predicate p(array [int] of var int: x, set of 1..3: s); predicate q(); solve satisfy;
+predicate p(bool: a, array [1..0] of set of {1, 2}: b, -1..1: c, var {}: d); solve satisfy;
+int: k = -3; bool: b = true; set of int: s = {3, 1}; set of int: e = 1..0; solve satisfy;
+array [1..2] of int: q = [1, 2]; array [1..0] of set of int: n = []; solve satisfy;
+array [1..2] of bool: q = [true, 1..2]; array [1..1] of int: r = [{}]; solve satisfy;
+var 1..3: x :: output_var = 2; var bool: b; var int: y = x; var {1, 3}: z; solve maximize x;
+array [1..2] of var int: r :: output_array([1..2]) = [1, q]; solve satisfy;
+array [1..1] of var set of int: r = []; var set of {}: y; var bool: z; solve satisfy;
+constraint p(1..2, {}, [], a, true, [1..2, {3}, false]) :: a(b, [{1}, 2]); solve satisfy;
+constraint p(); solve :: c(\"text\", d([e, \"f\"], []), g()) :: h minimize 3;
 ";
 
-#[test]
-fn files(rt: HostRuntime) -> Result<(), Fail> {
-    assert_eq!(rt; FILES.trim().lines().count(), 30);
-    for row in FILES.trim().lines() {
-        let (file, want) = row.split_once(" => ").ok_or("a row has two parts")?;
-        assert!(rt; outcome(rt.alloc(), file)?.as_str() == want, "{row}");
-    }
-    Ok(())
-}
-
-/// Files in which something is repeated: what stands before it, what it is, how often, then what closes each of them, what stands between,
-/// and what comes behind; and what becomes of them.
-const LIMITS: &str = "
-solve :: |a(|64|)|b| satisfy; => read
-solve :: |a(|65|)|b| satisfy; => TooDeep 1 139
-solve :: |a([|32|])|b| satisfy; => read
-solve :: |a([|33|])|b| satisfy; => TooDeep 1 107
-solve :: a([|1,|100000||b|]) satisfy; => TooMany 1 200013
-constraint p([|1,|99999||1|]); solve satisfy; => read
-constraint p([|1,|100000||x|]); solve satisfy; => TooMany 1 200015
-array [1..1] of int: k = [|1,|100000||x|]; solve satisfy; => Syntax 1 200027
-var {|1,|65535||1|}: x; solve satisfy; => read
-var {|1,|65536||1|}: x; solve satisfy; => TooMany 1 131078
-|var int:x;|100001|||solve satisfy; => TooMany 1 1000001
-|constraint p();|100001|||solve satisfy; => TooMany 1 1500001
-";
-
-fn long_file(alloc: Global, parts: &str) -> Result<String, Fail> {
-    let columns: Vec<&str> = parts.split('|').collect(alloc)?;
-    let [before, open, count, close, middle, behind] = columns.as_slice() else {
-        return Err("a file has six parts")?;
-    };
-    let Ok(count) = count.parse::<usize>() else {
-        return Err("the third is a number")?;
-    };
-    let opened = open.repeat(alloc, count)?;
-    let closed = close.repeat(alloc, count)?;
-    Ok(format!(in alloc; "{before}{opened}{middle}{closed}{behind}")?)
+fn is_read(alloc: Global, file: &str) -> bool {
+    tokens(alloc, file.as_bytes()).is_ok_and(|tokens| parse(alloc, &tokens).is_ok())
 }
 
 #[test]
-fn limits(rt: HostRuntime) -> Result<(), Fail> {
-    assert_eq!(rt; LIMITS.trim().lines().count(), 12);
-    for row in LIMITS.trim().lines() {
-        let (parts, want) = row.split_once(" => ").ok_or("a row has two parts")?;
-        let file = long_file(rt.alloc(), parts)?;
-        assert!(rt;
-            outcome(rt.alloc(), file.as_str())?.as_str() == want,
-            "{row}"
-        );
+fn files(rt: HostRuntime) {
+    assert_eq!(rt; FILES.trim().lines().count(), 11);
+    for file in FILES.trim().lines() {
+        assert!(rt; is_read(rt.alloc(), file), "{file}");
     }
-    Ok(())
+    assert!(rt; !is_read(rt.alloc(), "solve satisfy"));
 }
 
 const FILE: &str =

@@ -1,8 +1,9 @@
 use fzn_solver::{RunFault, run};
-use fzn_words::Options;
+use fzn_words::{Options, options_of};
 use std::alloc::Global;
 use std::io;
 use std::str::from_utf8;
+use std::test::Fail;
 
 mod answers;
 mod faults;
@@ -18,15 +19,9 @@ const SOLUTION: &[u8] = b"a = false;\nb = true;\n----------\n";
 const LEAST: &str =
     "var 0..10: x :: output_var; constraint int_lin_le([-2],[x],-7); solve minimize x;";
 
-const GREATEST: &str = "var 0..3: x :: output_var; solve maximize x;";
-
-fn options(alloc: Global, all: bool, nodes: u64) -> Options {
-    Options {
-        all,
-        nodes,
-        model: String::new(alloc),
-        cert: None,
-    }
+/// Every solution is wanted, and nine decisions may be made.
+fn all_of(alloc: Global) -> Result<Options, Fail> {
+    Ok(options_of(alloc, &["-a", "--nodes", "9", "m.fzn"])?)
 }
 
 fn text_of(bytes: &[u8]) -> &str {
@@ -34,9 +29,8 @@ fn text_of(bytes: &[u8]) -> &str {
 }
 
 /// The certificate of a run that meets no fault.
-fn certificate_of(alloc: Global, file: &str) -> Result<Vec<u8>, RunFault> {
+fn certificate_of(alloc: Global, options: &Options, file: &str) -> Result<Vec<u8>, RunFault> {
     let mut cert: Vec<u8> = Vec::new(alloc);
-    let options = options(alloc, true, 9);
-    run(alloc, file.as_bytes(), &options, &mut io::sink(), &mut cert)?;
+    run(alloc, file.as_bytes(), options, &mut io::sink(), &mut cert)?;
     Ok(cert)
 }

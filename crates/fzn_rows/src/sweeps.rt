@@ -1,4 +1,5 @@
-// A file with each form of items, cut at each byte, and with each byte changed: solver and checker give an answer, or the same fault.
+// A file with each form of items, and a certificate, with each byte changed: solver and checker give an answer, or the same fault; the
+// checker prints what is true of the file, or nothing.
 use fzn_checker::{CheckFault, check};
 use fzn_solver::{RunFault, run};
 use fzn_words::{Options, options_of};
@@ -48,23 +49,6 @@ fn reply_to(alloc: Global, options: &Options, file: &[u8]) -> Reply {
     }
 }
 
-/// The file as it is, and without its last LF, is answered, and any shorter front is refused.
-#[test]
-fn each_cut(rt: HostRuntime) -> Result<(), Fail> {
-    let options = options_of(rt.alloc(), &["--nodes", "100", "m.fzn"])?;
-    let file = FILE.as_bytes();
-    for upto in 0..file.len() + 1 {
-        let want = if upto + 1 < file.len() {
-            Reply::Refused
-        } else {
-            Reply::Answered
-        };
-        let got = reply_to(rt.alloc(), &options, &file[..upto]);
-        assert_eq!(rt; got, want, "the first {upto} bytes");
-    }
-    Ok(())
-}
-
 /// Whether the file with another byte at the place is answered or refused, for each byte.
 fn is_answered_or_refused(alloc: Global, options: &Options, at: usize) -> Result<bool, AllocError> {
     let mut file = Vec::from_slice(alloc, FILE.as_bytes())?;
@@ -80,11 +64,53 @@ fn is_answered_or_refused(alloc: Global, options: &Options, at: usize) -> Result
 }
 
 #[test]
-fn each_byte_changed(rt: HostRuntime) -> Result<(), Fail> {
+fn each_byte_of_a_file_changed(rt: HostRuntime) -> Result<(), Fail> {
     let options = options_of(rt.alloc(), &["--nodes", "100", "m.fzn"])?;
     for at in 0..FILE.len() {
         let is_right = is_answered_or_refused(rt.alloc(), &options, at)?;
         assert!(rt; is_right, "with byte {at} changed");
+    }
+    Ok(())
+}
+
+const MODEL: &[u8] =
+    b"var bool: a :: output_var; var bool: b :: output_var; constraint bool_clause([a,b],[]); constraint bool_clause([],[a]); solve satisfy;";
+
+const CERTIFICATE: &[u8] =
+    b"fzc 1\nvars 2 cons 2\ni 2 lin ; 1<=0\ni 1 lin ; 1>=1 2>=1\ns 0 1\nr ; 1 2 3\ne closed\n";
+
+const ANSWER: &[u8] = b"a = false;\nb = true;\n----------\n==========\n";
+
+/// Whether the answer is printed, or the certificate is refused and nothing is.
+fn is_judged(alloc: Global, certificate: &[u8]) -> bool {
+    let mut out: Vec<u8> = Vec::new(alloc);
+    match check(alloc, MODEL, certificate, true, &mut out) {
+        Ok(_) => out.as_slice() == ANSWER,
+        Err(fault) => matches!(fault, CheckFault::Refused { .. }) && out.is_empty(),
+    }
+}
+
+/// Whether the certificate with another byte at the place is judged rightly, for each byte.
+fn is_judged_with_each(alloc: Global, at: usize) -> Result<bool, AllocError> {
+    let mut certificate = Vec::from_slice(alloc, CERTIFICATE)?;
+    for byte in 0..=255u8 {
+        if at < certificate.len() {
+            certificate[at] = byte;
+        }
+        if !is_judged(alloc, certificate.as_slice()) {
+            return Ok(false);
+        }
+    }
+    Ok(true)
+}
+
+#[test]
+fn each_byte_of_a_certificate_changed(rt: HostRuntime) -> Result<(), Fail> {
+    for at in 0..CERTIFICATE.len() {
+        assert!(rt;
+            is_judged_with_each(rt.alloc(), at)?,
+            "with byte {at} changed"
+        );
     }
     Ok(())
 }

@@ -1,8 +1,8 @@
 -- Variables with one value, and literals that split a set.
-use Rattle.std.specs.Prelude.{◌≡◌, ℕ, ◌+◌, ℤ, List, length}
+use Rattle.std.specs.Prelude.{◌≡◌, ℕ, ◌+◌, ◌<◌, ℤ, List, length, slice_index_or}
 use Rattle.std.specs.List.{All}
 use Rattle.fzn_domain.specs.declared.literal.Lit.{Lit}
-use Rattle.fzn_domain.specs.IntSet.{IntSet, size}
+use Rattle.fzn_domain.specs.IntSet.{IntSet, size, no_values}
 use Rattle.fzn_domain.specs.Limits.{IsInLimits}
 use Rattle.fzn_domain.specs.Narrow.{IsVariable, IsOpen, IsWithin}
 
@@ -18,6 +18,10 @@ counted search = record search { nodes = search.nodes + 1 }
 -- each variable has one value
 abbrev pub AllFixed : List IntSet → Type 0
 AllFixed sets = All (λ s. size s ≡ 1) sets
+
+-- some set has more than one value
+abbrev pub HasMany : List IntSet → Type 0
+HasMany sets = (k : ℕ) × (k < length sets) × (1 < size (slice_index_or sets k no_values))
 
 -- some values of the variable's set make the literal true, and others false
 pub record Splits (sets : List IntSet) (lit : Lit) : Type 0 where

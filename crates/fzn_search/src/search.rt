@@ -1,21 +1,27 @@
-// The plainest order: the first variable with more than one value, its least value first.
-ghost use Rattle.std.specs.Prelude.{◌≡◌, ◌+◌, ◌<◌, length, IfOk, IfNone, IfSome, OnSome};
+// Decisions, each tested before it is given.
+ghost use Rattle.std.specs.Prelude.{◌≡◌, ◌+◌, ◌<◌, length, IsFalse, IsTrue, IfOk, IfNone, IfSome, OnSome};
 ghost use Rattle.fzn_domain.specs.IntSet.{size};
 ghost use Rattle.fzn_domain.specs.Narrow.{IsVariable, IsWithin, set_of};
 ghost use Rattle.fzn_trail.specs.Levels.{NoneEmpty, returned};
-ghost use Rattle.fzn_search.specs.Fixed.{AllFixed, IsOnlyWithin, Splits, counted};
+ghost use Rattle.fzn_search.specs.Fixed.{AllFixed, HasMany, IsOnlyWithin, Splits, counted};
 
+use crate::choice::{Annotation, Choice};
+use crate::guide::Guide;
+use crate::open::splits;
 use fzn_domain::{Lit, Memory, Op, VarId};
 use fzn_list::Items;
+use fzn_meaning::Var;
 use fzn_trail::Trail;
 use std::alloc::Global;
 use std::marker::Model;
 
-/// What decides, over a number of variables, and counts its decisions.
-#[derive(Debug, Drop)]
+/// What decides, over a number of variables, and counts its decisions. It is told of conflicts and of what is undone, which steers
+/// later decisions and nothing else.
+#[derive(Drop)]
 pub struct Search {
     vars: usize,
     nodes: u64,
+    guide: Guide,
 }
 
 impl Model for Search {
@@ -28,10 +34,20 @@ impl Model for Search {
 
 impl Search {
     /// No decision yet.
-    pub fn new(vars: usize) -> Search
-        ensures { result ≡ record { vars = vars; nodes = 0 } }
+    pub fn new(
+        alloc: Global,
+        vars: &[Var],
+        annotations: &[Annotation],
+        choice: Choice,
+    ) -> Result<Search, Memory>
+        ensures { IfOk result (λ search. search ≡ record { vars = length vars.now; nodes = 0 }) }
     {
-        Search { vars, nodes: 0 }
+        let guide = Guide::new(alloc, vars, annotations, choice)?;
+        Ok(Search {
+            vars: vars.len(),
+            nodes: 0,
+            guide,
+        })
     }
 
     /// A literal to assume, which counts as a node.
@@ -44,8 +60,25 @@ impl Search {
         ensures none { IfNone result (AllFixed trail.now.sets) }
         ensures same { IfNone result (self.new ≡ self.old) }
     {
-        let var = first_open(trail, self.vars)?;
+        let lit = self.next(trail)?;
         self.nodes += 1;
+        Some(lit)
+    }
+
+    /// What the guide wants where it passes the test, and else the first open variable's least value.
+    fn next(&mut self, trail: &Trail) -> Option<Lit>
+        requires variables { self.old.vars ≡ length trail.now.declared }
+        requires filled { NoneEmpty trail.now.sets }
+        ensures found { IfSome result (Splits trail.now.sets) }
+        ensures none { IfNone result (AllFixed trail.now.sets) }
+        ensures same { self.new ≡ self.old }
+    {
+        if let Some(lit) = self.guide.next(trail, self.vars) {
+            if splits(trail, self.vars, lit) {
+                return Some(lit);
+            }
+        }
+        let var = self.open_variable(trail)?;
         Some(Lit {
             var,
             op: Op::AtMost,
@@ -53,11 +86,66 @@ impl Search {
         })
     }
 
+    /// Whether each variable has one value. This goes over all variables only where it is so.
+    pub fn is_fixed(&mut self, trail: &Trail) -> bool
+        requires variables { self.old.vars ≡ length trail.now.declared }
+        requires filled { NoneEmpty trail.now.sets }
+        ensures fixed { IsTrue result → AllFixed trail.now.sets }
+        ensures many { IsFalse result → HasMany trail.now.sets }
+        ensures same { self.new ≡ self.old }
+    {
+        let _entries = trail.len(); // A trail has a set for each variable.
+        match self.open_variable(trail) {
+            Some(_) => false,
+            None => true,
+        }
+    }
+
+    /// A variable with more than one value.
+    fn open_variable(&mut self, trail: &Trail) -> Option<VarId>
+        requires variables { self.old.vars ≡ length trail.now.declared }
+        requires filled { NoneEmpty trail.now.sets }
+        ensures variable { IfSome result (λ var. IsVariable (length trail.now.declared) var) }
+        ensures many { IfSome result (λ var. 1 < size (set_of trail.now.sets var)) }
+        ensures none { IfNone result (AllFixed trail.now.sets) }
+        ensures same { self.new ≡ self.old }
+    {
+        let _entries = trail.len(); // A trail has a set for each variable.
+        if let Some(number) = self.guide.first_open(trail, self.vars) {
+            if number < self.vars && trail.domain(VarId(number + 1)).len() != 1 {
+                return Some(VarId(number + 1));
+            }
+        }
+        first_open(trail, self.vars)
+    }
+
+    /// The entries from this place on are about to be dropped.
+    pub fn undo(&mut self, trail: &Trail, from: usize)
+        ensures same { self.new ≡ self.old }
+    {
+        self.guide.undo(trail, from);
+    }
+
+    /// The present conflict rests on these literals. Memory grows with the number of comparisons that conflicts ever named.
+    pub fn bump(&mut self, lits: &[Lit]) -> Result<(), Memory>
+        ensures same { self.new ≡ self.old }
+    {
+        self.guide.bump(lits)
+    }
+
+    /// The present conflict is over. Answers whether the search is to restart now; never where no restart was asked for.
+    pub fn conflict(&mut self) -> bool
+        ensures same { self.new ≡ self.old }
+    {
+        self.guide.conflict()
+    }
+
     /// Goes back to level 0.
     pub fn restart(&mut self, trail: &mut Trail)
         ensures trail { trail.new ≡ returned 0 trail.old }
         ensures same { self.new ≡ self.old }
     {
+        self.guide.undo(trail, trail.count_at(0));
         trail.back_to(0);
     }
 

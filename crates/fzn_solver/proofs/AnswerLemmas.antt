@@ -14,6 +14,7 @@ use Rattle.fzn_cert.specs.Accepted.{AllAccepted, past_of}
 use Rattle.fzn_cert.specs.Spelling.{header_lines, end_line}
 use Rattle.fzn_cert.specs.Verdict.{Verdict, accepted, header_of, lines_of, AllHaveLines}
 use Rattle.fzn_cert.specs.Writer.{contents_of as cert_contents}
+use Rattle.fzn_conflict.specs.declared.analysis.Learn.{Learn}
 use Rattle.fzn_engine.specs.declared.limits.Ending.{Ending as EngineEnding}
 use Rattle.fzn_engine.specs.declared.limits.Ending.TheVariants as engine
 use Rattle.fzn_engine.specs.declared.limits.Limits.{Limits}
@@ -24,9 +25,11 @@ use Rattle.fzn_printer.specs.Answer.{answer_text}
 use Rattle.fzn_printer.specs.Shown.{ending_text, is_closed}
 use Rattle.fzn_solver.specs.declared.writers.Writers.{Writers}
 use Rattle.fzn_solver.specs.Endings.{ending_for}
+use Rattle.fzn_solver.specs.Learning.{learn_for}
 use Rattle.fzn_solver.specs.Standing.{found_by, is_alone, early, late, certificate, shown_all}
 use Rattle.fzn_solver.specs.Answer.{wanted, EndsTruly, IsAnswer}
 use Rattle.fzn_solver.specs.Writers.{taken, origin, IsFresh, IsClosed}
+use Rattle.fzn_words.specs.declared.learning.Learning.{Learning}
 
 -- ---- the verdict on the certificate
 
@@ -71,8 +74,8 @@ none-found (first ∷ found) e = absurd (omega arith)
 some-found : (found : List (List ℤ)) (k : ℕ) → length found ≡ suc k → found ≢ []
 some-found found k e none = let l = ap length none in absurd (omega arith)
 
-pub ends-truly : (model : Model) (all : Bool) (limits : Limits) (steps : List Step) (nodes n : ℕ) (ending : EngineEnding) → limits.solutions ≡ wanted all → n ≡ length (found_by model steps) → EndsTrulyThere model limits steps nodes ending → EndsTruly model all limits.nodes (found_by model steps) nodes (ending_for ending n)
-ends-truly model all limits steps nodes n engine.Closed most count truly = closed n count
+pub ends-truly : (model : Model) (all : Bool) (learn : Learn) (limits : Limits) (steps : List Step) (nodes n : ℕ) (ending : EngineEnding) → limits.solutions ≡ wanted all → n ≡ length (found_by model steps) → EndsTrulyThere model learn limits steps nodes ending → EndsTruly model all limits.nodes (found_by model steps) nodes (ending_for ending n)
+ends-truly model all learn limits steps nodes n engine.Closed most count truly = closed n count
   where
     closed : (k : ℕ) → k ≡ length (found_by model steps) → EndsTruly model all limits.nodes (found_by model steps) nodes (ending_for engine.Closed k)
     closed zero e = none-found (found_by model steps) (sym e)
@@ -80,17 +83,17 @@ ends-truly model all limits steps nodes n engine.Closed most count truly = close
         let H : Option ℕ → Type 0 = λ m. HasRoom model.goal m (length (found_by model steps)) in
         let E : Bool → Type 0 = λ b. EndsTruly model all limits.nodes (found_by model steps) nodes (cond b Unsatisfiable Complete) in
         subst E (sym (not_zero k)) (some-found (found_by model steps) k (sym e), subst H most truly.1)
-ends-truly model all limits steps nodes n engine.NodeLimit most count truly =
+ends-truly model all learn limits steps nodes n engine.NodeLimit most count truly =
     let H : Option ℕ → Type 0 = λ m. HasRoom model.goal m (length (found_by model steps)) in
     (truly.0, subst H most truly.2)
-ends-truly model all limits steps nodes n engine.SolutionLimit most count truly =
+ends-truly model all learn limits steps nodes n engine.SolutionLimit most count truly =
     let R : Option ℕ → Type 0 = λ m. IsReached model.goal m (length (found_by model steps)) in
     subst R most truly
 
-pub closed-refuted : (model : Model) (limits : Limits) (steps : List Step) (nodes n : ℕ) (ending : EngineEnding) → EndsTrulyThere model limits steps nodes ending → is_closed (ending_for ending n) ≡ true → (past_of model steps).refuted ≡ true
-closed-refuted model limits steps nodes n engine.Closed truly closed = truly.0
-closed-refuted model limits steps nodes n engine.NodeLimit truly closed = cc
-closed-refuted model limits steps nodes n engine.SolutionLimit truly closed = cc
+pub closed-refuted : (model : Model) (learn : Learn) (limits : Limits) (steps : List Step) (nodes n : ℕ) (ending : EngineEnding) → EndsTrulyThere model learn limits steps nodes ending → is_closed (ending_for ending n) ≡ true → (past_of model steps).refuted ≡ true
+closed-refuted model learn limits steps nodes n engine.Closed truly closed = truly.0
+closed-refuted model learn limits steps nodes n engine.NodeLimit truly closed = cc
+closed-refuted model learn limits steps nodes n engine.SolutionLimit truly closed = cc
 
 pub closed-exhausted : (model : Model) (steps : List Step) (n : ℕ) (ending : EngineEnding) → IsExhaustedIf model steps ending → is_closed (ending_for ending n) ≡ true → IsExhausted model (found_by model steps)
 closed-exhausted model steps n engine.Closed exhausted closed = exhausted
@@ -110,10 +113,10 @@ first-pair {A = A} {B = B} p q e =
     (ap (λ (l : List (A × B)). (slice_index_or l 0 p).0) e, ap (λ (l : List (A × B)). (slice_index_or l 0 p).1) e)
 
 module _ {W C : Type 0} (outs : W → Option (List ℕ)) (certs : C → Option (List ℕ)) (model : Model) (all : Bool) where
-  pub answer-of : IsWellFormed model → (before searched after : Writers W C) (limits : Limits) (nodes n : ℕ) (ending : EngineEnding) → IsFresh outs certs before → before.alone ≡ is_alone model.goal all → origin searched ≡ origin before → limits.solutions ≡ wanted all
-      → AllAccepted model (taken searched) → IsOutcome model limits (taken searched) nodes ending → n ≡ length (found_by model (taken searched)) → IsClosed outs certs model (is_closed (ending_for ending n)) searched after
-      → IsAnswer model all limits.nodes (out_contents outs before.out) (out_contents outs after.out) (cert_contents certs before.cert) (cert_contents certs after.cert) (record { solutions = n; nodes = nodes; ending = ending_for ending n })
-  answer-of formed before searched after limits nodes n ending fresh alone same most all_accepted outcome count closed =
+  pub answer-of : IsWellFormed model → (before searched after : Writers W C) (learning : Learning) (limits : Limits) (nodes n : ℕ) (ending : EngineEnding) → IsFresh outs certs before → before.alone ≡ is_alone model.goal all → origin searched ≡ origin before → limits.solutions ≡ wanted all
+      → AllAccepted model (taken searched) → IsOutcome model (learn_for learning) limits (taken searched) nodes ending → n ≡ length (found_by model (taken searched)) → IsClosed outs certs model (is_closed (ending_for ending n)) searched after
+      → IsAnswer model all limits.nodes learning (out_contents outs before.out) (out_contents outs after.out) (cert_contents certs before.cert) (cert_contents certs after.cert) (record { solutions = n; nodes = nodes; ending = ending_for ending n })
+  answer-of formed before searched after learning limits nodes n ending fresh alone same most all_accepted outcome count closed =
       let steps = taken searched in
       let found = found_by model steps in
       let p : W × C = (closed.out_first, closed.cert_first) in
@@ -131,16 +134,16 @@ module _ {W C : Type 0} (outs : W → Option (List ℕ)) (certs : C → Option (
         steps = steps;
         certified = record {
           written = subst K cert closed.cert;
-          verdict = certificate-verdict model steps (is_closed (ending_for ending n)) formed all_accepted closed.have_lines (closed-refuted model limits steps nodes n ending outcome.ended.truly);
+          verdict = certificate-verdict model steps (is_closed (ending_for ending n)) formed all_accepted closed.have_lines (closed-refuted model (learn_for learning) limits steps nodes n ending outcome.ended.truly);
           printed = subst T (answer-is model all (is_closed (ending_for ending n)) found) (subst A is (subst O out closed.out));
         };
         proper = outcome.proper;
         exhausted = closed-exhausted model steps n ending outcome.exhausted;
         solutions = count;
-        ends = ends-truly model all limits steps nodes n ending most count outcome.ended.truly;
+        ends = ends-truly model all (learn_for learning) limits steps nodes n ending most count outcome.ended.truly;
         bounded = record {
-          by_choices = λ enough is_limit. outcome.enough_nodes enough (node-limit-is ending n is_limit);
+          by_choices = λ plain enough is_limit. outcome.enough_nodes (ap learn_for plain) enough (node-limit-is ending n is_limit);
           by_conflicts = outcome.ended.certified.nodes_by_conflicts;
-          fresh = outcome.ended.certified.fresh;
+          fresh = λ plain. outcome.ended.certified.fresh (ap learn_for plain);
         };
       }

@@ -12,6 +12,7 @@ use Rattle.fzn_cert.specs.Accepted.{AllAccepted}
 use Rattle.fzn_cert.specs.Spelling.{end_line}
 use Rattle.fzn_cert.specs.Writer.{contents_of as cert_contents}
 use Rattle.fzn_cert.proofs.SoundLaws.{accepted-proper}
+use Rattle.fzn_conflict.specs.declared.analysis.Learn.{Learn}
 use Rattle.fzn_engine.specs.declared.fault.Fault.{Fault}
 use Rattle.fzn_engine.specs.declared.fault.Fault.TheVariants as engine
 use Rattle.fzn_engine.specs.declared.limits.Ending.{Ending as EngineEnding}
@@ -51,7 +52,6 @@ read-fault file all out cert reading.Read right = (Keeps-same out, Keeps-same ce
 
 pub later-fault : (file : Option (List ℕ)) (all : Bool) (out_old out_new cert_old cert_new : Option (List ℕ)) (model : Model) (fault : RunFault) → States file model → IsLeft model all out_old out_new cert_old cert_new fault → IsRunFault file all out_old out_new cert_old cert_new fault
 later-fault file all out_old out_new cert_old cert_new model (run.File fault) states left = absurd left.0
-later-fault file all out_old out_new cert_old cert_new model (run.NoPropagator c) states left = absurd left.0
 later-fault file all out_old out_new cert_old cert_new model run.Read states left = absurd left.0
 later-fault file all out_old out_new cert_old cert_new model run.Memory states left = inr (model, states, left)
 later-fault file all out_old out_new cert_old cert_new model run.WriteOutput states left = (model, states, left)
@@ -120,16 +120,16 @@ module _ {W C : Type 0} (outs : W → Option (List ℕ)) (certs : C → Option (
   )
 
   -- at the end
-  pub left-at_end : (before now after : Writers W C) (fault : Fault) (limits : Limits) (nodes n : ℕ) (ending : EngineEnding) → IsWellFormed model → IsFresh outs certs before → before.alone ≡ is_alone model.goal all → origin now ≡ origin before → AllAccepted model (taken now)
-      → IsOutcome model limits (taken now) nodes ending → IsKept outs certs model now → IsUnclosed outs certs model (is_closed (ending_for ending n)) now after fault → Left before after fault
-  left-at_end before now after fault limits nodes n ending formed fresh alone same all_accepted outcome kept (inl unfinished) =
+  pub left-at_end : (before now after : Writers W C) (fault : Fault) (learn : Learn) (limits : Limits) (nodes n : ℕ) (ending : EngineEnding) → IsWellFormed model → IsFresh outs certs before → before.alone ≡ is_alone model.goal all → origin now ≡ origin before → AllAccepted model (taken now)
+      → IsOutcome model learn limits (taken now) nodes ending → IsKept outs certs model now → IsUnclosed outs certs model (is_closed (ending_for ending n)) now after fault → Left before after fault
+  left-at_end before now after fault learn limits nodes n ending formed fresh alone same all_accepted outcome kept (inl unfinished) =
       let O : Printer W → Type 0 = λ p. IsStanding model now.alone (taken now) (certs kept.cert_first) (cert_contents certs after.cert) (outs kept.out_first) (out_contents outs p) in (
         later fault,
         inl (stopped-by model all now.alone (taken now) (certs kept.cert_first) (cert_contents certs before.cert) (cert_contents certs after.cert) (outs kept.out_first) (out_contents outs before.out) (out_contents outs after.out) formed all_accepted
             (ap (λ (o : List (W × C) × Bool × GName × GName). o.1) same ∙ alone) (certs-first before now fresh same kept) (outs-first before now fresh same kept)
             (subst O (sym unfinished.out) (standing-refused model now.alone (taken now) (certs kept.cert_first) (cert_contents certs now.cert) (cert_contents certs after.cert) (outs kept.out_first) (out_contents outs now.out) (end_line (is_closed (ending_for ending n))) kept.standing unfinished.front))),
       )
-  left-at_end before now after fault limits nodes n ending formed fresh alone same all_accepted outcome kept (inr (is_output, cut)) =
+  left-at_end before now after fault learn limits nodes n ending formed fresh alone same all_accepted outcome kept (inr (is_output, cut)) =
       let steps = taken now in
       let found = found_by model steps in
       let closed = is_closed (ending_for ending n) in
@@ -146,7 +146,7 @@ module _ {W C : Type 0} (outs : W → Option (List ℕ)) (certs : C → Option (
             steps = steps;
             closed = closed;
             written = subst K (certs-first before now fresh same kept) (Appends-then (certs kept.cert_first) (cert_contents certs now.cert) (cert_contents certs after.cert) (begun_certificate model steps) (end_line closed) in_step.lines cut.end);
-            verdict = certificate-verdict model steps closed formed all_accepted in_step.have_lines (closed-refuted model limits steps nodes n ending outcome.ended.truly);
+            verdict = certificate-verdict model steps closed formed all_accepted in_step.have_lines (closed-refuted model learn limits steps nodes n ending outcome.ended.truly);
             proper = outcome.proper;
             exhausted = closed-exhausted model steps n ending outcome.exhausted;
             shown = subst T (answer-is model all closed found) (subst A (ap (λ (o : List (W × C) × Bool × GName × GName). o.1) same ∙ alone) (subst O (outs-first before now fresh same kept) front));

@@ -14,6 +14,8 @@ use Rattle.fzn_engine.specs.Outcome.{HasRoom, IsReached}
 use Rattle.fzn_engine.specs.Volume.{volume, spread}
 use Rattle.fzn_solver.specs.declared.report.Report.{Report}
 use Rattle.fzn_solver.specs.Standing.{found_by, certificate}
+use Rattle.fzn_words.specs.declared.learning.Learning.{Learning}
+use Rattle.fzn_words.specs.declared.learning.Learning.TheVariants.{Plain}
 
 -- how many solutions are wanted at most, in satisfaction
 abbrev pub wanted : Bool → Option ℕ
@@ -34,17 +36,18 @@ pub record IsCertified (model : Model) (steps : List Step) (all closed : Bool) (
   pub verdict : Verdict model (certificate model steps closed) (accepted (found_by model steps) closed)
   pub printed : Appends out_old out_new (answer_text model (found_by model steps) closed all)
 
--- the decisions are bounded, by the choices and by the conflicts, and each learned clause excludes something that those before it leave
-pub record IsBounded (model : Model) (steps : List Step) (limit : ℕ) (report : Report) : Type 0 where
-  pub by_choices : volume (declared_sets model.vars) - 1 ≤ limit → report.ending ≢ NodeLimit
+-- the decisions are bounded by the conflicts; in plain learning by the choices too, and each learned clause excludes something that
+-- those before it leave
+pub record IsBounded (model : Model) (steps : List Step) (limit : ℕ) (learning : Learning) (report : Report) : Type 0 where
+  pub by_choices : learning ≡ Plain → volume (declared_sets model.vars) - 1 ≤ limit → report.ending ≢ NodeLimit
   pub by_conflicts : report.nodes ≤ (length (resolved steps) + 1) * spread (declared_sets model.vars)
-  pub fresh : 0 < volume (declared_sets model.vars) → FreshAfter (declared_sets model.vars) [] (resolved steps)
+  pub fresh : learning ≡ Plain → 0 < volume (declared_sets model.vars) → FreshAfter (declared_sets model.vars) [] (resolved steps)
 
-pub record IsAnswer (model : Model) (all : Bool) (limit : ℕ) (out_old out_new cert_old cert_new : Option (List ℕ)) (report : Report) : Type 0 where
+pub record IsAnswer (model : Model) (all : Bool) (limit : ℕ) (learning : Learning) (out_old out_new cert_old cert_new : Option (List ℕ)) (report : Report) : Type 0 where
   pub steps : List Step
   pub certified : IsCertified model steps all (is_closed report.ending) out_old out_new cert_old cert_new
   pub proper : IsProper model (found_by model steps)
   pub exhausted : is_closed report.ending ≡ true → IsExhausted model (found_by model steps)
   pub solutions : report.solutions ≡ length (found_by model steps)
   pub ends : EndsTruly model all limit (found_by model steps) report.nodes report.ending
-  pub bounded : IsBounded model steps limit report
+  pub bounded : IsBounded model steps limit learning report

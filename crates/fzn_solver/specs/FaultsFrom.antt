@@ -2,21 +2,15 @@
 use Rattle.std.specs.Prelude.{ℕ}
 use Rattle.fzn_engine.specs.declared.fault.Fault.{Fault}
 use Rattle.fzn_engine.specs.declared.fault.Fault.TheVariants as engine
-use Rattle.fzn_propagators.specs.declared.lacking.Lacking.{Lacking}
-use Rattle.fzn_propagators.specs.declared.lacking.Lacking.TheVariants as lacking
 use Rattle.fzn_reading.specs.declared.fault.ModelFault.{ModelFault}
 use Rattle.fzn_reading.specs.declared.fault.ModelFault.TheVariants as reading
 use Rattle.fzn_solver.specs.declared.fault.RunFault.{RunFault}
-use Rattle.fzn_solver.specs.declared.fault.RunFault.TheVariants.{File, NoPropagator, Memory, Read, WriteOutput, WriteCert, StepTooLong}
+use Rattle.fzn_solver.specs.declared.fault.RunFault.TheVariants.{File, Memory, Read, WriteOutput, WriteCert, StepTooLong}
 
 abbrev pub fault_of_model : ModelFault → RunFault
 fault_of_model (reading.File fault) = File fault
 fault_of_model reading.Memory = Memory
 fault_of_model reading.Read = Read
-
-abbrev pub fault_of_lacking : Lacking → RunFault
-fault_of_lacking (lacking.Propagator number) = NoPropagator number
-fault_of_lacking lacking.Memory = Memory
 
 abbrev pub fault_of_engine : Fault → RunFault
 fault_of_engine engine.Memory = Memory
@@ -27,7 +21,6 @@ fault_of_engine engine.StepTooLong = StepTooLong
 -- the exit status of a program that answers the fault
 abbrev pub status_of : RunFault → ℕ
 status_of (File fault) = 2
-status_of (NoPropagator number) = 2
 status_of Read = 4
 status_of WriteOutput = 4
 status_of WriteCert = 4

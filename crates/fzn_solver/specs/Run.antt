@@ -3,33 +3,31 @@ use Rattle.std.specs.Prelude.{◌⊎◌, ℕ, Bool, List, Option, IfSome, Ok, Er
 use Rattle.std.specs.Io.KnownBytes.{Keeps}
 use Rattle.fzn_lexer.specs.declared.fault.ReadError.TheVariants as errors
 use Rattle.fzn_meaning.specs.declared.model.Model.{Model}
-use Rattle.fzn_propagators.specs.declared.lacking.Lacking.TheVariants.{Propagator}
-use Rattle.fzn_propagators.specs.Propagators.{Lacks}
 use Rattle.fzn_reading.specs.Reads.{Reads}
 use Rattle.fzn_solver.specs.declared.fault.RunFault.{RunFault}
-use Rattle.fzn_solver.specs.declared.fault.RunFault.TheVariants.{File, NoPropagator, Memory, Read}
+use Rattle.fzn_solver.specs.declared.fault.RunFault.TheVariants.{File, Memory, Read}
 use Rattle.fzn_solver.specs.declared.report.Report.{Report}
 use Rattle.fzn_solver.specs.Answer.{IsAnswer}
 use Rattle.fzn_solver.specs.Left.{IsLeft}
+use Rattle.fzn_words.specs.declared.learning.Learning.{Learning}
 
 -- a file's bytes, where the reader tells them, state this model
 abbrev pub States : Option (List ℕ) → Model → Type 0
 States file model = IfSome file (λ bytes. Reads bytes (Ok model))
 
 -- the file states a model, and its answer and certificate stand
-pub record IsRun (file : Option (List ℕ)) (all : Bool) (limit : ℕ) (out_old out_new cert_old cert_new : Option (List ℕ)) (report : Report) : Type 0 where
+pub record IsRun (file : Option (List ℕ)) (all : Bool) (limit : ℕ) (learning : Learning) (out_old out_new cert_old cert_new : Option (List ℕ)) (report : Report) : Type 0 where
   pub model : Model
   pub states : States file model
-  pub answer : IsAnswer model all limit out_old out_new cert_old cert_new report
+  pub answer : IsAnswer model all limit learning out_old out_new cert_old cert_new report
 
 -- a fault that came once the model was read
 abbrev pub IsLeftOf : Option (List ℕ) → Bool → Option (List ℕ) → Option (List ℕ) → Option (List ℕ) → Option (List ℕ) → RunFault → Type 0
 IsLeftOf file all out_old out_new cert_old cert_new fault = (model : Model) × States file model × IsLeft model all out_old out_new cert_old cert_new fault
 
--- The file's first fault, and that of a failed read, leave both writers as they were, as does a constraint that no propagator is for.
+-- The file's first fault, and that of a failed read, leave both writers as they were.
 abbrev pub IsRunFault : Option (List ℕ) → Bool → Option (List ℕ) → Option (List ℕ) → Option (List ℕ) → Option (List ℕ) → RunFault → Type 0
 IsRunFault file all out_old out_new cert_old cert_new (File fault) = Keeps out_old out_new × Keeps cert_old cert_new × IfSome file (λ bytes. Reads bytes (Err (errors.Fault fault)))
-IsRunFault file all out_old out_new cert_old cert_new (NoPropagator c) = Keeps out_old out_new × Keeps cert_old cert_new × ((model : Model) × States file model × Lacks model (Propagator c))
 IsRunFault file all out_old out_new cert_old cert_new Read = Keeps out_old out_new × Keeps cert_old cert_new
 IsRunFault file all out_old out_new cert_old cert_new Memory = (Keeps out_old out_new × Keeps cert_old cert_new) ⊎ IsLeftOf file all out_old out_new cert_old cert_new Memory
 IsRunFault file all out_old out_new cert_old cert_new fault = IsLeftOf file all out_old out_new cert_old cert_new fault

@@ -3,7 +3,7 @@ ghost use Rattle.std.specs.Prelude.{◌≡◌, IfOk, IfErr};
 ghost use Rattle.fzn_meaning.specs.WellFormed.{IsWellFormed};
 ghost use Rattle.fzn_cert.specs.Writer.{contents_of as cert_contents, out_name as cert_name};
 ghost use Rattle.fzn_printer.specs.Printer.{contents_of as out_contents, out_name};
-ghost use Rattle.fzn_propagators.specs.Propagators.{AreFor};
+ghost use Rattle.fzn_propagators.specs.Propagators.{StandFor};
 ghost use Rattle.fzn_solver.specs.Answer.{wanted, IsAnswer};
 ghost use Rattle.fzn_solver.specs.Left.{IsLeft};
 ghost use Rattle.fzn_solver.specs.Standing.{is_alone};
@@ -11,6 +11,7 @@ ghost use Rattle.fzn_solver.specs.Writers.{IsFresh};
 ghost use Rattle.fzn_solver.specs.Run.{IsRun, IsRunFault};
 
 use crate::fault::RunFault;
+use crate::learning::learn_for;
 use crate::report::{Report, ending_for};
 use crate::writers::{Writers, is_alone};
 use fzn_cert::StepWriter;
@@ -34,27 +35,27 @@ pub fn run<R: Read + Drop, W: Write, C: Write>(
     out: &mut W,
     cert: &mut C,
 ) -> Result<Report, RunFault>
-    ensures ran { IfOk result (IsRun (R.remaining input) options.now.all options.now.nodes (W.contents out.old) (W.contents out.new) (C.contents cert.old) (C.contents cert.new)) }
+    ensures ran { IfOk result (IsRun (R.remaining input) options.now.all options.now.nodes options.now.learn (W.contents out.old) (W.contents out.new) (C.contents cert.old) (C.contents cert.new)) }
     ensures fault { IfErr result (IsRunFault (R.remaining input) options.now.all (W.contents out.old) (W.contents out.new) (C.contents cert.old) (C.contents cert.new)) }
 {
     let mut input = input;
     let model = read_model(alloc, &mut input)?;
-    let propagators = Propagators::new(alloc, &model)?;
-    answer(alloc, &model, &propagators, options, out, cert)
+    let mut propagators = Propagators::new(alloc, &model)?;
+    answer(alloc, &model, &mut propagators, options, out, cert)
 }
 
 /// Searches a model for its answer.
 fn answer<W: Write, C: Write>(
     alloc: Global,
     model: &Model,
-    propagators: &Propagators,
+    propagators: &mut Propagators,
     options: &Options,
     out: &mut W,
     cert: &mut C,
 ) -> Result<Report, RunFault>
     requires model { IsWellFormed model.now }
-    requires propagators { AreFor propagators.now model.now }
-    ensures answer { IfOk result (IsAnswer model.now options.now.all options.now.nodes (W.contents out.old) (W.contents out.new) (C.contents cert.old) (C.contents cert.new)) }
+    requires propagators { StandFor propagators.old model.now }
+    ensures answer { IfOk result (IsAnswer model.now options.now.all options.now.nodes options.now.learn (W.contents out.old) (W.contents out.new) (C.contents cert.old) (C.contents cert.new)) }
     ensures left { IfErr result (IsLeft model.now options.now.all (W.contents out.old) (W.contents out.new) (C.contents cert.old) (C.contents cert.new)) }
 {
     let mut last = None;
@@ -74,15 +75,15 @@ fn answer<W: Write, C: Write>(
 fn search<W: Write, C: Write>(
     alloc: Global,
     model: &Model,
-    propagators: &Propagators,
+    propagators: &mut Propagators,
     options: &Options,
     writers: &mut Writers<'_, '_, '_, W, C>,
 ) -> Result<Report, RunFault>
     requires model { IsWellFormed model.now }
-    requires propagators { AreFor propagators.now model.now }
+    requires propagators { StandFor propagators.old model.now }
     requires fresh { IsFresh W.contents C.contents writers.old }
     requires alone { writers.old.alone ≡ is_alone model.now.goal options.now.all }
-    ensures answer { IfOk result (IsAnswer model.now options.now.all options.now.nodes (out_contents W.contents writers.old.out) (out_contents W.contents writers.new.out) (cert_contents C.contents writers.old.cert) (cert_contents C.contents writers.new.cert)) }
+    ensures answer { IfOk result (IsAnswer model.now options.now.all options.now.nodes options.now.learn (out_contents W.contents writers.old.out) (out_contents W.contents writers.new.out) (cert_contents C.contents writers.old.cert) (cert_contents C.contents writers.new.cert)) }
     ensures left { IfErr result (IsLeft model.now options.now.all (out_contents W.contents writers.old.out) (out_contents W.contents writers.new.out) (cert_contents C.contents writers.old.cert) (cert_contents C.contents writers.new.cert)) }
     ensures same_out { out_name writers.new.out ≡ out_name writers.old.out }
     ensures same_cert { cert_name writers.new.cert ≡ cert_name writers.old.cert }
@@ -92,7 +93,8 @@ fn search<W: Write, C: Write>(
         nodes: options.nodes,
         solutions: wanted(options.all),
     };
-    let outcome = solve(alloc, model, limits, propagators, writers)?;
+    let learn = learn_for(options.learn);
+    let outcome = solve(alloc, model, limits, learn, propagators, writers)?;
     let ending = ending_for(outcome.ending, outcome.solutions);
     writers.close(model, ending)?;
     Ok(Report {

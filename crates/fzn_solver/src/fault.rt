@@ -1,11 +1,10 @@
 // Why a run has no answer.
 ghost use Rattle.std.specs.Prelude.{◌≡◌};
 ghost use Rattle.fzn_solver.specs.declared.fault.RunFault.TheVariants.{Memory};
-ghost use Rattle.fzn_solver.specs.FaultsFrom.{fault_of_model, fault_of_engine, fault_of_lacking, status_of};
+ghost use Rattle.fzn_solver.specs.FaultsFrom.{fault_of_model, fault_of_engine, status_of};
 
 use fzn_engine::Fault as EngineFault;
 use fzn_lexer::Fault;
-use fzn_propagators::Lacking;
 use fzn_reading::ModelFault;
 use std::alloc::AllocError;
 use thiserror::Error;
@@ -16,9 +15,6 @@ pub enum RunFault {
     /// The first fault of the file.
     #[error("{}", ModelFault::File(*.0))]
     File(Fault),
-    /// No propagator is for the constraint of this number.
-    #[error("constraint {0}: fault 11 UnknownConstraint")]
-    NoPropagator(u64),
     #[error("fault 19 Memory")]
     Memory,
     #[error("fault 20 Read")]
@@ -37,7 +33,7 @@ impl RunFault {
         ensures { result ≡ status_of self }
     {
         match self {
-            RunFault::File(_) | RunFault::NoPropagator(_) => 2,
+            RunFault::File(_) => 2,
             RunFault::Read | RunFault::WriteOutput | RunFault::WriteCert => 4,
             RunFault::Memory | RunFault::StepTooLong => 5,
         }
@@ -60,17 +56,6 @@ impl From<ModelFault> for RunFault {
             ModelFault::File(fault) => RunFault::File(fault),
             ModelFault::Memory => RunFault::Memory,
             ModelFault::Read => RunFault::Read,
-        }
-    }
-}
-
-impl From<Lacking> for RunFault {
-    ghost from_gives = { λ of fault. fault ≡ fault_of_lacking of };
-
-    fn from(lacking: Lacking) -> RunFault {
-        match lacking {
-            Lacking::Propagator(number) => RunFault::NoPropagator(number),
-            Lacking::Memory => RunFault::Memory,
         }
     }
 }

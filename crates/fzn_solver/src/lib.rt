@@ -11,5 +11,6 @@ pub use report::Report;
 
 mod answer;
 mod fault;
+mod learning;
 mod report;
 mod writers;

@@ -1,4 +1,3 @@
-mod DecisionLemmas
 mod OneLemmas
 mod PairLemmas
 mod TrailLemmas

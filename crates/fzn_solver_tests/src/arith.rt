@@ -66,7 +66,7 @@ fn of_bits(alloc: Global, bits: Bits) -> Result<Constraint, Memory>
     })
 }
 
-pub(crate) fn model_of(alloc: Global, greatest: u8, constraint: Constraint) -> Result<Model, Memory>
+fn model_of(alloc: Global, greatest: u8, constraint: Constraint) -> Result<Model, Memory>
     requires well_formed { IsWellFormedConstraint 2 constraint }
     requires boolean { HasBooleanSets (range (pos 0) (pos greatest) ∷ range (pos 0) (pos greatest) ∷ []) constraint }
     ensures well_formed { IfOk result IsWellFormed }

@@ -7,6 +7,7 @@ ghost use Rattle.fzn_meaning.specs.WellFormed.{IsWellFormed};
 ghost use Rattle.fzn_engine.specs.Outcome.{HasRoom};
 
 use fzn_cert::Step;
+use fzn_conflict::Learn;
 use fzn_domain::{Domain, Memory, VarId};
 use fzn_engine::{Constraints, Ending, Fault, Inference, Limits, Outcome, Sink, solve};
 use fzn_list::{Items, Text};
@@ -64,19 +65,22 @@ fn copied<T: Copy + Drop>(alloc: Global, items: &[T]) -> Result<Items<T>, Memory
 }
 
 /// Reasons for a model without constraints.
+#[derive(Drop)]
 struct NoConstraints;
 
 impl Constraints for NoConstraints {
     ghost is_for = { λ _ model. model.constraints ≡ [] };
 
     fn infer(
-        &self,
+        &mut self,
         _alloc: Global,
         _model: &Model,
         _trail: &Trail,
     ) -> Result<Option<Inference>, Memory> {
         Ok(None)
     }
+
+    fn rewind(&mut self, _model: &Model, _entries: usize) {}
 }
 
 /// x is 0 or 1, and is printed.
@@ -102,14 +106,15 @@ fn one_variable(alloc: Global) -> Result<Model, Memory>
     })
 }
 
-fn outcome_of(alloc: Global, limits: Limits) -> Result<Outcome, Fault>
+fn outcome_of(alloc: Global, limits: Limits, learn: Learn) -> Result<Outcome, Fault>
     requires { HasRoom Satisfy limits.solutions 0 }
 {
     let model = one_variable(alloc)?;
     let mut log = Log {
         steps: Items::new(alloc),
     };
-    solve(alloc, &model, limits, &NoConstraints, &mut log)
+    let mut constraints = NoConstraints;
+    solve(alloc, &model, limits, learn, &mut constraints, &mut log)
 }
 
 #[test]
@@ -118,13 +123,14 @@ fn two_solutions(rt: HostRuntime) -> Result<(), Fail> {
         nodes: 9,
         solutions: None,
     };
-    let outcome = outcome_of(rt.alloc(), limits);
     let wanted = Outcome {
         solutions: 2,
         nodes: 1,
         ending: Ending::Closed,
     };
-    assert!(rt; outcome == Ok(wanted));
+    for learn in [Learn::Plain, Learn::First] {
+        assert!(rt; outcome_of(rt.alloc(), limits, learn) == Ok(wanted));
+    }
     Ok(())
 }
 
@@ -134,7 +140,7 @@ fn one_solution_is_the_limit(rt: HostRuntime) -> Result<(), Fail> {
         nodes: 9,
         solutions: Some(1),
     };
-    let outcome = outcome_of(rt.alloc(), limits);
+    let outcome = outcome_of(rt.alloc(), limits, Learn::First);
     let wanted = Outcome {
         solutions: 1,
         nodes: 1,
@@ -150,7 +156,7 @@ fn no_node_is_left(rt: HostRuntime) -> Result<(), Fail> {
         nodes: 0,
         solutions: None,
     };
-    let outcome = outcome_of(rt.alloc(), limits);
+    let outcome = outcome_of(rt.alloc(), limits, Learn::First);
     let wanted = Outcome {
         solutions: 0,
         nodes: 0,

@@ -1,18 +1,14 @@
 //! Tests of the crates that search.
 //!
-//! In: trails, clauses and small models made by hand. Out: the calls of `fzn_trail`, `fzn_clauses`, `fzn_conflict`, `fzn_search`, `fzn_sums`,
-//! `fzn_arith`, `fzn_builtin`, `fzn_propagators` and `fzn_engine`, against clauses, decisions and endings worked out by hand. Nothing is
-//! proved here beyond that the tests are safe; they stand apart so that the crates below are not proved a second time with them.
+//! In: trails, clauses and small models made by hand. Out: the calls of `fzn_trail`, `fzn_clauses`, `fzn_search`, `fzn_sums`, `fzn_arith`,
+//! `fzn_propagators` and `fzn_engine`, against clauses, decisions and endings worked out by hand. Nothing is proved here beyond that
+//! the tests are safe; they stand apart so that the crates below are not proved a second time with them.
 #![tactic(auto)]
 
-#[cfg(test)]
-mod amounts;
 #[cfg(test)]
 mod arith;
 #[cfg(test)]
 mod clauses;
-#[cfg(test)]
-mod conflict;
 #[cfg(test)]
 mod engine;
 #[cfg(test)]

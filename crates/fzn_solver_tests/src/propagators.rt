@@ -10,7 +10,7 @@ use fzn_domain::{Lit, Memory, Op, VarId};
 use fzn_engine::{Constraints, Inference};
 use fzn_list::Items;
 use fzn_meaning::{Comparison, Goal, Model};
-use fzn_propagators::{Lacking, Propagators};
+use fzn_propagators::Propagators;
 use fzn_rules::Rule;
 use fzn_trail::Trail;
 use std::alloc::Global;
@@ -46,11 +46,11 @@ fn lit(number: usize, op: Op, value: i64) -> Lit
 /// What is inferred, asked as the search asks it.
 fn asked<C: Constraints>(
     alloc: Global,
-    constraints: &C,
+    constraints: &mut C,
     model: &Model,
     trail: &Trail,
 ) -> Result<Option<Inference>, Memory>
-    requires is_for { C.is_for constraints.now model.now }
+    requires is_for { C.is_for constraints.old model.now }
     requires declared { trail.now.declared ≡ declared_sets model.now.vars }
     requires not_empty { NoneEmpty trail.now.sets }
 {
@@ -63,16 +63,16 @@ fn answer(
     model: &Model,
     x: (i64, i64),
     y: (i64, i64),
-) -> Result<Option<Inference>, Lacking>
+) -> Result<Option<Inference>, Memory>
     requires well_formed { IsWellFormed model.now }
     requires sets { declared_sets model.now.vars ≡ range (pos 0) (pos 10) ∷ range (pos 0) (pos 10) ∷ [] }
 {
-    let propagators = Propagators::new(alloc, model)?;
+    let mut propagators = Propagators::new(alloc, model)?;
     let mut trail = trail_of(alloc, 10)?;
     if !keep_bounds(&mut trail, x, y)? {
         return Ok(None);
     }
-    let found = asked(alloc, &propagators, model, &trail)?;
+    let found = asked(alloc, &mut propagators, model, &trail)?;
     Ok(found)
 }
 

@@ -2,6 +2,7 @@
 ghost use Rattle.std.specs.Prelude.{◌≢◌, ◌≤◌, ◌^◌, IfOk, IfSome, string_bytes};
 
 use crate::fault::{OptionsFault, fault_of};
+use crate::learning::{Learning, learning_of};
 use crate::node_limit::node_limit_of;
 use clap::{Arg, ArgAction, ArgMatches, Command};
 use std::alloc::{AllocError, Global};
@@ -16,6 +17,8 @@ pub struct Options {
     pub all: bool,
     /// How many decisions may be made.
     pub nodes: u64,
+    /// Which clause is learned from a conflict.
+    pub learn: Learning,
     pub model: String,
     /// Where the certificate goes, if anywhere.
     pub cert: Option<String>,
@@ -41,6 +44,7 @@ fn command<'a>(alloc: Global) -> Result<Command<'a>, AllocError> {
         .disable_help_flag(true)
         .arg(all(alloc))?
         .arg(nodes(alloc))?
+        .arg(learn(alloc))?
         .arg(cert(alloc))?
         .arg(model(alloc))?
         .arg(help(alloc))
@@ -59,6 +63,15 @@ fn nodes<'a>(alloc: Global) -> Arg<'a> {
         .long("nodes")
         .value_name("N")
         .help("Make at most N decisions (0 to 10^12, default 10^7)")
+}
+
+fn learn<'a>(alloc: Global) -> Arg<'a> {
+    Arg::new(alloc, "learn")
+        .long("learn")
+        .value_name("CLAUSE")
+        .help(
+            "Learn the clause of the decisions (plain) or of the first unique implication point (first, the default)",
+        )
 }
 
 fn cert<'a>(alloc: Global) -> Arg<'a> {
@@ -93,6 +106,10 @@ fn options_in(alloc: Global, matches: &ArgMatches<'_>) -> Result<Options, Option
         None => DEFAULT_NODES,
         Some(word) => node_limit_of(word).ok_or(OptionsFault::CommandLine)?,
     };
+    let learn = match matches.get_str("learn") {
+        None => Learning::First,
+        Some(word) => learning_of(word).ok_or(OptionsFault::CommandLine)?,
+    };
     let model = matches.get_str("model").ok_or(OptionsFault::CommandLine)?;
     let cert = match matches.get_str("cert") {
         None => None,
@@ -102,6 +119,7 @@ fn options_in(alloc: Global, matches: &ArgMatches<'_>) -> Result<Options, Option
     Ok(Options {
         all: matches.get_flag("all"),
         nodes,
+        learn,
         model: String::from_str(alloc, model)?,
         cert,
     })

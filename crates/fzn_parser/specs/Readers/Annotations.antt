@@ -13,8 +13,12 @@ use Rattle.fzn_tree.specs.declared.tree.Name.{Name}
 use Rattle.fzn_tree.specs.Grammar.{most, deepest}
 use Rattle.fzn_tree.specs.declared.tree.AnnArg.TheVariants as inner_args
 use Rattle.fzn_tree.specs.declared.tree.AnnTerm.TheVariants as terms
-use Rattle.fzn_cursor.specs.Reading.{Reader, ◌then◌, ◌<$>◌, made, followed, next_is, syntax, either, many_all, limited}
-use Rattle.fzn_cursor.specs.Readers.{is, symbol, name, second, listed, nothing, literal, is_name, begins_term, text, is_text}
+use Rattle.fzn_parser.specs.Reading.{Reader, ◌then◌, ◌<$>◌, made, followed, next_is, syntax, either, many_all, limited}
+use Rattle.fzn_parser.specs.Readers.Tokens.{is, symbol, name, text}
+use Rattle.fzn_parser.specs.declared.cursor.Start.TheVariants as w
+use Rattle.fzn_parser.specs.Readers.Begins.{begins}
+use Rattle.fzn_parser.specs.Readers.Lists.{second, listed}
+use Rattle.fzn_parser.specs.Readers.Values.{nothing, literal}
 
 -- a bracket, and what stands in it
 abbrev pub deeper : {A : Type 0} → Symbol → Option (Reader A) → Reader A
@@ -27,14 +31,14 @@ term_of (inr (inl a)) = terms.Ann a
 term_of (inr (inr value)) = terms.Literal value
 
 abbrev pub term_with : Reader Ann → Reader (AnnTerm Ann)
-term_with inner = term_of <$> either is_text text (either is_name inner literal)
+term_with inner = term_of <$> either (begins w.Text) text (either (begins w.Name) inner literal)
 
 abbrev pub arg_in : List (AnnTerm Ann) ⊎ AnnTerm Ann → AnnArg Ann
 arg_in (inl all) = inner_args.List all
 arg_in (inr one) = inner_args.One one
 
 abbrev pub each_term : Reader Ann → ℕ → Reader (AnnTerm Ann)
-each_term inner n ts = limited begins_term (nat_lt n most) ts (term_with inner ts)
+each_term inner n ts = limited (begins w.Term) (nat_lt n most) ts (term_with inner ts)
 
 abbrev pub terms_in : Option (Reader Ann) → Option (Reader (List (AnnTerm Ann)))
 terms_in None = None

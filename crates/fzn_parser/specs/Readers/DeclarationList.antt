@@ -6,8 +6,10 @@ use Rattle.fzn_tree.specs.declared.tree.Param.{Param}
 use Rattle.fzn_tree.specs.declared.tree.Size.{Size}
 use Rattle.fzn_tree.specs.declared.tree.Var.{Var}
 use Rattle.fzn_tree.specs.declared.tree.Var.TheVariants as vars_are
-use Rattle.fzn_cursor.specs.Reading.{Reader, ◌then◌, ◌<$>◌, made, followed, next_is, syntax, either}
-use Rattle.fzn_cursor.specs.Readers.{is, array_of, begins_type}
+use Rattle.fzn_parser.specs.Reading.{Reader, ◌then◌, ◌<$>◌, made, followed, next_is, syntax, either}
+use Rattle.fzn_parser.specs.Readers.Tokens.{is}
+use Rattle.fzn_parser.specs.Readers.Begins.{begins_type}
+use Rattle.fzn_parser.specs.Readers.Types.{array_of}
 use Rattle.fzn_parser.specs.declared.declarations.Declared.{Declared}
 use Rattle.fzn_parser.specs.Readers.Params.{ParamRest, param_of, param_rest}
 use Rattle.fzn_parser.specs.Readers.Variables.{ArrayRest, array_var_of, array_rest, vars}

@@ -15,8 +15,11 @@ use Rattle.fzn_tree.specs.declared.tree.Solve.{Solve}
 use Rattle.fzn_tree.specs.declared.tree.Tree.{Tree}
 use Rattle.fzn_tree.specs.Grammar.{most}
 use Rattle.fzn_tree.specs.declared.tree.Goal.TheVariants as goals
-use Rattle.fzn_cursor.specs.Reading.{Reader, ◌then◌, ◌<$>◌, either, many_all, limited}
-use Rattle.fzn_cursor.specs.Readers.{is, symbol, symbol_place, name, listed, basic, each_arg, each_predicate_param}
+use Rattle.fzn_parser.specs.Reading.{Reader, ◌then◌, ◌<$>◌, either, many_all, limited}
+use Rattle.fzn_parser.specs.Readers.Tokens.{is, symbol, symbol_place, name}
+use Rattle.fzn_parser.specs.Readers.Lists.{listed}
+use Rattle.fzn_parser.specs.Readers.Values.{basic, each_arg}
+use Rattle.fzn_parser.specs.Readers.Predicates.{each_predicate_param}
 use Rattle.fzn_parser.specs.Readers.Annotations.{anns}
 use Rattle.fzn_parser.specs.Readers.DeclarationList.{Declarations, declarations}
 

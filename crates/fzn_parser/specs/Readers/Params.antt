@@ -11,8 +11,10 @@ use Rattle.fzn_tree.specs.declared.tree.ParamValue.{ParamValue}
 use Rattle.fzn_tree.specs.declared.tree.Size.{Size}
 use Rattle.fzn_tree.specs.declared.tree.ParamBase.TheVariants as param_bases
 use Rattle.fzn_tree.specs.declared.tree.ParamValue.TheVariants as param_values
-use Rattle.fzn_cursor.specs.Reading.{Reader, ◌then◌, ◌<$>◌, either}
-use Rattle.fzn_cursor.specs.Readers.{is, symbol, symbol_place, name, listed, literal, param_entry}
+use Rattle.fzn_parser.specs.Reading.{Reader, ◌then◌, ◌<$>◌, either}
+use Rattle.fzn_parser.specs.Readers.Tokens.{is, symbol, symbol_place, name}
+use Rattle.fzn_parser.specs.Readers.Lists.{listed}
+use Rattle.fzn_parser.specs.Readers.Values.{literal, param_entry}
 
 abbrev pub param_base_of : Place ⊎ (Place ⊎ (Place × (Unit {0} × Unit {0}))) → ParamBase
 param_base_of (inl place) = param_bases.Bool place

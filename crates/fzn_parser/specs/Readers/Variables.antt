@@ -14,8 +14,12 @@ use Rattle.fzn_tree.specs.declared.tree.Size.{Size}
 use Rattle.fzn_tree.specs.declared.tree.Var.{Var}
 use Rattle.fzn_tree.specs.Grammar.{most, singles_with}
 use Rattle.fzn_tree.specs.declared.tree.Var.TheVariants as vars_are
-use Rattle.fzn_cursor.specs.Reading.{Reader, ◌then◌, ◌<$>◌, either, all_by, limited}
-use Rattle.fzn_cursor.specs.Readers.{is, symbol, symbol_place, name, basic, array, base, array_of, begins_var}
+use Rattle.fzn_parser.specs.Reading.{Reader, ◌then◌, ◌<$>◌, either, all_by, limited}
+use Rattle.fzn_parser.specs.Readers.Tokens.{is, symbol, symbol_place, name}
+use Rattle.fzn_parser.specs.declared.cursor.Start.TheVariants as w
+use Rattle.fzn_parser.specs.Readers.Begins.{begins}
+use Rattle.fzn_parser.specs.Readers.Values.{basic, array}
+use Rattle.fzn_parser.specs.Readers.Types.{base, array_of}
 use Rattle.fzn_parser.specs.Readers.Annotations.{anns}
 
 abbrev pub given_of : (Unit {0} × (Basic × Unit {0})) ⊎ Unit {0} → Option Basic
@@ -53,4 +57,4 @@ unfoldable pub var : ℕ → Reader Var
 var n = var_of <$> either (is s.Array) (array_of then array_rest) (counted_single n)
 
 unfoldable pub vars : ℕ → Reader (List Var)
-vars n = all_by singles_with begins_var var n
+vars n = all_by singles_with (begins w.Var) var n

@@ -1,158 +1,52 @@
-use super::{GREATEST, LEAST, TWO_BOOLEANS, options, text_of};
-use fzn_printer::Ending;
-use fzn_solver::run;
+// What a run tells of itself.
+use fzn_solver::{Report, run};
+use fzn_words::options_of;
+use std::alloc::Global;
+use std::io;
 use std::test::Fail;
 
-struct Case {
-    file: &'static str,
-    all: bool,
-    limit: u64,
-    out: &'static str,
-    solutions: u64,
-    /// The number of assignments less one, or the limit.
-    most: u64,
-    ending: Ending,
+/// Words, a file, and the number of solutions with the ending; then the most decisions: the number of assignments less one, or the limit.
+const REPORTS: &str = "
+-a --nodes 9 m.fzn | var bool: a; var bool: b; constraint bool_clause([a,b],[]); constraint bool_clause([],[a]); solve satisfy; | 1 Complete | 3
+--nodes 9 m.fzn | var bool: a; var bool: b; constraint bool_clause([a,b],[]); constraint bool_clause([],[a]); solve satisfy; | 1 SolutionLimit | 3
+-a --nodes 0 m.fzn | solve satisfy; | 1 Complete | 0
+--nodes 0 m.fzn | var 5..3: x; solve satisfy; | 0 Unsatisfiable | 0
+-a --nodes 0 m.fzn | var bool: a :: output_var; solve satisfy; | 0 NodeLimit | 0
+-a --nodes 3 m.fzn | var bool: a :: output_var; var bool: b; solve satisfy; | 2 Complete | 3
+--nodes 10 m.fzn | var 0..10: x :: output_var; constraint int_lin_le([-2],[x],-7); solve minimize x; | 1 Complete | 10
+--nodes 3 m.fzn | var 0..3: x :: output_var; solve maximize x; | 4 Complete | 3
+--nodes 1 m.fzn | var 0..3: x :: output_var; solve maximize x; | 1 NodeLimit | 1
+";
+
+fn report_of(alloc: Global, words: &str, file: &str) -> Result<Report, Fail> {
+    let words: Vec<&str> = words.split_whitespace().collect(alloc)?;
+    let options = options_of(alloc, &words)?;
+    Ok(run(
+        alloc,
+        file.as_bytes(),
+        &options,
+        &mut io::sink(),
+        &mut io::sink(),
+    )?)
 }
 
-// Of each variable the least value is tried first.
-const CASES: [Case; 12] = [
-    Case {
-        file: TWO_BOOLEANS,
-        all: true,
-        limit: 9,
-        out: "a = false;\nb = true;\n----------\n==========\n",
-        solutions: 1,
-        most: 3,
-        ending: Ending::Complete,
-    },
-    Case {
-        file: TWO_BOOLEANS,
-        all: false,
-        limit: 9,
-        out: "a = false;\nb = true;\n----------\n",
-        solutions: 1,
-        most: 3,
-        ending: Ending::SolutionLimit,
-    },
-    Case {
-        file: "solve satisfy;",
-        all: true,
-        limit: 0,
-        out: "----------\n==========\n",
-        solutions: 1,
-        most: 0,
-        ending: Ending::Complete,
-    },
-    Case {
-        file: "solve satisfy;",
-        all: false,
-        limit: 0,
-        out: "----------\n",
-        solutions: 1,
-        most: 0,
-        ending: Ending::SolutionLimit,
-    },
-    Case {
-        file: "var bool: a; constraint bool_clause([a],[]); constraint bool_clause([],[a]); solve satisfy;",
-        all: false,
-        limit: 9,
-        out: "=====UNSATISFIABLE=====\n",
-        solutions: 0,
-        most: 1,
-        ending: Ending::Unsatisfiable,
-    },
-    Case {
-        file: "var 5..3: x; solve satisfy;",
-        all: false,
-        limit: 0,
-        out: "=====UNSATISFIABLE=====\n",
-        solutions: 0,
-        most: 0,
-        ending: Ending::Unsatisfiable,
-    },
-    Case {
-        file: "var bool: a :: output_var; solve satisfy;",
-        all: true,
-        limit: 0,
-        out: "=====UNKNOWN=====\n",
-        solutions: 0,
-        most: 0,
-        ending: Ending::NodeLimit,
-    },
-    Case {
-        file: "var bool: a :: output_var; var bool: b; solve satisfy;",
-        all: true,
-        limit: 3,
-        out: "a = false;\n----------\na = true;\n----------\n==========\n",
-        solutions: 2,
-        most: 3,
-        ending: Ending::Complete,
-    },
-    Case {
-        file: LEAST,
-        all: false,
-        limit: 10,
-        out: "x = 4;\n----------\n==========\n",
-        solutions: 1,
-        most: 10,
-        ending: Ending::Complete,
-    },
-    Case {
-        file: GREATEST,
-        all: true,
-        limit: 3,
-        out: "x = 0;\n----------\nx = 1;\n----------\nx = 2;\n----------\nx = 3;\n----------\n==========\n",
-        solutions: 4,
-        most: 3,
-        ending: Ending::Complete,
-    },
-    Case {
-        file: GREATEST,
-        all: false,
-        limit: 3,
-        out: "x = 3;\n----------\n==========\n",
-        solutions: 4,
-        most: 3,
-        ending: Ending::Complete,
-    },
-    Case {
-        file: GREATEST,
-        all: false,
-        limit: 1,
-        out: "x = 0;\n----------\n",
-        solutions: 1,
-        most: 1,
-        ending: Ending::NodeLimit,
-    },
-];
+/// Whether the report of a row is as the row tells.
+fn is_as_told(alloc: Global, row: &str) -> Result<bool, Fail> {
+    let columns: Vec<&str> = row.split('|').map(|it| it.trim()).collect(alloc)?;
+    let [words, file, told, most] = columns.as_slice() else {
+        return Err("a row has four columns")?;
+    };
+    let report = report_of(alloc, words, file)?;
+    let text = format!(in alloc; "{} {:?}", report.solutions, report.ending)?;
+    let within = most.parse::<u64>().is_ok_and(|most| report.nodes <= most);
+    Ok(text.as_str() == *told && within)
+}
 
 #[test]
-fn answers(rt: HostRuntime) -> Result<(), Fail> {
-    let alloc = rt.alloc();
-    for case in &CASES {
-        let mut out: Vec<u8> = Vec::new(alloc);
-        let mut cert: Vec<u8> = Vec::new(alloc);
-        let options = options(alloc, case.all, case.limit);
-        let report = run(alloc, case.file.as_bytes(), &options, &mut out, &mut cert)?;
-        assert_eq!(rt; text_of(&out), case.out, "{}", case.file);
-        assert_eq!(rt;
-            (report.solutions, report.ending),
-            (case.solutions, case.ending),
-            "{}",
-            case.file
-        );
-        assert!(rt;
-            report.nodes <= case.most,
-            "{} nodes: {}",
-            report.nodes,
-            case.file
-        );
-        let end = if case.ending.is_closed() {
-            "\ne closed\n"
-        } else {
-            "\ne open\n"
-        };
-        assert!(rt; text_of(&cert).ends_with(end), "{}", case.file);
+fn reports(rt: HostRuntime) -> Result<(), Fail> {
+    assert_eq!(rt; REPORTS.trim().lines().count(), 9);
+    for row in REPORTS.trim().lines() {
+        assert!(rt; is_as_told(rt.alloc(), row)?, "{row}");
     }
     Ok(())
 }

@@ -1,5 +1,6 @@
-use super::{ANSWER, LEAST, SOLUTION, TWO_BOOLEANS, certificate_of, options, text_of};
+use super::{ANSWER, LEAST, SOLUTION, TWO_BOOLEANS, all_of, certificate_of, text_of};
 use fzn_solver::{Report, RunFault, run};
+use fzn_words::{Options, options_of};
 use std::alloc::Global;
 use std::cell::RefCell;
 use std::io;
@@ -45,26 +46,26 @@ impl Write for Narrow {
 }
 
 /// Solves all of the file of two Booleans.
-fn solve<W: Write, C: Write>(alloc: Global, out: &mut W, cert: &mut C) -> Result<Report, RunFault> {
-    run(
-        alloc,
-        TWO_BOOLEANS.as_bytes(),
-        &options(alloc, true, 9),
-        out,
-        cert,
-    )
+fn solve<W: Write, C: Write>(
+    alloc: Global,
+    options: &Options,
+    out: &mut W,
+    cert: &mut C,
+) -> Result<Report, RunFault> {
+    run(alloc, TWO_BOOLEANS.as_bytes(), options, out, cert)
 }
 
 #[test]
 fn failed_writes_of_the_answer(rt: HostRuntime) -> Result<(), Fail> {
     let alloc = rt.alloc();
-    let whole = certificate_of(alloc, TWO_BOOLEANS)?;
+    let options = all_of(alloc)?;
+    let whole = certificate_of(alloc, &options, TWO_BOOLEANS)?;
     for room in 0..ANSWER.len() {
         for fails in [false, true] {
             let mut out = with_room(alloc, room, fails, 9);
             let mut cert: Vec<u8> = Vec::new(alloc);
             assert_eq!(rt;
-                solve(alloc, &mut out, &mut cert),
+                solve(alloc, &options, &mut out, &mut cert),
                 Err(RunFault::WriteOutput),
                 "room {room}"
             );
@@ -84,13 +85,14 @@ fn failed_writes_of_the_answer(rt: HostRuntime) -> Result<(), Fail> {
 #[test]
 fn failed_writes_of_the_certificate(rt: HostRuntime) -> Result<(), Fail> {
     let alloc = rt.alloc();
-    let whole = certificate_of(alloc, TWO_BOOLEANS)?;
+    let options = all_of(alloc)?;
+    let whole = certificate_of(alloc, &options, TWO_BOOLEANS)?;
     for room in 0..whole.len() {
         for fails in [false, true] {
             let mut out: Vec<u8> = Vec::new(alloc);
             let mut cert = with_room(alloc, room, fails, 9);
             assert_eq!(rt;
-                solve(alloc, &mut out, &mut cert),
+                solve(alloc, &options, &mut out, &mut cert),
                 Err(RunFault::WriteCert),
                 "room {room}"
             );
@@ -113,10 +115,11 @@ fn failed_flushes(rt: HostRuntime) -> Result<(), Fail> {
         (0, 9, RunFault::WriteOutput, SOLUTION),
         (1, 9, RunFault::WriteOutput, ANSWER),
     ];
+    let options = all_of(alloc)?;
     for (answers, certs, fault, want) in cases {
         let mut out = with_room(alloc, 1000, true, answers);
         let mut cert = with_room(alloc, 1000, true, certs);
-        assert_eq!(rt; solve(alloc, &mut out, &mut cert), Err(fault));
+        assert_eq!(rt; solve(alloc, &options, &mut out, &mut cert), Err(fault));
         assert_eq!(rt; text_of(&out.taken), text_of(want), "{fault}");
     }
     Ok(())
@@ -153,27 +156,28 @@ impl Write for Shared<'_> {
 fn certificate_before_answer(rt: HostRuntime) -> Result<(), Fail> {
     let alloc = rt.alloc();
     let cases = [
-        // the file, whether all are printed, what follows the line of the last solution, what stands at the end
+        // the file, the words, what follows the line of the last solution, what stands at the end
         (
             TWO_BOOLEANS,
-            true,
+            ["-a", "m.fzn"].as_slice(),
             "\ns 0 1\n<cert>a = false;\nb = true;\n----------\n<out>",
             "\ne closed\n<cert>==========\n<out>",
         ),
         (
             LEAST,
-            true,
+            &["-a", "m.fzn"],
             "\ns 4\n<cert>x = 4;\n----------\n<out>",
             "\ne closed\n<cert>==========\n<out>",
         ),
         (
             LEAST,
-            false,
-            "\ns 4\n<cert>r ",
+            &["m.fzn"],
+            "\ns 4\n<cert>i ",
             "\ne closed\n<cert>x = 4;\n----------\n==========\n<out>",
         ),
     ];
-    for (file, is_all, solution, end) in cases {
+    for (file, words, solution, end) in cases {
+        let options = options_of(alloc, words)?;
         let all: RefCell<Vec<u8>> = RefCell::new(Vec::new(alloc));
         let mut out = Shared {
             all: &all,
@@ -183,13 +187,7 @@ fn certificate_before_answer(rt: HostRuntime) -> Result<(), Fail> {
             all: &all,
             name: "<cert>",
         };
-        run(
-            alloc,
-            file.as_bytes(),
-            &options(alloc, is_all, 9),
-            &mut out,
-            &mut cert,
-        )?;
+        run(alloc, file.as_bytes(), &options, &mut out, &mut cert)?;
         let calls = all.into_inner();
         assert!(rt; text_of(&calls).contains(solution), "{}", text_of(&calls));
         assert!(rt; text_of(&calls).ends_with(end), "{}", text_of(&calls));

@@ -1,13 +1,16 @@
 -- What the search wrote is the answer with its certificate.
 use Rattle.std.proofs.Common.{sym, subst, ◌∙◌}
 use Rattle.fzn_cert.specs.Writer.{contents_of as cert_contents}
+use Rattle.fzn_conflict.specs.declared.analysis.Learn.{Learn}
+use Rattle.fzn_engine.specs.declared.limits.Limits.{Limits}
+use Rattle.fzn_engine.specs.Outcome.{IsOutcome}
 use Rattle.fzn_printer.specs.Printer.{contents_of as out_contents}
 use Rattle.fzn_printer.specs.Shown.{is_closed}
 use Rattle.fzn_printer.specs.declared.printer.Ending.{Ending}
 use Rattle.fzn_solver.specs.Answer.{IsAnswer}
 use Rattle.fzn_solver.specs.FaultsFrom.{fault_of_engine}
 use Rattle.fzn_solver.specs.Left.{IsLeft}
-use Rattle.fzn_solver.specs.Writers.{IsClosed, IsUnclosed}
+use Rattle.fzn_solver.specs.Writers.{taken, IsClosed, IsUnclosed}
 use Rattle.fzn_solver.proofs.LeftLemmas.{error-is, left-unbegun, left-on_way, left-at_end}
 use Rattle.fzn_solver.proofs.AnswerLemmas.{answer-of}
 use Rattle.fzn_solver.proofs.answer.search.Goals as goal
@@ -15,9 +18,11 @@ use Rattle.fzn_solver.proofs.answer.search.Goals as goal
 pub returns-clause-answer : goal.returns-clause-answer
 returns-clause-answer g c =
     let E : Ending → Type 0 = λ e. IsClosed g.W.Write.contents g.C.Write.contents c.args.model.now (is_closed e) c.solve.new.sink c.close.new.self in
-    let R : Ending → Type 0 = λ e. IsAnswer c.args.model.now c.args.options.now.all c.args.options.now.nodes (out_contents g.W.Write.contents c.args.writers.now.out) (out_contents g.W.Write.contents c.close.new.self.out) (cert_contents g.C.Write.contents c.args.writers.now.cert) (cert_contents g.C.Write.contents c.close.new.self.cert) (record { solutions = c.in_ok-outcome.outcome.solutions; nodes = c.in_ok-outcome.outcome.nodes; ending = e }) in
-    subst R (sym c.ending_for-ending.ensures) (answer-of g.W.Write.contents g.C.Write.contents c.args.model.now c.args.options.now.all c.requires.model c.args.writers.now c.solve.new.sink c.close.new.self _ c.in_ok-outcome.outcome.nodes c.in_ok-outcome.outcome.solutions c.in_ok-outcome.outcome.ending
-    c.requires.fresh c.requires.alone (c.solve.ensures.kept.1 ∙ c.begin.ensures.same) c.wanted.ensures c.solve.ensures.accepted c.in_ok-outcome.ensures.outcome c.in_ok-outcome.ensures.solutions (subst E c.ending_for-ending.ensures c.in_ok-close.ensures.closed))
+    let limits : Limits = record { nodes = c.args.options.now.nodes; solutions = c.wanted.result } in
+    let O : Learn → Type 0 = λ l. IsOutcome c.args.model.now l limits (taken c.solve.new.sink) c.in_ok-outcome.outcome.nodes c.in_ok-outcome.outcome.ending in
+    let R : Ending → Type 0 = λ e. IsAnswer c.args.model.now c.args.options.now.all c.args.options.now.nodes c.args.options.now.learn (out_contents g.W.Write.contents c.args.writers.now.out) (out_contents g.W.Write.contents c.close.new.self.out) (cert_contents g.C.Write.contents c.args.writers.now.cert) (cert_contents g.C.Write.contents c.close.new.self.cert) (record { solutions = c.in_ok-outcome.outcome.solutions; nodes = c.in_ok-outcome.outcome.nodes; ending = e }) in
+    subst R (sym c.ending_for-ending.ensures) (answer-of g.W.Write.contents g.C.Write.contents c.args.model.now c.args.options.now.all c.requires.model c.args.writers.now c.solve.new.sink c.close.new.self c.args.options.now.learn limits c.in_ok-outcome.outcome.nodes c.in_ok-outcome.outcome.solutions c.in_ok-outcome.outcome.ending
+    c.requires.fresh c.requires.alone (c.solve.ensures.kept.1 ∙ c.begin.ensures.same) c.wanted.ensures c.solve.ensures.accepted (subst O c.learn_for-learn.ensures c.in_ok-outcome.ensures.outcome) c.in_ok-outcome.ensures.solutions (subst E c.ending_for-ending.ensures c.in_ok-close.ensures.closed))
 
 pub returns-in_err-begin-clause-left : goal.returns-in_err-begin-clause-left
 returns-in_err-begin-clause-left g c =
@@ -34,5 +39,5 @@ pub returns-in_err-close-clause-left : goal.returns-in_err-close-clause-left
 returns-in_err-close-clause-left g c =
     let U : Ending → Type 0 = λ e. IsUnclosed g.W.Write.contents g.C.Write.contents c.args.model.now (is_closed e) c.solve.new.sink c.close.new.self c.in_err-close.field-0.0 in
     error-is c.from_residual-in_err-close.result (fault_of_engine c.in_err-close.field-0.0) (IsLeft c.args.model.now c.args.options.now.all (out_contents g.W.Write.contents c.args.writers.now.out) (out_contents g.W.Write.contents c.close.new.self.out) (cert_contents g.C.Write.contents c.args.writers.now.cert) (cert_contents g.C.Write.contents c.close.new.self.cert)) c.from_residual-in_err-close.ensures.1
-    (left-at_end g.W.Write.contents g.C.Write.contents c.args.model.now c.args.options.now.all c.args.writers.now c.solve.new.sink c.close.new.self c.in_err-close.field-0.0 _ c.in_ok-outcome.outcome.nodes c.in_ok-outcome.outcome.solutions c.in_ok-outcome.outcome.ending
+    (left-at_end g.W.Write.contents g.C.Write.contents c.args.model.now c.args.options.now.all c.args.writers.now c.solve.new.sink c.close.new.self c.in_err-close.field-0.0 _ _ c.in_ok-outcome.outcome.nodes c.in_ok-outcome.outcome.solutions c.in_ok-outcome.outcome.ending
     c.requires.model c.requires.fresh c.requires.alone (c.solve.ensures.kept.1 ∙ c.begin.ensures.same) c.solve.ensures.accepted c.in_ok-outcome.ensures.outcome c.solve.ensures.kept.0 (subst U c.ending_for-ending.ensures c.in_err-close.ensures.err))

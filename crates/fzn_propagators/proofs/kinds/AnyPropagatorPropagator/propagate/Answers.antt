@@ -14,3 +14,23 @@ pub returns-in-Builtin-clause-none : goal.returns-in-Builtin-clause-none
 returns-in-Builtin-clause-none c =
     subst (λ (p : AnyPropagator). IfOk c.propagate-in-Builtin.result (λ (found : Option Inference). IfNone found (AreExhausted (AnyIsFor p) c.args.trail.now))) (sym c.in-Builtin.is)
     c.propagate-in-Builtin.ensures.none
+
+pub returns-in-Global-clause-found : goal.returns-in-Global-clause-found
+returns-in-Global-clause-found c =
+    subst (λ (p : AnyPropagator). IfOk c.propagate-in-Global.result (λ (found : Option Inference). IfSome found (IsInferenceOf (any_number p) (AnyIsFor p) c.args.trail.now))) (sym c.in-Global.is)
+    c.propagate-in-Global.ensures.found
+
+pub returns-in-Global-clause-none : goal.returns-in-Global-clause-none
+returns-in-Global-clause-none c =
+    subst (λ (p : AnyPropagator). IfOk c.propagate-in-Global.result (λ (found : Option Inference). IfNone found (AreExhausted (AnyIsFor p) c.args.trail.now))) (sym c.in-Global.is)
+    c.propagate-in-Global.ensures.none
+
+pub returns-in-Schedule-clause-found : goal.returns-in-Schedule-clause-found
+returns-in-Schedule-clause-found c =
+    subst (λ (p : AnyPropagator). IfOk c.propagate-in-Schedule.result (λ (found : Option Inference). IfSome found (IsInferenceOf (any_number p) (AnyIsFor p) c.args.trail.now))) (sym c.in-Schedule.is)
+    c.propagate-in-Schedule.ensures.found
+
+pub returns-in-Schedule-clause-none : goal.returns-in-Schedule-clause-none
+returns-in-Schedule-clause-none c =
+    subst (λ (p : AnyPropagator). IfOk c.propagate-in-Schedule.result (λ (found : Option Inference). IfNone found (AreExhausted (AnyIsFor p) c.args.trail.now))) (sym c.in-Schedule.is)
+    c.propagate-in-Schedule.ensures.none

@@ -1,0 +1,164 @@
+// What a trail leaves to terms.
+ghost use Rattle.std.specs.Prelude.{◌≡◌, length, ◌≤ℤ◌, pos, negsuc};
+ghost use Rattle.fzn_domain.specs.Limits.{IsInLimits};
+ghost use Rattle.fzn_domain.specs.Narrow.{NoneEmpty};
+ghost use Rattle.fzn_meaning.specs.Term.{IsTerm};
+
+use fzn_domain::{Domain, Lit, Memory, Op, VarId};
+use fzn_explain::Claim;
+use fzn_meaning::Term;
+use fzn_sums::{greatest_value, least_value};
+use fzn_trail::Trail;
+
+/// A number that a term is compared with.
+pub type Bound = (Op, i64);
+
+/// How many values are looked at one by one.
+pub const SMALL: i64 = 4_096;
+
+/// That the value of the term stands so to the number.
+pub fn claim_of(term: Term, bound: Bound) -> Claim
+    ensures { result.term ≡ term }
+{
+    Claim {
+        term,
+        op: bound.0,
+        number: bound.1,
+    }
+}
+
+/// Whether the term may have this value.
+pub fn may_be(trail: &Trail, term: Term, value: i64) -> bool
+    requires { IsTerm (length trail.now.declared) term }
+{
+    match term {
+        Term::Constant(k) => k == value,
+        Term::Variable(var) => trail.domain(var).contains(value),
+    }
+}
+
+/// Whether the term has one value.
+pub fn is_fixed(trail: &Trail, term: Term) -> bool
+    requires term { IsTerm (length trail.now.declared) term }
+    requires filled { NoneEmpty trail.now.sets }
+{
+    least_value(trail, term) == greatest_value(trail, term)
+}
+
+/// Whether no declared value of the term stands so to the number.
+pub fn is_never(trail: &Trail, term: Term, op: Op, number: i64) -> bool
+    requires { IsTerm (length trail.now.declared) term }
+{
+    match term {
+        Term::Constant(k) => !Lit {
+            var: VarId(1),
+            op,
+            value: number,
+        }
+        .is_true_at(k),
+        Term::Variable(var) => trail.declared(var).is_false(Lit {
+            var,
+            op,
+            value: number,
+        }),
+    }
+}
+
+/// Where two terms have no common value by their ends, or by the one value of one of them: what keeps them apart. It is false of the
+/// first, and its opposite of the second.
+pub fn apart(trail: &Trail, one: Term, other: Term) -> Option<Bound>
+    requires one { IsTerm (length trail.now.declared) one }
+    requires other { IsTerm (length trail.now.declared) other }
+    requires filled { NoneEmpty trail.now.sets }
+{
+    let (low, high) = (least_value(trail, one), greatest_value(trail, one));
+    let (other_low, other_high) = (least_value(trail, other), greatest_value(trail, other));
+    if high < other_low {
+        return Some((Op::AtLeast, parting(trail, other, high, other_low)));
+    }
+    if other_high < low {
+        return Some((Op::AtMost, parting(trail, one, other_high, low) - 1));
+    }
+    if low == high && !may_be(trail, other, low) {
+        return Some((Op::NotEqual, low));
+    }
+    if other_low == other_high && !may_be(trail, one, other_low) {
+        return Some((Op::Equal, other_low));
+    }
+    None
+}
+
+/// A number above the one and not above the other, which is the least value of the term: that one, if it is the least declared value.
+fn parting(trail: &Trail, upper: Term, high: i64, low: i64) -> i64
+    requires upper { IsTerm (length trail.now.declared) upper }
+    requires high { IsInLimits high }
+    requires low { IsInLimits low }
+    ensures least { negsuc 1000000000 ≤ℤ result }
+    ensures greatest { result ≤ℤ pos 1000000001 }
+{
+    if is_never(trail, upper, Op::AtMost, low - 1) {
+        low
+    } else {
+        high + 1
+    }
+}
+
+/// Where two terms are to be equal: what the first has to be, since the second is, or the opposite of what the second has to be.
+pub fn narrowing(trail: &Trail, one: Term, other: Term) -> Option<Bound>
+    requires one { IsTerm (length trail.now.declared) one }
+    requires other { IsTerm (length trail.now.declared) other }
+    requires filled { NoneEmpty trail.now.sets }
+{
+    let (low, high) = (least_value(trail, one), greatest_value(trail, one));
+    let (other_low, other_high) = (least_value(trail, other), greatest_value(trail, other));
+    if other_high < high {
+        return Some((Op::AtMost, other_high));
+    }
+    if low < other_low {
+        return Some((Op::AtLeast, other_low));
+    }
+    if high < other_high {
+        return Some((Op::AtLeast, high + 1));
+    }
+    if other_low < low {
+        return Some((Op::AtMost, low - 1));
+    }
+    if high - low < SMALL {
+        for value in low..high {
+            match (may_be(trail, one, value), may_be(trail, other, value)) {
+                (true, false) => return Some((Op::NotEqual, value)),
+                (false, true) => return Some((Op::Equal, value)),
+                _ => {}
+            }
+        }
+    }
+    None
+}
+
+/// Takes the term's values, which count from the lower number up to the upper one, out of the set.
+pub fn take_out(
+    trail: &Trail,
+    term: Term,
+    low: i64,
+    high: i64,
+    var: VarId,
+    left: &mut Domain,
+) -> Result<(), Memory>
+    requires term { IsTerm (length trail.now.declared) term }
+    requires filled { NoneEmpty trail.now.sets }
+    requires low { IsInLimits low }
+    requires high { IsInLimits high }
+{
+    let from = low.max(least_value(trail, term));
+    let until = high.min(greatest_value(trail, term));
+    for value in from..until + 1 {
+        if left.contains(value) && may_be(trail, term, value) {
+            left.restrict(Lit {
+                var,
+                op: Op::NotEqual,
+                value,
+            })?;
+        }
+    }
+    Ok(())
+}

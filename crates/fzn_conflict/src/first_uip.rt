@@ -1,0 +1,232 @@
+// The clause of the first unique implication point (Zhang, Madigan, Moskewicz, Malik, Efficient Conflict Driven Learning, 2001).
+// Nothing is promised of it: what is learned is tested.
+use crate::analysis::Learned;
+use crate::implications::{Implications, source_of};
+use crate::marks::Marks;
+use crate::merge::{canonical, implies, opposite};
+use crate::source::Source;
+use fzn_domain::{Lit, Memory};
+use fzn_list::Items;
+use std::alloc::Global;
+
+/// A clause with the sources that it follows from, if it does.
+pub fn first_uip(
+    alloc: Global,
+    graph: Implications,
+    marks: &mut Marks,
+    conflict: Source,
+) -> Result<Learned, Memory> {
+    marks.begin(graph.trail.len())?;
+    marks.explain(graph, conflict)?;
+    let level = marks.find_level(graph);
+    let mut replaced = Vec::new(alloc);
+    let mut kept = Vec::new(alloc);
+    if level > 0 {
+        if let Some(point) = narrow_down(graph, marks, level, &mut replaced)? {
+            kept.push(point)?;
+        }
+        minimise(graph, marks, level, &mut kept, &mut replaced)?;
+    }
+    replace_level_0(graph, marks, &mut replaced)?;
+    let clause = widest(alloc, graph, marks, &kept)?;
+    replaced.sort_unstable();
+    Ok(Learned {
+        clause: denied(alloc, graph, marks, &clause)?,
+        sources: sources_of(alloc, graph, &replaced, conflict)?,
+        level: second_level(graph, &clause),
+        marked: marked_literals(alloc, graph, marks)?,
+    })
+}
+
+/// Replaces the newest marked entries of the level until one is left, which is given.
+fn narrow_down(
+    graph: Implications,
+    marks: &mut Marks,
+    level: usize,
+    replaced: &mut Vec<usize>,
+) -> Result<Option<usize>, Memory> {
+    let newest = newest_of(marks.places());
+    for back in 0..newest.saturating_add(1) {
+        let place = newest.saturating_sub(back);
+        if marks.need(place).is_some()
+            && let Some(entry) = graph.entry(place)
+            && entry.level == level
+        {
+            match source_of(entry.reason) {
+                Some(source) if marks.open() > 1 => {
+                    replaced.push(place)?;
+                    marks.replace(graph, entry.lit, source)?;
+                }
+                _ => return Ok(Some(place)),
+            }
+        }
+    }
+    Ok(None)
+}
+
+fn newest_of(places: &[usize]) -> usize {
+    let mut newest = 0;
+    for place in places {
+        newest = newest.max(*place);
+    }
+    newest
+}
+
+/// Sorts the marked entries between level 0 and this level: those that follow from others are replaced, the others kept.
+fn minimise(
+    graph: Implications,
+    marks: &mut Marks,
+    level: usize,
+    kept: &mut Vec<usize>,
+    replaced: &mut Vec<usize>,
+) -> Result<(), Memory> {
+    for i in 0..marks.places().len() {
+        if let Some(place) = marks.marked_at(i)
+            && let Some(entry) = graph.entry(place)
+            && 0 < entry.level
+            && entry.level < level
+        {
+            if let Some(source) = source_of(entry.reason)
+                && marks.is_redundant(graph, entry.lit, source)?
+            {
+                replaced.push(place)?;
+            } else {
+                kept.push(place)?;
+            }
+        }
+    }
+    Ok(())
+}
+
+/// Replaces all marked entries of level 0, and those that they rest on: a chain begins at the declared sets.
+fn replace_level_0(
+    graph: Implications,
+    marks: &mut Marks,
+    replaced: &mut Vec<usize>,
+) -> Result<(), Memory> {
+    for i in 0..graph.trail.len() {
+        let Some(place) = marks.marked_at(i) else {
+            return Ok(());
+        };
+        if let Some(entry) = graph.entry(place)
+            && entry.level == 0
+            && let Some(source) = source_of(entry.reason)
+        {
+            replaced.push(place)?;
+            marks.replace(graph, entry.lit, source)?;
+        }
+    }
+    Ok(())
+}
+
+/// The kept entries, newest first, without those on whose variable a newer one says more.
+fn widest(
+    alloc: Global,
+    graph: Implications,
+    marks: &Marks,
+    kept: &[usize],
+) -> Result<Vec<usize>, Memory> {
+    let mut by_variable = Vec::new(alloc);
+    for place in kept {
+        if let Some(entry) = graph.entry(*place) {
+            by_variable.push((entry.lit.var.0, *place))?;
+        }
+    }
+    by_variable.sort_unstable();
+    let mut clause = Vec::new(alloc);
+    for i in 0..by_variable.len() {
+        if !says_less(marks, &by_variable[i..]) {
+            clause.push(by_variable[i].1)?;
+        }
+    }
+    clause.sort_unstable();
+    clause.reverse();
+    Ok(clause)
+}
+
+/// Whether what is needed of the first entry follows from what is needed of a later one of its variable.
+fn says_less(marks: &Marks, by_variable: &[(usize, usize)]) -> bool {
+    let Some(((var, place), later)) = by_variable.split_first() else {
+        return false;
+    };
+    let Some(need) = marks.need(*place) else {
+        return true;
+    };
+    for (other, newer) in later {
+        if other != var {
+            return false;
+        }
+        if let Some(stronger) = marks.need(*newer)
+            && implies(stronger, need)
+        {
+            return true;
+        }
+    }
+    false
+}
+
+/// The level of the second newest of the entries.
+fn second_level(graph: Implications, clause: &[usize]) -> usize {
+    match clause.get(1) {
+        Some(place) => match graph.entry(*place) {
+            Some(entry) => entry.level,
+            None => 0,
+        },
+        None => 0,
+    }
+}
+
+/// The clause that denies what is needed of one of the entries.
+fn denied(
+    alloc: Global,
+    graph: Implications,
+    marks: &Marks,
+    clause: &[usize],
+) -> Result<Items<Lit>, Memory> {
+    let mut items = Items::new(alloc);
+    for place in clause {
+        if let Some(need) = marks.need(*place)
+            && let Some(declared) = graph.declared(need.var)
+        {
+            items.push(canonical(opposite(need), declared))?;
+        }
+    }
+    Ok(items)
+}
+
+/// The sources of the entries in the order of the trail, then the conflict.
+fn sources_of(
+    alloc: Global,
+    graph: Implications,
+    replaced: &[usize],
+    conflict: Source,
+) -> Result<Items<Source>, Memory> {
+    let mut sources = Items::new(alloc);
+    for place in replaced {
+        if let Some(entry) = graph.entry(*place)
+            && let Some(source) = source_of(entry.reason)
+        {
+            sources.push(source)?;
+        }
+    }
+    sources.push(conflict)?;
+    Ok(sources)
+}
+
+/// What is needed of the marked entries above level 0.
+fn marked_literals(
+    alloc: Global,
+    graph: Implications,
+    marks: &Marks,
+) -> Result<Items<Lit>, Memory> {
+    let mut items = Items::new(alloc);
+    for place in marks.places() {
+        if let Some(entry) = graph.entry(*place)
+            && 0 < entry.level
+            && let Some(need) = marks.need(*place)
+        {
+            items.push(need)?;
+        }
+    }
+    Ok(items)
+}

@@ -1,0 +1,189 @@
+// Which entries of a trail a conflict rests on.
+use crate::causes::Cause;
+use crate::implications::Implications;
+use crate::merge::{canonical, implies};
+use crate::source::Source;
+use fzn_domain::{Lit, Memory};
+use std::alloc::Global;
+
+/// What an analysis notes of the entries of a trail. It is kept from one analysis to the next, so that each costs what it touches.
+#[derive(Drop)]
+pub struct Marks {
+    /// The literal that is needed of each marked entry.
+    needs: Vec<Option<Lit>>,
+    /// The places of the marked entries, in the order in which they were marked.
+    marked: Vec<usize>,
+    causes: Vec<Cause>,
+    /// The highest level of an entry that the conflict rests on, once it is known.
+    level: Option<usize>,
+    /// How many entries of that level are marked and not replaced.
+    open: usize,
+}
+
+impl Marks {
+    /// Nothing is marked.
+    pub fn new(alloc: Global) -> Marks {
+        Marks {
+            needs: Vec::new(alloc),
+            marked: Vec::new(alloc),
+            causes: Vec::new(alloc),
+            level: None,
+            open: 0,
+        }
+    }
+
+    /// Takes all marks away, and makes room for so many entries.
+    pub fn begin(&mut self, len: usize) -> Result<(), Memory> {
+        for i in 0..self.marked.len() {
+            if let Some(place) = self.marked_at(i) {
+                self.set_need(place, None);
+            }
+        }
+        self.marked.clear();
+        self.level = None;
+        self.open = 0;
+        for _ in self.needs.len()..len {
+            self.needs.push(None)?;
+        }
+        Ok(())
+    }
+
+    /// The literal that is needed of a marked entry.
+    pub fn need(&self, place: usize) -> Option<Lit> {
+        match self.needs.get(place) {
+            Some(need) => *need,
+            None => None,
+        }
+    }
+
+    fn set_need(&mut self, place: usize, need: Option<Lit>) {
+        if place < self.needs.len() {
+            self.needs[place] = need;
+        }
+    }
+
+    /// The places of the marked entries, in the order in which they were marked.
+    pub fn places(&self) -> &[usize] {
+        self.marked.as_slice()
+    }
+
+    /// The entry that was marked after so many others.
+    pub fn marked_at(&self, i: usize) -> Option<usize> {
+        match self.marked.get(i) {
+            Some(place) => Some(*place),
+            None => None,
+        }
+    }
+
+    /// How many entries of the highest level are marked and not replaced.
+    pub fn open(&self) -> usize {
+        self.open
+    }
+
+    /// Finds the highest level of a marked entry.
+    pub fn find_level(&mut self, graph: Implications) -> usize {
+        let mut level = 0;
+        let mut open: usize = 0;
+        for place in &self.marked {
+            if let Some(entry) = graph.entry(*place) {
+                if entry.level > level {
+                    level = entry.level;
+                    open = 0;
+                }
+                if entry.level == level {
+                    open = open.saturating_add(1);
+                }
+            }
+        }
+        self.level = Some(level);
+        self.open = open;
+        level
+    }
+
+    /// Marks an entry. Of one that is marked already the stronger of both literals is needed, or its own.
+    pub fn mark(&mut self, graph: Implications, cause: Cause) -> Result<(), Memory> {
+        let Some(entry) = graph.entry(cause.place) else {
+            return Ok(());
+        };
+        match self.need(cause.place) {
+            None => {
+                self.marked.push(cause.place)?;
+                self.set_need(cause.place, Some(cause.need));
+                if self.level == Some(entry.level) {
+                    self.open = self.open.saturating_add(1);
+                }
+            }
+            Some(need) if implies(need, cause.need) => {}
+            Some(need) => {
+                if implies(cause.need, need) {
+                    self.set_need(cause.place, Some(cause.need));
+                } else if let Some(declared) = graph.declared(entry.lit.var) {
+                    self.set_need(cause.place, Some(canonical(entry.lit, declared)));
+                }
+            }
+        }
+        Ok(())
+    }
+
+    /// Marks what made the literals of the conflict's clause false.
+    pub fn explain(&mut self, graph: Implications, conflict: Source) -> Result<(), Memory> {
+        graph.find_causes(&mut self.causes, conflict, None)?;
+        self.mark_causes(graph)
+    }
+
+    /// Marks what an entry rests on.
+    pub fn replace(
+        &mut self,
+        graph: Implications,
+        forced: Lit,
+        source: Source,
+    ) -> Result<(), Memory> {
+        self.open = self.open.saturating_sub(1);
+        graph.find_causes(&mut self.causes, source, Some(forced))?;
+        self.mark_causes(graph)
+    }
+
+    fn mark_causes(&mut self, graph: Implications) -> Result<(), Memory> {
+        for i in 0..self.causes.len() {
+            if let Some(cause) = self.cause_at(i) {
+                self.mark(graph, cause)?;
+            }
+        }
+        Ok(())
+    }
+
+    fn cause_at(&self, i: usize) -> Option<Cause> {
+        match self.causes.get(i) {
+            Some(cause) => Some(*cause),
+            None => None,
+        }
+    }
+
+    /// Whether an entry follows from what is needed of other marked entries, and from entries of level 0, which are marked then.
+    pub fn is_redundant(
+        &mut self,
+        graph: Implications,
+        forced: Lit,
+        source: Source,
+    ) -> Result<bool, Memory> {
+        graph.find_causes(&mut self.causes, source, Some(forced))?;
+        for cause in &self.causes {
+            if !self.is_kept(graph, *cause) {
+                return Ok(false);
+            }
+        }
+        self.mark_causes(graph)?;
+        Ok(true)
+    }
+
+    /// Whether it stands at level 0, or follows from what is needed of its entry.
+    fn is_kept(&self, graph: Implications, cause: Cause) -> bool {
+        match graph.entry(cause.place) {
+            Some(entry) if entry.level == 0 => true,
+            _ => match self.need(cause.place) {
+                Some(need) => implies(need, cause.need),
+                None => false,
+            },
+        }
+    }
+}

@@ -1,0 +1,110 @@
+// The clause of claims.
+ghost use Rattle.std.specs.Prelude.{◌≡◌, length, IfOk, IfSome, IsTrue};
+ghost use Rattle.std.specs.List.{All};
+ghost use Rattle.fzn_domain.specs.Literal.{compares};
+ghost use Rattle.fzn_domain.specs.Narrow.{IsVariable, IsClauseOver, can_fail};
+ghost use Rattle.fzn_meaning.specs.Term.{IsTerm};
+ghost use Rattle.fzn_propagator.specs.Inference.{IsWritable};
+ghost use Rattle.fzn_explain.specs.Claims.{IsSaid, IsUsable, IsExplanation};
+
+use crate::claim::Claim;
+use fzn_domain::{Lit, Memory, VarId};
+use fzn_list::Items;
+use fzn_meaning::Term;
+use fzn_trail::Trail;
+use std::alloc::Global;
+
+/// The numbers of literals lie from this one's opposite up to this one.
+const GREATEST_NUMBER: i64 = 1_000_000_001;
+
+/// A clause of these claims, without the literals that are false of all declared values, which is false or forces one literal. Nothing
+/// where there is none.
+pub fn explain(alloc: Global, trail: &Trail, claims: &[Claim]) -> Result<Option<Items<Lit>>, Memory>
+    requires { All (λ claim. IsTerm (length trail.now.declared) claim.term) claims.now }
+    ensures { IfOk result (λ found. IfSome found (IsExplanation trail.now claims.now)) }
+{
+    let mut clause = Items::new(alloc);
+    for claim in claims {
+        if !say(trail, *claim, &mut clause)? {
+            return Ok(None);
+        }
+    }
+    if is_usable(trail, clause.as_slice()) {
+        Ok(Some(clause))
+    } else {
+        Ok(None)
+    }
+}
+
+/// Adds the claim to the clause, where it may be true of a declared value. `false` where it is true of a constant.
+fn say(trail: &Trail, claim: Claim, clause: &mut Items<Lit>) -> Result<bool, Memory>
+    requires term { IsTerm (length trail.now.declared) claim.term }
+    requires over { IsClauseOver (length trail.now.declared) clause.old }
+    ensures { IfOk result (λ said. IsTrue said → IsSaid trail.now.declared claim clause.old clause.new) }
+{
+    match claim.term {
+        Term::Constant(k) => Ok(!is_true_of(claim, k)),
+        Term::Variable(var) => {
+            let lit = Lit {
+                var,
+                op: claim.op,
+                value: claim.number,
+            };
+            if !trail.declared(var).is_false(lit) {
+                clause.push(lit)?;
+            }
+            Ok(true)
+        }
+    }
+}
+
+/// Whether the claim is true of this value.
+fn is_true_of(claim: Claim, value: i64) -> bool
+    ensures { result ≡ compares claim.op value claim.number }
+{
+    Lit {
+        var: VarId(1),
+        op: claim.op,
+        value: claim.number,
+    }
+    .is_true_at(value)
+}
+
+/// Whether the clause is false or forces one literal, and a certificate may have its numbers.
+fn is_usable(trail: &Trail, clause: &[Lit]) -> bool
+    requires { IsClauseOver (length trail.now.declared) clause.now }
+    ensures { IsTrue result → IsUsable trail.now clause.now }
+{
+    let mut found = None;
+    for lit in clause {
+        if !is_writable(*lit) {
+            return false;
+        }
+        if !trail.domain(lit.var).is_false(*lit) {
+            if found.is_some() {
+                return false;
+            }
+            found = Some(*lit);
+        }
+    }
+    match found {
+        None => true,
+        Some(lit) => can_fail(trail, lit),
+    }
+}
+
+/// Whether a certificate may have the literal's number.
+fn is_writable(lit: Lit) -> bool
+    ensures { IsTrue result → IsWritable lit }
+{
+    -GREATEST_NUMBER <= lit.value && lit.value <= GREATEST_NUMBER
+}
+
+/// Whether some present value makes the literal false.
+fn can_fail(trail: &Trail, lit: Lit) -> bool
+    requires variable { IsVariable (length trail.now.declared) lit.var }
+    requires writable { IsWritable lit }
+    ensures { result ≡ can_fail trail.now.sets lit }
+{
+    !trail.domain(lit.var).is_false(lit.negated())
+}

@@ -1,0 +1,152 @@
+//! Literals and names, and the arguments of constraints.
+
+ghost use Rattle.std.specs.Prelude.{ℕ, ◌<◌, ◌≤◌, length, OnOk};
+ghost use Rattle.fzn_parser.specs.Reading.{Gives};
+ghost use Rattle.fzn_parser.specs.Readers as spec;
+
+use crate::cursor::{MOST, Start, Stop, Tokens};
+use crate::lists::{Part, listed};
+use fzn_lexer::Symbol;
+use fzn_list::Items;
+use fzn_tree::{Arg, Array, Basic, Listed, Literal, Range, Values};
+use std::alloc::Global;
+
+/// How many values a set may list.
+const MOST_LISTED: usize = 65_536;
+
+/// A listed value of a set.
+impl Part for i64 {
+    ghost reader = { spec.listed_value };
+
+    #[tactic(auto, unfolding(crate::specs::Readers::Values::listed_value))]
+    fn read(_alloc: Global, tokens: &mut Tokens<'_>, number: usize) -> Result<i64, Stop> {
+        if number < MOST_LISTED {
+            tokens.number()
+        } else {
+            Err(tokens.refuse_more(Start::Int))
+        }
+    }
+}
+
+/// The values up to the closing brace.
+#[tactic(auto, unfolding(crate::specs::Readers::Values::listed_values))]
+fn listed_values(alloc: Global, tokens: &mut Tokens<'_>) -> Result<Items<i64>, Stop>
+    ensures gives { Gives (spec.listed_values tokens.old) result tokens.new }
+    ensures never_longer { length tokens.new ≤ length tokens.old }
+{
+    listed(alloc, tokens, Symbol::CloseBrace)
+}
+
+/// Values in braces, or a range.
+#[tactic(auto, unfolding(crate::specs::Readers::Values::values))]
+pub fn values(alloc: Global, tokens: &mut Tokens<'_>) -> Result<Values, Stop>
+    ensures gives { Gives (spec.values tokens.old) result tokens.new }
+    ensures never_longer { length tokens.new ≤ length tokens.old }
+{
+    if tokens.sees(Symbol::OpenBrace) {
+        tokens.symbol(Symbol::OpenBrace)?;
+        return Ok(Values::Listed(listed_values(alloc, tokens)?));
+    }
+    let low = tokens.int()?;
+    tokens.symbol(Symbol::Dots)?;
+    let high = tokens.number()?;
+    Ok(Values::Range(Range { low, high }))
+}
+
+/// A number, or the range that it begins.
+#[tactic(auto, unfolding(crate::specs::Readers::Values::numeric))]
+fn numeric(tokens: &mut Tokens<'_>) -> Result<Literal, Stop>
+    ensures gives { Gives (spec.numeric tokens.old) result tokens.new }
+    ensures shorter { OnOk result (length tokens.new < length tokens.old) }
+    ensures never_longer { length tokens.new ≤ length tokens.old }
+{
+    let low = tokens.int()?;
+    if tokens.sees(Symbol::Dots) {
+        tokens.symbol(Symbol::Dots)?;
+        let high = tokens.number()?;
+        return Ok(Literal::Range(Range { low, high }));
+    }
+    Ok(Literal::Int(low))
+}
+
+/// A literal. A syntax fault where none is next, and too many at a listed value past 65,536.
+#[tactic(auto, unfolding(crate::specs::Readers::Values::literal))]
+pub fn literal(alloc: Global, tokens: &mut Tokens<'_>) -> Result<Literal, Stop>
+    ensures gives { Gives (spec.literal tokens.old) result tokens.new }
+    ensures shorter { OnOk result (length tokens.new < length tokens.old) }
+    ensures never_longer { length tokens.new ≤ length tokens.old }
+{
+    if tokens.sees(Symbol::True) {
+        return Ok(Literal::Bool(true, tokens.symbol_place(Symbol::True)?));
+    }
+    if tokens.sees(Symbol::False) {
+        return Ok(Literal::Bool(false, tokens.symbol_place(Symbol::False)?));
+    }
+    if tokens.sees(Symbol::OpenBrace) {
+        let place = tokens.symbol_place(Symbol::OpenBrace)?;
+        let values = listed_values(alloc, tokens)?;
+        return Ok(Literal::Set(place, Listed::new(alloc, values)?));
+    }
+    numeric(tokens)
+}
+
+/// A literal or a name. The faults of a literal where no name is next.
+#[tactic(auto, unfolding(crate::specs::Readers::Values::basic))]
+pub fn basic(alloc: Global, tokens: &mut Tokens<'_>) -> Result<Basic, Stop>
+    ensures gives { Gives (spec.basic tokens.old) result tokens.new }
+    ensures shorter { OnOk result (length tokens.new < length tokens.old) }
+    ensures never_longer { length tokens.new ≤ length tokens.old }
+{
+    if tokens.begins(Start::Name) {
+        Ok(Basic::Name(tokens.name(alloc)?))
+    } else {
+        Ok(Basic::Literal(literal(alloc, tokens)?))
+    }
+}
+
+/// An entry of an array.
+impl Part for Basic {
+    ghost reader = { spec.entry };
+
+    #[tactic(auto, unfolding(crate::specs::Readers::Values::entry))]
+    fn read(alloc: Global, tokens: &mut Tokens<'_>, number: usize) -> Result<Basic, Stop> {
+        if number < MOST {
+            basic(alloc, tokens)
+        } else {
+            Err(tokens.refuse_more(Start::Basic))
+        }
+    }
+}
+
+/// Entries in brackets. The faults of an entry, and too many at an entry past `MOST`.
+#[tactic(auto, unfolding(crate::specs::Readers::Values::array))]
+pub fn array(alloc: Global, tokens: &mut Tokens<'_>) -> Result<Array, Stop>
+    ensures gives { Gives (spec.array tokens.old) result tokens.new }
+    ensures shorter { OnOk result (length tokens.new < length tokens.old) }
+    ensures never_longer { length tokens.new ≤ length tokens.old }
+{
+    let place = tokens.symbol_place(Symbol::OpenBracket)?;
+    let entries: Items<Basic> = listed(alloc, tokens, Symbol::CloseBracket)?;
+    Ok(Array { place, entries })
+}
+
+#[tactic(auto, unfolding(crate::specs::Readers::Values::arg))]
+fn arg(alloc: Global, tokens: &mut Tokens<'_>) -> Result<Arg, Stop>
+    ensures gives { Gives (spec.arg tokens.old) result tokens.new }
+    ensures shorter { OnOk result (length tokens.new < length tokens.old) }
+    ensures never_longer { length tokens.new ≤ length tokens.old }
+{
+    if tokens.sees(Symbol::OpenBracket) {
+        Ok(Arg::Array(array(alloc, tokens)?))
+    } else {
+        Ok(Arg::Basic(basic(alloc, tokens)?))
+    }
+}
+
+impl Part for Arg {
+    ghost reader = { spec.each_arg };
+
+    fn read(alloc: Global, tokens: &mut Tokens<'_>, _number: usize) -> Result<Arg, Stop> {
+        arg(alloc, tokens)
+    }
+}

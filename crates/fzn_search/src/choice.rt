@@ -1,0 +1,78 @@
+// How decisions are made.
+
+use fzn_domain::VarId;
+use fzn_list::Items;
+use rand_core::utils::NextWord;
+use rand_pcg::Pcg32;
+
+/// What is asked of the search besides the annotations.
+#[derive(Clone, Copy, Debug, PartialEq, Eq)]
+pub struct Choice {
+    /// Activity decides throughout. Otherwise it decides from each second restart to the next one, and the annotations first.
+    pub free: bool,
+    /// Of equals the first is taken, and with a seed one by random words.
+    pub seed: Option<u64>,
+    /// After how many conflicts the first restart comes, at least 1; none where the search never restarts.
+    pub restart_after: Option<u64>,
+}
+
+/// Which variable of an annotation is next, among those that are not fixed.
+#[derive(Clone, Copy, Debug, PartialEq, Eq)]
+pub enum VarChoice {
+    /// The first.
+    InputOrder,
+    /// One with the fewest values.
+    FirstFail,
+    /// One with the most values.
+    AntiFirstFail,
+    /// One with the least least value.
+    Smallest,
+    /// One with the greatest greatest value.
+    Largest,
+}
+
+/// Which literal of the variable is assumed first.
+#[derive(Clone, Copy, Debug, PartialEq, Eq)]
+pub enum ValueChoice {
+    /// The least value.
+    Min,
+    /// The greatest value.
+    Max,
+    /// At most half of the least and the greatest value together, rounded down.
+    Split,
+    /// Above that.
+    ReverseSplit,
+}
+
+/// Variables that are decided before all others that come after them, and how.
+#[derive(Debug, Drop)]
+pub struct Annotation {
+    pub vars: Items<VarId>,
+    pub var_choice: VarChoice,
+    pub value_choice: ValueChoice,
+}
+
+/// What breaks ties.
+#[derive(Drop)]
+pub struct Ties {
+    random: Option<Pcg32>,
+}
+
+impl Ties {
+    pub fn new(seed: Option<u64>) -> Ties {
+        Ties {
+            random: seed.map(|seed| Pcg32::new(seed, 0)),
+        }
+    }
+
+    /// A random word where there is a seed, and else the number itself: of equals the one with the least comes first.
+    pub fn tie(&mut self, number: u64) -> u64 {
+        match &mut self.random {
+            Some(random) => {
+                let word: u32 = random.next_word();
+                word as u64
+            }
+            None => number,
+        }
+    }
+}

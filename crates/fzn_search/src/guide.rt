@@ -1,0 +1,199 @@
+// What to decide next. Nothing here is trusted: whoever asks tests the answer.
+ghost use Rattle.std.specs.Prelude.{◌≡◌, length};
+
+use crate::choice::{Annotation, Choice, Ties};
+use crate::comparisons::Comparisons;
+use crate::heap::Heap;
+use crate::open::{least_value, open_domain, value_left};
+use crate::order::Order;
+use crate::restarts::Restarts;
+use fzn_domain::{Domain, GREATEST_VALUE, LEAST_VALUE, Lit, Memory, Op};
+use fzn_meaning::Var;
+use fzn_trail::Trail;
+use std::alloc::Global;
+
+/// The order of the annotations, and beside it what conflicts told.
+#[derive(Drop)]
+pub struct Guide {
+    order: Order,
+    /// By variable: the least and the greatest declared value.
+    bounds: Vec<(i64, i64)>,
+    /// By variable: the value that it had last.
+    last_values: Vec<Option<i64>>,
+    comparisons: Comparisons,
+    /// The variables by their activity.
+    activity: Heap,
+    ties: Ties,
+    restarts: Option<Restarts>,
+    free: bool,
+    /// Whether activity decides at present.
+    by_activity: bool,
+}
+
+impl Guide {
+    pub fn new(
+        alloc: Global,
+        vars: &[Var],
+        annotations: &[Annotation],
+        choice: Choice,
+    ) -> Result<Guide, Memory> {
+        let mut ties = Ties::new(choice.seed);
+        let order = Order::new(alloc, vars.len(), annotations, &mut ties)?;
+        let activity = by_rank(alloc, vars.len(), &order, &mut ties)?;
+        Ok(Guide {
+            order,
+            bounds: bounds_of(alloc, vars)?,
+            last_values: vec![in alloc; None; vars.len()]?,
+            comparisons: Comparisons::new(alloc, vars.len())?,
+            activity,
+            ties,
+            restarts: choice.restart_after.map(|first| Restarts::new(first)),
+            free: choice.free,
+            by_activity: choice.free,
+        })
+    }
+
+    /// The first variable with more than one value, counted from 0.
+    pub fn first_open(&mut self, trail: &Trail, vars: usize) -> Option<usize>
+        requires { vars ≡ length trail.now.declared }
+    {
+        self.order.first_open(trail, vars)
+    }
+
+    /// The literal to assume next.
+    pub fn next(&mut self, trail: &Trail, vars: usize) -> Option<Lit>
+        requires { vars ≡ length trail.now.declared }
+    {
+        if self.by_activity {
+            if let Some(comparison) = self.comparisons.most_active(trail, vars) {
+                return Some(self.as_last(comparison));
+            }
+            if let Some(number) = self.most_active(trail, vars) {
+                return least_value(trail, vars, number);
+            }
+        }
+        self.order.next(trail, vars)
+    }
+
+    /// The most active variable with more than one value, counted from 0.
+    fn most_active(&mut self, trail: &Trail, vars: usize) -> Option<usize>
+        requires { vars ≡ length trail.now.declared }
+    {
+        for _ in 0..self.activity.len() {
+            let number = self.activity.top()?;
+            if open_domain(trail, vars, number).is_some() {
+                return Some(number);
+            }
+            self.activity.pop();
+        }
+        None
+    }
+
+    /// The comparison or its opposite, whichever the last value of its variable made true. Where there was none, a bound from above.
+    fn as_last(&self, comparison: Lit) -> Lit {
+        let last = self
+            .last_values
+            .get(comparison.var.0.saturating_sub(1))
+            .copied()
+            .flatten();
+        let is_true = match last {
+            Some(value) => comparison.is_true_at(value),
+            None => comparison.op == Op::AtMost,
+        };
+        if is_true || comparison.value < LEAST_VALUE || GREATEST_VALUE < comparison.value {
+            comparison
+        } else {
+            comparison.negated()
+        }
+    }
+
+    /// The entries from this place on will be dropped.
+    pub fn undo(&mut self, trail: &Trail, from: usize) {
+        for place in from..trail.len() {
+            let lit = trail.entry(place).lit;
+            let number = lit.var.0.saturating_sub(1);
+            if number < self.last_values.len() {
+                if let Some(value) = value_left(trail.domain_before(place), lit) {
+                    self.last_values[number] = Some(value);
+                }
+            }
+            self.order.set_free(number);
+            self.activity.put(number);
+            self.comparisons.set_free(number);
+        }
+    }
+
+    /// The present conflict rests on these literals.
+    pub fn bump(&mut self, lits: &[Lit]) -> Result<(), Memory> {
+        if !self.free && self.restarts.is_none() {
+            return Ok(()); // Activity never decides.
+        }
+        for lit in lits {
+            let number = lit.var.0.saturating_sub(1);
+            if let Some((least, greatest)) = self.bounds.get(number).copied() {
+                self.activity.bump(number);
+                self.comparisons
+                    .bump(comparison_of(*lit, least, greatest), &mut self.ties)?;
+            }
+        }
+        Ok(())
+    }
+
+    /// The present conflict is over. Answers whether a restart is due, after which activity and the annotations take turns.
+    pub fn conflict(&mut self) -> bool {
+        self.comparisons.decay();
+        self.activity.decay();
+        match &mut self.restarts {
+            Some(restarts) => {
+                let is_due = restarts.is_due();
+                if is_due {
+                    self.by_activity = self.free || !self.by_activity;
+                }
+                is_due
+            }
+            None => false,
+        }
+    }
+}
+
+/// All variables with no activity. Ties go by the ranks, and with a seed by random words.
+fn by_rank(alloc: Global, vars: usize, order: &Order, ties: &mut Ties) -> Result<Heap, Memory> {
+    let mut heap = Heap::new(alloc);
+    for number in 0..vars {
+        heap.grow(ties.tie(order.rank(number)))?;
+    }
+    Ok(heap)
+}
+
+fn bounds_of(alloc: Global, vars: &[Var]) -> Result<Vec<(i64, i64)>, Memory> {
+    let mut bounds = Vec::new(alloc);
+    for var in vars {
+        bounds.push(ends(&var.domain))?;
+    }
+    Ok(bounds)
+}
+
+fn ends(domain: &Domain) -> (i64, i64) {
+    if domain.is_empty() {
+        (1, 0)
+    } else {
+        (domain.min(), domain.max())
+    }
+}
+
+/// The comparison `x <= k` or `x == k` that the literal or its opposite is, for declared values between these two. At either of the
+/// two an equation is a bound.
+fn comparison_of(lit: Lit, least: i64, greatest: i64) -> Lit {
+    let (op, value) = match lit.op {
+        Op::AtMost => (Op::AtMost, lit.value),
+        Op::AtLeast => (Op::AtMost, lit.value.saturating_sub(1)),
+        _ if lit.value <= least => (Op::AtMost, least),
+        _ if greatest <= lit.value => (Op::AtMost, greatest.saturating_sub(1)),
+        _ => (Op::Equal, lit.value),
+    };
+    Lit {
+        var: lit.var,
+        op,
+        value,
+    }
+}

@@ -1,0 +1,78 @@
+// What the trail says of a literal, and of a variable whose number comes from anywhere.
+ghost use Rattle.std.specs.Prelude.{◌≡◌, length, IsTrue};
+ghost use Rattle.fzn_search.specs.Fixed.{Splits};
+
+use fzn_domain::{Domain, GREATEST_VALUE, LEAST_VALUE, Lit, Op, VarId};
+use fzn_trail::Trail;
+
+/// Whether some values of the literal's variable make it true, and others false.
+pub fn splits(trail: &Trail, vars: usize, lit: Lit) -> bool
+    requires { vars ≡ length trail.now.declared }
+    ensures { IsTrue result → Splits trail.now.sets lit }
+{
+    if lit.var.0 < 1 || vars < lit.var.0 {
+        return false;
+    }
+    if lit.value < LEAST_VALUE || GREATEST_VALUE < lit.value {
+        return false;
+    }
+    let domain = trail.domain(lit.var);
+    !domain.is_false(lit) && !domain.is_false(lit.negated())
+}
+
+/// The values of the variable of this number, counted from 0, where it has more than one.
+pub fn open_domain(trail: &Trail, vars: usize, number: usize) -> Option<&Domain>
+    requires { vars ≡ length trail.now.declared }
+{
+    if number >= vars {
+        return None;
+    }
+    let domain = trail.domain(VarId(number + 1));
+    if domain.is_empty() || domain.min() == domain.max() {
+        return None;
+    }
+    Some(domain)
+}
+
+/// The variable of this number, counted from 0, takes its least value, where it has more than one.
+pub fn least_value(trail: &Trail, vars: usize, number: usize) -> Option<Lit>
+    requires { vars ≡ length trail.now.declared }
+{
+    let domain = open_domain(trail, vars, number)?;
+    if domain.is_empty() {
+        return None;
+    }
+    Some(Lit {
+        var: VarId(number.saturating_add(1)),
+        op: Op::AtMost,
+        value: domain.min(),
+    })
+}
+
+/// The value that is left after an assertion, of several there were before it, where just one is left.
+pub fn value_left(before: &Domain, lit: Lit) -> Option<i64> {
+    if before.is_empty() {
+        return None;
+    }
+    let (least, greatest) = (before.min(), before.max());
+    match lit.op {
+        Op::Equal => Some(lit.value),
+        Op::AtMost => match before.above(least) {
+            Some(next) if next <= lit.value => None,
+            _ => Some(least),
+        },
+        Op::AtLeast => match before.below(greatest) {
+            Some(next) if lit.value <= next => None,
+            _ => Some(greatest),
+        },
+        Op::NotEqual => {
+            if before.above(least) != Some(greatest) {
+                None
+            } else if lit.value == least {
+                Some(greatest)
+            } else {
+                Some(least)
+            }
+        }
+    }
+}

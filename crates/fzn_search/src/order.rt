@@ -1,0 +1,229 @@
+// The order of the annotations.
+ghost use Rattle.std.specs.Prelude.{◌≡◌, length};
+
+use crate::choice::{Annotation, Ties, ValueChoice, VarChoice};
+use crate::heap::Heap;
+use crate::open::{least_value, open_domain};
+use crate::pool::Pool;
+use fzn_domain::{Domain, Lit, Memory, Op, VarId};
+use fzn_trail::Trail;
+use std::alloc::Global;
+
+/// Where a variable stands: in which annotation, and at which place of its variables.
+#[derive(Clone, Copy)]
+struct Seat {
+    group: usize,
+    place: usize,
+}
+
+/// The variables of an annotation that stand in none before it.
+#[derive(Drop)]
+struct Group {
+    /// By place: the variable, counted from 0, and what breaks ties.
+    members: Vec<(usize, u64)>,
+    /// The places whose variables may have more than one value.
+    open: Pool,
+    var_choice: VarChoice,
+    value_choice: ValueChoice,
+}
+
+/// All variables, those of the annotations first and the others in the order of their numbers.
+#[derive(Drop)]
+pub struct Order {
+    /// Those that may have more than one value.
+    open: Heap,
+    groups: Vec<Group>,
+    /// By variable.
+    seats: Vec<Option<Seat>>,
+}
+
+impl Order {
+    pub fn new(
+        alloc: Global,
+        vars: usize,
+        annotations: &[Annotation],
+        ties: &mut Ties,
+    ) -> Result<Order, Memory> {
+        let mut seats = vec![in alloc; None; vars]?;
+        let mut ranks = vec![in alloc; None; vars]?;
+        let mut groups = Vec::new(alloc);
+        let mut rank = 0u64;
+        for annotation in annotations {
+            let mut group = Group::new(alloc, annotation);
+            for var in annotation.vars.as_slice() {
+                let number = var.0.saturating_sub(1);
+                if number < seats.len() && number < ranks.len() && seats[number].is_none() {
+                    let place = group.add(number, ties)?;
+                    seats[number] = Some(Seat {
+                        group: groups.len(),
+                        place,
+                    });
+                    ranks[number] = Some(rank);
+                    rank = rank.saturating_add(1);
+                }
+            }
+            groups.push(group)?;
+        }
+        let open = ranked(alloc, &ranks, rank)?;
+        Ok(Order {
+            open,
+            groups,
+            seats,
+        })
+    }
+
+    /// The first variable with more than one value, counted from 0.
+    pub fn first_open(&mut self, trail: &Trail, vars: usize) -> Option<usize>
+        requires { vars ≡ length trail.now.declared }
+    {
+        for _ in 0..self.open.len() {
+            let number = self.open.top()?;
+            if open_domain(trail, vars, number).is_some() {
+                return Some(number);
+            }
+            self.open.pop();
+        }
+        None
+    }
+
+    /// What the first annotation with a variable to decide wants; after all annotations the first variable's least value.
+    pub fn next(&mut self, trail: &Trail, vars: usize) -> Option<Lit>
+        requires { vars ≡ length trail.now.declared }
+    {
+        let first = self.first_open(trail, vars)?;
+        match self.seats.get(first).copied().flatten() {
+            Some(seat) => match self.groups.get_mut(seat.group) {
+                Some(group) => group.next(trail, vars, first),
+                None => None,
+            },
+            None => least_value(trail, vars, first),
+        }
+    }
+
+    /// How early the variable of this number, counted from 0, comes.
+    pub fn rank(&self, number: usize) -> u64 {
+        self.open.tie(number)
+    }
+
+    /// The variable of this number, counted from 0, may have more than one value again.
+    pub fn set_free(&mut self, number: usize) {
+        self.open.put(number);
+        if let Some(seat) = self.seats.get(number).copied().flatten() {
+            if let Some(group) = self.groups.get_mut(seat.group) {
+                let _ = group.open.put(seat.place);
+            }
+        }
+    }
+}
+
+/// The variables by their ranks, and those without one after this many, by their numbers.
+fn ranked(alloc: Global, ranks: &[Option<u64>], count: u64) -> Result<Heap, Memory> {
+    let mut heap = Heap::new(alloc);
+    for number in 0..ranks.len() {
+        let rank = match ranks[number] {
+            Some(rank) => rank,
+            None => count.saturating_add(number as u64),
+        };
+        heap.grow(rank)?;
+    }
+    Ok(heap)
+}
+
+impl Group {
+    fn new(alloc: Global, annotation: &Annotation) -> Group {
+        Group {
+            members: Vec::new(alloc),
+            open: Pool::new(alloc),
+            var_choice: annotation.var_choice,
+            value_choice: annotation.value_choice,
+        }
+    }
+
+    fn add(&mut self, number: usize, ties: &mut Ties) -> Result<usize, Memory> {
+        let tie = ties.tie(self.members.len() as u64);
+        self.members.push((number, tie))?;
+        let place = self.open.grow()?;
+        let _ = self.open.put(place);
+        Ok(place)
+    }
+
+    /// The literal for the chosen variable, where this one is the first with more than one value.
+    fn next(&mut self, trail: &Trail, vars: usize, first: usize) -> Option<Lit>
+        requires { vars ≡ length trail.now.declared }
+    {
+        let number = match self.var_choice {
+            VarChoice::InputOrder => first,
+            _ => self.best(trail, vars)?,
+        };
+        let domain = open_domain(trail, vars, number)?;
+        literal_for(domain, VarId(number.saturating_add(1)), self.value_choice)
+    }
+
+    /// The variable that the choice prefers, after a look at each that may have more than one value.
+    fn best(&mut self, trail: &Trail, vars: usize) -> Option<usize>
+        requires { vars ≡ length trail.now.declared }
+    {
+        let mut best = None;
+        let mut at = 0usize;
+        for _ in 0..self.open.len() {
+            let place = self.open.at(at)?;
+            let (number, tie) = *self.members.get(place)?;
+            match open_domain(trail, vars, number) {
+                Some(domain) => {
+                    best = better(best, number, cost_of(domain, self.var_choice), tie);
+                    at = at.saturating_add(1);
+                }
+                None => self.open.take(at),
+            }
+        }
+        best.map(|candidate: Candidate| candidate.number)
+    }
+}
+
+/// A variable by its number, counted from 0, and how it compares with others. The one with the least cost is taken, and of several
+/// the one with the least tie.
+#[derive(Clone, Copy)]
+struct Candidate {
+    number: usize,
+    cost: i64,
+    tie: u64,
+}
+
+fn better(best: Option<Candidate>, number: usize, cost: i64, tie: u64) -> Option<Candidate> {
+    match best {
+        Some(other) if other.cost < cost || (other.cost == cost && other.tie <= tie) => best,
+        _ => Some(Candidate { number, cost, tie }),
+    }
+}
+
+fn cost_of(domain: &Domain, var_choice: VarChoice) -> i64 {
+    if domain.is_empty() {
+        return 0;
+    }
+    let width = domain.len().min(WIDEST) as i64;
+    match var_choice {
+        VarChoice::InputOrder => 0,
+        VarChoice::FirstFail => width,
+        VarChoice::AntiFirstFail => -width,
+        VarChoice::Smallest => domain.min(),
+        VarChoice::Largest => -domain.max(),
+    }
+}
+
+/// No domain has more values.
+const WIDEST: usize = 2_000_000_001;
+
+fn literal_for(domain: &Domain, var: VarId, value_choice: ValueChoice) -> Option<Lit> {
+    if domain.is_empty() {
+        return None;
+    }
+    let (least, greatest) = (domain.min(), domain.max());
+    let half = (least + greatest).div_euclid(2);
+    let (op, value) = match value_choice {
+        ValueChoice::Min => (Op::AtMost, least),
+        ValueChoice::Max => (Op::AtLeast, greatest),
+        ValueChoice::Split => (Op::AtMost, half),
+        ValueChoice::ReverseSplit => (Op::AtLeast, half + 1),
+    };
+    Some(Lit { var, op, value })
+}
