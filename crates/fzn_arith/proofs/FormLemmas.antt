@@ -23,7 +23,8 @@ use Rattle.fzn_meaning.proofs.CallerLemmas.{bits-choice}
 use Rattle.fzn_rules.specs.declared.rule.Rule.TheVariants.{Lin}
 use Rattle.fzn_state.specs.Terms.{least_value, greatest_value, IsFixedTo}
 use Rattle.fzn_builtin_rules.specs.Linear.{low_product, least_sum}
-use Rattle.fzn_builtin_rules.specs.Form.{Form, form, form_of, IsFormMet}
+use Rattle.fzn_builtin_rules.specs.Form.{Form, form, form_of, IsFormMet, FormHolds}
+use Rattle.fzn_builtin_rules.proofs.CallerLemmas.{form_meets}
 use Rattle.fzn_rules.specs.Rules.{IsMet}
 use Rattle.fzn_trail.specs.Levels.{Levels}
 use Rattle.fzn_propagator.specs.Inference.{AllFixed, IsHint, IsTight, IsInference, IsExhausted}
@@ -34,7 +35,6 @@ use Rattle.fzn_sums.specs.Refuted.{LeavesSome, LeavesEach}
 use Rattle.fzn_sums.proofs.CallerLemmas.{total_le, none_barred_opposites, sum_at-opposites, opposites-twice, opposites_fit}
 use Rattle.fzn_arith.specs.Opposite.{other_comparison, other_bound, opposite_form}
 use Rattle.fzn_arith.specs.Sum.{IsFound, IsLeftAlone}
-use Rattle.fzn_arith.proofs.MeaningLemmas.{FormHolds, form_meets}
 
 -- ---- a clause was found
 

@@ -4,7 +4,7 @@ use Rattle.std.specs.List.{All}
 use Rattle.fzn_meaning.specs.declared.constraint.Constraint.{Constraint}
 use Rattle.fzn_meaning.specs.Term.{IsPlace}
 use Rattle.fzn_meaning.specs.Meaning.{IsSwitch}
-use Rattle.fzn_builtin_rules.specs.Form.{Form, form, form_of}
+use Rattle.fzn_builtin_rules.specs.Form.{Form, form, form_of, Fits}
 use Rattle.fzn_arith.specs.declared.form.SumForm.{SumForm}
 use Rattle.fzn_arith.specs.Opposite.{opposite_form}
 use Rattle.fzn_arith.specs.Sum.{IsSum}
@@ -15,13 +15,6 @@ form_in sum = form sum.places sum.comparison sum.bound sum.switch
 -- the form of the constraint
 abbrev pub IsFormOf : Constraint → SumForm → Type 0
 IsFormOf constraint sum = form_of constraint ≡ Some (form_in sum)
-
--- places and a switch over this many variables, and numbers within the limits
-pub record Fits (count : ℕ) (found : Form) : Type 0 where
-  pub places_fit : All (IsPlace count) found.places
-  pub short : length found.places ≤ 200000
-  pub bounded : unsigned_abs found.bound ≤ 1000000000
-  pub switch_fits : IsSwitch count found.switch
 
 -- a form and the one that holds exactly where it does not
 pub record IsReady (count : ℕ) (sum opposite : SumForm) : Type 0 where

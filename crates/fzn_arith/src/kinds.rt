@@ -49,7 +49,7 @@ pub fn propagator_of(
     ensures none { IfOk result (λ found. IfNone found ((default : Constraint) → form_of (slice_index_or model.now.constraints (c - 1) default) ≡ None)) }
 {
     let constraint = &model.constraints.as_slice()[c - 1];
-    let Some(form) = form_of(alloc, model, constraint)? else {
+    let Some(form) = form_of(alloc, constraint)? else {
         return Ok(None);
     };
     let opposite = opposite_of(alloc, &form)?;

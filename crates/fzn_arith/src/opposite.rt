@@ -1,7 +1,7 @@
 // The form that holds exactly where another does not.
-ghost use Rattle.std.specs.Prelude.{◌≡◌, ℕ, ◌≤◌, unsigned_abs, IfOk};
+ghost use Rattle.std.specs.Prelude.{◌≡◌, IfOk};
 ghost use Rattle.std.specs.List.{All};
-ghost use Rattle.fzn_meaning.specs.Term.{IsPlace};
+ghost use Rattle.fzn_domain.specs.Limits.{IsSmall};
 ghost use Rattle.fzn_sums.specs.Opposite.{opposites};
 ghost use Rattle.fzn_arith.specs.Kinds.{form_in};
 ghost use Rattle.fzn_arith.specs.Opposite.{other_comparison, other_bound, opposite_form};
@@ -14,8 +14,8 @@ use std::alloc::Global;
 
 /// With the same switch.
 pub fn opposite_of(alloc: Global, form: &SumForm) -> Result<SumForm, Memory>
-    requires places { All (λ place. unsigned_abs place.coefficient ≤ 1000000000) form.now.places }
-    requires bounded { unsigned_abs form.now.bound ≤ 1000000000 }
+    requires places { All (λ place. IsSmall place.coefficient) form.now.places }
+    requires bounded { IsSmall form.now.bound }
     ensures { IfOk result (λ other. form_in other ≡ opposite_form (form_in form.now)) }
 {
     Ok(SumForm {
@@ -27,7 +27,7 @@ pub fn opposite_of(alloc: Global, form: &SumForm) -> Result<SumForm, Memory>
 }
 
 fn opposites(alloc: Global, places: &[Place]) -> Result<Items<Place>, Memory>
-    requires { All (λ place. unsigned_abs place.coefficient ≤ 1000000000) places.now }
+    requires { All (λ place. IsSmall place.coefficient) places.now }
     ensures { IfOk result (λ all. all ≡ opposites places.now) }
 {
     let mut all = Items::new(alloc);
@@ -51,7 +51,7 @@ fn other_comparison(comparison: Comparison) -> Comparison
 }
 
 fn other_bound(comparison: Comparison, bound: i64) -> i64
-    requires { unsigned_abs bound ≤ 1000000000 }
+    requires { IsSmall bound }
     ensures { result ≡ other_bound comparison bound }
 {
     match comparison {

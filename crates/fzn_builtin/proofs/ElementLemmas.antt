@@ -2,8 +2,8 @@
 use Rattle.std.proofs.Common.{◌≡◌, ℕ, zero, suc, ◌+◌, ◌-◌, ◌<◌, List, [], ◌∷◌, ◌++◌, length, get_or, sym, ap, subst, ◌∙◌, inl, inr, arith, ℤ, pos, negsuc, ◌≤ℤ◌, All}
 use Rattle.std.proofs.lemmas.Int.{ints}
 use Rattle.std.proofs.lemmas.Bool.{cases_eq}
-use Rattle.std.proofs.lemmas.List.{get_or_default, get_or_append_left, length_push}
-use Rattle.std.proofs.lemmas.List.Elements.{All-head, All-tail, All-push, All-contains, Contains-push, All-from_recursion, recursion_from_All}
+use Rattle.std.proofs.lemmas.List.{get_or_default}
+use Rattle.std.proofs.lemmas.List.Elements.{All-head, All-tail, All-push, All-from_recursion, recursion_from_All}
 use Rattle.fzn_domain.specs.IntSet.{IntSet}
 use Rattle.fzn_meaning.specs.declared.term.Term.{Term}
 use Rattle.fzn_meaning.specs.declared.term.Term.TheVariants.{Constant}
@@ -17,6 +17,7 @@ use Rattle.fzn_explain.specs.declared.claim.Claim.{Claim}
 use Rattle.fzn_explain.specs.Claims.{opposite, IsDenied, Refute}
 use Rattle.fzn_explain.proofs.CallerLemmas.{are_opposite}
 use Rattle.fzn_builtin.specs.Rows.{LeavesNoIndex, IsRuledOut}
+use Rattle.fzn_builtin.proofs.ListLemmas.{All-front, All-last}
 
 at_place : (entries : List Term) (k : ℕ) (d : Term) → k < length entries → term_at entries (pos (k + 1)) ≡ get_or entries k d
 at_place entries k d below = let same : k + 1 - 1 ≡ k = omega arith in ap (λ (n : ℕ). get_or entries n (Constant (pos 0))) same ∙ get_or_default entries k (Constant (pos 0)) d below
@@ -60,12 +61,6 @@ pub record IsAgainst (count : ℕ) (index : Term) (entries : List Term) (value :
   pub claimed : (sets : List IntSet) → All (IsDenied sets) claims → IsDenied sets claim
   pub between : (sets : List IntSet) → All (IsDenied sets) claims → (v : ℤ) → MayBe sets index v → (low ≤ℤ v) × (v ≤ℤ high)
   pub apart : (sets : List IntSet) → All (IsDenied sets) claims → (j : ℕ) (d : Term) → j < k → MayBe sets index (pos (j + 1)) → ShareNone sets (get_or entries j d) value
-
-All-front : (P : Claim → Type 0) (xs : List Claim) (x : Claim) → All P (xs ++ x ∷ []) → All P xs
-All-front P xs x all = λ k d below. subst P (get_or_append_left xs (x ∷ []) d k below) (all k d (omega (arith, length_push xs x)))
-
-All-last : (P : Claim → Type 0) (xs : List Claim) (x : Claim) → All P (xs ++ x ∷ []) → P x
-All-last P xs x all = All-contains P (xs ++ x ∷ []) x all (Contains-push xs x)
 
 pub against_none : (count : ℕ) (index : Term) (entries : List Term) (value : Term) (low high : ℤ) (claim below above : Claim) → IsTerm count claim.term → IsTerm count below.term → IsTerm count above.term → ((sets : List IntSet) (v : ℤ) → IsDenied sets below → MayBe sets index v → low ≤ℤ v) → ((sets : List IntSet) (v : ℤ) → IsDenied sets above → MayBe sets index v → v ≤ℤ high) → IsAgainst count index entries value low high claim (((claim ∷ []) ++ below ∷ []) ++ above ∷ []) 0
 against_none count index entries value low high claim below above claim_fits below_fits above_fits low_is high_is = record {

@@ -2,8 +2,8 @@
 use Rattle.std.proofs.Common.{◌≡◌, ℕ, ◌+◌, ◌<◌, List, [], ◌∷◌, ◌++◌, length, get_or, sym, ap, subst, ◌∙◌, inl, inr, arith, ℤ, ◌≤ℤ◌, ◌<ℤ◌, All}
 use Rattle.std.proofs.lemmas.Int.{ints}
 use Rattle.std.proofs.lemmas.Bool.{cases_eq}
-use Rattle.std.proofs.lemmas.List.{get_or_default, get_or_append_left, length_push}
-use Rattle.std.proofs.lemmas.List.Elements.{All-push, All-contains, Contains-push, All-from_recursion, recursion_from_All}
+use Rattle.std.proofs.lemmas.List.{get_or_default}
+use Rattle.std.proofs.lemmas.List.Elements.{All-push, All-from_recursion, recursion_from_All}
 use Rattle.fzn_domain.specs.IntSet.{IntSet}
 use Rattle.fzn_meaning.specs.declared.term.Term.{Term}
 use Rattle.fzn_meaning.specs.declared.extremum.Extreme.{Extreme}
@@ -17,6 +17,7 @@ use Rattle.fzn_rules.specs.Rules.{IsMet}
 use Rattle.fzn_explain.specs.declared.claim.Claim.{Claim}
 use Rattle.fzn_explain.specs.Claims.{opposite, IsDenied, Refute}
 use Rattle.fzn_explain.proofs.CallerLemmas.{are_opposite}
+use Rattle.fzn_builtin.proofs.ListLemmas.{All-front, All-last}
 
 met_passing : (sets : List IntSet) (extreme : Extreme) (entries : List Term) (of : Term) (k : ℕ) (d : Term) → k < length entries → Passes sets extreme of (get_or entries k d) → IsMet (constraint.Extremum extreme entries of) sets rule.Rows
 unfolding IsMet IsRowsMet
@@ -43,12 +44,6 @@ pub record IsAgainstEach (count : ℕ) (entries : List Term) (of : Term) (claim 
   pub terms : All (λ (c : Claim). IsTerm count c.term) claims
   pub claimed : (sets : List IntSet) → All (IsDenied sets) claims → IsDenied sets claim
   pub apart : (sets : List IntSet) → All (IsDenied sets) claims → (j : ℕ) (d : Term) → j < k → ShareNone sets (get_or entries j d) of
-
-All-front : (P : Claim → Type 0) (xs : List Claim) (x : Claim) → All P (xs ++ x ∷ []) → All P xs
-All-front P xs x all = λ k d below. subst P (get_or_append_left xs (x ∷ []) d k below) (all k d (omega (arith, length_push xs x)))
-
-All-last : (P : Claim → Type 0) (xs : List Claim) (x : Claim) → All P (xs ++ x ∷ []) → P x
-All-last P xs x all = All-contains P (xs ++ x ∷ []) x all (Contains-push xs x)
 
 pub each_none : (count : ℕ) (entries : List Term) (of : Term) (claim : Claim) → IsTerm count claim.term → IsAgainstEach count entries of claim (claim ∷ []) 0
 each_none count entries of claim fits = record {

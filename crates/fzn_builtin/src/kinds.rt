@@ -32,7 +32,7 @@ impl Propagator for BuiltinPropagator {
     ghost fits = { BuiltinFits };
 
     fn propagate(&self, alloc: Global, trail: &Trail) -> Result<Option<Inference>, Memory> {
-        if let Some(found) = narrow(alloc, trail, &self.parts.constraint)? {
+        if let Some(found) = narrow(alloc, trail, &self.parts)? {
             return Ok(Some(Inference {
                 constraint: self.number,
                 rule: found.rule,

@@ -5,16 +5,25 @@
 //! Proved against `specs/Outcome.antt`: which values of the result make a constraint hold, where its inputs have one value each.
 #![tactic(auto)]
 
+pub use equality::infer_equal;
 pub use kinds::{BuiltinPropagator, propagator_of};
 pub use parts::Parts;
 
+mod amount;
 mod demand;
 mod element;
+mod equality;
+mod excluded;
+mod exclusion;
 mod extremum;
 mod fixed;
+mod interval;
 mod kinds;
+mod last;
+mod member;
 mod narrow;
 mod outcome;
 mod parts;
+mod quotient;
 mod terms;
 mod values;

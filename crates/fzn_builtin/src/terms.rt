@@ -1,5 +1,5 @@
 // What a trail leaves to terms.
-ghost use Rattle.std.specs.Prelude.{◌≡◌, length, ◌≤ℤ◌, pos, negsuc};
+ghost use Rattle.std.specs.Prelude.{◌≡◌, ℕ, length, ◌≤ℤ◌, pos, negsuc};
 ghost use Rattle.fzn_domain.specs.Limits.{IsInLimits};
 ghost use Rattle.fzn_domain.specs.Narrow.{NoneEmpty};
 ghost use Rattle.fzn_meaning.specs.Term.{IsTerm};
@@ -25,6 +25,13 @@ pub fn claim_of(term: Term, bound: Bound) -> Claim
         op: bound.0,
         number: bound.1,
     }
+}
+
+/// What is true of no value.
+pub fn never() -> Claim
+    ensures { (count : ℕ) → IsTerm count result.term }
+{
+    Claim::other_than(Term::Constant(0), 0)
 }
 
 /// Whether the term may have this value.

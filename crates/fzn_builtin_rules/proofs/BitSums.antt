@@ -102,3 +102,11 @@ ones_of_nought (x ∷ xs) bits (suc k, y, below, at, is) =
     let here = bit_ends x bits.0 in
     let rest = ones_of_nought xs bits.1 (k, y, omega arith, at, is) in
     omega (arith, ints)
+
+pub any_of_noughts : (xs : List ℤ) → AreBits xs → ones xs ≤ℤ (pos (length xs) -ℤ pos 1) → Any (λ (x : ℤ). x ≡ pos 0) xs
+unfolding ones
+any_of_noughts [] bits few = absurd (omega (arith, ints))
+any_of_noughts (x ∷ xs) bits few = elim bits.0 [
+  | inl nought ↦ (0, x, omega arith, refl, nought)
+  | inr one ↦ let rest = any_of_noughts xs bits.1 (omega (arith, ints)) in (suc rest.0, rest.1, omega (arith, rest.2), rest.3, rest.4)
+]

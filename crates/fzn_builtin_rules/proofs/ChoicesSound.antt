@@ -1,5 +1,5 @@
 -- The rules `fixed` and `enum`: on sets where one is met, no choice of one value from each set meets the constraint.
-use Rattle.std.proofs.Common.{◌≡◌, List, [], ◌∷◌, ◌++◌, length, map, take, drop, refl, sym, ap, subst, ◌∙◌, arith, ℤ, Option, Some, None, IfSome, IsSomeAnd}
+use Rattle.std.proofs.Common.{◌≡◌, ◌↔◌, List, [], ◌∷◌, ◌++◌, length, map, take, drop, refl, sym, ap, ◌∙◌, arith, ℤ, Option, Some, None, IfSome, IsSomeAnd}
 use Rattle.std.specs.List.{All}
 use Rattle.std.proofs.lemmas.Int.{ints}
 use Rattle.std.proofs.lemmas.List.{length-map}
@@ -9,6 +9,7 @@ use Rattle.fzn_domain.specs.IntSet.{IntSet}
 use Rattle.fzn_domain.specs.Narrow.{IsWithin}
 use Rattle.fzn_meaning.specs.declared.term.Term.{Term}
 use Rattle.fzn_meaning.specs.declared.term.Place.{Place}
+use Rattle.fzn_meaning.specs.declared.relation.Comparison.{Comparison}
 use Rattle.fzn_meaning.specs.declared.constraint.Constraint.{Constraint}
 use Rattle.fzn_meaning.specs.declared.constraint.Constraint.TheVariants as constraint
 use Rattle.fzn_meaning.specs.Term.{term_value, values_of, product_at, sum_at, IsTerm}
@@ -36,34 +37,42 @@ values-append : (values : List ℤ) (front back : List Term) → values_of value
 values-append values [] back = refl
 values-append values (t ∷ front) back = ap (λ (rest : List ℤ). term_value values t ∷ rest) (values-append values front back)
 
-clause_of : (values : List ℤ) (positive negative : List Term) → IsBoolClause (values_of values positive) (values_of values negative) → IsBoolClause (take (length positive) (values_of values (positive ++ negative))) (drop (length positive) (values_of values (positive ++ negative)))
-clause_of values positive negative met =
+clause-Relates : (values : List ℤ) (positive negative : List Term) → IsBoolClause (values_of values positive) (values_of values negative) ↔ IsBoolClause (take (length positive) (values_of values (positive ++ negative))) (drop (length positive) (values_of values (positive ++ negative)))
+clause-Relates values positive negative =
     let front = values_of values positive in
     let back = values_of values negative in
     let all = values-append values positive negative in
     let count : length positive ≡ length front = sym (length-map positive (term_value values)) in
     let first : take (length positive) (values_of values (positive ++ negative)) ≡ front = ap (λ k. take k (values_of values (positive ++ negative))) count ∙ ap (take (length front)) all ∙ take-append_seam front back in
     let second : drop (length positive) (values_of values (positive ++ negative)) ≡ back = ap (λ k. drop k (values_of values (positive ++ negative))) count ∙ ap (drop (length front)) all ∙ drop-append_seam front back in
-    subst (λ (ys : List ℤ). IsBoolClause (take (length positive) (values_of values (positive ++ negative))) ys) (sym second) (subst (λ (xs : List ℤ). IsBoolClause xs back) (sym first) met)
+    rw (first, second) (λ met. met, λ met. met)
 
--- the values of the places stand in the constraint's relation where the values meet it
-relates : (c : Constraint) (values : List ℤ) → Meets c values → IfSome (inputs_of c) (λ inputs. Relates c (values_of values inputs) (switch_value values (result_of c)))
+switched-Relates : (switch : Option ℤ) (comparison : Comparison) (x y bound : ℤ) → x ≡ y → IsSwitched switch (IsLinear comparison y bound) ↔ IsSwitched switch (IsLinear comparison x bound)
+switched-Relates switch comparison x y bound same = rw same (λ met. met, λ met. met)
+
+-- The values meet the constraint exactly where those of its places stand in its relation.
+pub Relates-Meets : (c : Constraint) (values : List ℤ) → IfSome (inputs_of c) (λ inputs. Meets c values ↔ Relates c (values_of values inputs) (switch_value values (result_of c)))
 unfolding Meets inputs_of result_of Relates
-relates (constraint.Compare relation left right switch) values met = met
-relates (constraint.BoolNot left right) values met = met
-relates (constraint.BoolToInt boolean integer) values met = met
-relates (constraint.Linear sum comparison bound switch) values met = subst (λ (x : ℤ). IsSwitched (switch_value values switch) (IsLinear comparison x bound)) (sym (weighted_sum-values values sum)) met
-relates (constraint.BoolLinEq sum total) values met = weighted_sum-values values sum ∙ met
-relates (constraint.Arithmetic operation left right result) values met = met
-relates (constraint.IntAbs of result) values met = met
-relates (constraint.Extremum extreme entries result) values met = met
-relates (constraint.Element index entries value) values met = met
-relates (constraint.SetIn term set switch) values met = met
-relates (constraint.Gated gate inputs result) values met = met
-relates (constraint.BoolXor left right result) values met = met
-relates (constraint.ArrayBoolXor inputs) values met = met
-relates (constraint.BoolClause positive negative) values met = clause_of values positive negative met
-relates _ values met = tt
+Relates-Meets (constraint.Compare relation left right switch) values = (λ met. met, λ met. met)
+Relates-Meets (constraint.BoolNot left right) values = (λ met. met, λ met. met)
+Relates-Meets (constraint.BoolToInt boolean integer) values = (λ met. met, λ met. met)
+Relates-Meets (constraint.Linear sum comparison bound switch) values =
+    switched-Relates (switch_value values switch) comparison (weighted_sum sum (values_of values (terms sum))) (sum_at values sum) bound (weighted_sum-values values sum)
+Relates-Meets (constraint.BoolLinEq sum total) values = (λ met. weighted_sum-values values sum ∙ met, λ met. sym (weighted_sum-values values sum) ∙ met)
+Relates-Meets (constraint.Arithmetic operation left right result) values = (λ met. met, λ met. met)
+Relates-Meets (constraint.IntAbs of result) values = (λ met. met, λ met. met)
+Relates-Meets (constraint.Extremum extreme entries result) values = (λ met. met, λ met. met)
+Relates-Meets (constraint.Element index entries value) values = (λ met. met, λ met. met)
+Relates-Meets (constraint.SetIn term set switch) values = (λ met. met, λ met. met)
+Relates-Meets (constraint.Gated gate inputs result) values = (λ met. met, λ met. met)
+Relates-Meets (constraint.BoolXor left right result) values = (λ met. met, λ met. met)
+Relates-Meets (constraint.ArrayBoolXor inputs) values = (λ met. met, λ met. met)
+Relates-Meets (constraint.BoolClause positive negative) values = clause-Relates values positive negative
+Relates-Meets _ values = tt
+
+relates_by : (c : Constraint) (values : List ℤ) (found : Option (List Term)) → IfSome found (λ inputs. Meets c values ↔ Relates c (values_of values inputs) (switch_value values (result_of c))) → Meets c values → IfSome found (λ inputs. Relates c (values_of values inputs) (switch_value values (result_of c)))
+relates_by c values None same met = tt
+relates_by c values (Some inputs) same met = same.0 met
 
 result_formed : (c : Constraint) (sets : List IntSet) → IsWellFormed (length sets) c → IfSome (result_of c) (IsTerm (length sets))
 unfolding IsWellFormed result_of
@@ -99,7 +108,7 @@ both_parts (Some a) P Q is = is.1
 
 no_choice_sound : (c : Constraint) (sets : List IntSet) (values : List ℤ) → IsWellFormed (length sets) c → IsSomeAnd (inputs_of c) (NoChoiceFits c sets) → IsWithin sets values → Meets c values → ⊥
 no_choice_sound c sets values formed none within met =
-    some_choice_fits sets values within c (inputs_of c) (inputs_formed (length sets) c formed) (result_formed c sets formed) (relates c values met) none
+    some_choice_fits sets values within c (inputs_of c) (inputs_formed (length sets) c formed) (result_formed c sets formed) (relates_by c values (inputs_of c) (Relates-Meets c values) met) none
 
 pub fixed_sound : (c : Constraint) (sets : List IntSet) (values : List ℤ) → IsWellFormed (length sets) c → IsFixedMet c sets → IsWithin sets values → Meets c values → ⊥
 fixed_sound c sets values formed rule within met = no_choice_sound c sets values formed (both_parts (inputs_of c) _ (NoChoiceFits c sets) rule) within met

@@ -5,6 +5,8 @@ mod ChoiceLemmas
 pub mod ChoicesSound
 mod ChosenLemmas
 mod CountLemmas
+pub mod FitLemmas
+pub mod FormLemmas
 pub mod LinSound
 mod OutcomeLemmas
 mod OverlapLemmas

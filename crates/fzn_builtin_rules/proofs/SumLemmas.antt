@@ -27,10 +27,6 @@ module _ (f : Place → ℤ) where
   pub total_by-append : (front back : List Place) → total_by f (front ++ back) ≡ total_by f front +ℤ total_by f back
   total_by-append front back = fold-append (λ (sum : ℤ) (place : Place). sum +ℤ f place) (pos 0) front back ∙ total_from (total_by f front) back
 
-  -- a sum in two steps from 0
-  pub two_sums : (front back : List Place) (start middle end : ℤ) → start ≡ pos 0 → middle ≡ start +ℤ total_by f front → end ≡ middle +ℤ total_by f back → end ≡ total_by f (front ++ back)
-  two_sums front back start middle end zero first second = let both = total_by-append front back in omega (arith, ints)
-
 -- each place gives no less, so neither does the sum
 total_le : (f g : Place → ℤ) (places : List Place) → ((p : Place) → f p ≤ℤ g p) → total_by f places ≤ℤ total_by g places
 total_le f g [] each = omega (arith, ints)

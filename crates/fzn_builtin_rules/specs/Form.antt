@@ -1,6 +1,9 @@
 -- Constraints as a sum with a test, which a Boolean term may switch.
-use Rattle.std.specs.Prelude.{◌≡◌, ℤ, pos, negsuc, ◌-ℤ◌, List, [], ◌∷◌, ◌++◌, map, length, Option, Some, None, IsSomeAnd}
+use Rattle.std.specs.Prelude.{ℕ, ◌*◌, ◌≤◌, ℤ, pos, negsuc, ◌-ℤ◌, List, [], ◌∷◌, ◌++◌, map, length, Option, Some, None, IsSomeAnd}
+use Rattle.std.specs.List.{All}
+use Rattle.fzn_list.specs.Limits.{longest}
 use Rattle.fzn_domain.specs.IntSet.{IntSet}
+use Rattle.fzn_domain.specs.Limits.{IsSmall}
 use Rattle.fzn_meaning.specs.declared.term.Term.{Term}
 use Rattle.fzn_meaning.specs.declared.term.Place.{Place}
 use Rattle.fzn_meaning.specs.declared.relation.Relation.{Relation}
@@ -12,7 +15,10 @@ use Rattle.fzn_meaning.specs.declared.boolean.Gate.{Gate}
 use Rattle.fzn_meaning.specs.declared.boolean.Gate.TheVariants.{And, Or}
 use Rattle.fzn_meaning.specs.declared.constraint.Constraint.{Constraint}
 use Rattle.fzn_meaning.specs.declared.constraint.Constraint.TheVariants.{Compare, BoolNot, BoolToInt, Linear, BoolLinEq, Arithmetic, Gated, BoolClause}
-use Rattle.fzn_builtin_rules.specs.declared.linear.SumTest.{SumTest}
+use Rattle.fzn_meaning.specs.Term.{sum_at, IsPlace}
+use Rattle.fzn_meaning.specs.Comparisons.{IsSwitched}
+use Rattle.fzn_meaning.specs.Linear.{IsLinear}
+use Rattle.fzn_meaning.specs.Meaning.{switch_value, IsSwitch}
 use Rattle.fzn_builtin_rules.specs.Linear.{least_sum, greatest_sum, IsExcluded}
 
 -- the sum over the places compares so with the bound; with a switch, exactly where this term is 1
@@ -65,6 +71,10 @@ form_of (Gated gate inputs result) = Some (form (each_with (negsuc 0) inputs) su
 form_of (BoolClause positive negative) = Some (form (each_with (pos 1) negative ++ each_with (negsuc 0) positive) sum.AtMost (pos (length negative) -ℤ pos 1) None)
 form_of _ = None
 
+-- the sum compares so with the bound; with a switch, exactly where this term is 1
+abbrev pub FormHolds : Form → List ℤ → Type 0
+FormHolds found values = IsSwitched (switch_value values found.switch) (IsLinear found.comparison (sum_at values found.places) found.bound)
+
 abbrev pub IsFormMet : Form → List IntSet → Type 0
 IsFormMet found sets = IsExcluded sets found.switch found.comparison (least_sum sets found.places) (greatest_sum sets found.places) found.bound
 
@@ -72,10 +82,9 @@ IsFormMet found sets = IsExcluded sets found.switch found.comparison (least_sum 
 abbrev pub IsLinMet : Constraint → List IntSet → Type 0
 IsLinMet constraint sets = IsSomeAnd (form_of constraint) (λ found. IsFormMet found sets)
 
--- the ends of the form's sum on these sets, and its test
-pub record IsTestOf (sets : List IntSet) (found : Form) (test : SumTest) : Type 0 where
-  pub least : test.ends.least ≡ least_sum sets found.places
-  pub greatest : test.ends.greatest ≡ greatest_sum sets found.places
-  pub comparison : test.comparison ≡ found.comparison
-  pub bound : test.bound ≡ found.bound
-  pub switch : test.switch ≡ found.switch
+-- places and a switch over this many variables, and numbers within the limits
+pub record Fits (count : ℕ) (found : Form) : Type 0 where
+  pub places_fit : All (IsPlace count) found.places
+  pub short : length found.places ≤ 2 * longest
+  pub bounded : IsSmall found.bound
+  pub switch_fits : IsSwitch count found.switch

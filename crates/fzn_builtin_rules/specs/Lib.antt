@@ -1,3 +1,4 @@
+pub mod Borrowed
 pub mod Choices
 pub mod Form
 pub mod Linear

@@ -1,13 +1,15 @@
 // The ends of sums on the present sets.
-ghost use Rattle.std.specs.Prelude.{◌≡◌, ◌+◌, ◌*◌, ◌≤◌, ◌+ℤ◌, pos, false, length, unsigned_abs};
+ghost use Rattle.std.specs.Prelude.{◌≡◌, ◌+◌, ◌*◌, ◌≤◌, ◌+ℤ◌, false, length, unsigned_abs};
 ghost use Rattle.std.specs.List.{All};
+ghost use Rattle.fzn_list.specs.Limits.{longest};
 ghost use Rattle.fzn_domain.specs.Limits.{IsInLimits};
 ghost use Rattle.fzn_domain.specs.Narrow.{is_some_empty};
 ghost use Rattle.fzn_meaning.specs.Term.{IsTerm, IsPlace};
 ghost use Rattle.fzn_builtin_rules.specs.Linear.{low_end, high_end, low_product, high_product, least_sum, greatest_sum};
-ghost use Rattle.fzn_builtin_rules.specs.Form.{each_with};
+ghost use Rattle.fzn_builtin_rules.specs.Borrowed.{places_in};
 
-use fzn_meaning::{Place, Sum, Term};
+use crate::form::Places;
+use fzn_meaning::Place;
 use fzn_state::{State, greatest_value, least_value};
 
 /// The least and the greatest value of a sum.
@@ -69,7 +71,7 @@ fn high_product(state: &State, place: Place) -> i128
 
 impl Ends {
     /// The ends of the sum with one more place.
-    pub(crate) fn plus(self, state: &State, place: Place) -> Ends
+    fn plus(self, state: &State, place: Place) -> Ends
         requires least { unsigned_abs self.least ≤ 1000000 * 1000000000000000000 }
         requires greatest { unsigned_abs self.greatest ≤ 1000000 * 1000000000000000000 }
         requires place { IsPlace (length state.now.sets) place }
@@ -84,55 +86,20 @@ impl Ends {
             greatest: self.greatest + high_product(state, place),
         }
     }
-
-    /// The ends of the sum with the coefficient times each term.
-    pub(crate) fn plus_each(self, state: &State, coefficient: i64, terms: &[Term]) -> Ends
-        requires least { unsigned_abs self.least ≤ 100000 * 1000000000000000000 }
-        requires greatest { unsigned_abs self.greatest ≤ 100000 * 1000000000000000000 }
-        requires coefficient { unsigned_abs coefficient ≤ 1000000000 }
-        requires terms { All (IsTerm (length state.now.sets)) terms.now }
-        requires short { length terms.now ≤ 100000 }
-        requires nonempty { is_some_empty state.now.sets ≡ false }
-        ensures least { result.least ≡ self.least +ℤ least_sum state.now.sets (each_with coefficient terms.now) }
-        ensures greatest { result.greatest ≡ self.greatest +ℤ greatest_sum state.now.sets (each_with coefficient terms.now) }
-        ensures bounded { unsigned_abs result.least ≤ unsigned_abs self.least + 100000 * 1000000000000000000 }
-        ensures bounded_above { unsigned_abs result.greatest ≤ unsigned_abs self.greatest + 100000 * 1000000000000000000 }
-    {
-        let mut ends = self;
-        for term in terms {
-            ends = ends.plus(
-                state,
-                Place {
-                    coefficient,
-                    term: *term,
-                },
-            );
-        }
-        ends
-    }
 }
 
-/// The ends of the empty sum.
-pub(crate) fn no_ends() -> Ends
-    ensures least { result.least ≡ pos 0 }
-    ensures greatest { result.greatest ≡ pos 0 }
+/// The ends of the sum over the places.
+pub(crate) fn ends_of(state: &State, places: &Places<'_>) -> Ends
+    requires places { All (IsPlace (length state.now.sets)) (places_in places.now) }
+    requires short { length (places_in places.now) ≤ 2 * longest }
+    requires nonempty { is_some_empty state.now.sets ≡ false }
+    ensures least { result.least ≡ least_sum state.now.sets (places_in places.now) }
+    ensures greatest { result.greatest ≡ greatest_sum state.now.sets (places_in places.now) }
 {
-    Ends {
+    let mut ends = Ends {
         least: 0,
         greatest: 0,
-    }
-}
-
-pub(crate) fn ends_of(state: &State, places: &Sum) -> Ends
-    requires places { All (IsPlace (length state.now.sets)) places.now }
-    requires short { length places.now ≤ 100000 }
-    requires nonempty { is_some_empty state.now.sets ≡ false }
-    ensures least { result.least ≡ least_sum state.now.sets places.now }
-    ensures greatest { result.greatest ≡ greatest_sum state.now.sets places.now }
-    ensures bounded { unsigned_abs result.least ≤ 100000 * 1000000000000000000 }
-    ensures bounded_above { unsigned_abs result.greatest ≤ 100000 * 1000000000000000000 }
-{
-    let mut ends = no_ends();
+    };
     for i in 0..places.len() {
         ends = ends.plus(state, places.place(i));
     }

@@ -6,13 +6,18 @@
 #![tactic(auto)]
 
 pub use choices::{is_enum_met, is_fixed_met};
+pub use form::{Form, Places, form_of};
+pub use law::{form_is_meant, relation_is_meant};
 pub use linear::is_lin_met;
+pub use outcome::outcome_of;
 pub use product::is_box_met;
 pub use rows::is_rows_met;
 
 mod choices;
 mod chosen;
 mod ends;
+mod form;
+mod law;
 mod linear;
 mod numbered;
 mod outcome;

@@ -176,14 +176,15 @@ fn arithmetic_fails(
 {
     let first = value_in(state, left, number);
     let second = value_in(state, right, rest_in(state, left, number));
-    match outcome(operation, &first, &second) {
+    match outcome_of(operation, &first, &second) {
         Some(value) => !may_be(state, of, &value),
         None => true,
     }
 }
 
-/// The result of the operation, and nothing where it has none.
-fn outcome(operation: Operation, left: &i64, right: &i64) -> Option<i64>
+/// The result of the operation on two numbers within the limits of a value, rounded towards 0, and nothing where the second is 0 and
+/// divides.
+pub fn outcome_of(operation: Operation, left: &i64, right: &i64) -> Option<i64>
     requires left { IsInLimits left.now }
     requires right { IsInLimits right.now }
     ensures { MatchOption result ((value : ℤ) → IsArithmetic operation left.now right.now value → ⊥) (λ found. (value : ℤ) → IsArithmetic operation left.now right.now value ↔ (found ≡ value)) }

@@ -1,7 +1,7 @@
 // The lines of a certificate from a reader, each with its fault.
 ghost use Rattle.std.specs.Prelude.{◌≡◌, ◌≤◌, ◌+◌, ◌++◌, ◌∷◌, [], Bool, Some, None, IfOk, IfErr, IfSome, IfNone, OnOk, OnErr};
 ghost use Rattle.std.specs.Io.KnownBytes.{Consumes, IsAtEnd};
-ghost use Rattle.fzn_cert.specs.Spelling.{step_line, end_line, version_text, counts_text, HasLine, IsSized};
+ghost use Rattle.fzn_cert.specs.Spelling.{step_text, step_line, end_line, version_text, counts_text, HasLine, IsSized};
 ghost use Rattle.fzn_cert_reader.specs.Input.{left_in};
 ghost use Rattle.fzn_cert.specs.declared.fault.FaultKind.TheVariants.{Trailing};
 ghost use Rattle.fzn_cert.specs.Stream.{IsFaultOf, IsTrailedBy, IsHeaderFaultOf, IsVersionText, IsCountsText};
@@ -15,7 +15,7 @@ use fzn_cert::{FaultKind, Step, Version};
 use std::alloc::Global;
 use std::io::Read;
 
-/// What is read of a certificate: the bytes, the line that was read last, and how far it came.
+/// The lines of a certificate, read one at a time: the bytes, the line that was read last, and how far it came.
 #[derive(Drop)]
 pub struct StepLines<R: Read> {
     pub bytes: Bytes<R>,
@@ -26,6 +26,26 @@ pub struct StepLines<R: Read> {
 }
 
 impl<R: Read + Drop> StepLines<R> {
+    /// Reads nothing.
+    pub fn new(alloc: Global, input: R) -> StepLines<R>
+        ensures fresh { left_in R.remaining result.bytes ≡ R.remaining input }
+        ensures none { (result.steps ≡ 0) × (result.closed ≡ None) }
+    {
+        StepLines {
+            bytes: Bytes::new(input),
+            line: Vec::new(alloc),
+            steps: 0,
+            closed: None,
+        }
+    }
+
+    /// The line that was read last, without its line feed.
+    pub fn line(&self) -> &[u8]
+        ensures { result.now ≡ self.now.line.items }
+    {
+        &self.line
+    }
+
     /// The step of the next line, and none once the last line was read and nothing follows it.
     pub fn next_step(&mut self, alloc: Global, version: Version) -> Result<Option<Step>, FaultKind>
         ensures line { IfOk result (λ found. IfSome found (HasLine version self.old.steps)) }
@@ -37,6 +57,8 @@ impl<R: Read + Drop> StepLines<R> {
         ensures err { IfErr result (IsFaultOf version self.old.steps (left_in R.remaining self.old.bytes)) }
         ensures same_steps { OnErr result (self.new.steps ≡ self.old.steps) }
         ensures trailed { IfErr result (λ kind. kind ≡ Trailing → IsTrailedBy (left_in R.remaining self.old.bytes) self.new.closed) }
+        ensures held { IfOk result (λ found. IfSome found (λ step. self.new.line.items ≡ step_text step)) }
+        ensures held_end { IfOk result (λ found. IfNone found (IfSome self.new.closed (λ closed. self.new.line.items ++ 10 ∷ [] ≡ end_line closed))) }
     {
         match next_line(&mut self.bytes, &mut self.line)? {
             LineEnd::Truncated => Err(FaultKind::Truncated),
@@ -81,6 +103,7 @@ impl<R: Read + Drop> StepLines<R> {
     pub fn read_counts(&mut self) -> Result<(u64, u64), FaultKind>
         ensures ok { IfOk result (λ counts. Consumes (left_in R.remaining self.old.bytes) (left_in R.remaining self.new.bytes) (counts_text counts.0 counts.1 ++ 10 ∷ [])) }
         ensures sized { IfOk result (λ counts. IsSized counts.0 × IsSized counts.1) }
+        ensures held { IfOk result (λ counts. self.new.line.items ≡ counts_text counts.0 counts.1) }
         ensures err { IfErr result (IsHeaderFaultOf IsCountsText (left_in R.remaining self.old.bytes)) }
         ensures same { (self.new.steps ≡ self.old.steps) × (self.new.closed ≡ self.old.closed) }
     {

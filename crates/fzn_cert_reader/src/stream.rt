@@ -6,7 +6,6 @@ ghost use Rattle.fzn_cert.specs.Spelling.{IsHeader};
 ghost use Rattle.fzn_cert_reader.specs.Input.{left_in};
 ghost use Rattle.fzn_cert.specs.Stream.{IsHeaderFault, line_of};
 
-use crate::input::Bytes;
 use crate::reader::StepLines;
 use fzn_cert::{CertFault, FaultKind, Header, Step, Version};
 use std::alloc::Global;
@@ -29,12 +28,7 @@ impl<R: Read + Drop> StepReader<R> {
         ensures fresh { IsFresh (R.remaining input) (progress R.remaining result) }
     {
         StepReader {
-            lines: StepLines {
-                bytes: Bytes::new(input),
-                line: Vec::new(alloc),
-                steps: 0,
-                closed: None,
-            },
+            lines: StepLines::new(alloc, input),
             header: None,
             fault_line: None,
         }
@@ -150,8 +144,8 @@ impl<R: Read + Drop> StepReader<R> {
     }
 }
 
-// The line of a fault after so many steps.
-fn line_of(kind: FaultKind, steps: u64) -> u64
+/// The line of a fault after so many steps.
+pub fn line_of(kind: FaultKind, steps: u64) -> u64
     requires { steps < 10 ^ 18 }
     ensures { result ≡ line_of kind steps }
 {

@@ -5,7 +5,7 @@ use Rattle.std.specs.Io.KnownBytes.{Keeps}
 use Rattle.fzn_meaning.specs.declared.model.Model.{Model}
 use Rattle.fzn_cert.specs.Verdict.{VerdictOn}
 use Rattle.fzn_checker.specs.declared.fault.CheckFault.{CheckFault}
-use Rattle.fzn_checker.specs.declared.fault.CheckFault.TheVariants.{File, Refused, Memory, Read, WriteOutput}
+use Rattle.fzn_checker.specs.declared.fault.CheckFault.TheVariants.{File, Refused, NotVersionOne, Memory, Read, WriteOutput, WriteCert}
 use Rattle.fzn_checker.specs.Answered.{States, IsCheckFault}
 use Rattle.fzn_checker.specs.Checked.{IsFaultWhere}
 
@@ -19,7 +19,9 @@ certificate-fault file cert all out model (File of) states f = absurd f
 certificate-fault file cert all out model (Refused line refusal) states f = (keeps-same out, (model, states, f))
 certificate-fault file cert all out model Memory states f = keeps-same out
 certificate-fault file cert all out model Read states f = keeps-same out
+certificate-fault file cert all out model NotVersionOne states f = absurd f
 certificate-fault file cert all out model WriteOutput states f = absurd f
+certificate-fault file cert all out model WriteCert states f = absurd f
 
 -- an error that is this fault
 pub error-is : {A : Type 0} (result : Result A CheckFault) (fault : CheckFault) (P : CheckFault → Type 0) → IsErrAnd result (λ e. e ≡ fault) → P fault → IfErr result P

@@ -18,7 +18,7 @@ use Rattle.fzn_cert_reader.specs.Reader.{Progress, lines_read, Gives, Ends, IsNe
 use Rattle.fzn_cert.specs.Verdict.{Outcome, accepted, refused, BeginsWith, VerdictFrom, VerdictOn}
 use Rattle.fzn_cert.proofs.VerdictLaws.{verdict-ends}
 use Rattle.fzn_checker.specs.declared.fault.CheckFault.{CheckFault}
-use Rattle.fzn_checker.specs.declared.fault.CheckFault.TheVariants.{File, Refused, Memory, Read, WriteOutput}
+use Rattle.fzn_checker.specs.declared.fault.CheckFault.TheVariants.{File, Refused, NotVersionOne, Memory, Read, WriteOutput, WriteCert}
 use Rattle.fzn_checker.specs.Checked.{IsFaultWhere, HasCounts, Standing, IsMidway, Accepts}
 use Rattle.fzn_checker.specs.Faults.{fault_of_kind, fault_after}
 use Rattle.fzn_checker.proofs.StandingLaws.{Consumes-split, standing-from, other-counts, none_is}
@@ -29,7 +29,9 @@ fault-weaker : (P Q : Outcome → Type 0) (fault : CheckFault) → ((outcome : O
 fault-weaker P Q (Refused line refusal) h f = h (refused line refusal) f
 fault-weaker P Q Memory h f = tt
 fault-weaker P Q Read h f = tt
+fault-weaker P Q NotVersionOne h f = f
 fault-weaker P Q WriteOutput h f = f
+fault-weaker P Q WriteCert h f = f
 fault-weaker P Q (File fault) h f = f
 
 -- one of the first two lines

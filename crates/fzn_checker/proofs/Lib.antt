@@ -4,4 +4,6 @@ mod FaultLaws
 mod GivenLemmas
 mod JudgeLemmas
 mod OrderLemmas
+mod RewriteLemmas
 mod StandingLaws
+mod VersionLemmas

@@ -10,7 +10,7 @@ use Rattle.fzn_reading.specs.Reads.{Reads}
 use Rattle.fzn_cert.specs.Verdict.{VerdictOn, accepted, refused}
 use Rattle.fzn_checker.specs.declared.certificate.Verdict.{Verdict}
 use Rattle.fzn_checker.specs.declared.fault.CheckFault.{CheckFault}
-use Rattle.fzn_checker.specs.declared.fault.CheckFault.TheVariants.{File, Refused, Memory, Read, WriteOutput}
+use Rattle.fzn_checker.specs.declared.fault.CheckFault.TheVariants.{File, Refused, NotVersionOne, Memory, Read, WriteOutput, WriteCert}
 
 -- a file's bytes, where the reader tells them, state this model
 abbrev pub States : Option (List ℕ) → Model → Type 0
@@ -39,5 +39,7 @@ IsCheckFault file cert all old new (File fault) = Keeps old new × IfSome file (
 IsCheckFault file cert all old new (Refused line refusal) = Keeps old new × ((model : Model) × States file model × VerdictOn model cert (refused line refusal))
 IsCheckFault file cert all old new Memory = Keeps old new
 IsCheckFault file cert all old new Read = Keeps old new
+IsCheckFault file cert all old new NotVersionOne = ⊥
+IsCheckFault file cert all old new WriteCert = ⊥
 IsCheckFault file cert all old new WriteOutput =
     (model : Model) × (found : List (List ℤ)) × (closed : Bool) × Shows file cert model found closed × AppendsFront old new (answer_text model found closed all)

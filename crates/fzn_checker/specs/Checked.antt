@@ -13,7 +13,7 @@ use Rattle.fzn_cert.specs.Accepted.{IsAccepted, HasFault, after}
 use Rattle.fzn_cert_reader.specs.Reader.{Progress, IsReading}
 use Rattle.fzn_cert.specs.Verdict.{Outcome, accepted, refused, MayEnd, VerdictOn, VerdictFrom}
 use Rattle.fzn_checker.specs.declared.fault.CheckFault.{CheckFault}
-use Rattle.fzn_checker.specs.declared.fault.CheckFault.TheVariants.{File, Refused, Memory, Read, WriteOutput}
+use Rattle.fzn_checker.specs.declared.fault.CheckFault.TheVariants.{Refused, Memory, Read}
 use Rattle.fzn_checker.specs.Judged.{HasBounds}
 
 -- A refusal is such an outcome. Want of memory and a failed read may come at any time.
@@ -21,8 +21,7 @@ abbrev pub IsFaultWhere : (Outcome → Type 0) → CheckFault → Type 0
 IsFaultWhere Holds (Refused line refusal) = Holds (refused line refusal)
 IsFaultWhere Holds Memory = Unit {0}
 IsFaultWhere Holds Read = Unit {0}
-IsFaultWhere Holds WriteOutput = ⊥
-IsFaultWhere Holds (File fault) = ⊥
+IsFaultWhere Holds _ = ⊥
 
 -- the first two lines tell the model's counts, in at most 18 digits
 abbrev pub HasCounts : Model → Header → Type 0

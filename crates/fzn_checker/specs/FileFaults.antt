@@ -3,7 +3,7 @@ use Rattle.std.specs.Prelude.{ℕ}
 use Rattle.fzn_reading.specs.declared.fault.ModelFault.{ModelFault}
 use Rattle.fzn_reading.specs.declared.fault.ModelFault.TheVariants as reading
 use Rattle.fzn_checker.specs.declared.fault.CheckFault.{CheckFault}
-use Rattle.fzn_checker.specs.declared.fault.CheckFault.TheVariants.{File, Refused, Memory, Read, WriteOutput}
+use Rattle.fzn_checker.specs.declared.fault.CheckFault.TheVariants.{File, Refused, NotVersionOne, Memory, Read, WriteOutput, WriteCert}
 
 abbrev pub fault_from : ModelFault → CheckFault
 fault_from (reading.File fault) = File fault
@@ -13,7 +13,9 @@ fault_from reading.Read = Read
 -- the exit status of a program that answers the fault
 abbrev pub status_of : CheckFault → ℕ
 status_of (Refused line refusal) = 1
+status_of NotVersionOne = 1
 status_of (File fault) = 2
 status_of Read = 4
 status_of WriteOutput = 4
+status_of WriteCert = 4
 status_of Memory = 5

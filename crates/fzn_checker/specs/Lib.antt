@@ -4,3 +4,4 @@ pub mod Faults
 pub mod FileFaults
 pub mod Given
 pub mod Judged
+pub mod Rewritten

@@ -18,12 +18,17 @@ pub enum CheckFault {
     /// The first faulty line of the certificate, and what is wrong with it.
     #[error("certificate line {line}: {refusal}")]
     Refused { line: u64, refusal: Refusal },
+    /// The certificate that is to be written anew says version 2 in its first line.
+    #[error("certificate line 1: fault 50 NotVersionOne")]
+    NotVersionOne,
     #[error("fault 19 Memory")]
     Memory,
     #[error("fault 20 Read")]
     Read,
     #[error("fault 21 WriteOutput")]
     WriteOutput,
+    #[error("fault 22 WriteCert")]
+    WriteCert,
 }
 
 impl CheckFault {
@@ -32,9 +37,9 @@ impl CheckFault {
         ensures { result ≡ status_of self }
     {
         match self {
-            CheckFault::Refused { .. } => 1,
+            CheckFault::Refused { .. } | CheckFault::NotVersionOne => 1,
             CheckFault::File(_) => 2,
-            CheckFault::Read | CheckFault::WriteOutput => 4,
+            CheckFault::Read | CheckFault::WriteOutput | CheckFault::WriteCert => 4,
             CheckFault::Memory => 5,
         }
     }

@@ -8,6 +8,7 @@
 pub use answer::check;
 pub use certificate::{Accepted, Verdict, check_certificate};
 pub use fault::CheckFault;
+pub use rewrite::to2;
 
 mod answer;
 mod certificate;
@@ -17,5 +18,6 @@ mod given;
 mod history;
 mod judge;
 mod next;
+mod rewrite;
 mod solution;
 mod steps;

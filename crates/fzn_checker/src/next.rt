@@ -71,7 +71,7 @@ fn has_counts<R: Read + Drop>(model: &Model, reader: &StepReader<R>) -> bool
 
 /// What a reader's fault says of the certificate. An ending that says closed without the empty clause is wrong by itself, before the byte
 /// after it.
-fn fault_after(fault: CertFault, closed: Option<bool>, is_refuted: bool) -> CheckFault
+pub fn fault_after(fault: CertFault, closed: Option<bool>, is_refuted: bool) -> CheckFault
     requires kind { IsReadFault fault.kind }
     requires line { 1 ≤ fault.line }
     ensures { result ≡ fault_after fault closed is_refuted }

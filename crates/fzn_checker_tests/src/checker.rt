@@ -106,6 +106,12 @@ fn messages(rt: HostRuntime) -> Result<(), Fail> {
         (CheckFault::Memory, "fault 19 Memory", 5),
         (CheckFault::Read, "fault 20 Read", 4),
         (CheckFault::WriteOutput, "fault 21 WriteOutput", 4),
+        (CheckFault::WriteCert, "fault 22 WriteCert", 4),
+        (
+            CheckFault::NotVersionOne,
+            "certificate line 1: fault 50 NotVersionOne",
+            1,
+        ),
     ];
     for (fault, line, status) in cases {
         let text = format!(in alloc; "{fault}")?;

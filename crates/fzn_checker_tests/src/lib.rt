@@ -14,4 +14,6 @@ mod printer;
 #[cfg(test)]
 mod reader;
 #[cfg(test)]
+mod rewrite;
+#[cfg(test)]
 mod writer;

@@ -12,10 +12,10 @@ const ROW: &[u8] =
 
 // Gives `most` bytes a call, and fails at the end where it is to.
 #[derive(Drop)]
-struct Cut<'a> {
-    bytes: &'a [u8],
-    most: usize,
-    fails: bool,
+pub(crate) struct Cut<'a> {
+    pub(crate) bytes: &'a [u8],
+    pub(crate) most: usize,
+    pub(crate) fails: bool,
 }
 
 impl Read for Cut<'_> {

@@ -14,10 +14,10 @@ use std::test::Fail;
 
 // Takes three bytes a call up to `room`, and then fails or takes none.
 #[derive(Drop)]
-struct Narrow {
-    taken: Vec<u8>,
-    room: usize,
-    fails: bool,
+pub(crate) struct Narrow {
+    pub(crate) taken: Vec<u8>,
+    pub(crate) room: usize,
+    pub(crate) fails: bool,
 }
 
 impl Write for Narrow {

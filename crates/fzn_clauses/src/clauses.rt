@@ -1,30 +1,30 @@
 // Two places of each clause are watched: it is looked at again where one of them may have become false.
-ghost use Rattle.std.specs.Prelude.{◌≡◌, ◌≢◌, ◌↔◌, ◌<◌, ◌≤◌, [], ◌∷◌, ◌++◌, List, length, true, Some, slice_set, IsTrue, IfOk, OnOk, OnErr, IfSome, IfNone, None};
+ghost use Rattle.std.specs.Prelude.{◌≡◌, ◌≢◌, ◌↔◌, ◌<◌, ◌≤◌, ◌+◌, [], ◌∷◌, ◌++◌, List, length, true, Some, slice_set, IsTrue, IfOk, OnOk, OnErr, IfSome, IfNone, None};
 ghost use Rattle.std.specs.Bool.{OnTrue, OnFalse};
 ghost use Rattle.fzn_domain.specs.IntSet.{IntSet};
 ghost use Rattle.fzn_domain.specs.Narrow.{IsVariable, IsClauseOver};
 ghost use Rattle.fzn_trail.specs.Levels.{NoneEmpty, fresh};
-ghost use Rattle.fzn_clauses.specs.Guard.{literal_at, IsPair, IsPossibleAt};
+ghost use Rattle.fzn_clauses.specs.Guard.{literal_at, IsPair, IsPossibleAt, IsSatisfied};
 ghost use Rattle.fzn_clauses.specs.Held.{IsHeld, clause_of, AllHeld, held_in};
-ghost use Rattle.fzn_clauses.specs.Kept.{IsLast, KeepsRuns, KeepsRunning, KeepsWatching, LooksAt, Unwinds, Visits, VisitsAll, VisitsEntry};
+ghost use Rattle.fzn_clauses.specs.Kept.{AreSpared, IsLast, KeepsRuns, KeepsRunning, KeepsWatching, LooksAt, Unwinds, Visits, VisitsAll, VisitsEntry};
 ghost use Rattle.fzn_clauses.specs.Propagation.{IsPropagated, IsConflict, AllSettled};
 ghost use Rattle.fzn_clauses.specs.Watched.{watched_at, removed, added};
-ghost use Rattle.fzn_clauses.specs.Watching.{held_by, IsOn, IsTidy, Enlists, IsRewatched, IsReady, IsWatching, AreVariables, Ran, Settles};
-ghost use Rattle.fzn_clauses.specs.Lists.{list_at};
-ghost use Rattle.fzn_clauses.specs.State.{AreBothPossible};
+ghost use Rattle.fzn_clauses.specs.Watching.{held_by, IsAt, IsOn, IsTidy, Enlists, IsRewatched, IsReady, IsWatching, AreVariables, Ran, Settles};
+ghost use Rattle.fzn_clauses.specs.Keys.{key_at};
+ghost use Rattle.fzn_clauses.specs.Lists.{list_at, AreLonger};
 ghost use Rattle.fzn_clauses.specs.declared.clauses.Look.TheVariants.{Conflict};
 ghost use Rattle.fzn_clauses.specs.declared.clauses.Visit.TheVariants.{Refuted, Leaves};
 ghost use Rattle.fzn_clauses.specs.Looks.{IsForced, LooksAs};
 
 use crate::arena::{Arena, Pair};
 use crate::keys::{OPERATORS, key_of, operator_at};
-use crate::lists::Lists;
-use crate::state::{ClauseState, can_fail, can_falsify, is_possible_at, state_of};
-use fzn_domain::{Lit, Memory};
+use crate::lists::{Lists, Watcher};
+use crate::state::{ClauseState, can_fail, can_falsify, is_certain_at, may_have_fallen, state_of};
+use fzn_domain::{Lit, Memory, Op};
 use fzn_trail::{ClauseId, Reason, Trail};
 use std::alloc::Global;
 
-/// A clause that was looked at when this many entries stood, and had one possible literal.
+/// A clause that had one possible literal when it was looked at, after the visits of this many entries.
 #[derive(Clone, Copy, Debug)]
 struct Again {
     k: usize,
@@ -152,7 +152,7 @@ impl Clauses {
         }
     }
 
-    /// What was looked at when as many entries stood, or more, is to be looked at again.
+    /// What was looked at after the visits of as many entries, or more, is to be looked at again.
     fn unwind(&mut self, entries: usize) -> Result<(), Memory>
         ensures arena { self.new.arena ≡ self.old.arena }
         ensures lists { self.new.lists ≡ self.old.lists }
@@ -217,7 +217,7 @@ impl Clauses {
             Look::One => {
                 let again = Again {
                     k,
-                    entries: trail.len(),
+                    entries: trail.seen(),
                 };
                 self.again.push(again)?;
                 Ok(false)
@@ -264,7 +264,7 @@ impl Clauses {
         while place < OPERATORS {
             let op = operator_at(place);
             if can_falsify(trail.domain(lit.var), lit, op) {
-                if let Some(k) = self.visit_all(key_of(lit.var, op), trail)? {
+                if let Some(k) = self.visit_all(lit, op, trail)? {
                     return Ok(Some(k));
                 }
             }
@@ -273,49 +273,77 @@ impl Clauses {
         Ok(None)
     }
 
-    /// Visits the clauses that watch a literal of this key.
-    fn visit_all(&mut self, key: usize, trail: &mut Trail) -> Result<Option<usize>, Memory>
-        requires { IsReady self.old trail.old }
+    /// Visits the clauses that watch a literal with this operator which the entry may have made false.
+    fn visit_all(&mut self, entry: Lit, op: Op, trail: &mut Trail) -> Result<Option<usize>, Memory>
+        requires var { IsVariable (length trail.old.declared) entry.var }
+        requires ready { IsReady self.old trail.old }
         ensures ran { Ran self.old self.new trail.old trail.new }
         ensures ready { OnOk result (IsReady self.new trail.new) }
         ensures conflict { IfOk result (λ found. IfSome found (λ k. IsConflict (held_by self.old) trail.new.sets (record { 0 = k }))) }
         ensures keeps { OnOk result (KeepsRuns self.old self.new trail.old trail.new) }
         ensures pending { OnOk result (self.new.pending ≡ self.old.pending) }
         ensures mark { OnOk result (trail.new.mark ≡ trail.old.mark) }
-        ensures all { IfOk result (λ found. IfNone found (VisitsAll key self.old self.new trail.old trail.new)) }
+        ensures all { IfOk result (λ found. IfNone found (VisitsAll entry (key_at entry.var op) self.old self.new trail.old trail.new)) }
     {
-        let mut j = 0;
-        while j < self.lists.len(key) {
-            let k = self.lists.at(key, j);
-            match self.visit(k, key, trail)? {
-                Visit::Refuted => return Ok(Some(k)),
-                Visit::Stays => j += 1,
+        let key = key_of(entry.var, op);
+        let mut end = self.lists.len(key);
+        while let Some(j) = self.last_fallen(entry, op, end, trail) {
+            let watcher = self.lists.at(key, j);
+            end = j;
+            match self.visit(watcher, key, trail)? {
+                Visit::Refuted => return Ok(Some(watcher.k)),
+                Visit::Stays => {}
                 Visit::Leaves => self.lists.take_out(key, j),
             }
         }
         Ok(None)
     }
 
+    /// The last place before this one in the list of the variable and the operator where the entry may have made the literal false.
+    fn last_fallen(&self, entry: Lit, op: Op, end: usize, trail: &Trail) -> Option<usize>
+        requires var { IsVariable (length trail.now.declared) entry.var }
+        requires within { end ≤ length (list_at self.now.lists (key_at entry.var op)) }
+        ensures found { IfSome result (λ j. (j < end) × AreSpared entry trail.now.sets (key_at entry.var op) (list_at self.now.lists (key_at entry.var op)) (j + 1) end) }
+        ensures none { IfNone result (AreSpared entry trail.now.sets (key_at entry.var op) (list_at self.now.lists (key_at entry.var op)) 0 end) }
+    {
+        let key = key_of(entry.var, op);
+        let domain = trail.domain(entry.var);
+        let mut j = end;
+        while j > 0 {
+            j -= 1;
+            let watcher = self.lists.at(key, j);
+            let lit = Lit {
+                var: entry.var,
+                op,
+                value: watcher.value,
+            };
+            if may_have_fallen(domain, lit, entry, key) {
+                return Some(j);
+            }
+        }
+        None
+    }
+
     /// Visits a clause in the list of this key.
-    fn visit(&mut self, k: usize, key: usize, trail: &mut Trail) -> Result<Visit, Memory>
+    fn visit(&mut self, watcher: Watcher, key: usize, trail: &mut Trail) -> Result<Visit, Memory>
         requires { IsReady self.old trail.old }
         ensures ran { Ran self.old self.new trail.old trail.new }
         ensures ready { OnOk result (IsReady self.new trail.new) }
-        ensures conflict { IfOk result (λ visit. visit ≡ Refuted → IsConflict (held_by self.old) trail.new.sets (record { 0 = k })) }
-        ensures same { OnOk result (list_at self.new.lists key ≡ list_at self.old.lists key) }
-        ensures leaves { IfOk result (λ visit. visit ≡ Leaves → ¬ (IsOn self.new.arena k key)) }
-        ensures visits { IfOk result (Visits k key self.old self.new trail.old trail.new) }
+        ensures conflict { IfOk result (λ visit. visit ≡ Refuted → IsConflict (held_by self.old) trail.new.sets (record { 0 = watcher.k })) }
+        ensures longer { OnOk result (AreLonger self.old.lists self.new.lists) }
+        ensures leaves { IfOk result (λ visit. visit ≡ Leaves → ¬ (IsOn self.new.arena watcher key)) }
+        ensures visits { IfOk result (Visits watcher key self.old self.new trail.old trail.new) }
     {
-        if !self.is_watching(k, key) {
+        if !self.is_watching(watcher, key) {
             return Ok(Visit::Leaves);
         }
-        if self.is_quiet(k, trail) {
+        if self.is_satisfied(watcher.k, trail) {
             return Ok(Visit::Stays);
         }
-        match self.settle(k, trail)? {
+        match self.settle(watcher.k, trail)? {
             Look::Conflict => Ok(Visit::Refuted),
             _ => {
-                if self.is_watching(k, key) {
+                if self.is_watching(watcher, key) {
                     Ok(Visit::Stays)
                 } else {
                     Ok(Visit::Leaves)
@@ -324,33 +352,31 @@ impl Clauses {
         }
     }
 
-    /// Whether the clause is held and watches a literal of this key.
-    fn is_watching(&self, k: usize, key: usize) -> bool
+    /// Whether the clause is held and watches the literal of this key and this value.
+    fn is_watching(&self, watcher: Watcher, key: usize) -> bool
         requires { IsTidy self.now.arena self.now.lists }
-        ensures { IsTrue result ↔ IsOn self.now.arena k key }
+        ensures { IsTrue result ↔ IsOn self.now.arena watcher key }
     {
+        let k = watcher.k;
         if k >= self.arena.len() || !self.arena.is_live(k) || !self.arena.is_listed(k) {
             return false;
         }
         let clause = self.arena.clause(k);
         let pair = self.arena.pair(k);
-        let first = clause[pair.first];
-        let second = clause[pair.second];
-        key_of(first.var, first.op) == key || key_of(second.var, second.op) == key
+        is_at(clause[pair.first], watcher, key) || is_at(clause[pair.second], watcher, key)
     }
 
-    /// Whether both watched literals are possible.
-    fn is_quiet(&self, k: usize, trail: &Trail) -> bool
+    /// Whether one of the watched literals is true at every value that is left.
+    fn is_satisfied(&self, k: usize, trail: &Trail) -> bool
         requires in_range { k < length self.now.arena }
         requires over { IsClauseOver (length trail.now.declared) (watched_at self.now.arena k).clause }
-        ensures { OnTrue result (AreBothPossible trail.now.sets
+        requires filled { NoneEmpty trail.now.sets }
+        ensures { OnTrue result (IsSatisfied trail.now.sets
             (watched_at self.now.arena k).clause (watched_at self.now.arena k).pair) }
     {
         let pair = self.arena.pair(k);
         let clause = self.arena.clause(k);
-        pair.first != pair.second
-            && is_possible_at(clause, trail, pair.first)
-            && is_possible_at(clause, trail, pair.second)
+        is_certain_at(clause, trail, pair.first) || is_certain_at(clause, trail, pair.second)
     }
 
     /// Watches two possible literals of the clause; or asserts the one that is possible, if it is not yet true.
@@ -359,7 +385,7 @@ impl Clauses {
         requires live { (watched_at self.old.arena k).live ≡ true }
         requires ready { IsReady self.old trail.old }
         ensures ok { IfOk result (LooksAs k self.old self.new trail.old trail.new) }
-        ensures settled { OnOk result (Settles k self.old self.new) }
+        ensures settled { OnOk result (Settles self.old self.new) }
         ensures ran { Ran self.old self.new trail.old trail.new }
         ensures ready { OnOk result (IsReady self.new trail.new) }
         ensures conflict { IfOk result (λ look. look ≡ Conflict → IsConflict (held_by self.old) trail.new.sets (record { 0 = k })) }
@@ -391,24 +417,36 @@ impl Clauses {
     {
         let first = self.arena.clause(k)[pair.first];
         let second = self.arena.clause(k)[pair.second];
-        self.enlist(k, key_of(first.var, first.op))?;
-        self.enlist(k, key_of(second.var, second.op))?;
+        self.enlist(k, first)?;
+        self.enlist(k, second)?;
         self.arena.watch(k, pair);
         Ok(())
     }
 
-    /// Puts the clause into the list of this key, if it is not there.
-    fn enlist(&mut self, k: usize, key: usize) -> Result<(), Memory>
+    /// Puts the clause into the list of this literal, if it does not watch it yet.
+    fn enlist(&mut self, k: usize, lit: Lit) -> Result<(), Memory>
         requires { IsTidy self.old.arena self.old.lists }
-        ensures ok { OnOk result (Enlists k key self.old self.new) }
+        ensures ok { OnOk result (Enlists k lit self.old self.new) }
         ensures err { OnErr result (self.new.arena ≡ self.old.arena) }
     {
-        if self.is_watching(k, key) {
+        let watcher = Watcher {
+            k,
+            value: lit.value,
+        };
+        let key = key_of(lit.var, lit.op);
+        if self.is_watching(watcher, key) {
             return Ok(());
         }
-        self.lists.push(key, k)?;
+        self.lists.push(key, watcher)?;
         Ok(())
     }
+}
+
+/// Whether the literal has the value of the watcher and stands in the list of this key.
+fn is_at(lit: Lit, watcher: Watcher, key: usize) -> bool
+    ensures { IsTrue result ↔ IsAt lit watcher.value key }
+{
+    lit.value == watcher.value && key_of(lit.var, lit.op) == key
 }
 
 /// Asserts the literal, if it is not yet true.

@@ -10,14 +10,15 @@ use Rattle.fzn_domain.specs.Narrow.{IsVariable, IsOpen, narrowed}
 use Rattle.fzn_clauses.specs.Held as numbered
 use Rattle.fzn_conflict.specs.declared.source.Source.{Source}
 use Rattle.fzn_conflict.specs.declared.source.Source.TheVariants.{Held, Stacked}
+use Rattle.fzn_trail.specs.declared.trail.ClauseId.{ClauseId}
 use Rattle.fzn_trail.specs.declared.trail.Entry.{Entry}
 use Rattle.fzn_trail.specs.declared.trail.Reason.{Reason}
 use Rattle.fzn_trail.specs.declared.trail.Reason.TheVariants.{Decision}
 use Rattle.fzn_trail.specs.Levels.{Levels, standing, level_of, fresh, pushed, asserted, restored, returned}
 use Rattle.fzn_trail.proofs.CallerLemmas.{returned-present}
-use Rattle.fzn_conflict.specs.Reasoned.{Known, reason_of, IsBelow, cut_at, IsForcedFrom, open_at, IsReason, Leads, Open, opens, IsStanding, IsReasoned, negated_decisions}
+use Rattle.fzn_conflict.specs.Reasoned.{Known, reason_of, IsBelow, cut_at, IsOther, without, IsForcedFrom, open_at, IsReason, Leads, Open, opens, IsStanding, IsReasoned, negated_decisions}
 use Rattle.fzn_conflict.proofs.KnownLemmas.{grown, stacked_more, All-front}
-use Rattle.fzn_conflict.proofs.EntryLemmas.{after, Leads-after, Leads-append, Leads-grown, Leads-stacked, Leads-below, opens-append, front_cases}
+use Rattle.fzn_conflict.proofs.EntryLemmas.{after, Leads-after, Leads-append, Leads-grown, Leads-stacked, Leads-below, Leads-without, opens-append, front_cases}
 use Rattle.fzn_conflict.proofs.DecisionLemmas.{slice_get_front, slice_get_at, slice_get_take, opens-below, returned-standing}
 pub use Rattle.fzn_conflict.proofs.DecisionLemmas.{length-reasoned, narrower-reasoned, filled-reasoned, length-opens, taken-reasoned, IsDecisionAt, decision_at}
 
@@ -80,6 +81,26 @@ IsReasoned-cut known n trail low reasoned = record {
     leads = Leads-below known n stands.stood.entries trail.declared stands.stood.sets
         (All-front (λ (entry : Entry). IsBelow n entry.reason) stands.stood.entries (record { lit = stands.lit; reason = Decision; level = stands.level } ∷ stands.later)
         (subst (All (λ (entry : Entry). IsBelow n entry.reason)) stands.parts low))
+        stands.leads;
+    below = stands.below;
+  };
+}
+
+-- a held clause that is no reason may be taken out
+pub IsReasoned-without : (known : Known) (id : ClauseId) (trail : Levels) → All (λ (entry : Entry). IsOther id entry.reason) trail.entries → IsReasoned known trail → IsReasoned (without id known) trail
+IsReasoned-without known id trail apart reasoned = record {
+  leads = Leads-without known id trail.entries trail.declared trail.sets apart reasoned.leads;
+  one_each = reasoned.one_each;
+  standing = λ k below. let stands = reasoned.standing k below in record {
+    stood = stands.stood;
+    here = stands.here;
+    lit = stands.lit;
+    level = stands.level;
+    later = stands.later;
+    parts = stands.parts;
+    leads = Leads-without known id stands.stood.entries trail.declared stands.stood.sets
+        (All-front (λ (entry : Entry). IsOther id entry.reason) stands.stood.entries (record { lit = stands.lit; reason = Decision; level = stands.level } ∷ stands.later)
+        (subst (All (λ (entry : Entry). IsOther id entry.reason)) stands.parts apart))
         stands.leads;
     below = stands.below;
   };

@@ -9,14 +9,15 @@ use Rattle.fzn_domain.proofs.NarrowLemmas.{length-narrowed}
 use Rattle.fzn_clauses.specs.Held as numbered
 use Rattle.fzn_conflict.specs.declared.source.Source.{Source}
 use Rattle.fzn_conflict.specs.declared.source.Source.TheVariants.{Held, Stacked}
+use Rattle.fzn_trail.specs.declared.trail.ClauseId.{ClauseId}
 use Rattle.fzn_trail.specs.declared.trail.Entry.{Entry}
 use Rattle.fzn_trail.specs.declared.trail.Reason.{Reason}
 use Rattle.fzn_trail.specs.declared.trail.Reason.TheVariants.{Decision, Clause, Inference}
 use Rattle.fzn_trail.specs.Levels.{IsNarrower, NoneEmpty}
 use Rattle.fzn_trail.proofs.CallerLemmas.{IsNarrower-narrowed, NoneEmpty-narrowed}
 use Rattle.fzn_conflict.specs.Learned.{reason_before, reasons}
-use Rattle.fzn_conflict.proofs.KnownLemmas.{grown, IsForcedFrom-grown, stacked_more, IsForcedFrom-stacked, IsForcedFrom-below}
-use Rattle.fzn_conflict.specs.Reasoned.{IsBelow, cut_at}
+use Rattle.fzn_conflict.proofs.KnownLemmas.{grown, IsForcedFrom-grown, stacked_more, IsForcedFrom-stacked, IsForcedFrom-below, IsForcedFrom-without}
+use Rattle.fzn_conflict.specs.Reasoned.{IsBelow, cut_at, IsOther, without}
 use Rattle.fzn_conflict.specs.Reasoned.{Known, IsKnown, clause_of, IsReason, Leads, Open, open_at, opens}
 use Rattle.fzn_conflict.proofs.NarrowerLemmas.{IsTrueOn, IsNarrower-self, IsNarrower-through, IsTrueOn-narrower, IsTrueOn-narrowed, possible_if_unit}
 
@@ -88,6 +89,20 @@ Leads-below known n (entry ∷ later) from to low leads = (
   leads.0,
   IsReason-below known n from entry.lit entry.reason (All-head (λ (e : Entry). IsBelow n e.reason) entry later low) leads.1,
   Leads-below known n later (narrowed from entry.lit) to (All-tail (λ (e : Entry). IsBelow n e.reason) entry later low) leads.2,
+)
+
+-- and where a clause is taken out that is none of the reasons
+IsReason-without : (known : Known) (id : ClauseId) (sets : List IntSet) (lit : Lit) (reason : Reason) → IsOther id reason → IsReason known sets lit reason → IsReason (without id known) sets lit reason
+IsReason-without known id sets lit Decision apart h = h
+IsReason-without known id sets lit (Clause other) apart h = IsForcedFrom-without known id sets lit (Held other) apart h
+IsReason-without known id sets lit (Inference place) apart h = h
+
+pub Leads-without : (known : Known) (id : ClauseId) (entries : List Entry) (from to : List IntSet) → All (λ (entry : Entry). IsOther id entry.reason) entries → Leads known from entries to → Leads (without id known) from entries to
+Leads-without known id [] from to apart leads = leads
+Leads-without known id (entry ∷ later) from to apart leads = (
+  leads.0,
+  IsReason-without known id from entry.lit entry.reason (All-head (λ (e : Entry). IsOther id e.reason) entry later apart) leads.1,
+  Leads-without known id later (narrowed from entry.lit) to (All-tail (λ (e : Entry). IsOther id e.reason) entry later apart) leads.2,
 )
 
 possible_by_reason : (known : Known) (sets : List IntSet) (lit : Lit) (reason : Reason) → IsReason known sets lit reason → is_possible (set_of sets lit.var) lit ≡ true

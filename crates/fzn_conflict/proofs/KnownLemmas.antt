@@ -1,6 +1,8 @@
 -- Known clauses as they become more or fewer.
-use Rattle.std.proofs.Common.{◌≡◌, ℕ, List, [], ◌∷◌, ◌++◌, length-append, refl, ap, ◌∙◌, arith, All}
-use Rattle.std.proofs.lemmas.List.{get_or_append_left, get_or-take, length-take}
+use Rattle.std.proofs.Common.{◌≡◌, ℕ, List, [], ◌∷◌, ◌++◌, length-append, refl, sym, ap, subst, ◌∙◌, arith, All, Option, None}
+use Rattle.std.specs.Prelude.{IsSome}
+use Rattle.std.specs.Option.{unwrap_or}
+use Rattle.std.proofs.lemmas.List.{get_or_append_left, get_or-set_other, get_or-take, length-take}
 use Rattle.std.proofs.lemmas.List.Elements.{All-nil, All-cons, All-head, All-tail}
 use Rattle.fzn_domain.specs.declared.literal.Lit.{Lit}
 use Rattle.fzn_domain.specs.IntSet.{IntSet}
@@ -9,7 +11,8 @@ use Rattle.fzn_clauses.specs.Held as numbered
 use Rattle.fzn_clauses.proofs.HeldLemmas as still
 use Rattle.fzn_conflict.specs.declared.source.Source.{Source}
 use Rattle.fzn_conflict.specs.declared.source.Source.TheVariants.{Held, Stacked}
-use Rattle.fzn_conflict.specs.Reasoned.{Known, IsKnown, clause_of, reason_of, cut_at, IsBelow, IsForcedFrom}
+use Rattle.fzn_trail.specs.declared.trail.ClauseId.{ClauseId}
+use Rattle.fzn_conflict.specs.Reasoned.{Known, IsKnown, clause_of, reason_of, cut_at, IsBelow, without, IsOther, IsForcedFrom}
 
 -- more held clauses, and more inferences
 abbrev pub grown : numbered.Held → Known → Known
@@ -50,6 +53,13 @@ IsForcedFrom-below known n sets lit (Stacked place) low h = (
   omega (arith, length-take n known.stacked, low, h.0),
   (ap (possible_in sets) (get_or-take n known.stacked place [] low) ∙ h.1.0, h.1.1),
 )
+
+-- where another held clause is taken out
+pub IsForcedFrom-without : (known : Known) (id : ClauseId) (sets : List IntSet) (lit : Lit) (source : Source) → IsOther id (reason_of source) → IsForcedFrom known sets lit source → IsForcedFrom (without id known) sets lit source
+IsForcedFrom-without known id sets lit (Held other) apart h =
+    let e = get_or-set_other known.held id.0 other.0 None None apart in
+    (subst IsSome (sym e) h.0, (ap (λ (o : Option (List Lit)). possible_in sets (unwrap_or o [])) e ∙ h.1.0, h.1.1))
+IsForcedFrom-without known id sets lit (Stacked place) apart h = h
 
 -- what holds of all of a list holds of its front
 pub All-front : {X : Type 0} (P : X → Type 0) (xs ys : List X) → All P (xs ++ ys) → All P xs

@@ -1,18 +1,18 @@
 // What is learned, in both ways.
-ghost use Rattle.std.specs.Prelude.{◌≡◌, ◌++◌, ◌∷◌, [], IfOk, OnOk, length};
+ghost use Rattle.std.specs.Prelude.{◌≡◌, ◌++◌, ◌∷◌, [], IfOk, IfSome, OnOk, length};
 ghost use Rattle.std.specs.List.{All};
 ghost use Rattle.fzn_domain.specs.Limits.{IsLimited};
 ghost use Rattle.fzn_state.specs.State.{start};
 ghost use Rattle.fzn_conflict.specs.declared.analysis.Learn.TheVariants.{Plain};
-ghost use Rattle.fzn_conflict.specs.Learned.{IsConflicting, IsLearned, IsPlain};
+ghost use Rattle.fzn_conflict.specs.Learned.{IsConflicting, IsDerived, IsLearned, IsPlain};
 ghost use Rattle.fzn_conflict.specs.Reasoned.{known_of, AreOver, IsReasoned};
 
-use crate::first_uip::first_uip;
+use crate::first_uip::{first_uip, unit_clause};
 use crate::implications::Implications;
 use crate::marks::Marks;
 use crate::plain::{plain_clause, plain_sources};
 use crate::source::Source;
-use crate::trial::is_sound;
+use crate::trial::{is_derived, is_sound};
 use fzn_clauses::Clauses;
 use fzn_domain::{Lit, Memory};
 use fzn_inferences::Inferences;
@@ -37,6 +37,8 @@ pub struct Learned {
     pub sources: Items<Source>,
     /// Where the search goes back to.
     pub level: usize,
+    /// How many levels its literals stand on.
+    pub levels: usize,
     /// What was needed of the entries that the analysis looked at, once for each; none for the plain clause.
     pub marked: Items<Lit>,
 }
@@ -59,6 +61,7 @@ fn plain(
         clause: plain_clause(alloc, trail, clauses, inferences)?,
         sources: plain_sources(alloc, trail, conflict)?,
         level: trail.level().saturating_sub(1),
+        levels: trail.level(),
         marked: Items::new(alloc),
     })
 }
@@ -127,4 +130,35 @@ fn first_or_plain(
     }
     let learned = plain(alloc, trail, clauses, inferences, conflict)?;
     Ok(learned)
+}
+
+/// The literal of an entry of level 0 as a clause of its own, where it follows from what stands for the entries that it rests on, and
+/// its reason. The state has the declared sets, and is restored.
+pub fn unit_of(
+    alloc: Global,
+    trail: &Trail,
+    clauses: &Clauses,
+    inferences: &Inferences,
+    state: &mut State,
+    marks: &mut Marks,
+    place: usize,
+) -> Result<Option<Learned>, Memory>
+    requires over { AreOver (length trail.now.declared) (known_of clauses.now inferences.now) }
+    requires fresh { state.old ≡ start trail.now.declared }
+    ensures derived { IfOk result (λ found. IfSome found (IsDerived (known_of clauses.now inferences.now) trail.now.declared)) }
+    ensures fresh { OnOk result (state.new ≡ start trail.now.declared) }
+{
+    let graph = Implications {
+        trail,
+        clauses,
+        inferences,
+        vars: state.len(),
+    };
+    let Some(unit) = unit_clause(alloc, graph, marks, place)? else {
+        return Ok(None);
+    };
+    if is_derived(trail, clauses, inferences, state, &unit)? {
+        return Ok(Some(unit));
+    }
+    Ok(None)
 }

@@ -27,13 +27,15 @@ pub fn first_uip(
         }
         minimise(graph, marks, level, &mut kept, &mut replaced)?;
     }
-    replace_level_0(graph, marks, &mut replaced)?;
+    let mut units = Items::new(alloc);
+    replace_level_0(graph, marks, &mut replaced, &mut units)?;
     let clause = widest(alloc, graph, marks, &kept)?;
     replaced.sort_unstable();
     Ok(Learned {
         clause: denied(alloc, graph, marks, &clause)?,
-        sources: sources_of(alloc, graph, &replaced, conflict)?,
+        sources: sources_of(graph, units, &replaced, conflict)?,
         level: second_level(graph, &clause),
+        levels: count_levels(graph, &clause),
         marked: marked_literals(alloc, graph, marks)?,
     })
 }
@@ -98,11 +100,13 @@ fn minimise(
     Ok(())
 }
 
-/// Replaces all marked entries of level 0, and those that they rest on: a chain begins at the declared sets.
+/// Replaces all marked entries of level 0: by clauses that stand for them, or by their reasons and those that they rest on. A chain
+/// begins at the declared sets.
 fn replace_level_0(
     graph: Implications,
     marks: &mut Marks,
     replaced: &mut Vec<usize>,
+    units: &mut Items<Source>,
 ) -> Result<(), Memory> {
     for i in 0..graph.trail.len() {
         let Some(place) = marks.marked_at(i) else {
@@ -112,8 +116,10 @@ fn replace_level_0(
             && entry.level == 0
             && let Some(source) = source_of(entry.reason)
         {
-            replaced.push(place)?;
-            marks.replace(graph, entry.lit, source)?;
+            match marks.replace_root(graph, place, entry.lit, source)? {
+                Some(id) => units.push(Source::Held(id))?,
+                None => replaced.push(place)?,
+            }
         }
     }
     Ok(())
@@ -176,6 +182,21 @@ fn second_level(graph: Implications, clause: &[usize]) -> usize {
     }
 }
 
+/// How many levels the entries, newest first, stand on.
+fn count_levels(graph: Implications, clause: &[usize]) -> usize {
+    let mut count: usize = 0;
+    let mut last = None;
+    for place in clause {
+        if let Some(entry) = graph.entry(*place)
+            && last != Some(entry.level)
+        {
+            count = count.saturating_add(1);
+            last = Some(entry.level);
+        }
+    }
+    count
+}
+
 /// The clause that denies what is needed of one of the entries.
 fn denied(
     alloc: Global,
@@ -194,14 +215,14 @@ fn denied(
     Ok(items)
 }
 
-/// The sources of the entries in the order of the trail, then the conflict.
+/// The clauses that stand for entries of level 0, the sources of the other entries in the order of the trail, then the conflict.
 fn sources_of(
-    alloc: Global,
     graph: Implications,
+    units: Items<Source>,
     replaced: &[usize],
     conflict: Source,
 ) -> Result<Items<Source>, Memory> {
-    let mut sources = Items::new(alloc);
+    let mut sources = units;
     for place in replaced {
         if let Some(entry) = graph.entry(*place)
             && let Some(source) = source_of(entry.reason)
@@ -229,4 +250,28 @@ fn marked_literals(
         }
     }
     Ok(items)
+}
+
+/// The literal of an entry of level 0 as a clause of its own.
+pub fn unit_clause(
+    alloc: Global,
+    graph: Implications,
+    marks: &mut Marks,
+    place: usize,
+) -> Result<Option<Learned>, Memory> {
+    let Some(entry) = graph.entry(place) else {
+        return Ok(None);
+    };
+    let Some(declared) = graph.declared(entry.lit.var) else {
+        return Ok(None);
+    };
+    let mut clause = Items::new(alloc);
+    clause.push(canonical(entry.lit, declared))?;
+    Ok(Some(Learned {
+        clause,
+        sources: marks.root_sources(alloc, graph, entry)?,
+        level: 0,
+        levels: 1,
+        marked: Items::new(alloc),
+    }))
 }

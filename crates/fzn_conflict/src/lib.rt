@@ -5,7 +5,7 @@
 //! `specs/Reasoned.antt` says how the entries of the trail came to stand.
 #![tactic(auto)]
 
-pub use analysis::{Learn, Learned, analyse};
+pub use analysis::{Learn, Learned, analyse, unit_of};
 pub use marks::Marks;
 pub use source::{Source, clause_of};
 
@@ -16,6 +16,7 @@ mod implications;
 mod marks;
 mod merge;
 mod plain;
+mod roots;
 mod source;
 mod standing;
 mod trial;

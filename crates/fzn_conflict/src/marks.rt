@@ -1,9 +1,12 @@
 // Which entries of a trail a conflict rests on.
 use crate::causes::Cause;
-use crate::implications::Implications;
+use crate::implications::{Implications, source_of};
 use crate::merge::{canonical, implies};
+use crate::roots::Roots;
 use crate::source::Source;
 use fzn_domain::{Lit, Memory};
+use fzn_list::Items;
+use fzn_trail::{ClauseId, Entry};
 use std::alloc::Global;
 
 /// What an analysis notes of the entries of a trail. It is kept from one analysis to the next, so that each costs what it touches.
@@ -14,6 +17,8 @@ pub struct Marks {
     /// The places of the marked entries, in the order in which they were marked.
     marked: Vec<usize>,
     causes: Vec<Cause>,
+    /// What is known of the entries of level 0.
+    roots: Roots,
     /// The highest level of an entry that the conflict rests on, once it is known.
     level: Option<usize>,
     /// How many entries of that level are marked and not replaced.
@@ -27,6 +32,7 @@ impl Marks {
             needs: Vec::new(alloc),
             marked: Vec::new(alloc),
             causes: Vec::new(alloc),
+            roots: Roots::new(alloc),
             level: None,
             open: 0,
         }
@@ -141,6 +147,68 @@ impl Marks {
         self.open = self.open.saturating_sub(1);
         graph.find_causes(&mut self.causes, source, Some(forced))?;
         self.mark_causes(graph)
+    }
+
+    /// The clause that stands for a marked entry of level 0, where there is one. Else marks what it rests on, and notes that a clause
+    /// is wanted for it, unless its reason says as much.
+    pub fn replace_root(
+        &mut self,
+        graph: Implications,
+        place: usize,
+        forced: Lit,
+        source: Source,
+    ) -> Result<Option<ClauseId>, Memory> {
+        if let Some(id) = self.roots.unit(place) {
+            return Ok(Some(id));
+        }
+        self.replace(graph, forced, source)?;
+        if !self.causes.is_empty() {
+            self.roots.want(place)?;
+        }
+        Ok(None)
+    }
+
+    /// An entry of level 0 for which a clause is wanted, those first on which others rest.
+    pub fn next_wanted(&mut self) -> Option<usize> {
+        self.roots.next_wanted()
+    }
+
+    /// The clause stands for the entry of level 0.
+    pub fn stand_for(&mut self, place: usize, id: ClauseId) {
+        self.roots.stand_for(place, id);
+    }
+
+    /// What the literal of an entry of level 0 follows from: what stands for those that it rests on, then its reason.
+    pub fn root_sources(
+        &mut self,
+        alloc: Global,
+        graph: Implications,
+        entry: Entry,
+    ) -> Result<Items<Source>, Memory> {
+        let mut sources = Items::new(alloc);
+        if let Some(source) = source_of(entry.reason) {
+            graph.find_causes(&mut self.causes, source, Some(entry.lit))?;
+            let mut places = Vec::new(alloc);
+            for cause in &self.causes {
+                places.push(cause.place)?;
+            }
+            places.sort_unstable();
+            for place in &places {
+                if let Some(cited) = self.cited(graph, *place) {
+                    sources.push(cited)?;
+                }
+            }
+            sources.push(source)?;
+        }
+        Ok(sources)
+    }
+
+    /// What stands for an entry of level 0, or its reason.
+    fn cited(&self, graph: Implications, place: usize) -> Option<Source> {
+        match self.roots.unit(place) {
+            Some(id) => Some(Source::Held(id)),
+            None => source_of(graph.entry(place)?.reason),
+        }
     }
 
     fn mark_causes(&mut self, graph: Implications) -> Result<(), Memory> {

@@ -8,7 +8,7 @@ ghost use Rattle.fzn_domain.specs.Narrow.{IsVariable, IsClauseOver, IsAcceptedFr
 ghost use Rattle.fzn_state.specs.State.{start, restored};
 ghost use Rattle.fzn_trail.specs.Levels.{level_of};
 ghost use Rattle.fzn_trail.specs.Replay.{replayed};
-ghost use Rattle.fzn_conflict.specs.Learned.{IsLearned};
+ghost use Rattle.fzn_conflict.specs.Learned.{IsDerived, IsLearned};
 ghost use Rattle.fzn_conflict.specs.Reasoned.{known_of, AreOver, IsKnown, IsForced, IsReasoned, clause_of};
 
 use crate::analysis::Learned;
@@ -35,23 +35,43 @@ pub fn is_sound(
     ensures learned { IfOk result (λ yes. IsTrue yes → IsLearned (known_of clauses.now inferences.now) trail.now learned.now) }
     ensures fresh { OnOk result (state.new ≡ start trail.now.declared) }
 {
+    if !goes_back(trail, learned) {
+        return Ok(false);
+    }
+    if !is_derived(trail, clauses, inferences, state, learned)? {
+        return Ok(false);
+    }
+    if trail.level() == 0 || learned.clause.len() == 0 {
+        return Ok(true);
+    }
+    Ok(forces_at(
+        trail,
+        trail.count_at(learned.level),
+        learned.clause.as_slice(),
+    ))
+}
+
+/// Whether the clause follows from its sources. The state is used and restored.
+pub fn is_derived(
+    trail: &Trail,
+    clauses: &Clauses,
+    inferences: &Inferences,
+    state: &mut State,
+    learned: &Learned,
+) -> Result<bool, Memory>
+    requires over { AreOver (length trail.now.declared) (known_of clauses.now inferences.now) }
+    requires fresh { state.old ≡ start trail.now.declared }
+    ensures derived { IfOk result (λ yes. IsTrue yes → IsDerived (known_of clauses.now inferences.now) trail.now.declared learned.now) }
+    ensures fresh { OnOk result (state.new ≡ start trail.now.declared) }
+{
     let clause = learned.clause.as_slice();
     let sources = learned.sources.as_slice();
-    if !is_in_range(clause, state.len())
-        || !are_known(clauses, inferences, sources)
-        || !goes_back(trail, learned)
-    {
+    if !is_in_range(clause, state.len()) || !are_known(clauses, inferences, sources) {
         return Ok(false);
     }
     let refuted = is_refuted(clauses, inferences, state, clause, sources)?;
     state.restore();
-    if !refuted {
-        return Ok(false);
-    }
-    if trail.level() == 0 || clause.is_empty() {
-        return Ok(true);
-    }
-    Ok(forces_at(trail, trail.count_at(learned.level), clause))
+    Ok(refuted)
 }
 
 /// Whether the clause is over so many variables, with numbers within the limits.

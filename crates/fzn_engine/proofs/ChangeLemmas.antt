@@ -116,27 +116,40 @@ module _ (model : Model) (learn : Learn) (stock : Stock) (steps : List Step) (tr
   learned_is : (clause : List Lit) (ids : List ℕ) → resolved (steps ++ Resolve clause ids ∷ []) ≡ resolved steps ++ clause ∷ []
   learned_is clause ids = resolved-append steps (Resolve clause ids ∷ [])
 
-  slack-returned : CoreOf model stock steps trail nodes → (level : ℕ) → level ≤ level_of trail → (lit : Lit) → slack (narrowed (returned level trail).sets lit) ≤ slack trail.declared
-  slack-returned core level below lit =
+  slack-stood : CoreOf model stock steps trail nodes → (level : ℕ) → level ≤ level_of trail → slack (returned level trail).sets ≤ slack trail.declared
+  slack-stood core level below =
       let there = returned level trail in
       let stood = Leads-slack (known_in stock) there.declared there.entries there.sets (IsReasoned-returned (known_in stock) trail level core.reasoned below).leads in
-      let narrow = slack-narrowed_le there.sets lit in
       let declared = ap slack (declared-returned level trail) in
       omega arith
+
+  slack-returned : CoreOf model stock steps trail nodes → (level : ℕ) → level ≤ level_of trail → (lit : Lit) → slack (narrowed (returned level trail).sets lit) ≤ slack trail.declared
+  slack-returned core level below lit =
+      let stood = slack-stood core level below in
+      let narrow = slack-narrowed_le (returned level trail).sets lit in
+      omega arith
+
+  -- on any trail over the declared sets
+  pub Core-resolved : CoreOf model stock steps trail nodes → (clause : List Lit) (ids : List ℕ) (number : ℕ) → number ≡ length steps + 1 → IsAccepted model (past_of model steps) (Resolve clause ids) → (new : Levels) → new.declared ≡ trail.declared → slack new.sets ≤ slack trail.declared → IsReasoned (known_in (with_held clause number stock)) new → CoreOf model (with_held clause number stock) (steps ++ Resolve clause ids ∷ []) new nodes
+  Core-resolved core clause ids number newest accepted new declared less reasoned =
+      let O : ℕ → Type 0 = λ n. IsClauseOver n clause in
+      let sizes : length trail.declared ≡ length model.vars = ap length core.declared ∙ length-map model.vars (λ var. var.domain) in
+      let one = length_push (resolved steps) clause in
+      let conflicts = core.nodes_by_conflicts in
+      let N : List (List Lit) → Type 0 = λ cs. nodes + slack new.sets ≤ (length cs + 1) * slack trail.declared in
+      let M : ℕ → Type 0 = λ n. nodes + slack new.sets ≤ (n + 1) * slack trail.declared in
+      Core-step model stock steps trail nodes core (Resolve clause ids) clause number newest accepted refl (cuts-grown model stock steps trail nodes core clause) (subst O (sym sizes) accepted.0) new declared reasoned
+      (subst N (sym (learned_is clause ids)) (subst M (sym one) (omega arith)))
 
   -- back at a level with what the learned clause forces there: one change, since between its parts the accounts do not hold
   pub Core-learned : CoreOf model stock steps trail nodes → (clause : List Lit) (ids : List ℕ) (number level : ℕ) → number ≡ length steps + 1 → level ≤ level_of trail → IsAccepted model (past_of model steps) (Resolve clause ids) → (lit : Lit) (id : ClauseId) → IsReasoned (known_in (with_held clause number stock)) (asserted lit (Clause id) (returned level trail)) → CoreOf model (with_held clause number stock) (steps ++ Resolve clause ids ∷ []) (asserted lit (Clause id) (returned level trail)) nodes
   Core-learned core clause ids number level newest below accepted lit id reasoned =
-      let new = asserted lit (Clause id) (returned level trail) in
-      let O : ℕ → Type 0 = λ n. IsClauseOver n clause in
-      let sizes : length trail.declared ≡ length model.vars = ap length core.declared ∙ length-map model.vars (λ var. var.domain) in
-      let one = length_push (resolved steps) clause in
-      let less = slack-returned core level below lit in
-      let conflicts = core.nodes_by_conflicts in
-      let N : List (List Lit) → Type 0 = λ cs. nodes + slack new.sets ≤ (length cs + 1) * slack trail.declared in
-      let M : ℕ → Type 0 = λ n. nodes + slack new.sets ≤ (n + 1) * slack trail.declared in
-      Core-step model stock steps trail nodes core (Resolve clause ids) clause number newest accepted refl (cuts-grown model stock steps trail nodes core clause) (subst O (sym sizes) accepted.0) new (declared-returned level trail) reasoned
-      (subst N (sym (learned_is clause ids)) (subst M (sym one) (omega arith)))
+      Core-resolved core clause ids number newest accepted (asserted lit (Clause id) (returned level trail)) (declared-returned level trail) (slack-returned core level below lit) reasoned
+
+  -- or back at level 0
+  pub Core-restarted : CoreOf model stock steps trail nodes → (clause : List Lit) (ids : List ℕ) (number : ℕ) → number ≡ length steps + 1 → IsAccepted model (past_of model steps) (Resolve clause ids) → IsReasoned (known_in (with_held clause number stock)) (returned 0 trail) → CoreOf model (with_held clause number stock) (steps ++ Resolve clause ids ∷ []) (returned 0 trail) nodes
+  Core-restarted core clause ids number newest accepted reasoned =
+      Core-resolved core clause ids number newest accepted (returned 0 trail) (declared-returned 0 trail) (slack-stood core 0 (omega arith)) reasoned
 
   -- one level back, where the clause says that one of the decisions is wrong
   pub Plain-back : StateOf model learn stock steps trail nodes → learn ≡ Plain → (clause : List Lit) (ids : List ℕ) (level : ℕ) → level_of trail ≡ level + 1 → clause ≡ negations (opens trail.declared trail.entries) → (lit : Lit) (id : ClauseId) → possible_in (returned level trail).sets clause ≡ lit ∷ [] → PlainOf (asserted lit (Clause id) (returned level trail)).declared (asserted lit (Clause id) (returned level trail)).sets (opens (asserted lit (Clause id) (returned level trail)).declared (asserted lit (Clause id) (returned level trail)).entries) (resolved (steps ++ Resolve clause ids ∷ [])) nodes
@@ -178,6 +191,15 @@ module _ (model : Model) (learn : Learn) (stock : Stock) (steps : List Step) (tr
       let declared = ap slack (declared-returned level trail) in
       let W : ℕ → Type 0 = λ s. ((limit - nodes) + length there.saved) * (s + 1) + slack (narrowed there.sets lit) < ((limit - nodes) + length trail.saved) * (slack trail.declared + 1) + slack trail.sets in
       subst W (sym declared) (work-lower ((limit - nodes) + length there.saved) ((limit - nodes) + length trail.saved) (slack trail.declared) (slack (narrowed there.sets lit)) (slack trail.sets) (omega arith) (omega arith))
+
+  pub work-restarted : CoreOf model stock steps trail nodes → (limit : ℕ) → 0 < level_of trail → work limit nodes (returned 0 trail) < work limit nodes trail
+  work-restarted core limit above =
+      let there = returned 0 trail in
+      let levels : length there.saved ≡ 0 = level_of-returned 0 trail (omega arith) in
+      let less = slack-stood core 0 (omega arith) in
+      let declared = ap slack (declared-returned 0 trail) in
+      let W : ℕ → Type 0 = λ s. ((limit - nodes) + length there.saved) * (s + 1) + slack there.sets < ((limit - nodes) + length trail.saved) * (slack trail.declared + 1) + slack trail.sets in
+      subst W (sym declared) (work-lower ((limit - nodes) + length there.saved) ((limit - nodes) + length trail.saved) (slack trail.declared) (slack there.sets) (slack trail.sets) (omega arith) (omega arith))
 
   -- ---- the end
 

@@ -29,7 +29,7 @@ use Rattle.fzn_engine.specs.Outcome.{IsCertified, IsRefuted}
 use Rattle.fzn_engine.proofs.NumberLemmas.{Give-chain}
 use Rattle.fzn_engine.proofs.VariableLemmas.{variable-of}
 use Rattle.fzn_engine.proofs.TakenLemmas.{forced-possible}
-use Rattle.fzn_engine.proofs.ChangeLemmas.{Core-learned, Plain-back, work-learned, State-closed, State-asserted, work-asserted, State-length}
+use Rattle.fzn_engine.proofs.ChangeLemmas.{Core-learned, Core-restarted, Plain-back, work-learned, work-restarted, State-closed, State-asserted, work-asserted, State-length}
 
 -- a known clause that forces a literal
 module _ (model : Model) (learn : Learn) (stock : Stock) (steps : List Step) (trail : Levels) (nodes : ℕ) (h : StateOf model learn stock steps trail nodes) (source : Source) (lit : Lit) (known : IsKnown (known_in stock) source) (over : IsClauseOver (length trail.declared) (clause_of (known_in stock) source)) (forced : IsForced trail.sets (clause_of (known_in stock) source) lit) where
@@ -44,20 +44,25 @@ module _ (model : Model) (learn : Learn) (stock : Stock) (steps : List Step) (tr
       let var = variable-of trail.sets (length trail.sets) (clause_of (known_in stock) source) lit [] (subst O (sym (State-length model learn stock steps trail nodes h)) over) forced.0 in
       work-asserted model learn stock steps trail nodes limit lit (reason_of source) var (forced-possible trail.sets (clause_of (known_in stock) source) lit forced.0) forced.1
 
+-- a clause that follows from its sources is an accepted step
+module _ (model : Model) (learn : Learn) (stock : Stock) (steps : List Step) (trail : Levels) (nodes : ℕ) (h : StateOf model learn stock steps trail nodes) (clause : List Lit) (sources : List Source) (over : IsClauseOver (length trail.declared) clause) (follows : IsAcceptedFrom trail.declared clause (map (clause_of (known_in stock)) sources)) (numbers : List ℕ) (give : GiveSources (past_of model steps) (known_in stock) numbers sources) where
+  pub derived-accepted : IsAccepted model (past_of model steps) (Resolve clause numbers)
+  derived-accepted =
+      let e = h.core.declared in
+      let sizes : length trail.declared ≡ length model.vars = ap length e ∙ length-map model.vars (λ var. var.domain) in
+      let O : ℕ → Type 0 = λ n. IsClauseOver n clause in
+      let A : List IntSet → Type 0 = λ d. IsAcceptedFrom d clause (map (clause_of (known_in stock)) sources) in
+      let chain = Give-chain (past_of model steps) numbers (map (clause_of (known_in stock)) sources) give in
+      (subst O sizes over, chain.0, by (subst A e follows) chain.1)
+    where
+      by : IsAcceptedFrom (declared_sets model.vars) clause (map (clause_of (known_in stock)) sources) → clauses_held (past_of model steps) numbers ≡ map (clause_of (known_in stock)) sources → IsTrivial model clause ⊎ (chain_outcome (denying model clause) (clauses_held (past_of model steps) numbers) ≡ accepted)
+      by (inl trivial) same = inl trivial
+      by (inr ends) same = inr (ap (chain_outcome (denying model clause)) same ∙ ends)
+
 module _ (model : Model) (learn : Learn) (stock : Stock) (steps : List Step) (trail : Levels) (nodes : ℕ) (h : StateOf model learn stock steps trail nodes) (learned : Learned) (conflict : Source) (is : IsLearned (known_in stock) trail learned) (plain : learn ≡ Plain → IsPlain trail conflict learned) (numbers : List ℕ) (give : GiveSources (past_of model steps) (known_in stock) numbers learned.sources) where
   -- the learned clause is an accepted step
   pub learned-accepted : IsAccepted model (past_of model steps) (Resolve learned.clause numbers)
-  learned-accepted =
-      let e = h.core.declared in
-      let sizes : length trail.declared ≡ length model.vars = ap length e ∙ length-map model.vars (λ var. var.domain) in
-      let O : ℕ → Type 0 = λ n. IsClauseOver n learned.clause in
-      let A : List IntSet → Type 0 = λ d. IsAcceptedFrom d learned.clause (map (clause_of (known_in stock)) learned.sources) in
-      let chain = Give-chain (past_of model steps) numbers (map (clause_of (known_in stock)) learned.sources) give in
-      (subst O sizes is.over, chain.0, by (subst A e is.accepted) chain.1)
-    where
-      by : IsAcceptedFrom (declared_sets model.vars) learned.clause (map (clause_of (known_in stock)) learned.sources) → clauses_held (past_of model steps) numbers ≡ map (clause_of (known_in stock)) learned.sources → IsTrivial model learned.clause ⊎ (chain_outcome (denying model learned.clause) (clauses_held (past_of model steps) numbers) ≡ accepted)
-      by (inl trivial) same = inl trivial
-      by (inr ends) same = inr (ap (chain_outcome (denying model learned.clause)) same ∙ ends)
+  learned-accepted = derived-accepted model learn stock steps trail nodes h learned.clause learned.sources is.over is.accepted numbers give
 
   -- where it is empty nothing is left
   pub learned-closed : learned.clause ≡ [] → IsCertified model learn (steps ++ Resolve learned.clause numbers ∷ []) nodes × IsRefuted model (steps ++ Resolve learned.clause numbers ∷ [])
@@ -118,3 +123,17 @@ module _ (model : Model) (learn : Learn) (stock : Stock) (steps : List Step) (tr
 
       pub learned-works : (limit : ℕ) → work limit nodes (asserted lit (Clause id) (returned learned.level trail)) < work limit nodes trail
       learned-works limit = work-learned model learn stock steps trail nodes h.core limit learned.level (is.below learned-above) lit id
+
+    -- or the search restarts, and propagation looks at it
+    module _ (number : ℕ) (next : number ≡ length steps + 1) (first : learn ≡ Plain → ⊥) where
+      pub restarted-state : StateOf model learn (with_held learned.clause number stock) (steps ++ Resolve learned.clause numbers ∷ []) (returned 0 trail) nodes
+      restarted-state =
+          let more = known_in (with_held learned.clause number stock) in
+          let grown = IsReasoned-grown (known_in stock) (Some learned.clause ∷ []) trail h.core.reasoned in
+          record {
+            core = Core-restarted model learn stock steps trail nodes h.core learned.clause numbers number next learned-accepted (IsReasoned-returned more trail 0 grown (omega arith));
+            plain = λ in_plain. absurd (first in_plain);
+          }
+
+      pub restarted-works : (limit : ℕ) → work limit nodes (returned 0 trail) < work limit nodes trail
+      restarted-works limit = work-restarted model learn stock steps trail nodes h.core limit learned-above

@@ -103,18 +103,19 @@ node-limit model limits solver steps h within reached many = record {
       choices-left model solver.learn (stock_of solver) steps solver.trail solver.search.nodes h.state many.0 many.1 many.2,
       room-at model.goal limits.solutions solver.found (count model steps) (sym h.found_is) within.1,
     );
+    few_nodes = within.0;
   };
   found_is = h.found_is;
 }
 
 -- ---- the solution limit
 
-pub solution-limit : (model : Model) (learn : Learn) (limits : Limits) (solver : Solver) (steps : List Step) → IsAfter model solver steps → solver.learn ≡ learn → IsReached model.goal limits.solutions solver.found → IsOver model learn limits solver steps SolutionLimit
-solution-limit model learn limits solver steps h same reached =
+pub solution-limit : (model : Model) (learn : Learn) (limits : Limits) (solver : Solver) (steps : List Step) → IsAfter model solver steps → solver.learn ≡ learn → solver.search.nodes ≤ limits.nodes → IsReached model.goal limits.solutions solver.found → IsOver model learn limits solver steps SolutionLimit
+solution-limit model learn limits solver steps h same few reached =
     let R : ℕ → Type 0 = λ n. IsReached model.goal limits.solutions n in
     let L : Learn → Type 0 = λ l. IsCertified model l steps solver.search.nodes in
     record {
-      ended = record { certified = subst L same (State-certified model solver.learn (stock_of solver) steps solver.trail solver.search.nodes h.state); truly = subst R h.found_is reached };
+      ended = record { certified = subst L same (State-certified model solver.learn (stock_of solver) steps solver.trail solver.search.nodes h.state); truly = subst R h.found_is reached; few_nodes = few };
       found_is = h.found_is;
     }
 
@@ -145,7 +146,7 @@ module _ (model : Model) (good : IsWellFormed model) (old : Solver) (before : Li
         let state = solution-state model old.learn (stock_of old) before old.trail old.search.nodes h.state good values fixed within (old.steps + 1) next record-accepted in
         let stock = with_held (cut_of model values) (old.steps + 1) (stock_of old) in
         let S : List Step → Type 0 = λ s. StateOf model old.learn stock s old.trail old.search.nodes in
-        let there : Solver = solver_of old.trail held.clauses held.numbers held.inferences old.search old.scratch old.learn (old.found + 1) (old.steps + 1) in
+        let there : Solver = solver_of old.trail held.clauses held.numbers held.inferences old.search old.scratch old.learn held.notes (old.found + 1) (old.steps + 1) in
         let there_is : new ≡ there =
         new_is ∙ ap (λ (s : Solver). record s { found = s.found + 1 }) (solver-is held old.trail old.search old.scratch old.learn old.found (old.steps + 1) holds.trail holds.search holds.scratch holds.learn holds.found holds.steps) in
         let P : Solver → Type 0 = λ s. IsRecorded model old s now id in
@@ -200,6 +201,7 @@ empty-ended model learn limits empty room before now none now_is =
           nodes_by_conflicts = omega arith;
         };
         truly = (refl, room);
+        few_nodes = omega arith;
       },
       refl,
     )

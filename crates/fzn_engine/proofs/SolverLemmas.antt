@@ -38,6 +38,7 @@ use Rattle.fzn_conflict.specs.Learned.{IsConflicting, IsLearned, IsPlain}
 use Rattle.fzn_conflict.specs.Reasoned.{Known, AreOver, IsKnown, IsBelow, IsReasoned, clause_of, reason_of, IsForced}
 use Rattle.fzn_conflict.proofs.CallerLemmas.{IsReasoned-grown, IsReasoned-returned}
 use Rattle.fzn_engine.specs.declared.inference.Inference.{Inference}
+use Rattle.fzn_engine.specs.declared.notes.Notes.{Notes}
 use Rattle.fzn_engine.specs.declared.solver.Solver.{Solver}
 use Rattle.fzn_engine.specs.Inference.{IsInference}
 use Rattle.fzn_engine.specs.Outcome.{count, IsCertified, IsRefuted}
@@ -45,25 +46,25 @@ use Rattle.fzn_engine.specs.Search.{IsAfter, stock_of, work_of, GiveSources, IsW
 use Rattle.fzn_engine.specs.State.{Stock, known_in, with_held, with_stack, IsJustified, StateOf, work}
 use Rattle.fzn_engine.proofs.AcceptedLemmas.{past_of-push, logged-accepted, length-past_of}
 use Rattle.fzn_engine.proofs.ChangeLemmas.{State-length, State-stacked, State-cut}
-use Rattle.fzn_engine.proofs.LearnLemmas.{forced-state, forced-works, learned-accepted, learned-closed, learned-above, learned-forces, learned-state, learned-works}
+use Rattle.fzn_engine.proofs.LearnLemmas.{forced-state, forced-works, learned-accepted, learned-closed, learned-above, learned-forces, learned-state, learned-works, restarted-state, restarted-works}
 use Rattle.fzn_engine.proofs.PropagationLemmas.{State-propagated}
 use Rattle.fzn_engine.proofs.SpelledLemmas.{resolve-spelled}
 use Rattle.fzn_engine.proofs.TakenLemmas.{Leads-length}
 use Rattle.fzn_engine.proofs.VariableLemmas.{variable-of}
 
 -- a search from its parts
-abbrev pub solver_of : Levels → Clauses → List ℕ → List Inferred → Searching → Sets → Learn → ℕ → ℕ → Solver
-solver_of trail clauses numbers stack search scratch learn found steps =
-    record { trail = trail; clauses = clauses; numbers = numbers; inferences = stack; search = search; scratch = scratch; learn = learn; found = found; steps = steps }
+abbrev pub solver_of : Levels → Clauses → List ℕ → List Inferred → Searching → Sets → Learn → Notes → ℕ → ℕ → Solver
+solver_of trail clauses numbers stack search scratch learn notes found steps =
+    record { trail = trail; clauses = clauses; numbers = numbers; inferences = stack; search = search; scratch = scratch; learn = learn; notes = notes; found = found; steps = steps }
 
-pub solver-is : (new : Solver) (trail : Levels) (search : Searching) (scratch : Sets) (learn : Learn) (found steps : ℕ) → new.trail ≡ trail → new.search ≡ search → new.scratch ≡ scratch → new.learn ≡ learn → new.found ≡ found → new.steps ≡ steps → new ≡ solver_of trail new.clauses new.numbers new.inferences search scratch learn found steps
+pub solver-is : (new : Solver) (trail : Levels) (search : Searching) (scratch : Sets) (learn : Learn) (found steps : ℕ) → new.trail ≡ trail → new.search ≡ search → new.scratch ≡ scratch → new.learn ≡ learn → new.found ≡ found → new.steps ≡ steps → new ≡ solver_of trail new.clauses new.numbers new.inferences search scratch learn new.notes found steps
 solver-is new trail search scratch learn found steps a c d e f g =
-    ap (λ (t : Levels). solver_of t new.clauses new.numbers new.inferences new.search new.scratch new.learn new.found new.steps) a
-    ∙ ap (λ (s : Searching). solver_of trail new.clauses new.numbers new.inferences s new.scratch new.learn new.found new.steps) c
-    ∙ ap (λ (s : Sets). solver_of trail new.clauses new.numbers new.inferences search s new.learn new.found new.steps) d
-    ∙ ap (λ (l : Learn). solver_of trail new.clauses new.numbers new.inferences search scratch l new.found new.steps) e
-    ∙ ap (λ (n : ℕ). solver_of trail new.clauses new.numbers new.inferences search scratch learn n new.steps) f
-    ∙ ap (λ (n : ℕ). solver_of trail new.clauses new.numbers new.inferences search scratch learn found n) g
+    ap (λ (t : Levels). solver_of t new.clauses new.numbers new.inferences new.search new.scratch new.learn new.notes new.found new.steps) a
+    ∙ ap (λ (s : Searching). solver_of trail new.clauses new.numbers new.inferences s new.scratch new.learn new.notes new.found new.steps) c
+    ∙ ap (λ (s : Sets). solver_of trail new.clauses new.numbers new.inferences search s new.learn new.notes new.found new.steps) d
+    ∙ ap (λ (l : Learn). solver_of trail new.clauses new.numbers new.inferences search scratch l new.notes new.found new.steps) e
+    ∙ ap (λ (n : ℕ). solver_of trail new.clauses new.numbers new.inferences search scratch learn new.notes n new.steps) f
+    ∙ ap (λ (n : ℕ). solver_of trail new.clauses new.numbers new.inferences search scratch learn new.notes found n) g
 
 -- the trail is reasoned with one more held clause
 pub holds-reasoned : (model : Model) (clause : List Lit) (old new : Solver) (steps : List Step) → IsAfter model old steps → Holds clause old new → IsReasoned (known_in (stock_of new)) new.trail
@@ -113,9 +114,9 @@ propagated-kept model steps old trail clauses same run watching h =
 
 -- ---- a learned clause
 
--- inferences are written whatever the sets on which learned clauses are tested
-pub written-beside : (model : Model) (first : List Step) (old new : Solver) (scratch : Sets) (steps : List Step) → IsWritten model first (record old { scratch = scratch }) new steps → IsWritten model first old new steps
-written-beside model first old new scratch steps w = record { state = w.state; kept = w.kept; known = w.known; trail = w.trail; nodes = w.nodes; found = w.found; learn = w.learn }
+-- inferences are written whatever the sets on which learned clauses are tested, and whatever is noted
+pub written-beside : (model : Model) (first : List Step) (old new : Solver) (scratch : Sets) (notes : Notes) (steps : List Step) → IsWritten model first (record old { scratch = scratch; notes = notes }) new steps → IsWritten model first old new steps
+written-beside model first old new scratch notes steps w = record { state = w.state; kept = w.kept; known = w.known; trail = w.trail; nodes = w.nodes; found = w.found; learn = w.learn }
 
 pub learns : (model : Model) (first : List Step) (old new : Solver) (steps : List Step) (conflict : Source) (learned : Learned) (numbers : List ℕ) → IsWritten model first old new steps → IsLearned (known_in (stock_of old)) old.trail learned → (old.learn ≡ Plain → IsPlain old.trail conflict learned) → GiveSources (past_of model steps) (known_in (stock_of old)) numbers learned.sources → Learns model new steps conflict learned numbers
 learns model first old new steps conflict learned numbers written is plain give =
@@ -161,6 +162,7 @@ module _ (model : Model) (mid : Solver) (before : List Step) (conflict : Source)
         record {
           certified = subst N (sym (ap (λ (s : Searching). s.nodes) holds.search)) (subst C (sym now_is) end.0);
           refuted = subst R (sym now_is) end.1;
+          nodes = ap (λ (s : Searching). s.nodes) holds.search;
           found = holds.found;
           found_is = holds.found ∙ h.state.found_is ∙ sym counts;
         }
@@ -169,7 +171,7 @@ module _ (model : Model) (mid : Solver) (before : List Step) (conflict : Source)
       -- the search at the level, with the clause and fewer inferences
       module _ (held back : Solver) (holds : Holds learned.clause mid held) (at : IsBackAt learned.level held back) where
         abbrev there : Solver
-        there = solver_of (returned learned.level mid.trail) back.clauses back.numbers back.inferences mid.search mid.scratch mid.learn mid.found (mid.steps + 1)
+        there = solver_of (returned learned.level mid.trail) back.clauses back.numbers back.inferences mid.search mid.scratch mid.learn back.notes mid.found (mid.steps + 1)
 
         there-is : back ≡ there
         there-is =
@@ -258,6 +260,55 @@ module _ (model : Model) (mid : Solver) (before : List Step) (conflict : Source)
         learn-behind new any forced limit =
             let F : Solver → Type 0 = λ s. IsForcedBy s (Held id) new any in
             forced-there new any (subst F there-is forced) limit
+
+      -- the search back at level 0, with the clause and fewer inferences
+      module _ (held back : Solver) (holds : Holds learned.clause mid held) (at : IsBackAt 0 held back) (first : mid.learn ≡ Plain → ⊥) where
+        abbrev root : Solver
+        root = solver_of (returned 0 mid.trail) back.clauses back.numbers back.inferences mid.search mid.scratch mid.learn back.notes mid.found (mid.steps + 1)
+
+        root-is : back ≡ root
+        root-is =
+            solver-is back (returned 0 mid.trail) mid.search mid.scratch mid.learn mid.found (mid.steps + 1)
+            (at.trail ∙ ap (returned 0) holds.trail)
+            (at.search ∙ holds.search) (at.scratch ∙ holds.scratch) (at.learn ∙ holds.learn) (at.found ∙ holds.found) (at.steps ∙ holds.steps)
+
+        root-behind : (limit : ℕ) → IsBehind model limit mid root now
+        root-behind limit =
+            let next : mid.steps + 1 ≡ length before + 1 = ap (λ (n : ℕ). n + 1) h.state.steps_are in
+            let trail = returned 0 mid.trail in
+            let stock = with_held learned.clause (mid.steps + 1) (stock_of mid) in
+            let stock_is : stock_of back ≡ with_stack at.count stock = at.stock ∙ ap (with_stack at.count) holds.stock in
+            let state = restarted-state model mid.learn (stock_of mid) before mid.trail mid.search.nodes h.state.state learned conflict h.is h.plain numbers h.give some (mid.steps + 1) next first in
+            let works = restarted-works model mid.learn (stock_of mid) before mid.trail mid.search.nodes h.state.state learned conflict h.is h.plain numbers h.give some (mid.steps + 1) next first limit in
+            let E : Levels → Type 0 = λ t. All (λ (entry : Entry). IsBelow at.count entry.reason) t.entries in
+            let enough = subst E (at.trail ∙ ap (returned 0) holds.trail) at.enough in
+            let cut = State-cut model mid.learn stock (before ++ Resolve learned.clause numbers ∷ []) trail mid.search.nodes state at.count enough in
+            let S : List Step → Type 0 = λ s. StateOf model mid.learn (with_stack at.count stock) s trail mid.search.nodes in
+            let K : Stock → Type 0 = λ k. StateOf model mid.learn k now trail mid.search.nodes in
+            let Watching : Clauses → Type 0 = λ clauses. IsWatching clauses trail in
+            let lengths : length now ≡ length before + 1 = ap length now_is ∙ length_push before (Resolve learned.clause numbers) in
+            record {
+              state = record {
+                state = subst K (sym stock_is) (subst S (sym now_is) cut);
+                watching = subst Watching (sym at.clauses) (IsWatching-returned held.clauses mid.trail (holds.keeps.watching mid.trail h.state.watching) 0);
+                scratch = h.state.scratch;
+                vars = h.state.vars;
+                found_is = h.state.found_is ∙ sym counts;
+                found_few = few_by mid.found (length before) (length now) h.state.found_few lengths;
+                steps_are = next ∙ sym lengths;
+                few_steps = few;
+              };
+              less = works;
+              nodes = refl;
+              found = refl;
+              learn = refl;
+            }
+          where
+            few_by : (a c d : ℕ) → a ≤ c → d ≡ c + 1 → a ≤ d
+            few_by a c d f k = omega arith
+
+        pub restart-behind : (limit : ℕ) → IsBehind model limit mid back now
+        restart-behind limit = let P : Solver → Type 0 = λ s. IsBehind model limit mid s now in subst P (sym root-is) (root-behind limit)
 
 -- ---- an inference
 
@@ -359,4 +410,4 @@ goes-from model old mid new steps true trail_is nodes found learn go = λ limit.
     record { state = b.state; less = subst N nodes (subst T trail_is b.less); nodes = b.nodes ∙ nodes; found = b.found ∙ found; learn = b.learn ∙ learn }
 goes-from model old mid new steps false trail_is nodes found learn go =
     let L : Learn → Type 0 = λ l. IsCertified model l steps new.search.nodes in
-    record { certified = subst L learn go.certified; refuted = go.refuted; found = go.found ∙ found; found_is = go.found_is }
+    record { certified = subst L learn go.certified; refuted = go.refuted; nodes = go.nodes ∙ nodes; found = go.found ∙ found; found_is = go.found_is }

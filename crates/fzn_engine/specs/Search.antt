@@ -140,6 +140,7 @@ pub record IsBehind (model : Model) (limit : ℕ) (old new : Solver) (steps : Li
 pub record IsClosed (model : Model) (old new : Solver) (steps : List Step) : Type 0 where
   pub certified : IsCertified model old.learn steps new.search.nodes
   pub refuted : IsRefuted model steps
+  pub nodes : new.search.nodes ≡ old.search.nodes
   pub found : new.found ≡ old.found
   pub found_is : new.found ≡ count model steps
 
@@ -161,6 +162,14 @@ pub record IsRecorded (model : Model) (old new : Solver) (steps : List Step) (id
 pub record IsKeptBy (model : Model) (steps : List Step) (old new : Solver) : Type 0 where
   pub state : IsAfter model new steps
   pub less : (limit : ℕ) → work_of limit new ≤ work_of limit old
+  pub nodes : new.search.nodes ≡ old.search.nodes
+  pub found : new.found ≡ old.found
+  pub learn : new.learn ≡ old.learn
+
+-- steps may have been written and clauses held or forgotten, and nothing else was changed
+pub record IsTended (model : Model) (old new : Solver) (steps : List Step) : Type 0 where
+  pub state : IsAfter model new steps
+  pub trail : new.trail ≡ old.trail
   pub nodes : new.search.nodes ≡ old.search.nodes
   pub found : new.found ≡ old.found
   pub learn : new.learn ≡ old.learn

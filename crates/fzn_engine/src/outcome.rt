@@ -16,7 +16,7 @@ use fzn_cert::Step;
 use fzn_conflict::Learn;
 use fzn_list::Items;
 use fzn_meaning::{Model, Var};
-use fzn_search::Choice;
+use fzn_search::{Annotation, Choice};
 use std::alloc::Global;
 
 /// What a run tells.
@@ -27,12 +27,15 @@ pub struct Outcome {
     pub ending: Ending,
 }
 
-/// Searches for solutions of the model, and hands on each step of the argument.
+/// Searches for solutions of the model, and hands on each step of the argument. How decisions are made is up to the choice and the
+/// annotations; where the choice asks for restarts, they come only where the first unique implication point is learned.
 pub fn solve<S: Sink, C: Constraints>(
     alloc: Global,
     model: &Model,
     limits: Limits,
     learn: Learn,
+    choice: Choice,
+    annotations: &[Annotation],
     constraints: &mut C,
     sink: &mut S,
 ) -> Result<Outcome, Fault>
@@ -46,7 +49,16 @@ pub fn solve<S: Sink, C: Constraints>(
     ensures accepted { AllAccepted model.now (S.written sink.new) }
     ensures kept { S.keeps model.now sink.new × (S.origin sink.new ≡ S.origin sink.old) }
 {
-    let outcome = search(alloc, model, limits, learn, constraints, sink)?;
+    let outcome = search(
+        alloc,
+        model,
+        limits,
+        learn,
+        choice,
+        annotations,
+        constraints,
+        sink,
+    )?;
     Ok(outcome)
 }
 
@@ -55,6 +67,8 @@ fn search<S: Sink, C: Constraints>(
     model: &Model,
     limits: Limits,
     learn: Learn,
+    choice: Choice,
+    annotations: &[Annotation],
     constraints: &mut C,
     sink: &mut S,
 ) -> Result<Outcome, Fault>
@@ -76,25 +90,13 @@ fn search<S: Sink, C: Constraints>(
             ending: Ending::Closed,
         });
     }
-    let mut solver = Solver::new(alloc, model, learn, choice_of(learn))?;
+    let mut solver = Solver::new(alloc, model, learn, choice, annotations)?;
     let ending = solver.run(alloc, model, limits, constraints, sink)?;
     Ok(Outcome {
         solutions: solver.found,
         nodes: solver.search.nodes(),
         ending,
     })
-}
-
-/// How decisions are made: only a search that learns the first unique implication point restarts.
-fn choice_of(learn: Learn) -> Choice {
-    Choice {
-        free: false,
-        seed: None,
-        restart_after: match learn {
-            Learn::Plain => None,
-            Learn::First => Some(100),
-        },
-    }
 }
 
 /// Writes the empty clause, which needs no reason where a declared set is empty.

@@ -1,39 +1,43 @@
 // The state of a search, and its changes.
-ghost use Rattle.std.specs.Prelude.{◌≡◌, ◌≢◌, ℕ, ◌+◌, ◌<◌, ◌≤◌, [], ◌∷◌, ◌++◌, ◌^◌, List, map, length, IfOk, IfSome, IfNone, OnOk, MatchOption, MatchBool, IsTrue, IsFalse, Some};
+ghost use Rattle.std.specs.Prelude.{◌≡◌, ◌≢◌, ℕ, ◌+◌, ◌<◌, ◌≤◌, [], ◌∷◌, ◌++◌, ◌^◌, ℤ, List, map, length, IfOk, IfSome, IfNone, OnOk, MatchOption, MatchBool, IsTrue, IsFalse, Some, false, slice_index_or};
 ghost use Rattle.std.specs.List.{All};
 ghost use Rattle.fzn_domain.specs.declared.literal.Lit.{Lit};
 ghost use Rattle.fzn_domain.specs.Narrow.{IsClauseOver, IsWithin, NoneEmpty, possible_in};
 ghost use Rattle.fzn_meaning.specs.declared.model.Model.{Model};
-ghost use Rattle.fzn_meaning.specs.Solutions.{declared_sets};
+ghost use Rattle.fzn_meaning.specs.Solutions.{cut_of, declared_sets};
 ghost use Rattle.fzn_meaning.specs.WellFormed.{IsWellFormed};
 ghost use Rattle.fzn_cert.specs.declared.step.Step.{Step};
 ghost use Rattle.fzn_cert.specs.Accepted.{AllAccepted, past_of};
 ghost use Rattle.fzn_cert.specs.Past.{clause_held};
-ghost use Rattle.fzn_clauses.specs.Held.{AllHeld};
+ghost use Rattle.fzn_clauses.specs.Held.{AllHeld, IsHeld, at_number};
 ghost use Rattle.fzn_clauses.specs.Watching.{held_by, IsWatching};
 ghost use Rattle.fzn_inferences.specs.Inferences.{IsStacked, inferred_clause};
+ghost use Rattle.fzn_conflict.specs.declared.analysis.Learn.TheVariants.{Plain, First};
 ghost use Rattle.fzn_conflict.specs.declared.source.Source.TheVariants.{Held};
 ghost use Rattle.fzn_conflict.specs.Learned.{IsConflicting};
 ghost use Rattle.fzn_conflict.specs.Reasoned.{IsKnown, IsBelow, IsReasoned, reason_of, clause_of};
 ghost use Rattle.fzn_search.specs.Fixed.{AllFixed, HasMany};
 ghost use Rattle.fzn_trail.specs.Levels.{level_of};
+ghost use Rattle.fzn_engine.specs.Forgetting.{IsFlagged};
 ghost use Rattle.fzn_engine.specs.Inference.{IsInference, IsQuiet};
 ghost use Rattle.fzn_engine.specs.Outcome.{IsReached};
 ghost use Rattle.fzn_engine.specs.State.{known_in};
-ghost use Rattle.fzn_engine.specs.Search.{IsAfter, stock_of, GiveSources, IsWritten, Learns, Holds, IsBackAt, IsWithinLimits, IsForcedBy, IsDecided, IsKeptBy, IsRecorded, Goes, Continues, IsOver, ending_of};
+ghost use Rattle.fzn_engine.specs.Search.{IsAfter, stock_of, GiveSources, IsWritten, Learns, Holds, IsBackAt, IsWithinLimits, IsForcedBy, IsDecided, IsKeptBy, IsRecorded, IsTended, Goes, Continues, IsOver, ending_of};
 
 use crate::fault::Fault;
 use crate::inference::{Constraints, Inference};
 use crate::limits::{Ending, Limits};
+use crate::notes::Notes;
+use crate::reasons::reasons_on;
 use crate::sink::Sink;
 use fzn_cert::Step;
 use fzn_clauses::Clauses;
-use fzn_conflict::{Learn, Learned, Marks, Source, analyse, clause_of};
+use fzn_conflict::{Learn, Learned, Source, analyse, clause_of, unit_of};
 use fzn_domain::{Domain, Lit, Memory, VarId};
 use fzn_inferences::{Inferences, Inferred};
 use fzn_list::Items;
 use fzn_meaning::{Goal, Model, Var};
-use fzn_search::{Choice, Search, cut, values_of};
+use fzn_search::{Annotation, Choice, Search, cut, values_of};
 use fzn_state::State;
 use fzn_trail::{ClauseId, Reason, Trail};
 use std::alloc::Global;
@@ -50,13 +54,26 @@ pub struct Solver {
     /// The declared sets, on which learned clauses are tested.
     pub scratch: State,
     pub learn: Learn,
+    pub notes: Notes,
     pub found: u64,
     pub steps: u64,
 }
 
+/// How many literals the clause of an inference has at most that is held.
+const SHORT: usize = 4;
+
+/// How many inferences without an entry may stand beside those on which entries may rest.
+const SPARE: usize = 256;
+
 impl Solver {
     /// A search that has done nothing.
-    pub fn new(alloc: Global, model: &Model, learn: Learn, choice: Choice) -> Result<Solver, Memory>
+    pub fn new(
+        alloc: Global,
+        model: &Model,
+        learn: Learn,
+        choice: Choice,
+        annotations: &[Annotation],
+    ) -> Result<Solver, Memory>
         requires { NoneEmpty (declared_sets model.now.vars) }
         ensures fresh { IfOk result (λ solver. IsAfter model.now solver []) }
         ensures nodes { IfOk result (λ solver. solver.search.nodes ≡ 0) }
@@ -65,8 +82,7 @@ impl Solver {
     {
         let trail = Trail::new(alloc, declared(alloc, model.vars.as_slice())?)?;
         let scratch = State::new(alloc, declared(alloc, model.vars.as_slice())?);
-        let annotations = Items::new(alloc);
-        let search = Search::new(alloc, model.vars.as_slice(), annotations.as_slice(), choice)?;
+        let search = Search::new(alloc, model.vars.as_slice(), annotations, choice)?;
         Ok(Solver {
             trail,
             clauses: Clauses::new(alloc),
@@ -75,6 +91,7 @@ impl Solver {
             search,
             scratch,
             learn,
+            notes: Notes::new(alloc),
             found: 0,
             steps: 0,
         })
@@ -235,14 +252,13 @@ impl Solver {
         ensures accepted { AllAccepted model.now (S.written sink.new) }
         ensures kept { S.keeps model.now sink.new × (S.origin sink.new ≡ S.origin sink.old) }
     {
-        let mut marks = Marks::new(alloc);
         let learned = analyse(
             alloc,
             &self.trail,
             &self.clauses,
             &self.inferences,
             &mut self.scratch,
-            &mut marks,
+            &mut self.notes.marks,
             conflict,
             self.learn,
         )?;
@@ -250,7 +266,7 @@ impl Solver {
         Ok((learned, ids))
     }
 
-    /// Learns from a false clause: writes the step, goes back, and asserts there what the learned clause forces.
+    /// Learns from a false clause: writes the step, goes back, and asserts there what the learned clause forces, or restarts.
     /// Answers whether the search goes on: after an empty clause nothing is left.
     pub fn learn<S: Sink>(
         &mut self,
@@ -270,29 +286,70 @@ impl Solver {
         let (learned, ids) = self.derive(alloc, model, sink, conflict)?;
         let Learned {
             clause,
-            sources: _,
+            sources,
             level,
+            levels,
             marked,
         } = learned;
-        let id = self.hold(clause.as_slice(), marked.as_slice())?;
+        let id = self.hold(
+            clause.as_slice(),
+            marked.as_slice(),
+            sources.as_slice(),
+            Some(levels),
+        )?;
         let is_empty = clause.len() == 0;
         sink.step(alloc, model, &Step::Resolve { clause, ids })?;
         if is_empty {
             return Ok(false);
+        }
+        if self.is_restart_due() {
+            self.restart();
+            return Ok(true);
         }
         self.go_back(level);
         self.force(Source::Held(id))?;
         Ok(true)
     }
 
-    /// Holds the clause of the next step, and tells the search which literals its conflict rests on.
-    fn hold(&mut self, clause: &[Lit], marked: &[Lit]) -> Result<ClauseId, Memory>
+    /// Counts the conflict, and answers whether the search is to restart. In plain learning it never does.
+    fn is_restart_due(&mut self) -> bool
+        ensures first { IsTrue result → self.old.learn ≡ First }
+        ensures same { self.new ≡ self.old }
+    {
+        let is_due = self.search.conflict();
+        match self.learn {
+            Learn::Plain => false,
+            Learn::First => is_due,
+        }
+    }
+
+    /// Goes back to level 0.
+    fn restart(&mut self)
+        requires { IsReasoned (known_in (stock_of self.old)) self.old.trail }
+        ensures { IsBackAt 0 self.old self.new }
+    {
+        self.go_back(0);
+    }
+
+    /// Holds the clause of the next step, and tells the search which literals its conflict rests on, and notes on which sources the
+    /// clause rests. One whose literals stand on a number of levels may be forgotten.
+    fn hold(
+        &mut self,
+        clause: &[Lit],
+        marked: &[Lit],
+        sources: &[Source],
+        levels: Option<usize>,
+    ) -> Result<ClauseId, Memory>
         requires room { self.old.steps < 10 ^ 18 }
         ensures held { OnOk result (Holds clause.now self.old self.new) }
         ensures id { IfOk result (λ id. id.0 ≡ length (held_by self.old.clauses)) }
     {
         self.search.bump(marked)?;
         let id = self.clauses.add(clause)?;
+        self.notes.cite(sources)?;
+        if let Some(levels) = levels {
+            self.notes.learned.push(id, levels)?;
+        }
         self.steps += 1;
         self.numbers.push(self.steps)?;
         Ok(id)
@@ -305,9 +362,8 @@ impl Solver {
         ensures { IsBackAt level self.old self.new }
     {
         self.search.undo(&self.trail, self.trail.count_at(level));
-        let _is_due = self.search.conflict();
         self.trail.back_to(level);
-        let len = stack_len(&self.trail, self.inferences.len());
+        let len = kept_len(&self.trail, self.inferences.len(), &mut self.notes);
         self.inferences.truncate(len);
     }
 
@@ -362,7 +418,7 @@ impl Solver {
     {
         let values = values_of(alloc, &self.trail, model.vars.len())?;
         let clause = cut(alloc, model, values.as_slice())?;
-        let id = self.hold(clause.as_slice(), [].as_slice())?;
+        let id = self.hold(clause.as_slice(), [].as_slice(), [].as_slice(), None)?;
         let step = Step::Solution(values);
         sink.step(alloc, model, &step)?;
         self.found += 1;
@@ -474,6 +530,216 @@ impl Solver {
         }
     }
 
+    /// Serves the next conflicts: clauses stand for entries of level 0 on which conflicts rested, and what is of little use is forgotten.
+    fn tend<S: Sink>(&mut self, alloc: Global, model: &Model, sink: &mut S) -> Result<(), Fault>
+        requires model { IsWellFormed model.now }
+        requires state { IsAfter model.now self.old (S.written sink.old) }
+        requires kept { S.keeps model.now sink.old }
+        ensures tended { OnOk result (IsTended model.now self.old self.new (S.written sink.new)) }
+        ensures accepted { AllAccepted model.now (S.written sink.new) }
+        ensures kept { S.keeps model.now sink.new × (S.origin sink.new ≡ S.origin sink.old) }
+    {
+        self.prove_units(alloc, model, sink)?;
+        self.hold_cited()?;
+        self.forget(alloc, model)?;
+        Ok(())
+    }
+
+    /// Learns the literals of the entries of level 0 for which clauses are wanted.
+    fn prove_units<S: Sink>(
+        &mut self,
+        alloc: Global,
+        model: &Model,
+        sink: &mut S,
+    ) -> Result<(), Fault>
+        requires model { IsWellFormed model.now }
+        requires state { IsAfter model.now self.old (S.written sink.old) }
+        requires kept { S.keeps model.now sink.old }
+        ensures tended { OnOk result (IsTended model.now self.old self.new (S.written sink.new)) }
+        ensures accepted { AllAccepted model.now (S.written sink.new) }
+        ensures kept { S.keeps model.now sink.new × (S.origin sink.new ≡ S.origin sink.old) }
+    {
+        match self.learn {
+            Learn::Plain => Ok(()),
+            Learn::First => {
+                self.prove_wanted(alloc, model, sink)?;
+                Ok(())
+            }
+        }
+    }
+
+    /// Learns them where learning is by the first unique implication point.
+    fn prove_wanted<S: Sink>(
+        &mut self,
+        alloc: Global,
+        model: &Model,
+        sink: &mut S,
+    ) -> Result<(), Fault>
+        requires model { IsWellFormed model.now }
+        requires state { IsAfter model.now self.old (S.written sink.old) }
+        requires kept { S.keeps model.now sink.old }
+        requires first { self.old.learn ≡ First }
+        ensures tended { OnOk result (IsTended model.now self.old self.new (S.written sink.new)) }
+        ensures accepted { AllAccepted model.now (S.written sink.new) }
+        ensures kept { S.keeps model.now sink.new × (S.origin sink.new ≡ S.origin sink.old) }
+    {
+        'wanted: for _ in 0..self.trail.len() {
+            let Some(place) = self.notes.marks.next_wanted() else {
+                return Ok(());
+            };
+            self.prove_unit(alloc, model, sink, place)?;
+        }
+        Ok(())
+    }
+
+    /// Learns the literal of an entry of level 0 as a clause of its own, where it follows as it should.
+    fn prove_unit<S: Sink>(
+        &mut self,
+        alloc: Global,
+        model: &Model,
+        sink: &mut S,
+        place: usize,
+    ) -> Result<(), Fault>
+        requires model { IsWellFormed model.now }
+        requires state { IsAfter model.now self.old (S.written sink.old) }
+        requires kept { S.keeps model.now sink.old }
+        requires first { self.old.learn ≡ First }
+        ensures tended { OnOk result (IsTended model.now self.old self.new (S.written sink.new)) }
+        ensures accepted { AllAccepted model.now (S.written sink.new) }
+        ensures kept { S.keeps model.now sink.new × (S.origin sink.new ≡ S.origin sink.old) }
+    {
+        let found = unit_of(
+            alloc,
+            &self.trail,
+            &self.clauses,
+            &self.inferences,
+            &mut self.scratch,
+            &mut self.notes.marks,
+            place,
+        )?;
+        let Some(unit) = found else {
+            return Ok(());
+        };
+        let ids = self.write_sources(alloc, model, sink, unit.sources.as_slice())?;
+        let clause = unit.clause;
+        let id = self.hold(clause.as_slice(), [].as_slice(), [].as_slice(), None)?;
+        let step = Step::Resolve { clause, ids };
+        sink.step(alloc, model, &step)?;
+        self.notes.marks.stand_for(place, id);
+        Ok(())
+    }
+
+    /// Holds the clauses of inferences that were just written, where they are short: they are not inferred and written again.
+    fn hold_cited(&mut self) -> Result<(), Memory>
+        ensures tended { OnOk result ((model : Model) (steps : List Step) → IsAfter model self.old steps → IsTended model self.old self.new steps) }
+    {
+        'cited: for _ in 0..self.notes.count_cited() {
+            if let Some(place) = self.notes.next_cited() {
+                self.hold_inference(place)?;
+            }
+        }
+        self.notes.ask_up_to(self.steps);
+        Ok(())
+    }
+
+    /// Holds the clause of the inference at this place, if it was just written and is short.
+    fn hold_inference(&mut self, place: usize) -> Result<(), Memory>
+        ensures tended { OnOk result ((model : Model) (steps : List Step) → IsAfter model self.old steps → IsTended model self.old self.new steps) }
+    {
+        if place >= self.inferences.len() {
+            return Ok(());
+        }
+        let inference = self.inferences.get(place);
+        let clause = inference.clause.as_slice();
+        let Some(number) = inference.number else {
+            return Ok(());
+        };
+        if clause.len() < 2 || SHORT < clause.len() || !self.notes.is_new(number) {
+            return Ok(());
+        }
+        let id = self.clauses.add(clause)?;
+        self.numbers.push(number)?;
+        self.notes.inferred.push(id, 0)?;
+        Ok(())
+    }
+
+    /// Forgets learned clauses that are of little use, where there are many.
+    fn forget(&mut self, alloc: Global, model: &Model) -> Result<(), Memory>
+        ensures tended { OnOk result ((steps : List Step) → IsAfter model.now self.old steps → IsTended model.now self.old self.new steps) }
+    {
+        if !self.notes.has_many() {
+            return Ok(());
+        }
+        let flags = reasons_on(alloc, &self.trail, self.clauses.len())?;
+        let are_reasons = flags.as_slice();
+        let worst = self.notes.take_worst(alloc, are_reasons)?;
+        for id in &worst {
+            self.drop_clause(model, *id, are_reasons);
+        }
+        Ok(())
+    }
+
+    /// Forgets a clause, if it may be forgotten.
+    fn drop_clause(&mut self, model: &Model, id: ClauseId, are_reasons: &[bool])
+        requires { All (λ entry. IsFlagged are_reasons.now entry.reason) self.old.trail.entries }
+        ensures tended { (steps : List Step) → IsAfter model.now self.old steps → IsTended model.now self.old self.new steps }
+        ensures trail { self.new.trail ≡ self.old.trail }
+    {
+        if !self.is_idle(model, id, are_reasons) {
+            return;
+        }
+        self.clauses.remove(id);
+    }
+
+    /// Whether the clause is held, no reason, and by its length neither a cut nor one that stands for an entry.
+    fn is_idle(&self, model: &Model, id: ClauseId, are_reasons: &[bool]) -> bool
+        ensures held { IsTrue result → IsHeld (held_by self.now.clauses) id }
+        ensures unflagged { IsTrue result → (id.0 < length are_reasons.now) × (slice_index_or are_reasons.now id.0 false ≡ false) }
+        ensures no_cut { IsTrue result → (values : List ℤ) → at_number (held_by self.now.clauses) id ≢ Some (cut_of model.now values) }
+    {
+        if !self.clauses.is_held(id) {
+            return false;
+        }
+        let k = id.0 as usize;
+        if k >= are_reasons.len() || are_reasons[k] {
+            return false;
+        }
+        let len = self.clauses.clause(id).len();
+        let cut = cut_len(model);
+        if len == cut {
+            return false;
+        }
+        len > 1
+    }
+
+    /// One change of the search, after which it is tended.
+    fn change<S: Sink, C: Constraints>(
+        &mut self,
+        alloc: Global,
+        model: &Model,
+        limits: Limits,
+        constraints: &mut C,
+        sink: &mut S,
+    ) -> Result<Option<Ending>, Fault>
+        requires model { IsWellFormed model.now }
+        requires is_for { C.is_for constraints.old model.now }
+        requires state { IsAfter model.now self.old (S.written sink.old) }
+        requires kept { S.keeps model.now sink.old }
+        requires within { IsWithinLimits model.now limits self.old }
+        ensures continues { IfOk result (Continues model.now limits self.old self.new (S.written sink.new)) }
+        ensures accepted { AllAccepted model.now (S.written sink.new) }
+        ensures kept { S.keeps model.now sink.new × (S.origin sink.new ≡ S.origin sink.old) }
+        ensures is_for { C.is_for constraints.new model.now }
+    {
+        match self.advance(alloc, model, limits, constraints, sink)? {
+            Some(ending) => Ok(Some(ending)),
+            None => {
+                self.tend(alloc, model, sink)?;
+                Ok(None)
+            }
+        }
+    }
+
     /// Searches to the end.
     pub fn run<S: Sink, C: Constraints>(
         &mut self,
@@ -493,7 +759,7 @@ impl Solver {
         ensures kept { S.keeps model.now sink.new × (S.origin sink.new ≡ S.origin sink.old) }
     {
         'changes: loop {
-            if let Some(ending) = self.advance(alloc, model, limits, constraints, sink)? {
+            if let Some(ending) = self.change(alloc, model, limits, constraints, sink)? {
                 return Ok(ending);
             }
             // The last entry may stand where one that was shown was dropped; those before it were not changed.
@@ -536,6 +802,17 @@ fn first_possible(clause: &[Lit], trail: &Trail) -> Option<Lit>
     None
 }
 
+/// How many literals each cut has.
+fn cut_len(model: &Model) -> usize
+    ensures { (values : List ℤ) → length (cut_of model.now values) ≡ result }
+{
+    match model.goal {
+        Goal::Satisfy => model.outputs.len(),
+        Goal::Minimize(_) => 1,
+        Goal::Maximize(_) => 1,
+    }
+}
+
 /// The reason for asserting what the clause of this source forces.
 fn reason_of(source: Source) -> Reason
     ensures { result ≡ reason_of source }
@@ -544,6 +821,20 @@ fn reason_of(source: Source) -> Reason
         Source::Held(id) => Reason::Clause(id),
         Source::Stacked(place) => Reason::Inference(place),
     }
+}
+
+/// How many inferences are kept, all on which entries rest among them. It goes over the trail only where enough were stacked since the
+/// last time.
+fn kept_len(trail: &Trail, count: usize, notes: &mut Notes) -> usize
+    requires { All (λ entry. IsBelow count entry.reason) trail.now.entries }
+    ensures { All (λ entry. IsBelow result entry.reason) trail.now.entries }
+{
+    if count < notes.next_cut {
+        return count;
+    }
+    let len = stack_len(trail, count);
+    notes.next_cut = len.saturating_add(trail.len()).saturating_add(SPARE);
+    len
 }
 
 /// How many inferences the entries rest on: no reason is one from this place of the stack on.

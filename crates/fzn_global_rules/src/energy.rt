@@ -1,8 +1,9 @@
 // The rule `energy`: what the tasks use between two times is more than there is.
 ghost use Rattle.std.specs.Prelude.{◌≡◌, ◌↔◌, ◌*◌, ◌+◌, ◌^◌, ◌≤◌, ◌≤ℤ◌, ◌-ℤ◌, ◌*ℤ◌, ◌<ℤ◌, IsTrue, false, pos, length, unsigned_abs};
 ghost use Rattle.std.specs.List.{All};
-ghost use Rattle.fzn_domain.specs.Limits.{IsInLimits};
+ghost use Rattle.fzn_domain.specs.Limits.{IsInLimits, IsSmall};
 ghost use Rattle.fzn_domain.specs.Narrow.{is_some_empty};
+ghost use Rattle.fzn_list.specs.Limits.{longest};
 ghost use Rattle.fzn_meaning.specs.Term.{IsTerm};
 ghost use Rattle.fzn_meaning.specs.Meaning.{IsWellFormed};
 ghost use Rattle.fzn_state.specs.Terms.{greatest_value};
@@ -77,7 +78,7 @@ fn energy_of(
     requires starts { All (IsTerm (length state.now.sets)) starts.now }
     requires durations { All (IsTerm (length state.now.sets)) durations.now }
     requires uses { All (IsTerm (length state.now.sets)) uses.now }
-    requires short { length starts.now ≤ 100000 }
+    requires short { length starts.now ≤ longest }
     requires as_many_durations { length durations.now ≡ length starts.now }
     requires as_many_uses { length uses.now ≡ length starts.now }
     requires nonempty { is_some_empty state.now.sets ≡ false }
@@ -113,7 +114,7 @@ fn least_overlap(state: &State, from: &i64, until: &i64, task: TaskTerms) -> i12
     requires task { IsTask (length state.now.sets) task }
     requires nonempty { is_some_empty state.now.sets ≡ false }
     ensures value { result ≡ least_overlap state.now.sets from.now until.now task }
-    ensures bounded { unsigned_abs result ≤ 1000000000 }
+    ensures bounded { IsSmall result }
 {
     let duration = least_value(state, task.duration);
     let early = overlap(from, until, &least_value(state, task.start), &duration);
@@ -126,7 +127,7 @@ fn overlap(from: &i64, until: &i64, start: &i64, duration: &i64) -> i128
     requires start { IsInLimits start.now }
     requires duration { IsInLimits duration.now }
     ensures value { result ≡ overlap from.now until.now start.now duration.now }
-    ensures bounded { unsigned_abs result ≤ 1000000000 }
+    ensures bounded { IsSmall result }
 {
     let end = (*start + *duration).min(*until) as i128;
     let begin = (*start).max(*from) as i128;

@@ -2,6 +2,8 @@
 ghost use Rattle.std.specs.Prelude.{◌≡◌, ◌↔◌, ◌≤◌, ◌≤ℤ◌, ◌+ℤ◌, IsTrue, false, pos, length};
 ghost use Rattle.std.specs.List.{All};
 ghost use Rattle.fzn_domain.specs.Narrow.{is_some_empty};
+ghost use Rattle.fzn_list.specs.Limits.{longest};
+ghost use Rattle.fzn_domain.specs.declared.domain.TheConstants.{GREATEST_VALUE};
 ghost use Rattle.fzn_meaning.specs.Term.{IsTerm};
 ghost use Rattle.fzn_meaning.specs.Meaning.{IsWellFormed};
 ghost use Rattle.fzn_state.specs.Terms.{least_value};
@@ -43,7 +45,7 @@ fn least_load(state: &State, time: &i64, starts: &[Term], durations: &[Term], us
     requires starts { All (IsTerm (length state.now.sets)) starts.now }
     requires durations { All (IsTerm (length state.now.sets)) durations.now }
     requires uses { All (IsTerm (length state.now.sets)) uses.now }
-    requires short { length starts.now ≤ 100000 }
+    requires short { length starts.now ≤ longest }
     requires as_many_durations { length durations.now ≡ length starts.now }
     requires as_many_uses { length uses.now ≡ length starts.now }
     requires nonempty { is_some_empty state.now.sets ≡ false }
@@ -66,7 +68,7 @@ fn least_use_at(state: &State, time: &i64, task: TaskTerms) -> i64
     requires nonempty { is_some_empty state.now.sets ≡ false }
     ensures value { result ≡ least_use_at state.now.sets time.now task }
     ensures not_negative { pos 0 ≤ℤ result }
-    ensures bounded { result ≤ℤ pos 1000000000 }
+    ensures bounded { result ≤ℤ GREATEST_VALUE }
 {
     if surely_runs(state, time, task) {
         least_use(state, task)

@@ -1,6 +1,7 @@
 // Tasks whose starts, durations and uses are terms.
 ghost use Rattle.std.specs.Prelude.{◌≡◌, ◌≤ℤ◌, pos, false, length};
 ghost use Rattle.fzn_domain.specs.Narrow.{is_some_empty};
+ghost use Rattle.fzn_domain.specs.declared.domain.TheConstants.{GREATEST_VALUE};
 ghost use Rattle.fzn_global_rules.specs.Tasks.{least_use, IsTask};
 
 use fzn_meaning::Term;
@@ -20,7 +21,7 @@ pub(crate) fn least_use(state: &State, task: TaskTerms) -> i64
     requires nonempty { is_some_empty state.now.sets ≡ false }
     ensures value { result ≡ least_use state.now.sets task }
     ensures not_negative { pos 0 ≤ℤ result }
-    ensures bounded { result ≤ℤ pos 1000000000 }
+    ensures bounded { result ≤ℤ GREATEST_VALUE }
 {
     least_value(state, task.uses).max(0)
 }

@@ -5,9 +5,11 @@
 #![tactic(auto)]
 
 pub use items::Items;
+pub use limits::LONGEST;
 pub use shared::Shared;
 pub use text::Text;
 
 mod items;
+mod limits;
 mod shared;
 mod text;

@@ -6,9 +6,10 @@ use Rattle.std.proofs.lemmas.List.Elements.{All-map}
 use Rattle.fzn_meaning.specs.declared.term.Term.{Term}
 use Rattle.fzn_meaning.specs.declared.term.Term.TheVariants.{Constant}
 use Rattle.fzn_meaning.specs.Term.{term_value, values_of}
+pub use Rattle.fzn_domain.specs.Limits.{IsNearLimits}
 pub use Rattle.fzn_meaning.proofs.SumLemmas.{plus_product-bound, plus_product-fits, plus_product-is}
 pub use Rattle.fzn_meaning.proofs.OrderLemmas.{better-from_cut, cut-from_better, better_trans, passes-better, better-passes}
-pub use Rattle.fzn_meaning.proofs.CutLemmas.{cut_for-itself, cut_of-itself, IsCutOff, proper-from_cuts, exhausted-from_cuts, cut_of-variables, IsNearLimits, cut_of-limits, bits-choice}
+pub use Rattle.fzn_meaning.proofs.CutLemmas.{cut_for-itself, cut_of-itself, IsCutOff, proper-from_cuts, exhausted-from_cuts, cut_of-variables, cut_of-limits, bits-choice}
 pub use Rattle.fzn_meaning.proofs.CountLemmas.{one_if, places_of, is_inside, places_inside, places_inside-none, places_inside-first, places_inside-length, places_inside-most, places_inside-fewer, places_inside-least, places_inside-more, places_of-Contains, Contains-places_of, places_of-two, places_of-different, different-places_of}
 pub use Rattle.fzn_meaning.proofs.CircuitLemmas.{Contains-entry_at, reached-more, reached-stays, IsIndex-reached, circuit-Contains, circuit-different, circuit-no_cut}
 

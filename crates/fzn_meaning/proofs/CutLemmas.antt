@@ -9,7 +9,7 @@ use Rattle.std.proofs.lemmas.Bool.{cases_lt, cases_Bool}
 use Rattle.fzn_domain.specs.declared.literal.VarId.{VarId}
 use Rattle.fzn_domain.specs.declared.literal.Lit.{Lit}
 use Rattle.fzn_domain.specs.IntSet.{IntSet}
-use Rattle.fzn_domain.specs.Limits.{IsInLimits}
+use Rattle.fzn_domain.specs.Limits.{IsInLimits, IsNearLimits}
 use Rattle.fzn_domain.specs.Narrow.{IsVariable, IsClauseOver, IsWithin, value_of, is_clause_true}
 use Rattle.fzn_meaning.specs.declared.term.Term.{Term}
 use Rattle.fzn_meaning.specs.declared.term.Term.TheVariants.{Constant, Variable}
@@ -133,10 +133,6 @@ pub cut_of-variables : (model : Model) (a : List ℤ) → IsWellFormed model →
 cut_of-variables model a h =
     All-from_recursion (λ (lit : Lit). IsVariable (length model.vars) lit.var) (cut_of model a)
     (variables (length model.vars) model.goal model.outputs a h.goal (recursion_from_All (IsVariable (length model.vars)) model.outputs h.outputs))
-
--- one past the limits of a value
-abbrev pub IsNearLimits : ℤ → Type 0
-IsNearLimits x = (negsuc 1000000000 ≤ℤ x) × (x ≤ℤ pos 1000000001)
 
 value_in_limits : (a : List ℤ) (var : VarId) → All IsInLimits a → IsInLimits (value_of a var)
 value_in_limits a var h = elim (cases_lt (var.0 - 1) (length a)) [

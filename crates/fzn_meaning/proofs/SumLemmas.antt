@@ -2,19 +2,20 @@
 use Rattle.std.proofs.Common.{◌≡◌, ◌+◌, ◌*◌, ◌^◌, ◌≤◌, ℤ, ◌+ℤ◌, ◌*ℤ◌, unsigned_abs, arith}
 use Rattle.std.proofs.lemmas.Int.{ints, to_z-of_z, unsigned_abs-mul, fits_signed_from_abs}
 use Rattle.std.proofs.Math.Nat.{mul-le-mul}
+use Rattle.fzn_domain.specs.Limits.{IsSmall}
 use mir.Syntax.{w64, w128}
 use mir.Val.{to_z, of_z, SFits}
 
 unsigned_abs-plus : (a b : ℤ) → unsigned_abs (a +ℤ b) ≤ unsigned_abs a + unsigned_abs b
 unsigned_abs-plus a b = grind (arith, ints)
 
-product_bound : (c x : ℤ) → unsigned_abs c ≤ 1000000000 → unsigned_abs x ≤ 2 ^ 63 → unsigned_abs (c *ℤ x) ≤ 1000000000 * 2 ^ 63
+product_bound : (c x : ℤ) → IsSmall c → unsigned_abs x ≤ 2 ^ 63 → unsigned_abs (c *ℤ x) ≤ 1000000000 * 2 ^ 63
 product_bound c x p q = rw (unsigned_abs-mul c x) (mul-le-mul p q)
 
 value_bound : (x : ℤ) → SFits w64 x → unsigned_abs x ≤ 2 ^ 63
 value_bound x fits = grind (arith, ints)
 
-module _ (s c x : ℤ) (hc : unsigned_abs c ≤ 1000000000) (hx : SFits w64 x) where
+module _ (s c x : ℤ) (hc : IsSmall c) (hx : SFits w64 x) where
   pub plus_product-bound : unsigned_abs (s +ℤ c *ℤ x) ≤ unsigned_abs s + 1000000000 * 2 ^ 63
   plus_product-bound =
       let product = product_bound c x hc (value_bound x hx) in

@@ -2,13 +2,14 @@
 use Rattle.std.specs.Prelude.{◌≡◌, ℕ, zero, suc, ◌+◌, ◌<◌, ◌≤◌, if◌then◌else◌, ℤ, pos, ◌+ℤ◌, ◌≤ℤ◌, int_le, FitsSigned, List, [], ◌∷◌, length, slice_index_or, unsigned_abs}
 use Rattle.std.specs.Int.{w64}
 use Rattle.std.specs.List.{All, AllPairs}
+use Rattle.fzn_list.specs.Limits.{longest}
 use Rattle.fzn_meaning.specs.Cumulative.{Task, load_at, use_at, NoneNegative}
 
 -- as many durations and uses as starts, where each task ends at its start or later
 pub record AreTasks (starts durations uses : List ℤ) : Type 0 where
   pub has_durations : length durations ≡ length starts
   pub has_uses : length uses ≡ length starts
-  pub short : length starts ≤ 100000
+  pub short : length starts ≤ longest
   pub not_negative : NoneNegative durations
 
 -- numbers of 64 bits, none less than one that stands before it

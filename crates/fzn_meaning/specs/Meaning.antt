@@ -1,9 +1,10 @@
 -- What each constraint says of the values of its terms.
-use Rattle.std.specs.Prelude.{◌≡◌, ◌⊎◌, true, ℕ, ◌%◌, ◌<◌, ◌≤◌, ℤ, pos, List, [], ◌∷◌, ◌++◌, length, unsigned_abs, Option, IfSome}
+use Rattle.std.specs.Prelude.{◌≡◌, ◌⊎◌, true, ℕ, ◌%◌, ◌<◌, ◌≤◌, ℤ, pos, List, [], ◌∷◌, ◌++◌, length, Option, IfSome}
 use Rattle.std.specs.List.{All}
 use Rattle.std.specs.Option.{option_map, option_to_list}
+pub use Rattle.fzn_list.specs.Limits.{longest}
 use Rattle.fzn_domain.specs.IntSet.{IntSet, contains}
-use Rattle.fzn_domain.specs.Limits.{IsInLimits, IsLimited}
+use Rattle.fzn_domain.specs.Limits.{IsInLimits, IsSmall, IsLimited}
 use Rattle.fzn_domain.specs.Narrow.{set_of}
 use Rattle.fzn_meaning.specs.declared.term.Term.{Term}
 use Rattle.fzn_meaning.specs.declared.term.Term.TheVariants.{Constant, Variable}
@@ -54,9 +55,6 @@ Meets (Inverse forward backward) values = IsInverse (values_of values forward) (
 
 -- ---- which constraints a model may have
 
-abbrev pub longest : ℕ
-longest = 100000
-
 -- constants within the limits or variables among this many, and not too many of them
 abbrev pub AreTerms : ℕ → List Term → Type 0
 AreTerms count terms = All (IsTerm count) terms × (length terms ≤ longest)
@@ -72,7 +70,7 @@ unfoldable pub IsWellFormed : ℕ → Constraint → Type 0
 IsWellFormed count (Compare relation left right switch) = IsTerm count left × IsTerm count right × IsSwitch count switch
 IsWellFormed count (BoolNot left right) = IsTerm count left × IsTerm count right
 IsWellFormed count (BoolToInt boolean integer) = IsTerm count boolean × IsTerm count integer
-IsWellFormed count (Linear sum comparison bound switch) = IsSum count sum × (unsigned_abs bound ≤ 1000000000) × IsSwitch count switch
+IsWellFormed count (Linear sum comparison bound switch) = IsSum count sum × IsSmall bound × IsSwitch count switch
 IsWellFormed count (BoolLinEq sum total) = IsSum count sum × IsTerm count total
 IsWellFormed count (Arithmetic operation left right result) = IsTerm count left × IsTerm count right × IsTerm count result
 IsWellFormed count (IntAbs of result) = IsTerm count of × IsTerm count result

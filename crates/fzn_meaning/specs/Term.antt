@@ -1,7 +1,7 @@
 -- Terms, and weighted sums of them.
-use Rattle.std.specs.Prelude.{ℕ, ◌≤◌, ℤ, pos, ◌+ℤ◌, ◌*ℤ◌, ◌≤ℤ◌, List, map, unsigned_abs}
+use Rattle.std.specs.Prelude.{ℕ, ℤ, pos, ◌+ℤ◌, ◌*ℤ◌, ◌≤ℤ◌, List, map}
 use Rattle.std.specs.List.{fold, zip}
-use Rattle.fzn_domain.specs.Limits.{IsInLimits}
+use Rattle.fzn_domain.specs.Limits.{IsInLimits, IsSmall}
 use Rattle.fzn_domain.specs.Narrow.{IsVariable, value_of}
 use Rattle.fzn_meaning.specs.declared.term.Term.{Term}
 use Rattle.fzn_meaning.specs.declared.term.Term.TheVariants.{Constant, Variable}
@@ -50,4 +50,4 @@ IsNotNegative (Constant k) = pos 0 ≤ℤ k
 IsNotNegative (Variable var) = Unit {0}
 
 abbrev pub IsPlace : ℕ → Place → Type 0
-IsPlace count place = IsTerm count place.term × (unsigned_abs place.coefficient ≤ 1000000000)
+IsPlace count place = IsTerm count place.term × IsSmall place.coefficient

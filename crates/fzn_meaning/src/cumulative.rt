@@ -1,6 +1,7 @@
 // Tasks that share a capacity.
 ghost use Rattle.std.specs.Prelude.{◌↔◌, ◌≡◌, ◌≤◌, ◌≤ℤ◌, IsTrue, length, take};
 ghost use Rattle.std.specs.List.{All};
+ghost use Rattle.fzn_list.specs.Limits.{longest};
 ghost use Rattle.fzn_meaning.specs.Cumulative.{IsCumulative, NoneNegative, tasks, load_at};
 
 use crate::entries::Entries;
@@ -16,7 +17,7 @@ pub(crate) fn is_cumulative(
 ) -> bool
     requires durations { length durations.now ≡ length starts.now }
     requires uses { length uses.now ≡ length starts.now }
-    requires short { length starts.now ≤ 100000 }
+    requires short { length starts.now ≤ longest }
     ensures { IsTrue result ↔ IsCumulative starts.now durations.now uses.now capacity }
 {
     if capacity < 0 || !are_not_negative(durations) || !are_not_negative(uses) {
@@ -39,7 +40,7 @@ fn are_not_negative(values: &Entries) -> bool
 fn is_kept_at_starts(starts: &Entries, durations: &Entries, uses: &Entries, capacity: i64) -> bool
     requires durations { length durations.now ≡ length starts.now }
     requires uses { length uses.now ≡ length starts.now }
-    requires short { length starts.now ≤ 100000 }
+    requires short { length starts.now ≤ longest }
     requires not_negative { NoneNegative durations.now }
     ensures { IsTrue result ↔ All (λ t. load_at t (tasks starts.now durations.now uses.now) ≤ℤ capacity) starts.now }
 {

@@ -1,6 +1,8 @@
 // Sums in 128 bits.
 ghost use Rattle.std.specs.Prelude.{◌≡◌, ◌+◌, ◌*◌, ◌^◌, ◌<◌, ◌≤◌, ◌+ℤ◌, ◌*ℤ◌, pos, length, slice_index_or, unsigned_abs};
 ghost use Rattle.std.specs.List.{All};
+ghost use Rattle.fzn_list.specs.Limits.{longest};
+ghost use Rattle.fzn_domain.specs.Limits.{IsSmall};
 ghost use Rattle.fzn_meaning.specs.declared.term.Term.TheVariants.{Constant};
 ghost use Rattle.fzn_meaning.specs.Term.{IsPlace, sum_at, weighted};
 
@@ -56,7 +58,7 @@ impl Sum {
 /// One more product in a sum.
 pub fn plus_product(sum: i128, coefficient: i64, value: i64) -> i128
     requires sum { unsigned_abs sum ≤ 2 ^ 126 }
-    requires coefficient { unsigned_abs coefficient ≤ 1000000000 }
+    requires coefficient { IsSmall coefficient }
     ensures value { result ≡ sum +ℤ coefficient *ℤ value }
     ensures bound { unsigned_abs result ≤ unsigned_abs sum + 1000000000 * 2 ^ 63 }
 {
@@ -66,7 +68,7 @@ pub fn plus_product(sum: i128, coefficient: i64, value: i64) -> i128
 /// The sum over the places where the variables have these values.
 pub fn sum_at(places: &Sum, values: &[i64]) -> i128
     requires places { All (IsPlace (length values.now)) places.now }
-    requires short { length places.now ≤ 100000 }
+    requires short { length places.now ≤ longest }
     ensures { result ≡ sum_at values.now places.now }
 {
     let mut sum: i128 = 0;

@@ -1,15 +1,18 @@
 -- What an inference promises, and what it means that there is none.
-use Rattle.std.specs.Prelude.{◌≡◌, ℕ, ℤ, pos, negsuc, ◌+ℤ◌, ◌-ℤ◌, ◌≤ℤ◌, List, [], ◌∷◌, length, Some, None}
+use Rattle.std.specs.Prelude.{◌≡◌, ℕ, ℤ, ◌+ℤ◌, ◌-ℤ◌, ◌≤ℤ◌, List, length, Some, None}
 use Rattle.std.specs.List.{All}
 use Rattle.fzn_domain.specs.declared.literal.Lit.{Lit}
-use Rattle.fzn_domain.specs.IntSet.{IntSet, size}
+use Rattle.fzn_domain.specs.IntSet.{IntSet}
 use Rattle.fzn_domain.specs.Ascending.{IsAscending}
+use Rattle.fzn_domain.specs.Limits.{IsNearLimits}
 use Rattle.fzn_domain.specs.Narrow.{IsClauseOver, IsWithin}
+pub use Rattle.fzn_domain.specs.Narrow.{AllFixed}
 use Rattle.fzn_meaning.specs.declared.term.Place.{Place}
 use Rattle.fzn_meaning.specs.declared.constraint.Constraint.{Constraint}
 use Rattle.fzn_meaning.specs.Meaning.{Meets, HasBooleanSets}
 use Rattle.fzn_rules.specs.declared.rule.Rule.{Rule}
-use Rattle.fzn_rules.specs.declared.rule.Rule.TheVariants.{Lin, Rows, Box, Fixed, Enum, Hall, Load, Energy, Cut, Pair}
+use Rattle.fzn_rules.specs.declared.rule.Rule.TheVariants.{Cut}
+pub use Rattle.fzn_rules.specs.Hints.{IsHint, hints_of}
 use Rattle.fzn_meaning.specs.declared.relation.Comparison.TheVariants.{AtMost}
 use Rattle.fzn_builtin_rules.specs.Linear.{least_sum, low_product, high_product}
 use Rattle.fzn_builtin_rules.specs.Form.{Form, form_of}
@@ -21,23 +24,7 @@ use Rattle.fzn_propagator.specs.Barred.{LeavesNoBarred, IsToDiffer}
 
 -- the numbers that a literal of a certificate may have
 abbrev pub IsWritable : Lit → Type 0
-IsWritable lit = (negsuc 1000000000 ≤ℤ lit.value) × (lit.value ≤ℤ pos 1000000001)
-
--- the numbers that a hint of a certificate may be
-abbrev pub IsHint : ℤ → Type 0
-IsHint hint = (negsuc 3999999999 ≤ℤ hint) × (hint ≤ℤ pos 4000000000)
-
-abbrev pub hints_of : Rule → List ℤ
-hints_of Lin = []
-hints_of Rows = []
-hints_of Box = []
-hints_of Fixed = []
-hints_of Enum = []
-hints_of (Hall low high) = low ∷ high ∷ []
-hints_of (Load time) = time ∷ []
-hints_of (Energy from to) = from ∷ to ∷ []
-hints_of (Cut places) = places
-hints_of (Pair one other) = one ∷ other ∷ []
+IsWritable lit = IsNearLimits lit.value
 
 abbrev pub HasWritableHints : Rule → Type 0
 HasWritableHints (Cut places) = All IsHint places × IsAscending places
@@ -73,10 +60,6 @@ HasStrength constraint sets =
 -- the strength that is promised of a sum that is not to be a number
 abbrev pub HasNoBarred : Constraint → List IntSet → Type 0
 HasNoBarred constraint sets = (form : Form) → form_of constraint ≡ Some form → IsToDiffer sets form → LeavesNoBarred sets form.places form.bound
-
--- each variable has one value
-abbrev pub AllFixed : List IntSet → Type 0
-AllFixed sets = All (λ s. size s ≡ 1) sets
 
 -- no inference is left: where all variables are fixed the constraint holds, and the strength is reached
 pub record IsExhausted (constraint : Constraint) (trail : Levels) : Type 0 where

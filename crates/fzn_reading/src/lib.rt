@@ -1,14 +1,17 @@
 //! From a reader of bytes to the model that a FlatZinc file states.
 //!
-//! In: a reader. Out: the model, or the first fault of the file with its number and place. Proved against `specs/Reads.antt`: the
-//! model, or the fault of the lexer, else of the parser, else of the types, on the bytes that the reader had left.
+//! In: a reader. Out: the model, and the search annotations where they are asked for, or the first fault of the file with its number and
+//! place. Proved against `specs/Reads.antt`: the model, or the fault of the lexer, else of the parser, else of the types, on the bytes that
+//! the reader had left.
 #![tactic(auto)]
 
+mod annotated;
 mod fault;
 mod input;
 mod law;
 mod model;
 
+pub use annotated::{Annotated, read_annotated};
 pub use fault::ModelFault;
 pub use law::one_model;
 pub use model::read_model;

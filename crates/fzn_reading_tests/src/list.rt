@@ -14,6 +14,17 @@ fn lists_what_was_pushed(rt: HostRuntime) -> Result<(), Fail> {
 }
 
 #[test]
+fn lists_a_slice_and_is_cleared(rt: HostRuntime) -> Result<(), Fail> {
+    let mut items: Items<u64> = Items::from_slice(rt.alloc(), [3, 1, 2].as_slice())?;
+    assert_eq!(rt; items.as_slice(), [3, 1, 2].as_slice());
+    items.clear();
+    assert_eq!(rt; items.len(), 0);
+    items.push(4)?;
+    assert_eq!(rt; items.as_slice(), [4].as_slice());
+    Ok(())
+}
+
+#[test]
 fn one_list_of_two_owners(rt: HostRuntime) -> Result<(), Fail> {
     let mut items: Items<u64> = Items::new(rt.alloc());
     for value in [3, 1] {

@@ -1,31 +1,43 @@
 // The words of command lines, each after one space, and what they give.
-use fzn_words::{OptionsFault, check_options_of, options_of};
+use fzn_words::{CheckOptions, OptionsFault, check_options_of, options_of};
 use std::alloc::{AllocError, Global};
 use std::test::Fail;
 
-/// Words of `fznsolve`, and whether every solution is wanted, the most decisions, the model and the certificate.
+/// Words of `fznsolve`, and the flags that are set, the two numbers that may be left out, the most decisions, what is learned, the model
+/// and the certificate.
 const SOLVE: &str = "
-m.fzn                         | false 10000000 m.fzn
--- -a                         | false 10000000 -a
-m.fzn --cert=c -a --nodes 007 | true 7 m.fzn c
---nodes=1000000000000 m.fzn   | false 1000000000000 m.fzn
---nodes 1x m.fzn              | fault 23 CommandLine, status 3
-m.fzn --help                  | help true, status 0
+m.fzn                                            | None None 10000000 First m.fzn
+-- -a                                            | None None 10000000 First -a
+m.fzn --cert=c -a --nodes 007                    | a None None 7 First m.fzn c
+--nodes=1000000000000 m.fzn                      | None None 1000000000000 First m.fzn
+-a -n 3 -f -r 7 --nodes 1000 --cert c.fzc m.fzn  | a f Some(3) Some(7) 1000 First m.fzn c.fzc
+--learn plain m.fzn -r0 -n1000000000             | Some(1000000000) Some(0) 10000000 Plain m.fzn
+-r 18446744073709551615 --learn=first m.fzn      | None Some(18446744073709551615) 10000000 First m.fzn
+-n 00000000000000000000000000000000000000012 m   | Some(12) None 10000000 First m
+--nodes 1x m.fzn                                 | fault 23 CommandLine, status 3
+m.fzn --help                                     | help true, status 0
+--version                                        | help true, status 0
 ";
 
-/// Words of `fzncheck`, and whether every solution is wanted, the model and the certificate.
+/// Words of `fzncheck`, and whether every solution is wanted, the model and the certificate; or the two certificates.
 const CHECK: &str = "
-m.fzn c     | false m.fzn c
-m.fzn c -a  | true m.fzn c
-m.fzn m.fzn | fault 23 CommandLine, status 3
---help      | help true, status 0
+m.fzn c        | false m.fzn c
+m.fzn c -a     | true m.fzn c
+--to2 old new  | to2 old new
+a --to2 -- -b  | to2 a -b
+m.fzn m.fzn    | fault 23 CommandLine, status 3
+--to2 old old  | fault 23 CommandLine, status 3
+--to2 old      | fault 23 CommandLine, status 3
+--help         | help true, status 0
+--version      | help true, status 0
 ";
 
 fn fault_line(alloc: Global, fault: OptionsFault) -> Result<String, AllocError> {
     let status = fault.status();
     match fault {
         OptionsFault::Help(text) => {
-            let has_usage = text.as_str().contains("Usage: fzn");
+            let has_usage = text.as_str().contains("Usage: fzn")
+                || text.as_str().starts_with("fzn");
             format!(in alloc; "help {has_usage}, status {status}")
         }
         fault => format!(in alloc; "{fault}, status {status}"),
@@ -39,16 +51,21 @@ fn solve_line(alloc: Global, words: &[&str]) -> Result<String, AllocError> {
         Err(fault) => return fault_line(alloc, fault),
     };
     let cert = options.cert.as_deref().unwrap_or("");
+    let all = if options.all { "a " } else { "" };
+    let free = if options.free { "f " } else { "" };
     format!(in alloc;
-        "{} {} {} {cert}",
-        options.all, options.nodes, options.model
+        "{all}{free}{:?} {:?} {} {:?} {} {cert}",
+        options.limit, options.seed, options.nodes, options.learn, options.model
     )
 }
 
 /// What the words of `fzncheck` give, as one line.
 fn check_line(alloc: Global, words: &[&str]) -> Result<String, AllocError> {
     match check_options_of(alloc, words) {
-        Ok(options) => { format!(in alloc; "{} {} {}", options.all, options.model, options.cert) }
+        Ok(CheckOptions::Check { all, model, cert }) => {
+            format!(in alloc; "{all} {model} {cert}")
+        }
+        Ok(CheckOptions::ToVersion2 { old, new }) => format!(in alloc; "to2 {old} {new}"),
         Err(fault) => fault_line(alloc, fault),
     }
 }
@@ -57,7 +74,7 @@ fn check_line(alloc: Global, words: &[&str]) -> Result<String, AllocError> {
 fn words_of_fznsolve(rt: HostRuntime) -> Result<(), Fail> {
     for line in SOLVE.trim().lines() {
         let (words, want) = line.split_once('|').ok_or("a line has two columns")?;
-        let words: Vec<&str> = words.trim().split(' ').collect(rt.alloc())?;
+        let words: Vec<&str> = words.split_whitespace().collect(rt.alloc())?;
         let got = solve_line(rt.alloc(), words.as_slice())?;
         assert_eq!(rt; got.as_str().trim(), want.trim(), "{line}");
     }
@@ -68,7 +85,7 @@ fn words_of_fznsolve(rt: HostRuntime) -> Result<(), Fail> {
 fn words_of_fzncheck(rt: HostRuntime) -> Result<(), Fail> {
     for line in CHECK.trim().lines() {
         let (words, want) = line.split_once('|').ok_or("a line has two columns")?;
-        let words: Vec<&str> = words.trim().split(' ').collect(rt.alloc())?;
+        let words: Vec<&str> = words.split_whitespace().collect(rt.alloc())?;
         let got = check_line(rt.alloc(), words.as_slice())?;
         assert_eq!(rt; got.as_str(), want.trim(), "{line}");
     }

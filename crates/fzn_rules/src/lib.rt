@@ -6,7 +6,7 @@
 
 pub use fzn_state::{Possible, State};
 pub use refutation::refutes;
-pub use rule::Rule;
+pub use rule::{GREATEST_HINT, LEAST_HINT, Rule};
 
 mod refutation;
 mod rule;

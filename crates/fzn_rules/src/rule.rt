@@ -1,6 +1,11 @@
 // The rules with their hints.
 use fzn_list::Items;
 
+/// The least and the greatest number that a hint may be.
+pub const LEAST_HINT: i64 = -4_000_000_000;
+
+pub const GREATEST_HINT: i64 = 4_000_000_000;
+
 /// A test that refutes a constraint on sets of values.
 #[derive(Debug, Drop)]
 pub enum Rule {

@@ -1,10 +1,10 @@
 -- Variables with one value, and literals that split a set.
 use Rattle.std.specs.Prelude.{◌≡◌, ℕ, ◌+◌, ◌<◌, ℤ, List, length, slice_index_or}
-use Rattle.std.specs.List.{All}
 use Rattle.fzn_domain.specs.declared.literal.Lit.{Lit}
 use Rattle.fzn_domain.specs.IntSet.{IntSet, size, no_values}
 use Rattle.fzn_domain.specs.Limits.{IsInLimits}
 use Rattle.fzn_domain.specs.Narrow.{IsVariable, IsOpen, IsWithin}
+pub use Rattle.fzn_domain.specs.Narrow.{AllFixed}
 
 -- a search over this many variables, and the decisions that it has made
 pub record Searching : Type 0 where
@@ -14,10 +14,6 @@ pub record Searching : Type 0 where
 -- one more decision
 abbrev pub counted : Searching → Searching
 counted search = record search { nodes = search.nodes + 1 }
-
--- each variable has one value
-abbrev pub AllFixed : List IntSet → Type 0
-AllFixed sets = All (λ s. size s ≡ 1) sets
 
 -- some set has more than one value
 abbrev pub HasMany : List IntSet → Type 0

@@ -1,12 +1,13 @@
 -- The whole answer with its certificate.
-use Rattle.std.proofs.Common.{◌≡◌, ◌≢◌, ℕ, zero, suc, ◌==◌, not, Bool, true, false, ℤ, List, [], ◌∷◌, ◌++◌, length, Option, Some, refl, sym, ap, ◌∙◌, subst, arith, append_assoc, append-nil, cond, inr, slice_index_or}
+use Rattle.std.proofs.Common.{◌≡◌, ◌≢◌, ℕ, zero, suc, ◌-◌, ◌≤◌, ◌==◌, not, Bool, true, false, ℤ, List, [], ◌∷◌, ◌++◌, length, Option, Some, None, refl, sym, ap, ◌∙◌, subst, arith, append_assoc, append-nil, cond, inr, slice_index_or}
 use Rattle.std.specs.Borrow.{GName}
 use Rattle.std.specs.Io.KnownBytes.{Appends}
+use Rattle.std.proofs.Math.Nat.{le-max_right}
 use Rattle.std.proofs.lemmas.Bool.Decides.{nat_tests}
 use Rattle.fzn_meaning.specs.declared.model.Goal.{Goal}
 use Rattle.fzn_meaning.specs.declared.model.Goal.TheVariants.{Satisfy, Minimize, Maximize}
 use Rattle.fzn_meaning.specs.declared.model.Model.{Model}
-use Rattle.fzn_meaning.specs.Solutions.{IsExhausted}
+use Rattle.fzn_meaning.specs.Solutions.{declared_sets, IsExhausted}
 use Rattle.fzn_meaning.specs.WellFormed.{IsWellFormed}
 use Rattle.fzn_cert.specs.declared.step.Step.{Step}
 use Rattle.fzn_cert.specs.declared.step.Version.TheVariants.{One}
@@ -18,6 +19,7 @@ use Rattle.fzn_conflict.specs.declared.analysis.Learn.{Learn}
 use Rattle.fzn_engine.specs.declared.limits.Ending.{Ending as EngineEnding}
 use Rattle.fzn_engine.specs.declared.limits.Ending.TheVariants as engine
 use Rattle.fzn_engine.specs.declared.limits.Limits.{Limits}
+use Rattle.fzn_engine.specs.Volume.{volume}
 use Rattle.fzn_engine.specs.Outcome.{HasRoom, IsReached, EndsTruly as EndsTrulyThere, IsExhaustedIf, IsOutcome}
 use Rattle.fzn_printer.specs.declared.printer.Ending.TheVariants.{Complete, Unsatisfiable, NodeLimit}
 use Rattle.fzn_printer.specs.Printer.{contents_of as out_contents}
@@ -29,7 +31,7 @@ use Rattle.fzn_solver.specs.Learning.{learn_for}
 use Rattle.fzn_solver.specs.Standing.{found_by, is_alone, early, late, certificate, shown_all}
 use Rattle.fzn_solver.specs.Answer.{wanted, EndsTruly, IsAnswer}
 use Rattle.fzn_solver.specs.Writers.{taken, origin, IsFresh, IsClosed}
-use Rattle.fzn_words.specs.declared.learning.Learning.{Learning}
+use Rattle.fzn_words.specs.declared.solve.Options.{Options}
 
 -- ---- the verdict on the certificate
 
@@ -74,19 +76,19 @@ none-found (first ∷ found) e = absurd (omega arith)
 some-found : (found : List (List ℤ)) (k : ℕ) → length found ≡ suc k → found ≢ []
 some-found found k e none = let l = ap length none in absurd (omega arith)
 
-pub ends-truly : (model : Model) (all : Bool) (learn : Learn) (limits : Limits) (steps : List Step) (nodes n : ℕ) (ending : EngineEnding) → limits.solutions ≡ wanted all → n ≡ length (found_by model steps) → EndsTrulyThere model learn limits steps nodes ending → EndsTruly model all limits.nodes (found_by model steps) nodes (ending_for ending n)
-ends-truly model all learn limits steps nodes n engine.Closed most count truly = closed n count
+pub ends-truly : (model : Model) (options : Options) (learn : Learn) (limits : Limits) (steps : List Step) (nodes n : ℕ) (ending : EngineEnding) → limits.nodes ≡ options.nodes → limits.solutions ≡ wanted options.all options.limit → n ≡ length (found_by model steps) → EndsTrulyThere model learn limits steps nodes ending → EndsTruly model options (found_by model steps) nodes (ending_for ending n)
+ends-truly model options learn limits steps nodes n engine.Closed limit_is most count truly = closed n count
   where
-    closed : (k : ℕ) → k ≡ length (found_by model steps) → EndsTruly model all limits.nodes (found_by model steps) nodes (ending_for engine.Closed k)
+    closed : (k : ℕ) → k ≡ length (found_by model steps) → EndsTruly model options (found_by model steps) nodes (ending_for engine.Closed k)
     closed zero e = none-found (found_by model steps) (sym e)
     closed (suc k) e =
         let H : Option ℕ → Type 0 = λ m. HasRoom model.goal m (length (found_by model steps)) in
-        let E : Bool → Type 0 = λ b. EndsTruly model all limits.nodes (found_by model steps) nodes (cond b Unsatisfiable Complete) in
+        let E : Bool → Type 0 = λ b. EndsTruly model options (found_by model steps) nodes (cond b Unsatisfiable Complete) in
         subst E (sym (not_zero k)) (some-found (found_by model steps) k (sym e), subst H most truly.1)
-ends-truly model all learn limits steps nodes n engine.NodeLimit most count truly =
+ends-truly model options learn limits steps nodes n engine.NodeLimit limit_is most count truly =
     let H : Option ℕ → Type 0 = λ m. HasRoom model.goal m (length (found_by model steps)) in
-    (truly.0, subst H most truly.2)
-ends-truly model all learn limits steps nodes n engine.SolutionLimit most count truly =
+    (truly.0 ∙ limit_is, subst H most truly.2)
+ends-truly model options learn limits steps nodes n engine.SolutionLimit limit_is most count truly =
     let R : Option ℕ → Type 0 = λ m. IsReached model.goal m (length (found_by model steps)) in
     subst R most truly
 
@@ -112,38 +114,49 @@ pub first-pair : {A B : Type 0} (p q : A × B) → p ∷ [] ≡ q ∷ [] → (p.
 first-pair {A = A} {B = B} p q e =
     (ap (λ (l : List (A × B)). (slice_index_or l 0 p).0) e, ap (λ (l : List (A × B)). (slice_index_or l 0 p).1) e)
 
-module _ {W C : Type 0} (outs : W → Option (List ℕ)) (certs : C → Option (List ℕ)) (model : Model) (all : Bool) where
-  pub answer-of : IsWellFormed model → (before searched after : Writers W C) (learning : Learning) (limits : Limits) (nodes n : ℕ) (ending : EngineEnding) → IsFresh outs certs before → before.alone ≡ is_alone model.goal all → origin searched ≡ origin before → limits.solutions ≡ wanted all
-      → AllAccepted model (taken searched) → IsOutcome model (learn_for learning) limits (taken searched) nodes ending → n ≡ length (found_by model (taken searched)) → IsClosed outs certs model (is_closed (ending_for ending n)) searched after
-      → IsAnswer model all limits.nodes learning (out_contents outs before.out) (out_contents outs after.out) (cert_contents certs before.cert) (cert_contents certs after.cert) (record { solutions = n; nodes = nodes; ending = ending_for ending n })
-  answer-of formed before searched after learning limits nodes n ending fresh alone same most all_accepted outcome count closed =
+module _ {W C : Type 0} (outs : W → Option (List ℕ)) (certs : C → Option (List ℕ)) (model : Model) (options : Options) where
+  pub answer-of : IsWellFormed model → (before searched after : Writers W C) (limits : Limits) (nodes n : ℕ) (ending : EngineEnding) → IsFresh outs certs before → before.alone ≡ is_alone model.goal options.all → origin searched ≡ origin before → limits.nodes ≡ options.nodes → limits.solutions ≡ wanted options.all options.limit
+      → AllAccepted model (taken searched) → IsOutcome model (learn_for options.learn) limits (taken searched) nodes ending → n ≡ length (found_by model (taken searched)) → IsClosed outs certs model (is_closed (ending_for ending n)) searched after
+      → IsAnswer model options (out_contents outs before.out) (out_contents outs after.out) (cert_contents certs before.cert) (cert_contents certs after.cert) (record { solutions = n; nodes = nodes; ending = ending_for ending n })
+  answer-of formed before searched after limits nodes n ending fresh alone same limit_is most all_accepted outcome count closed =
       let steps = taken searched in
       let found = found_by model steps in
       let p : W × C = (closed.out_first, closed.cert_first) in
       let q : W × C = (fresh.out_first, fresh.cert_first) in
       let firsts : p ∷ [] ≡ q ∷ [] = sym closed.begun ∙ ap (λ (o : List (W × C) × Bool × GName × GName). o.0) same ∙ fresh.begun in
       let at = first-pair p q firsts in
-      let is : searched.alone ≡ is_alone model.goal all = ap (λ (o : List (W × C) × Bool × GName × GName). o.1) same ∙ alone in
+      let is : searched.alone ≡ is_alone model.goal options.all = ap (λ (o : List (W × C) × Bool × GName × GName). o.1) same ∙ alone in
       let K : Option (List ℕ) → Type 0 = λ w. Appends w (cert_contents certs after.cert) (certificate model steps (is_closed (ending_for ending n))) in
       let O : Option (List ℕ) → Type 0 = λ w. Appends w (out_contents outs after.out) (shown_all model (early searched.alone found ++ late searched.alone found) ++ ending_text (is_closed (ending_for ending n)) (not (length found == 0))) in
       let A : Bool → Type 0 = λ b. Appends (out_contents outs before.out) (out_contents outs after.out) (shown_all model (early b found ++ late b found) ++ ending_text (is_closed (ending_for ending n)) (not (length found == 0))) in
       let cert : certs closed.cert_first ≡ cert_contents certs before.cert = ap certs at.1 ∙ sym fresh.same_cert in
       let out : outs closed.out_first ≡ out_contents outs before.out = ap outs at.0 ∙ sym fresh.same_out in
+      let B : ℕ → Type 0 = λ limit. nodes ≤ limit in
+      let V : ℕ → Type 0 = λ limit. volume (declared_sets model.vars) - 1 ≤ limit in
       let T : List ℕ → Type 0 = λ t. Appends (out_contents outs before.out) (out_contents outs after.out) t in
       record {
         steps = steps;
         certified = record {
           written = subst K cert closed.cert;
-          verdict = certificate-verdict model steps (is_closed (ending_for ending n)) formed all_accepted closed.have_lines (closed-refuted model (learn_for learning) limits steps nodes n ending outcome.ended.truly);
-          printed = subst T (answer-is model all (is_closed (ending_for ending n)) found) (subst A is (subst O out closed.out));
+          verdict = certificate-verdict model steps (is_closed (ending_for ending n)) formed all_accepted closed.have_lines (closed-refuted model (learn_for options.learn) limits steps nodes n ending outcome.ended.truly);
+          printed = subst T (answer-is model options.all (is_closed (ending_for ending n)) found) (subst A is (subst O out closed.out));
         };
         proper = outcome.proper;
         exhausted = closed-exhausted model steps n ending outcome.exhausted;
         solutions = count;
-        ends = ends-truly model all (learn_for learning) limits steps nodes n ending most count outcome.ended.truly;
+        ends = ends-truly model options (learn_for options.learn) limits steps nodes n ending limit_is most count outcome.ended.truly;
         bounded = record {
-          by_choices = λ plain enough is_limit. outcome.enough_nodes (ap learn_for plain) enough (node-limit-is ending n is_limit);
+          by_limit = subst B limit_is outcome.ended.few_nodes;
+          by_choices = λ plain enough is_limit. outcome.enough_nodes (ap learn_for plain) (subst V (sym limit_is) enough) (node-limit-is ending n is_limit);
           by_conflicts = outcome.ended.certified.nodes_by_conflicts;
           fresh = λ plain. outcome.ended.certified.fresh (ap learn_for plain);
         };
       }
+
+-- at first there is room for a solution
+pub room-at_first : (goal : Goal) (all : Bool) (limit : Option ℕ) → HasRoom goal (wanted all limit) 0
+room-at_first Satisfy all (Some limit) = let more = le-max_right limit 1 in omega arith
+room-at_first Satisfy true None = tt
+room-at_first Satisfy false None = omega arith
+room-at_first (Minimize var) all limit = tt
+room-at_first (Maximize var) all limit = tt

@@ -1,5 +1,5 @@
 -- What the search of a model leaves: a true answer on the output, and its certificate.
-use Rattle.std.specs.Prelude.{◌≡◌, ◌≢◌, ℕ, ◌+◌, ◌-◌, ◌*◌, ◌<◌, ◌≤◌, Bool, true, false, ℤ, List, [], length, Option, Some, None}
+use Rattle.std.specs.Prelude.{◌≡◌, ◌≢◌, ℕ, ◌+◌, ◌-◌, ◌*◌, ◌<◌, ◌≤◌, Bool, true, false, ℤ, List, [], length, max, Option, Some, None}
 use Rattle.std.specs.Io.KnownBytes.{Appends}
 use Rattle.fzn_meaning.specs.declared.model.Model.{Model}
 use Rattle.fzn_meaning.specs.Solutions.{declared_sets, IsProper, IsExhausted}
@@ -14,21 +14,22 @@ use Rattle.fzn_engine.specs.Outcome.{HasRoom, IsReached}
 use Rattle.fzn_engine.specs.Volume.{volume, spread}
 use Rattle.fzn_solver.specs.declared.report.Report.{Report}
 use Rattle.fzn_solver.specs.Standing.{found_by, certificate}
-use Rattle.fzn_words.specs.declared.learning.Learning.{Learning}
 use Rattle.fzn_words.specs.declared.learning.Learning.TheVariants.{Plain}
+use Rattle.fzn_words.specs.declared.solve.Options.{Options}
 
--- how many solutions are wanted at most, in satisfaction
-abbrev pub wanted : Bool → Option ℕ
-wanted true = None
-wanted false = Some 1
+-- how many solutions are wanted at most, in satisfaction: as many as the limit says, and at least one; else all or one
+abbrev pub wanted : Bool → Option ℕ → Option ℕ
+wanted all (Some limit) = Some (max limit 1)
+wanted true None = None
+wanted false None = Some 1
 
 -- Complete after a solution and unsatisfiable without, and neither limit reached; open where a decision was wanted at the node limit, or
 -- where there are as many solutions as are wanted.
-abbrev pub EndsTruly : Model → Bool → ℕ → List (List ℤ) → ℕ → Ending → Type 0
-EndsTruly model all limit found nodes Complete = (found ≢ []) × HasRoom model.goal (wanted all) (length found)
-EndsTruly model all limit found nodes Unsatisfiable = found ≡ []
-EndsTruly model all limit found nodes NodeLimit = (nodes ≡ limit) × HasRoom model.goal (wanted all) (length found)
-EndsTruly model all limit found nodes SolutionLimit = IsReached model.goal (wanted all) (length found)
+abbrev pub EndsTruly : Model → Options → List (List ℤ) → ℕ → Ending → Type 0
+EndsTruly model options found nodes Complete = (found ≢ []) × HasRoom model.goal (wanted options.all options.limit) (length found)
+EndsTruly model options found nodes Unsatisfiable = found ≡ []
+EndsTruly model options found nodes NodeLimit = (nodes ≡ options.nodes) × HasRoom model.goal (wanted options.all options.limit) (length found)
+EndsTruly model options found nodes SolutionLimit = IsReached model.goal (wanted options.all options.limit) (length found)
 
 -- These steps are the certificate: its verdict is accepted, and what is printed is the answer of the verdict.
 pub record IsCertified (model : Model) (steps : List Step) (all closed : Bool) (out_old out_new cert_old cert_new : Option (List ℕ)) : Type 0 where
@@ -36,18 +37,19 @@ pub record IsCertified (model : Model) (steps : List Step) (all closed : Bool) (
   pub verdict : Verdict model (certificate model steps closed) (accepted (found_by model steps) closed)
   pub printed : Appends out_old out_new (answer_text model (found_by model steps) closed all)
 
--- the decisions are bounded by the conflicts; in plain learning by the choices too, and each learned clause excludes something that
--- those before it leave
-pub record IsBounded (model : Model) (steps : List Step) (limit : ℕ) (learning : Learning) (report : Report) : Type 0 where
-  pub by_choices : learning ≡ Plain → volume (declared_sets model.vars) - 1 ≤ limit → report.ending ≢ NodeLimit
+-- the decisions are bounded by the node limit, however it ended, and by the conflicts; in plain learning by the choices too, and each
+-- learned clause excludes something that those before it leave
+pub record IsBounded (model : Model) (steps : List Step) (options : Options) (report : Report) : Type 0 where
+  pub by_limit : report.nodes ≤ options.nodes
+  pub by_choices : options.learn ≡ Plain → volume (declared_sets model.vars) - 1 ≤ options.nodes → report.ending ≢ NodeLimit
   pub by_conflicts : report.nodes ≤ (length (resolved steps) + 1) * spread (declared_sets model.vars)
-  pub fresh : learning ≡ Plain → 0 < volume (declared_sets model.vars) → FreshAfter (declared_sets model.vars) [] (resolved steps)
+  pub fresh : options.learn ≡ Plain → 0 < volume (declared_sets model.vars) → FreshAfter (declared_sets model.vars) [] (resolved steps)
 
-pub record IsAnswer (model : Model) (all : Bool) (limit : ℕ) (learning : Learning) (out_old out_new cert_old cert_new : Option (List ℕ)) (report : Report) : Type 0 where
+pub record IsAnswer (model : Model) (options : Options) (out_old out_new cert_old cert_new : Option (List ℕ)) (report : Report) : Type 0 where
   pub steps : List Step
-  pub certified : IsCertified model steps all (is_closed report.ending) out_old out_new cert_old cert_new
+  pub certified : IsCertified model steps options.all (is_closed report.ending) out_old out_new cert_old cert_new
   pub proper : IsProper model (found_by model steps)
   pub exhausted : is_closed report.ending ≡ true → IsExhausted model (found_by model steps)
   pub solutions : report.solutions ≡ length (found_by model steps)
-  pub ends : EndsTruly model all limit (found_by model steps) report.nodes report.ending
-  pub bounded : IsBounded model steps limit learning report
+  pub ends : EndsTruly model options (found_by model steps) report.nodes report.ending
+  pub bounded : IsBounded model steps options report

@@ -9,17 +9,17 @@ use Rattle.fzn_solver.specs.declared.fault.RunFault.TheVariants.{File, Memory, R
 use Rattle.fzn_solver.specs.declared.report.Report.{Report}
 use Rattle.fzn_solver.specs.Answer.{IsAnswer}
 use Rattle.fzn_solver.specs.Left.{IsLeft}
-use Rattle.fzn_words.specs.declared.learning.Learning.{Learning}
+use Rattle.fzn_words.specs.declared.solve.Options.{Options}
 
 -- a file's bytes, where the reader tells them, state this model
 abbrev pub States : Option (List ℕ) → Model → Type 0
 States file model = IfSome file (λ bytes. Reads bytes (Ok model))
 
 -- the file states a model, and its answer and certificate stand
-pub record IsRun (file : Option (List ℕ)) (all : Bool) (limit : ℕ) (learning : Learning) (out_old out_new cert_old cert_new : Option (List ℕ)) (report : Report) : Type 0 where
+pub record IsRun (file : Option (List ℕ)) (options : Options) (out_old out_new cert_old cert_new : Option (List ℕ)) (report : Report) : Type 0 where
   pub model : Model
   pub states : States file model
-  pub answer : IsAnswer model all limit learning out_old out_new cert_old cert_new report
+  pub answer : IsAnswer model options out_old out_new cert_old cert_new report
 
 -- a fault that came once the model was read
 abbrev pub IsLeftOf : Option (List ℕ) → Bool → Option (List ℕ) → Option (List ℕ) → Option (List ℕ) → Option (List ℕ) → RunFault → Type 0

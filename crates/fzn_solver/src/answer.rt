@@ -10,6 +10,7 @@ ghost use Rattle.fzn_solver.specs.Standing.{is_alone};
 ghost use Rattle.fzn_solver.specs.Writers.{IsFresh};
 ghost use Rattle.fzn_solver.specs.Run.{IsRun, IsRunFault};
 
+use crate::choice::{choice_for, for_search};
 use crate::fault::RunFault;
 use crate::learning::learn_for;
 use crate::report::{Report, ending_for};
@@ -19,7 +20,8 @@ use fzn_engine::{Limits, solve};
 use fzn_meaning::Model;
 use fzn_printer::Printer;
 use fzn_propagators::Propagators;
-use fzn_reading::read_model;
+use fzn_reading::read_annotated;
+use fzn_search::Annotation;
 use fzn_words::Options;
 use http_server::Log;
 use std::alloc::Global;
@@ -35,19 +37,30 @@ pub fn run<R: Read + Drop, W: Write, C: Write>(
     out: &mut W,
     cert: &mut C,
 ) -> Result<Report, RunFault>
-    ensures ran { IfOk result (IsRun (R.remaining input) options.now.all options.now.nodes options.now.learn (W.contents out.old) (W.contents out.new) (C.contents cert.old) (C.contents cert.new)) }
+    ensures ran { IfOk result (IsRun (R.remaining input) options.now (W.contents out.old) (W.contents out.new) (C.contents cert.old) (C.contents cert.new)) }
     ensures fault { IfErr result (IsRunFault (R.remaining input) options.now.all (W.contents out.old) (W.contents out.new) (C.contents cert.old) (C.contents cert.new)) }
 {
     let mut input = input;
-    let model = read_model(alloc, &mut input)?;
+    let read = read_annotated(alloc, &mut input)?;
+    let annotations = for_search(alloc, read.annotations)?;
+    let model = read.model;
     let mut propagators = Propagators::new(alloc, &model)?;
-    answer(alloc, &model, &mut propagators, options, out, cert)
+    answer(
+        alloc,
+        &model,
+        annotations.as_slice(),
+        &mut propagators,
+        options,
+        out,
+        cert,
+    )
 }
 
-/// Searches a model for its answer.
+/// Searches a model for its answer, by its annotations.
 fn answer<W: Write, C: Write>(
     alloc: Global,
     model: &Model,
+    annotations: &[Annotation],
     propagators: &mut Propagators,
     options: &Options,
     out: &mut W,
@@ -55,7 +68,7 @@ fn answer<W: Write, C: Write>(
 ) -> Result<Report, RunFault>
     requires model { IsWellFormed model.now }
     requires propagators { StandFor propagators.old model.now }
-    ensures answer { IfOk result (IsAnswer model.now options.now.all options.now.nodes options.now.learn (W.contents out.old) (W.contents out.new) (C.contents cert.old) (C.contents cert.new)) }
+    ensures answer { IfOk result (IsAnswer model.now options.now (W.contents out.old) (W.contents out.new) (C.contents cert.old) (C.contents cert.new)) }
     ensures left { IfErr result (IsLeft model.now options.now.all (W.contents out.old) (W.contents out.new) (C.contents cert.old) (C.contents cert.new)) }
 {
     let mut last = None;
@@ -68,13 +81,21 @@ fn answer<W: Write, C: Write>(
         taken: Log::new(),
         first,
     };
-    search(alloc, model, propagators, options, &mut writers)
+    search(
+        alloc,
+        model,
+        annotations,
+        propagators,
+        options,
+        &mut writers,
+    )
 }
 
 /// Searches a model for its answer, on fresh writers.
 fn search<W: Write, C: Write>(
     alloc: Global,
     model: &Model,
+    annotations: &[Annotation],
     propagators: &mut Propagators,
     options: &Options,
     writers: &mut Writers<'_, '_, '_, W, C>,
@@ -83,7 +104,7 @@ fn search<W: Write, C: Write>(
     requires propagators { StandFor propagators.old model.now }
     requires fresh { IsFresh W.contents C.contents writers.old }
     requires alone { writers.old.alone ≡ is_alone model.now.goal options.now.all }
-    ensures answer { IfOk result (IsAnswer model.now options.now.all options.now.nodes options.now.learn (out_contents W.contents writers.old.out) (out_contents W.contents writers.new.out) (cert_contents C.contents writers.old.cert) (cert_contents C.contents writers.new.cert)) }
+    ensures answer { IfOk result (IsAnswer model.now options.now (out_contents W.contents writers.old.out) (out_contents W.contents writers.new.out) (cert_contents C.contents writers.old.cert) (cert_contents C.contents writers.new.cert)) }
     ensures left { IfErr result (IsLeft model.now options.now.all (out_contents W.contents writers.old.out) (out_contents W.contents writers.new.out) (cert_contents C.contents writers.old.cert) (cert_contents C.contents writers.new.cert)) }
     ensures same_out { out_name writers.new.out ≡ out_name writers.old.out }
     ensures same_cert { cert_name writers.new.cert ≡ cert_name writers.old.cert }
@@ -91,10 +112,19 @@ fn search<W: Write, C: Write>(
     writers.begin(alloc, model)?;
     let limits = Limits {
         nodes: options.nodes,
-        solutions: wanted(options.all),
+        solutions: wanted(options.all, options.limit),
     };
     let learn = learn_for(options.learn);
-    let outcome = solve(alloc, model, limits, learn, propagators, writers)?;
+    let outcome = solve(
+        alloc,
+        model,
+        limits,
+        learn,
+        choice_for(options, learn),
+        annotations,
+        propagators,
+        writers,
+    )?;
     let ending = ending_for(outcome.ending, outcome.solutions);
     writers.close(model, ending)?;
     Ok(Report {
@@ -105,8 +135,11 @@ fn search<W: Write, C: Write>(
 }
 
 /// How many solutions are wanted at most, in satisfaction.
-fn wanted(all: bool) -> Option<u64>
-    ensures { result ≡ wanted all }
+fn wanted(all: bool, limit: Option<u64>) -> Option<u64>
+    ensures { result ≡ wanted all limit }
 {
-    if all { None } else { Some(1) }
+    match limit {
+        Some(limit) => Some(limit.max(1)),
+        None => { if all { None } else { Some(1) } }
+    }
 }

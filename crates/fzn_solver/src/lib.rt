@@ -10,6 +10,7 @@ pub use fault::RunFault;
 pub use report::Report;
 
 mod answer;
+mod choice;
 mod fault;
 mod learning;
 mod report;

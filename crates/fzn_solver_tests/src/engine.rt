@@ -12,6 +12,7 @@ use fzn_domain::{Domain, Memory, VarId};
 use fzn_engine::{Constraints, Ending, Fault, Inference, Limits, Outcome, Sink, solve};
 use fzn_list::{Items, Text};
 use fzn_meaning::{Goal, Kind, Model, Var};
+use fzn_search::Choice;
 use fzn_trail::Trail;
 use std::alloc::Global;
 use std::test::Fail;
@@ -106,7 +107,12 @@ fn one_variable(alloc: Global) -> Result<Model, Memory>
     })
 }
 
-fn outcome_of(alloc: Global, limits: Limits, learn: Learn) -> Result<Outcome, Fault>
+fn outcome_of(
+    alloc: Global,
+    limits: Limits,
+    learn: Learn,
+    restart_after: Option<u64>,
+) -> Result<Outcome, Fault>
     requires { HasRoom Satisfy limits.solutions 0 }
 {
     let model = one_variable(alloc)?;
@@ -114,7 +120,22 @@ fn outcome_of(alloc: Global, limits: Limits, learn: Learn) -> Result<Outcome, Fa
         steps: Items::new(alloc),
     };
     let mut constraints = NoConstraints;
-    solve(alloc, &model, limits, learn, &mut constraints, &mut log)
+    let choice = Choice {
+        free: false,
+        seed: None,
+        restart_after,
+    };
+    let annotations = Items::new(alloc);
+    solve(
+        alloc,
+        &model,
+        limits,
+        learn,
+        choice,
+        annotations.as_slice(),
+        &mut constraints,
+        &mut log,
+    )
 }
 
 #[test]
@@ -129,7 +150,9 @@ fn two_solutions(rt: HostRuntime) -> Result<(), Fail> {
         ending: Ending::Closed,
     };
     for learn in [Learn::Plain, Learn::First] {
-        assert!(rt; outcome_of(rt.alloc(), limits, learn) == Ok(wanted));
+        for restart_after in [None, Some(1)] {
+            assert!(rt; outcome_of(rt.alloc(), limits, learn, restart_after) == Ok(wanted));
+        }
     }
     Ok(())
 }
@@ -140,7 +163,7 @@ fn one_solution_is_the_limit(rt: HostRuntime) -> Result<(), Fail> {
         nodes: 9,
         solutions: Some(1),
     };
-    let outcome = outcome_of(rt.alloc(), limits, Learn::First);
+    let outcome = outcome_of(rt.alloc(), limits, Learn::First, None);
     let wanted = Outcome {
         solutions: 1,
         nodes: 1,
@@ -156,7 +179,7 @@ fn no_node_is_left(rt: HostRuntime) -> Result<(), Fail> {
         nodes: 0,
         solutions: None,
     };
-    let outcome = outcome_of(rt.alloc(), limits, Learn::First);
+    let outcome = outcome_of(rt.alloc(), limits, Learn::First, None);
     let wanted = Outcome {
         solutions: 0,
         nodes: 0,

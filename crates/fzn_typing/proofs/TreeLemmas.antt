@@ -1,5 +1,5 @@
 -- The file, from what the calls on its parts answered.
-use Rattle.std.proofs.Common.{◌≡◌, ◌↔◌, ℕ, ◌≤◌, ◌<◌, List, [], ◌++◌, Result, Err, IsErrAnd, Some, flat_map, length, Contains, refl, sym, ◌∙◌, ap, subst, arith, length-append}
+use Rattle.std.proofs.Common.{◌≡◌, ◌↔◌, ℕ, ◌≤◌, ◌<◌, List, [], ◌++◌, Result, Ok, Err, IsErrAnd, Some, flat_map, length, Contains, refl, sym, ◌∙◌, ap, subst, arith, length-append}
 use Rattle.std.specs.List.{All, AllPairs}
 use Rattle.std.proofs.lemmas.List.Elements.{All-append}
 use Rattle.fzn_domain.specs.declared.literal.VarId.{VarId}
@@ -30,8 +30,15 @@ use Rattle.fzn_tree.specs.declared.tree.Var.{Var}
 use Rattle.fzn_typing.specs.Faults.{constraint_faults, goal_faults, tree_names, faults_of}
 use Rattle.fzn_typing.specs.Limits.{IsWithinLimits}
 use Rattle.fzn_typing.specs.Models.{IsModelOf, stated, written, numbered, goal_of}
-use Rattle.fzn_typing.specs.Typed.{IsTyped}
+use Rattle.fzn_typing.specs.Typed.{IsTyped, model_in}
+use Rattle.fzn_typing.specs.declared.tree.Named.{Named}
 use Rattle.fzn_typing.proofs.WellFormedLemmas.{length-stated, few_written, all_stated, all_written, goal-within}
+
+-- ---- without the names
+
+pub model-err : (result : Result Named ReadError) (P : ReadError → Type 0) → IsErrAnd result P → IsErrAnd (model_in result) P
+model-err (Ok named) P is = is
+model-err (Err error) P is = is
 
 -- ---- the tree's own parts
 

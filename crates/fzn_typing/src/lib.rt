@@ -5,7 +5,7 @@
 #![tactic(auto)]
 
 pub use law::one_model;
-pub use tree::type_check;
+pub use tree::{Named, type_check, type_check_named};
 
 mod argument;
 mod constraint;

@@ -2,22 +2,41 @@
 ghost use Rattle.std.specs.Prelude.{IfOk};
 ghost use Rattle.fzn_meaning.specs.WellFormed.{IsWellFormed};
 ghost use Rattle.fzn_typing.specs.Limits.{IsWithinLimits};
-ghost use Rattle.fzn_typing.specs.Typed.{IsTyped};
+ghost use Rattle.fzn_typing.specs.Typed.{IsTyped, model_in};
 
 use crate::constraint::constraints_of;
 use crate::goal::goal_of;
 use crate::written::with_written;
 use fzn_lexer::ReadError;
 use fzn_meaning::Model;
-use fzn_names::{names_of, outputs_of, shown_of, vars_of};
+use fzn_names::{Names, names_of, outputs_of, shown_of, vars_of};
 use fzn_tree::Tree;
 use std::alloc::Global;
+
+/// A model, and what the names of its file stand for.
+#[derive(Drop)]
+pub struct Named {
+    pub model: Model,
+    pub names: Names,
+}
 
 /// The model of the tree, or its first fault.
 pub fn type_check(alloc: Global, tree: &Tree) -> Result<Model, ReadError>
     requires { IsWithinLimits tree.now }
     ensures right { IsTyped tree.now result }
     ensures well_formed { IfOk result IsWellFormed }
+{
+    match type_check_named(alloc, tree) {
+        Ok(named) => Ok(named.model),
+        Err(error) => Err(error),
+    }
+}
+
+/// The model of the tree with its names, or its first fault.
+pub fn type_check_named(alloc: Global, tree: &Tree) -> Result<Named, ReadError>
+    requires { IsWithinLimits tree.now }
+    ensures right { IsTyped tree.now (model_in result) }
+    ensures well_formed { IfOk result (λ named. IsWellFormed named.model) }
 {
     let declared = tree.vars.as_slice();
     let names = names_of(alloc, tree.params.as_slice(), declared, tree.cons.len())?;
@@ -26,11 +45,14 @@ pub fn type_check(alloc: Global, tree: &Tree) -> Result<Model, ReadError>
     let vars = vars_of(alloc, declared)?;
     let shown = shown_of(alloc, &names, declared)?;
     let outputs = outputs_of(alloc, vars.len(), shown.as_slice())?;
-    Ok(Model {
-        vars,
-        constraints: with_written(alloc, &names, declared, stated)?,
-        goal,
-        outputs,
-        shown,
+    Ok(Named {
+        model: Model {
+            vars,
+            constraints: with_written(alloc, &names, declared, stated)?,
+            goal,
+            outputs,
+            shown,
+        },
+        names,
     })
 }

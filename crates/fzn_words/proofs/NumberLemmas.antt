@@ -1,11 +1,12 @@
 -- Words of digits, as `parse` reads them.
-use Rattle.std.proofs.Common.{◌≡◌, ℕ, ◌≤◌, Bool, true, List, [], ◌∷◌, length, Result, Ok, refl, sym, ap, ◌∙◌, arith}
+use Rattle.std.proofs.Common.{◌≡◌, ℕ, ◌<◌, ◌≤◌, ◌^◌, Bool, true, List, [], ◌∷◌, length, Result, refl, sym, ap, ◌∙◌}
 use Rattle.std.specs.Prelude.{◌&&◌}
 use Rattle.std.specs.List.{list_all}
+use Rattle.std.specs.Result.{OkIff}
 use Rattle.std.specs.Char.{is_ascii_digit}
 use Rattle.std.specs.Str.{all_ascii_digits}
 use Rattle.std.specs.Str.Parse.{digits_value, ParsesUnsigned}
-use Rattle.std.proofs.lemmas.Str.Parse.{IsDigitsTest, IsNumeralModel, numerals_by_value, tells_all_ascii_digits, digits_value_short, parse_gives}
+use Rattle.std.proofs.lemmas.Str.Parse.{IsDigitsTest, IsNumeralModel, numerals_by_value, tells_all_ascii_digits, parse_digits}
 
 abbrev pub AreDigits : List ℕ → Type 0
 AreDigits ds = list_all is_ascii_digit ds ≡ true
@@ -24,9 +25,7 @@ tests_digits = record {
 own_digits : IsNumeralModel AreDigits (digits_value 10)
 own_digits = numerals_by_value AreDigits tests_digits
 
--- 1 to 13 digits are read as their number
-pub digits_read : {E : Type 0} (word : List ℕ) (r : Result ℕ E) → ParsesUnsigned 64 10 word r → AreDigits word → 1 ≤ length word → length word ≤ 13
-    → r ≡ Ok (digits_value 10 word)
-digits_read word r read are some few =
-    let bound = digits_value_short own_digits word 13 are few in
-    parse_gives own_digits 64 word r read are (omega (arith, some)) (omega (arith, bound))
+-- digits are read as their number, where it is below 2^64
+pub digits_read : {E : Type 0} (word : List ℕ) (r : Result ℕ E) → ParsesUnsigned 64 10 word r → AreDigits word → 1 ≤ length word
+    → OkIff r ((0 < length word) × (digits_value 10 word < 2 ^ 64)) (digits_value 10 word)
+digits_read word r read are some = parse_digits own_digits 64 word r read are

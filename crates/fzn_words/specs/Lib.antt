@@ -1,1 +1,3 @@
+pub mod CommandLines
+pub mod Said
 pub mod Words

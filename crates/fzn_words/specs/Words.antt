@@ -1,5 +1,5 @@
 -- What the words of a command line may say.
-use Rattle.std.specs.Prelude.{◌&&◌, if◌then◌else◌, ◌^◌, nat_le, ℕ, List, Option, Some, None, length, bytes_eq, codes}
+use Rattle.std.specs.Prelude.{◌&&◌, if◌then◌else◌, nat_le, ℕ, List, Option, Some, None, length, bytes_eq, codes}
 use Rattle.std.specs.List.{list_all}
 use Rattle.std.specs.Char.{is_ascii_digit}
 use Rattle.std.specs.Str.Parse.{digits_value}
@@ -14,11 +14,11 @@ status_of CommandLine = 3
 status_of (Help text) = 0
 status_of Memory = 5
 
--- the node limit that a word spells: 1 to 13 digits, and at most 10^12
-abbrev pub node_limit_of : List ℕ → Option ℕ
-node_limit_of word =
-    if nat_le 1 (length word) && nat_le (length word) 13 && list_all is_ascii_digit word
-    then (if nat_le (digits_value 10 word) (10 ^ 12) then Some (digits_value 10 word) else None) else None
+-- the number that a word of digits spells, where it is one of these
+abbrev pub number_in : ℕ → ℕ → List ℕ → Option ℕ
+number_in least most word =
+    if nat_le 1 (length word) && list_all is_ascii_digit word && nat_le least (digits_value 10 word) && nat_le (digits_value 10 word) most
+    then Some (digits_value 10 word) else None
 
 -- what a word says is learned
 abbrev pub learning_of : List ℕ → Option Learning

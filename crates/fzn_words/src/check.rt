@@ -1,24 +1,58 @@
 // The words of `fzncheck`.
-ghost use Rattle.std.specs.Prelude.{◌≢◌, IfOk, string_bytes};
+ghost use Rattle.std.specs.Prelude.{◌≡◌, IfOk, map};
+ghost use Rattle.clap.specs.Words.{app_of, found_of, matches_of, rows_of};
+ghost use Rattle.fzn_words.specs.CommandLines.{check_line};
+ghost use Rattle.fzn_words.specs.Said.{AreTwoPaths, IsSaid};
 
 use crate::fault::{OptionsFault, fault_of};
-use crate::solve::{all, help, model};
-use clap::{Arg, ArgMatches, Command};
+use crate::parts;
+use crate::parts::{all, bare, help, named_flag, version, with};
+use crate::said::{is_set, path};
+use clap::{ArgMatches, Command};
 use std::alloc::{AllocError, Global};
 use std::convert::AsStr;
 
+const ABOUT: &str = "Check the certificate of a FlatZinc file's answer, and print the answer";
+
+const TO2: &str = "Write OLD, a certificate of version 1, as one of version 2 to NEW";
+
+const MODEL: &str = "The FlatZinc file; OLD with --to2";
+
+const CERT: &str = "The certificate of its answer; NEW with --to2";
+
+const STATUSES: &str = "Status:
+  0  the answer is printed, help
+  1  the certificate is rejected
+  2  the file is refused
+  3  the command line is
+  4  a file can't be opened, read or written
+  5  memory is out
+
+Example: solve a model, then check the answer
+  fznsolve -a --cert answer.fzc model.fzn
+  fzncheck -a model.fzn answer.fzc";
+
 /// What `fzncheck` is asked to do. The paths are as they were written.
 #[derive(Debug, Drop)]
-pub struct CheckOptions {
-    /// Whether every solution is printed.
-    pub all: bool,
-    pub model: String,
-    pub cert: String,
+pub enum CheckOptions {
+    /// Check a certificate.
+    Check {
+        /// Whether every solution is printed.
+        all: bool,
+        model: String,
+        cert: String,
+    },
+    /// Write a certificate of version 1 as one of version 2.
+    ToVersion2 {
+        old: String,
+        new: String,
+    },
 }
 
 /// The options that the words after the program's name give.
 pub fn check_options_of<S: AsStr>(alloc: Global, words: &[S]) -> Result<CheckOptions, OptionsFault>
-    ensures { IfOk result (λ options. string_bytes options.cert ≢ string_bytes options.model) }
+    ensures said { IfOk result (IsSaid (matches_of check_line (map S.text words.now))) }
+    ensures paths { IfOk result AreTwoPaths }
 {
     let command = command(alloc)?;
     match command.try_get_matches_from(words) {
@@ -27,35 +61,37 @@ pub fn check_options_of<S: AsStr>(alloc: Global, words: &[S]) -> Result<CheckOpt
     }
 }
 
-fn command<'a>(alloc: Global) -> Result<Command<'a>, AllocError> {
-    Command::new(alloc, "fzncheck")
-        .about("Check the certificate of a FlatZinc file's answer")
-        .no_binary_name(true)
-        .disable_help_flag(true)
-        .arg(all(alloc))?
-        .arg(model(alloc))?
-        .arg(cert(alloc))?
-        .arg(help(alloc))
-}
-
-fn cert<'a>(alloc: Global) -> Arg<'a> {
-    Arg::new(alloc, "cert")
-        .value_name("CERT")
-        .required(true)
-        .help("The certificate of its answer")
+fn command<'a>(alloc: Global) -> Result<Command<'a>, AllocError>
+    ensures { IfOk result (λ command. app_of command ≡ check_line) }
+{
+    let command = bare(alloc, "fzncheck", ABOUT, STATUSES);
+    let command = with(command, all(alloc))?;
+    let command = with(command, named_flag(alloc, "to2", TO2))?;
+    let command = with(command, parts::path(alloc, "model", "MODEL", MODEL))?;
+    let command = with(command, parts::path(alloc, "cert", "CERT", CERT))?;
+    let command = with(command, help(alloc))?;
+    let command = with(command, version(alloc))?;
+    Ok(command)
 }
 
 fn options_in(alloc: Global, matches: &ArgMatches<'_>) -> Result<CheckOptions, OptionsFault>
-    ensures { IfOk result (λ options. string_bytes options.cert ≢ string_bytes options.model) }
+    ensures said { IfOk result (IsSaid (rows_of (found_of matches.now))) }
+    ensures paths { IfOk result AreTwoPaths }
 {
-    let model = matches.get_str("model").ok_or(OptionsFault::CommandLine)?;
-    let cert = matches.get_str("cert").ok_or(OptionsFault::CommandLine)?;
-    if cert == model {
+    let first = path(alloc, matches, "model")?;
+    let second = path(alloc, matches, "cert")?;
+    if second.as_str() == first.as_str() {
         return Err(OptionsFault::CommandLine);
     }
-    Ok(CheckOptions {
-        all: matches.get_flag("all"),
-        model: String::from_str(alloc, model)?,
-        cert: String::from_str(alloc, cert)?,
+    if is_set(matches, "to2") {
+        return Ok(CheckOptions::ToVersion2 {
+            old: first,
+            new: second,
+        });
+    }
+    Ok(CheckOptions::Check {
+        all: is_set(matches, "all"),
+        model: first,
+        cert: second,
     })
 }

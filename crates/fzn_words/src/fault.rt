@@ -14,7 +14,7 @@ use thiserror::Error;
 pub enum OptionsFault {
     #[error("fault 23 CommandLine")]
     CommandLine,
-    /// Help was asked for: its text, which ends in a line feed.
+    /// Help or the version was asked for: its text, which ends in a line feed.
     #[error("{0}")]
     Help(String),
     #[error("fault 19 Memory")]
@@ -46,12 +46,13 @@ impl From<AllocError> for OptionsFault {
 pub fn fault_of(alloc: Global, error: &ClapError) -> OptionsFault
     ensures memory { kind_of error.now ≡ ErrorKind.OutOfMemory → result ≡ Memory }
     ensures help { kind_of error.now ≡ ErrorKind.DisplayHelp → result ≢ CommandLine }
+    ensures version { kind_of error.now ≡ ErrorKind.DisplayVersion → result ≢ CommandLine }
     ensures other { kind_of error.now ≢ ErrorKind.OutOfMemory → kind_of error.now ≢ ErrorKind.DisplayHelp
-        → result ≡ CommandLine }
+        → kind_of error.now ≢ ErrorKind.DisplayVersion → result ≡ CommandLine }
 {
     match error.kind() {
         ErrorKind::OutOfMemory => OptionsFault::Memory,
-        ErrorKind::DisplayHelp => match error.to_string(alloc) {
+        ErrorKind::DisplayHelp | ErrorKind::DisplayVersion => match error.to_string(alloc) {
             Ok(text) => OptionsFault::Help(text),
             Err(_) => OptionsFault::Memory,
         },

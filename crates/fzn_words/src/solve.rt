@@ -1,21 +1,65 @@
 // The words of `fznsolve`.
-ghost use Rattle.std.specs.Prelude.{◌≢◌, ◌≤◌, ◌^◌, IfOk, IfSome, string_bytes};
+ghost use Rattle.std.specs.Prelude.{◌≡◌, ◌≢◌, IfOk, IfSome, map, option_map, string_bytes, codes};
+ghost use Rattle.clap.specs.Words.{app_of, first_of, found_of, matches_of, rows_of};
+ghost use Rattle.fzn_words.specs.CommandLines.{solve_line};
+ghost use Rattle.fzn_words.specs.Said.{AreFit, AreSaid, SaysLearning};
 
 use crate::fault::{OptionsFault, fault_of};
 use crate::learning::{Learning, learning_of};
-use crate::node_limit::node_limit_of;
-use clap::{Arg, ArgAction, ArgMatches, Command};
+use crate::parts;
+use crate::parts::{all, bare, help, letter_flag, letter_option, named_option, version, with};
+use crate::said::{is_set, number, path, said};
+use clap::{ArgMatches, Command};
 use std::alloc::{AllocError, Global};
 use std::convert::AsStr;
 
+const MAX_LIMIT: u64 = 1_000_000_000;
+
+const MAX_NODES: u64 = 1_000_000_000_000;
+
 const DEFAULT_NODES: u64 = 10_000_000;
+
+const ABOUT: &str = "Solve a FlatZinc file, and write a certificate for the answer on the way";
+
+const LIMIT: &str =
+    "Stop a satisfaction at K solutions (1 to 10^9; 1 without -a and -n). An optimisation goes on";
+
+const FREE: &str = "Follow no search annotation (without: follow those of the file)";
+
+const SEED: &str = "Break ties by random words of this seed (0 to 2^64 - 1; without: by order)";
+
+const NODES: &str = "Make at most N decisions (0 to 10^12; 10^7 without)";
+
+const LEARN: &str =
+    "Learn the clause of the decisions (plain) or of the first unique implication point (first; also without)";
+
+const CERT: &str = "Write the certificate to FILE (without: nowhere)";
+
+const MODEL: &str = "The FlatZinc file";
+
+const STATUSES: &str = "Status:
+  0  an answer of any kind, help
+  2  the file is refused
+  3  the command line is
+  4  a file can't be opened, read or written
+  5  memory is out, or a certificate's line is too long
+
+Example: solve a model, then check the answer
+  fznsolve -a --cert answer.fzc model.fzn
+  fzncheck -a model.fzn answer.fzc";
 
 /// What `fznsolve` is asked to do. The paths are as they were written.
 #[derive(Debug, Drop)]
 pub struct Options {
     /// Whether every solution is printed.
     pub all: bool,
-    /// How many decisions may be made.
+    /// At how many solutions a satisfaction stops, 1 to 10^9.
+    pub limit: Option<u64>,
+    /// Whether the search follows no annotation.
+    pub free: bool,
+    /// What breaks ties.
+    pub seed: Option<u64>,
+    /// How many decisions may be made, at most 10^12.
     pub nodes: u64,
     /// Which clause is learned from a conflict.
     pub learn: Learning,
@@ -26,9 +70,8 @@ pub struct Options {
 
 /// The options that the words after the program's name give.
 pub fn options_of<S: AsStr>(alloc: Global, words: &[S]) -> Result<Options, OptionsFault>
-    ensures nodes { IfOk result (λ options. options.nodes ≤ 10 ^ 12) }
-    ensures paths { IfOk result (λ options. IfSome options.cert (λ cert.
-        string_bytes cert ≢ string_bytes options.model)) }
+    ensures said { IfOk result (AreSaid (matches_of solve_line (map S.text words.now))) }
+    ensures fit { IfOk result AreFit }
 {
     let command = command(alloc)?;
     match command.try_get_matches_from(words) {
@@ -37,90 +80,62 @@ pub fn options_of<S: AsStr>(alloc: Global, words: &[S]) -> Result<Options, Optio
     }
 }
 
-fn command<'a>(alloc: Global) -> Result<Command<'a>, AllocError> {
-    Command::new(alloc, "fznsolve")
-        .about("Solve a FlatZinc file, with a certificate for the answer")
-        .no_binary_name(true)
-        .disable_help_flag(true)
-        .arg(all(alloc))?
-        .arg(nodes(alloc))?
-        .arg(learn(alloc))?
-        .arg(cert(alloc))?
-        .arg(model(alloc))?
-        .arg(help(alloc))
-}
-
-/// The option for all solutions.
-pub(crate) fn all<'a>(alloc: Global) -> Arg<'a> {
-    Arg::new(alloc, "all")
-        .short('a')
-        .action(ArgAction::SetTrue)
-        .help("Print every solution")
-}
-
-fn nodes<'a>(alloc: Global) -> Arg<'a> {
-    Arg::new(alloc, "nodes")
-        .long("nodes")
-        .value_name("N")
-        .help("Make at most N decisions (0 to 10^12, default 10^7)")
-}
-
-fn learn<'a>(alloc: Global) -> Arg<'a> {
-    Arg::new(alloc, "learn")
-        .long("learn")
-        .value_name("CLAUSE")
-        .help(
-            "Learn the clause of the decisions (plain) or of the first unique implication point (first, the default)",
-        )
-}
-
-fn cert<'a>(alloc: Global) -> Arg<'a> {
-    Arg::new(alloc, "cert")
-        .long("cert")
-        .value_name("FILE")
-        .help("Write the certificate to FILE")
-}
-
-/// The path of the model.
-pub(crate) fn model<'a>(alloc: Global) -> Arg<'a> {
-    Arg::new(alloc, "model")
-        .value_name("MODEL")
-        .required(true)
-        .help("The FlatZinc file")
-}
-
-/// The option that asks for help.
-pub fn help<'a>(alloc: Global) -> Arg<'a> {
-    Arg::new(alloc, "help")
-        .long("help")
-        .action(ArgAction::Help)
-        .help("Print this help")
+fn command<'a>(alloc: Global) -> Result<Command<'a>, AllocError>
+    ensures { IfOk result (λ command. app_of command ≡ solve_line) }
+{
+    let command = bare(alloc, "fznsolve", ABOUT, STATUSES);
+    let command = with(command, all(alloc))?;
+    let command = with(command, letter_option(alloc, "limit", 'n', "K", LIMIT))?;
+    let command = with(command, letter_flag(alloc, "free", 'f', FREE))?;
+    let command = with(command, letter_option(alloc, "seed", 'r', "SEED", SEED))?;
+    let command = with(command, named_option(alloc, "nodes", "N", NODES))?;
+    let command = with(command, named_option(alloc, "learn", "CLAUSE", LEARN))?;
+    let command = with(command, named_option(alloc, "cert", "FILE", CERT))?;
+    let command = with(command, parts::path(alloc, "model", "MODEL", MODEL))?;
+    let command = with(command, help(alloc))?;
+    let command = with(command, version(alloc))?;
+    Ok(command)
 }
 
 fn options_in(alloc: Global, matches: &ArgMatches<'_>) -> Result<Options, OptionsFault>
-    ensures nodes { IfOk result (λ options. options.nodes ≤ 10 ^ 12) }
-    ensures paths { IfOk result (λ options. IfSome options.cert (λ cert.
-        string_bytes cert ≢ string_bytes options.model)) }
+    ensures said { IfOk result (AreSaid (rows_of (found_of matches.now))) }
+    ensures fit { IfOk result AreFit }
 {
-    let nodes = match matches.get_str("nodes") {
-        None => DEFAULT_NODES,
-        Some(word) => node_limit_of(word).ok_or(OptionsFault::CommandLine)?,
-    };
-    let learn = match matches.get_str("learn") {
-        None => Learning::First,
-        Some(word) => learning_of(word).ok_or(OptionsFault::CommandLine)?,
-    };
-    let model = matches.get_str("model").ok_or(OptionsFault::CommandLine)?;
-    let cert = match matches.get_str("cert") {
-        None => None,
-        Some(path) if path == model => return Err(OptionsFault::CommandLine),
-        Some(path) => Some(String::from_str(alloc, path)?),
-    };
+    let model = path(alloc, matches, "model")?;
     Ok(Options {
-        all: matches.get_flag("all"),
-        nodes,
-        learn,
-        model: String::from_str(alloc, model)?,
-        cert,
+        all: is_set(matches, "all"),
+        limit: number(matches, "limit", 1, MAX_LIMIT)?,
+        free: is_set(matches, "free"),
+        seed: number(matches, "seed", 0, u64::MAX)?,
+        nodes: number(matches, "nodes", 0, MAX_NODES)?.unwrap_or(DEFAULT_NODES),
+        learn: learning(matches)?,
+        cert: certificate(alloc, matches, model.as_str())?,
+        model,
     })
+}
+
+/// Which clause is learned.
+fn learning(matches: &ArgMatches<'_>) -> Result<Learning, OptionsFault>
+    ensures { IfOk result (SaysLearning (first_of (codes "learn") (rows_of (found_of matches.now)))) }
+{
+    match said(matches, "learn") {
+        None => Ok(Learning::First),
+        Some(word) => learning_of(word).ok_or(OptionsFault::CommandLine),
+    }
+}
+
+/// The path of the certificate, if there is one: not that of the model.
+fn certificate(
+    alloc: Global,
+    matches: &ArgMatches<'_>,
+    model: &str,
+) -> Result<Option<String>, OptionsFault>
+    ensures said { IfOk result (λ cert. first_of (codes "cert") (rows_of (found_of matches.now)) ≡ option_map string_bytes cert) }
+    ensures other { IfOk result (λ cert. IfSome cert (λ path. string_bytes path ≢ model.now)) }
+{
+    match said(matches, "cert") {
+        None => Ok(None),
+        Some(path) if path == model => Err(OptionsFault::CommandLine),
+        Some(path) => Ok(Some(String::from_str(alloc, path)?)),
+    }
 }

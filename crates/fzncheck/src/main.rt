@@ -4,7 +4,7 @@
 //! printed and when is proved on `check` of `fzn_checker`; here the paths are opened.
 #![tactic(auto)]
 
-use fzn_checker::{CheckFault, Verdict, check};
+use fzn_checker::{CheckFault, check, to2};
 use fzn_words::{CheckOptions, OptionsFault, check_options_of};
 use std::env;
 use std::fs::File;
@@ -23,7 +23,7 @@ fn main(rt: HostRuntime) -> ExitCode {
             return ExitCode::from(fault.status());
         }
     };
-    match check_files(&rt, &options) {
+    match act(&rt, &options) {
         Ok(_) => ExitCode::SUCCESS,
         Err(fault) => {
             let _ = eprintln!(&rt; "{fault}");
@@ -46,17 +46,43 @@ fn options(rt: &HostRuntime) -> Result<CheckOptions, OptionsFault> {
     check_options_of(alloc, words.as_slice())
 }
 
+fn act(rt: &HostRuntime, options: &CheckOptions) -> Result<(), CheckFault> {
+    match options {
+        CheckOptions::Check { all, model, cert } => {
+            check_files(rt, *all, model.as_str(), cert.as_str())
+        }
+        CheckOptions::ToVersion2 { old, new } => convert_file(rt, old.as_str(), new.as_str()),
+    }
+}
+
 /// Opens the file and its certificate, in this order, and checks them.
-fn check_files(rt: &HostRuntime, options: &CheckOptions) -> Result<Verdict, CheckFault> {
+fn check_files(rt: &HostRuntime, all: bool, model: &str, cert: &str) -> Result<(), CheckFault> {
     let alloc = rt.alloc();
-    let Ok(model) = File::open(rt, options.model.as_str()) else {
+    let Ok(model) = File::open(rt, model) else {
         return Err(CheckFault::Read);
     };
-    let Ok(cert) = File::open(rt, options.cert.as_str()) else {
+    let Ok(cert) = File::open(rt, cert) else {
         return Err(CheckFault::Read);
     };
     let Ok(mut out) = BufWriter::new(alloc, rt.stdout()) else {
         return Err(CheckFault::Memory);
     };
-    check(alloc, model, cert, options.all, &mut out)
+    check(alloc, model, cert, all, &mut out)?;
+    Ok(())
+}
+
+/// Opens the certificate, then makes the new one's file, and writes it.
+fn convert_file(rt: &HostRuntime, old: &str, new: &str) -> Result<(), CheckFault> {
+    let alloc = rt.alloc();
+    let Ok(old) = File::open(rt, old) else {
+        return Err(CheckFault::Read);
+    };
+    let Ok(file) = File::create(rt, new) else {
+        return Err(CheckFault::WriteCert);
+    };
+    let Ok(mut new) = BufWriter::new(alloc, file) else {
+        return Err(CheckFault::Memory);
+    };
+    to2(alloc, old, &mut new)?;
+    Ok(())
 }

@@ -16,6 +16,10 @@ const REPORTS: &str = "
 --nodes 10 m.fzn | var 0..10: x :: output_var; constraint int_lin_le([-2],[x],-7); solve minimize x; | 1 Complete | 10
 --nodes 3 m.fzn | var 0..3: x :: output_var; solve maximize x; | 4 Complete | 3
 --nodes 1 m.fzn | var 0..3: x :: output_var; solve maximize x; | 1 NodeLimit | 1
+-a -n 2 --nodes 3 m.fzn | var bool: a :: output_var; var bool: b :: output_var; solve satisfy; | 2 SolutionLimit | 3
+-n 4 --nodes 3 m.fzn | var bool: a :: output_var; var bool: b :: output_var; solve satisfy; | 4 SolutionLimit | 3
+-n 5 --nodes 3 m.fzn | var bool: a :: output_var; var bool: b :: output_var; solve satisfy; | 4 Complete | 3
+-n 1 --nodes 3 m.fzn | var 0..3: x :: output_var; solve maximize x; | 4 Complete | 3
 ";
 
 fn report_of(alloc: Global, words: &str, file: &str) -> Result<Report, Fail> {
@@ -44,7 +48,7 @@ fn is_as_told(alloc: Global, row: &str) -> Result<bool, Fail> {
 
 #[test]
 fn reports(rt: HostRuntime) -> Result<(), Fail> {
-    assert_eq!(rt; REPORTS.trim().lines().count(), 9);
+    assert_eq!(rt; REPORTS.trim().lines().count(), 13);
     for row in REPORTS.trim().lines() {
         assert!(rt; is_as_told(rt.alloc(), row)?, "{row}");
     }

@@ -1,12 +1,23 @@
 use Rattle.std.proofs.Common.{arith, ◌-◌, ◌<◌, ℕ, length, sym, subst}
 use Rattle.std.proofs.lemmas.List.{length-map}
+use Rattle.std.proofs.lemmas.Option.{IfSome_then}
 use Rattle.fzn_meaning.specs.declared.constraint.Constraint.{Constraint}
 use Rattle.fzn_meaning.specs.declared.model.Var.{Var}
 use Rattle.fzn_meaning.specs.Meaning.{IsWellFormed}
+use Rattle.fzn_builtin_rules.specs.Form.{form_of}
+use Rattle.fzn_builtin_rules.proofs.CallerLemmas.{form_fits}
 use Rattle.fzn_arith.specs.Kinds.{IsReady}
 use Rattle.fzn_arith.proofs.MadeLemmas.{element_is, some_form}
 use Rattle.fzn_arith.proofs.FitLemmas.{fits_of, ready_of}
 use Rattle.fzn_arith.proofs.kinds.propagator_of.Goals as goal
+
+pub form_of-requires : goal.form_of-requires
+form_of-requires c =
+    let range = c.requires.number in
+    let below : c.args.c - 1 < length c.args.model.now.constraints = omega arith in
+    let same = element_is c.args.model.now.constraints _ (c.args.c - 1) c.index-as_slice-c.result c.index-as_slice-c.result c.as_slice.ensures c.index-as_slice-c.is below in
+    let well = subst (λ (x : Constraint). IsWellFormed (length c.args.model.now.vars) x) same (c.requires.model.constraints (c.args.c - 1) c.index-as_slice-c.result below) in
+    IfSome_then (form_of c.index-as_slice-c.result) (form_fits (length c.args.model.now.vars) c.index-as_slice-c.result well) (λ form fits. fits.short)
 
 pub opposite_of-requires : goal.opposite_of-requires
 opposite_of-requires c =

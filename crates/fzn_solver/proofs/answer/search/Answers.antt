@@ -1,9 +1,9 @@
 -- What the search wrote is the answer with its certificate.
-use Rattle.std.proofs.Common.{sym, subst, ◌∙◌}
+use Rattle.std.proofs.Common.{ℕ, Option, refl, sym, subst, ◌∙◌}
 use Rattle.fzn_cert.specs.Writer.{contents_of as cert_contents}
 use Rattle.fzn_conflict.specs.declared.analysis.Learn.{Learn}
 use Rattle.fzn_engine.specs.declared.limits.Limits.{Limits}
-use Rattle.fzn_engine.specs.Outcome.{IsOutcome}
+use Rattle.fzn_engine.specs.Outcome.{HasRoom, IsOutcome}
 use Rattle.fzn_printer.specs.Printer.{contents_of as out_contents}
 use Rattle.fzn_printer.specs.Shown.{is_closed}
 use Rattle.fzn_printer.specs.declared.printer.Ending.{Ending}
@@ -12,17 +12,22 @@ use Rattle.fzn_solver.specs.FaultsFrom.{fault_of_engine}
 use Rattle.fzn_solver.specs.Left.{IsLeft}
 use Rattle.fzn_solver.specs.Writers.{taken, IsClosed, IsUnclosed}
 use Rattle.fzn_solver.proofs.LeftLemmas.{error-is, left-unbegun, left-on_way, left-at_end}
-use Rattle.fzn_solver.proofs.AnswerLemmas.{answer-of}
+use Rattle.fzn_solver.proofs.AnswerLemmas.{answer-of, room-at_first}
 use Rattle.fzn_solver.proofs.answer.search.Goals as goal
+
+pub solve-requires-clause-room : goal.solve-requires-clause-room
+solve-requires-clause-room g c =
+    let H : Option ℕ → Type 0 = λ most. HasRoom c.args.model.now.goal most 0 in
+    subst H (sym c.wanted.ensures) (room-at_first c.args.model.now.goal c.args.options.now.all c.args.options.now.limit)
 
 pub returns-clause-answer : goal.returns-clause-answer
 returns-clause-answer g c =
     let E : Ending → Type 0 = λ e. IsClosed g.W.Write.contents g.C.Write.contents c.args.model.now (is_closed e) c.solve.new.sink c.close.new.self in
     let limits : Limits = record { nodes = c.args.options.now.nodes; solutions = c.wanted.result } in
     let O : Learn → Type 0 = λ l. IsOutcome c.args.model.now l limits (taken c.solve.new.sink) c.in_ok-outcome.outcome.nodes c.in_ok-outcome.outcome.ending in
-    let R : Ending → Type 0 = λ e. IsAnswer c.args.model.now c.args.options.now.all c.args.options.now.nodes c.args.options.now.learn (out_contents g.W.Write.contents c.args.writers.now.out) (out_contents g.W.Write.contents c.close.new.self.out) (cert_contents g.C.Write.contents c.args.writers.now.cert) (cert_contents g.C.Write.contents c.close.new.self.cert) (record { solutions = c.in_ok-outcome.outcome.solutions; nodes = c.in_ok-outcome.outcome.nodes; ending = e }) in
-    subst R (sym c.ending_for-ending.ensures) (answer-of g.W.Write.contents g.C.Write.contents c.args.model.now c.args.options.now.all c.requires.model c.args.writers.now c.solve.new.sink c.close.new.self c.args.options.now.learn limits c.in_ok-outcome.outcome.nodes c.in_ok-outcome.outcome.solutions c.in_ok-outcome.outcome.ending
-    c.requires.fresh c.requires.alone (c.solve.ensures.kept.1 ∙ c.begin.ensures.same) c.wanted.ensures c.solve.ensures.accepted (subst O c.learn_for-learn.ensures c.in_ok-outcome.ensures.outcome) c.in_ok-outcome.ensures.solutions (subst E c.ending_for-ending.ensures c.in_ok-close.ensures.closed))
+    let R : Ending → Type 0 = λ e. IsAnswer c.args.model.now c.args.options.now (out_contents g.W.Write.contents c.args.writers.now.out) (out_contents g.W.Write.contents c.close.new.self.out) (cert_contents g.C.Write.contents c.args.writers.now.cert) (cert_contents g.C.Write.contents c.close.new.self.cert) (record { solutions = c.in_ok-outcome.outcome.solutions; nodes = c.in_ok-outcome.outcome.nodes; ending = e }) in
+    subst R (sym c.ending_for-ending.ensures) (answer-of g.W.Write.contents g.C.Write.contents c.args.model.now c.args.options.now c.requires.model c.args.writers.now c.solve.new.sink c.close.new.self limits c.in_ok-outcome.outcome.nodes c.in_ok-outcome.outcome.solutions c.in_ok-outcome.outcome.ending
+    c.requires.fresh c.requires.alone (c.solve.ensures.kept.1 ∙ c.begin.ensures.same) refl c.wanted.ensures c.solve.ensures.accepted (subst O c.learn_for-learn.ensures c.in_ok-outcome.ensures.outcome) c.in_ok-outcome.ensures.solutions (subst E c.ending_for-ending.ensures c.in_ok-close.ensures.closed))
 
 pub returns-in_err-begin-clause-left : goal.returns-in_err-begin-clause-left
 returns-in_err-begin-clause-left g c =

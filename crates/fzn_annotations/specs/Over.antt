@@ -1,0 +1,9 @@
+-- The variables of search annotations.
+use Rattle.std.specs.Prelude.{ℕ}
+use Rattle.std.specs.List.{All}
+use Rattle.fzn_domain.specs.Narrow.{IsVariable}
+use Rattle.fzn_annotations.specs.declared.annotation.Annotation.{Annotation}
+
+-- each is one of this many
+abbrev pub IsOver : ℕ → Annotation → Type 0
+IsOver count annotation = All (IsVariable count) annotation.vars

@@ -1,0 +1,248 @@
+// Products, quotients, remainders and amounts by intervals of their places.
+ghost use Rattle.std.specs.Prelude.{◌<◌, length, IfOk, IfSome};
+ghost use Rattle.fzn_domain.specs.Narrow.{NoneEmpty};
+ghost use Rattle.fzn_meaning.specs.Term.{IsTerm};
+ghost use Rattle.fzn_explain.specs.Claims.{IsJustified};
+ghost use Rattle.fzn_builtin.specs.Intervals.{shaped, rule_of};
+
+use crate::excluded::{Shape, is_excluded};
+use crate::interval::{Interval, declared_interval_of, interval_of};
+use fzn_domain::{Lit, Memory};
+use fzn_explain::explain;
+use fzn_list::Items;
+use fzn_meaning::Term;
+use fzn_trail::Trail;
+use std::alloc::Global;
+
+/// How often an interval can be halved.
+const HALVINGS: usize = 64;
+
+/// An interval of each place.
+#[derive(Clone, Copy)]
+struct Intervals {
+    left: Interval,
+    right: Interval,
+    of: Interval,
+}
+
+/// One of the places.
+#[derive(Clone, Copy)]
+enum Place {
+    Left,
+    Right,
+    Result,
+}
+
+impl Intervals {
+    fn at(self, place: Place) -> Interval {
+        match place {
+            Place::Left => self.left,
+            Place::Right => self.right,
+            Place::Result => self.of,
+        }
+    }
+
+    /// With another interval at the place.
+    fn with(self, place: Place, interval: Interval) -> Intervals {
+        match place {
+            Place::Left => Intervals {
+                left: interval,
+                ..self
+            },
+            Place::Right => Intervals {
+                right: interval,
+                ..self
+            },
+            Place::Result => Intervals {
+                of: interval,
+                ..self
+            },
+        }
+    }
+}
+
+/// An end of an interval.
+#[derive(Clone, Copy)]
+enum End {
+    Low,
+    High,
+}
+
+/// A clause that a place has no value at one end of its interval, from where none meets the constraint.
+pub fn infer_ends(
+    alloc: Global,
+    trail: &Trail,
+    shape: Shape,
+    left: Term,
+    right: Term,
+    of: Term,
+) -> Result<Option<Items<Lit>>, Memory>
+    requires left { IsTerm (length trail.now.declared) left }
+    requires right { IsTerm (length trail.now.declared) right }
+    requires of { IsTerm (length trail.now.declared) of }
+    requires filled { NoneEmpty trail.now.sets }
+    ensures { IfOk result (λ found. IfSome found (IsJustified trail.now (shaped shape left right of) (rule_of shape))) }
+{
+    let now = Intervals {
+        left: interval_of(trail, left),
+        right: interval_of(trail, right),
+        of: interval_of(trail, of),
+    };
+    match excluded_in(shape, now) {
+        Some(found) => refute(alloc, trail, shape, left, right, of, found),
+        None => Ok(None),
+    }
+}
+
+// ---- what is found
+
+/// Intervals that are excluded: these, or with one of them cut down to a part at one of its ends.
+fn excluded_in(shape: Shape, now: Intervals) -> Option<Intervals> {
+    if are_excluded(shape, now) {
+        return Some(now);
+    }
+    if let Some(found) = excluded_at(shape, now, Place::Left) {
+        return Some(found);
+    }
+    if let Some(found) = excluded_at(shape, now, Place::Right) {
+        return Some(found);
+    }
+    excluded_at(shape, now, Place::Result)
+}
+
+/// The same with the interval of this place cut down.
+fn excluded_at(shape: Shape, now: Intervals, place: Place) -> Option<Intervals> {
+    let whole = now.at(place);
+    let lowest = moved(now, place, End::High, whole.low);
+    if are_excluded(shape, lowest) {
+        return Some(widened(shape, lowest, place, End::High, whole.high));
+    }
+    let highest = moved(now, place, End::Low, whole.high);
+    if are_excluded(shape, highest) {
+        return Some(widened(shape, highest, place, End::Low, whole.low));
+    }
+    None
+}
+
+/// The intervals, each end moved towards the declared one as far as they are excluded.
+fn weakened(shape: Shape, found: Intervals, declared: Intervals) -> Intervals {
+    let first = weakened_at(shape, found, declared, Place::Left);
+    let second = weakened_at(shape, first, declared, Place::Right);
+    weakened_at(shape, second, declared, Place::Result)
+}
+
+fn weakened_at(shape: Shape, found: Intervals, declared: Intervals, place: Place) -> Intervals {
+    let far = declared.at(place);
+    let lower = widened(shape, found, place, End::Low, far.low);
+    widened(shape, lower, place, End::High, far.high)
+}
+
+/// The intervals with one end moved towards a number as far as they are excluded: where they are, so are all that are narrower.
+fn widened(shape: Shape, intervals: Intervals, place: Place, end: End, far: i64) -> Intervals {
+    let widest = moved(intervals, place, end, far);
+    if are_excluded(shape, widest) {
+        return widest;
+    }
+    let mut good = match end {
+        End::Low => intervals.at(place).low,
+        End::High => intervals.at(place).high,
+    };
+    let mut bad = far;
+    for _ in 0..HALVINGS {
+        let middle = good.saturating_add(bad.saturating_sub(good) / 2);
+        if middle == good {
+            return moved(intervals, place, end, good);
+        }
+        if are_excluded(shape, moved(intervals, place, end, middle)) {
+            good = middle;
+        } else {
+            bad = middle;
+        }
+    }
+    moved(intervals, place, end, good)
+}
+
+/// The intervals with one end moved to a number.
+fn moved(intervals: Intervals, place: Place, end: End, number: i64) -> Intervals {
+    let interval = intervals.at(place);
+    let moved = match end {
+        End::Low => Interval {
+            low: number,
+            high: interval.high,
+        },
+        End::High => Interval {
+            low: interval.low,
+            high: number,
+        },
+    };
+    intervals.with(place, moved)
+}
+
+fn are_excluded(shape: Shape, intervals: Intervals) -> bool {
+    is_excluded(shape, intervals.left, intervals.right, intervals.of)
+}
+
+// ---- what refutes
+
+/// The clause that some place has a value outside of its interval, these widened as far as they are excluded. Nothing where they are not.
+fn refute(
+    alloc: Global,
+    trail: &Trail,
+    shape: Shape,
+    left: Term,
+    right: Term,
+    of: Term,
+    found: Intervals,
+) -> Result<Option<Items<Lit>>, Memory>
+    requires left { IsTerm (length trail.now.declared) left }
+    requires right { IsTerm (length trail.now.declared) right }
+    requires of { IsTerm (length trail.now.declared) of }
+    ensures { IfOk result (λ found. IfSome found (IsJustified trail.now (shaped shape left right of) (rule_of shape))) }
+{
+    let declared = Intervals {
+        left: declared_interval_of(trail, left),
+        right: declared_interval_of(trail, right),
+        of: declared_interval_of(trail, of),
+    };
+    let weak = weakened(shape, found, declared);
+    outside_of(
+        alloc, trail, shape, left, right, of, weak.left, weak.right, weak.of,
+    )
+}
+
+/// The clause that the left, the right or the third place has a value outside of its interval, where these are excluded.
+pub fn outside_of(
+    alloc: Global,
+    trail: &Trail,
+    shape: Shape,
+    left: Term,
+    right: Term,
+    of: Term,
+    in_left: Interval,
+    in_right: Interval,
+    in_of: Interval,
+) -> Result<Option<Items<Lit>>, Memory>
+    requires left { IsTerm (length trail.now.declared) left }
+    requires right { IsTerm (length trail.now.declared) right }
+    requires of { IsTerm (length trail.now.declared) of }
+    ensures { IfOk result (λ found. IfSome found (IsJustified trail.now (shaped shape left right of) (rule_of shape))) }
+{
+    if !is_excluded(shape, in_left, in_right, in_of) {
+        return Ok(None);
+    }
+    let (left_below, left_above) = in_left.outside(left);
+    let (right_below, right_above) = in_right.outside(right);
+    let (of_below, of_above) = in_of.outside(of);
+    explain(
+        alloc,
+        trail,
+        &[
+            left_below,
+            left_above,
+            right_below,
+            right_above,
+            of_below,
+            of_above,
+        ],
+    )
+}

@@ -1,0 +1,240 @@
+// Members of sets: by the rule `rows`.
+ghost use Rattle.std.specs.Prelude.{◌≡◌, ◌≤ℤ◌, ◌<ℤ◌, ℤ, ℕ, Bool, true, pos, negsuc, List, Option, length, IfOk, IfSome, IfNone};
+ghost use Rattle.std.specs.List.{All};
+ghost use Rattle.fzn_domain.specs.IntSet.{IntSet, contains};
+ghost use Rattle.fzn_domain.specs.Limits.{IsInLimits};
+ghost use Rattle.fzn_domain.specs.Narrow.{NoneEmpty};
+ghost use Rattle.fzn_meaning.specs.declared.constraint.Constraint.TheVariants as constraint;
+ghost use Rattle.fzn_meaning.specs.Meaning.{IsSwitch};
+ghost use Rattle.fzn_meaning.specs.Term.{IsTerm};
+ghost use Rattle.fzn_rules.specs.declared.rule.Rule.TheVariants as rule;
+ghost use Rattle.fzn_state.specs.Terms.{MayBe};
+ghost use Rattle.fzn_explain.specs.Claims.{IsDenied, IsJustified};
+ghost use Rattle.fzn_builtin.specs.Intervals.{IsLimitedInterval};
+ghost use Rattle.fzn_builtin.specs.Members.{AreAsked, IsNextAsked, NoneAsked, IsSwitchedTo};
+
+use crate::interval::{Interval, interval_of};
+use crate::terms::{SMALL, is_fixed, may_be, never};
+use fzn_domain::{Domain, GREATEST_VALUE, LEAST_VALUE, Lit, Memory};
+use fzn_explain::{Claim, explain};
+use fzn_list::Items;
+use fzn_meaning::Term;
+use fzn_sums::{greatest_value, least_value};
+use fzn_trail::Trail;
+use std::alloc::Global;
+
+/// A clause that is false or forces a literal, where the values of the term or the switch show one.
+pub fn infer_member(
+    alloc: Global,
+    trail: &Trail,
+    term: Term,
+    set: &Domain,
+    switch: Option<Term>,
+) -> Result<Option<Items<Lit>>, Memory>
+    requires term { IsTerm (length trail.now.declared) term }
+    requires switch { IsSwitch (length trail.now.declared) switch }
+    requires filled { NoneEmpty trail.now.sets }
+    ensures { IfOk result (λ found. IfSome found (IsJustified trail.now (constraint.SetIn term set.now switch) rule.Rows)) }
+{
+    match asked(trail, switch) {
+        Some(within) => match misfit(trail, term, set, within) {
+            Some(interval) => elsewhere(alloc, trail, term, set, switch, within, interval),
+            None => Ok(None),
+        },
+        None => {
+            let all = interval_of(trail, term);
+            if are_all(trail, term, set, false) {
+                elsewhere(alloc, trail, term, set, switch, true, all)
+            } else if are_all(trail, term, set, true) {
+                elsewhere(alloc, trail, term, set, switch, false, all)
+            } else {
+                Ok(None)
+            }
+        }
+    }
+}
+
+// ---- what is found
+
+/// Whether the term is to be a member or none, where that is known.
+fn asked(trail: &Trail, switch: Option<Term>) -> Option<bool>
+    requires switch { IsSwitch (length trail.now.declared) switch }
+    requires filled { NoneEmpty trail.now.sets }
+{
+    match switch {
+        None => Some(true),
+        Some(term) if is_fixed(trail, term) => Some(least_value(trail, term) == 1),
+        _ => None,
+    }
+}
+
+/// Whether all values of the term, if they are few, are members, or none is.
+fn are_all(trail: &Trail, term: Term, set: &Domain, within: bool) -> bool
+    requires term { IsTerm (length trail.now.declared) term }
+    requires filled { NoneEmpty trail.now.sets }
+{
+    let (low, high) = (least_value(trail, term), greatest_value(trail, term));
+    if high - low >= SMALL {
+        return false;
+    }
+    for value in low..high + 1 {
+        if may_be(trail, term, value) && set.contains(value) != within {
+            return false;
+        }
+    }
+    true
+}
+
+/// An interval around an end of the term's values, or around one of few values, in which the set has not what is asked for.
+fn misfit(trail: &Trail, term: Term, set: &Domain, within: bool) -> Option<Interval>
+    requires term { IsTerm (length trail.now.declared) term }
+    requires filled { NoneEmpty trail.now.sets }
+{
+    let (low, high) = (least_value(trail, term), greatest_value(trail, term));
+    if set.contains(low) != within {
+        return Some(stretch(set, within, low));
+    }
+    if set.contains(high) != within {
+        return Some(stretch(set, within, high));
+    }
+    if high - low >= SMALL {
+        return None;
+    }
+    for value in low..high {
+        if may_be(trail, term, value) && set.contains(value) != within {
+            return Some(Interval {
+                low: value,
+                high: value,
+            });
+        }
+    }
+    None
+}
+
+/// The numbers around a misfit that are misfits too: those up to the next members, or its run of members.
+fn stretch(set: &Domain, within: bool, value: i64) -> Interval
+    requires { IsInLimits value }
+{
+    if within {
+        return Interval {
+            low: match set.below(value) {
+                Some(member) => member + 1,
+                None => LEAST_VALUE,
+            },
+            high: match set.above(value) {
+                Some(member) => member - 1,
+                None => GREATEST_VALUE,
+            },
+        };
+    }
+    let high = if set.contains(value) {
+        set.run_end(value)
+    } else {
+        value
+    };
+    Interval {
+        low: run_start(set, value),
+        high,
+    }
+}
+
+/// The first of the members that follow one another up to this one, of which it looks at few.
+fn run_start(set: &Domain, value: i64) -> i64
+    requires { IsInLimits value }
+{
+    for step in 1..SMALL {
+        let before = value.saturating_sub(step);
+        if !set.contains(before) {
+            return before.saturating_add(1);
+        }
+    }
+    value
+}
+
+// ---- what refutes
+
+/// The clause that the switch says otherwise, or the term has a value outside of the interval or one of the few in it that are asked for.
+fn elsewhere(
+    alloc: Global,
+    trail: &Trail,
+    term: Term,
+    set: &Domain,
+    switch: Option<Term>,
+    within: bool,
+    interval: Interval,
+) -> Result<Option<Items<Lit>>, Memory>
+    requires term { IsTerm (length trail.now.declared) term }
+    requires switch { IsSwitch (length trail.now.declared) switch }
+    ensures { IfOk result (λ found. IfSome found (IsJustified trail.now (constraint.SetIn term set.now switch) rule.Rows)) }
+{
+    let Some(otherwise) = switched_otherwise(switch, within) else {
+        return Ok(None);
+    };
+    if !interval.is_limited() {
+        return Ok(None);
+    }
+    let Some(mut claims) = asked_values(alloc, term, set, within, interval)? else {
+        return Ok(None);
+    };
+    claims.push(otherwise)?;
+    explain(alloc, trail, claims.as_slice())
+}
+
+/// The claims that the term has a value outside of the interval, or one of those in it that are asked for, where these are few.
+fn asked_values(
+    alloc: Global,
+    term: Term,
+    set: &Domain,
+    within: bool,
+    interval: Interval,
+) -> Result<Option<Items<Claim>>, Memory>
+    requires limited { IsLimitedInterval interval }
+    ensures { IfOk result (λ found. IfSome found (AreAsked term set.now within)) }
+{
+    let (below, above) = interval.outside(term);
+    let mut claims = Items::new(alloc);
+    claims.push(below)?;
+    claims.push(above)?;
+    let mut from = interval.low;
+    for _ in 0..SMALL {
+        let Some(next) = next_asked(set, within, from) else {
+            return Ok(Some(claims));
+        };
+        if interval.high < next {
+            return Ok(Some(claims));
+        }
+        claims.push(Claim::equal(term, next))?;
+        from = next + 1;
+    }
+    Ok(None)
+}
+
+/// The claim that the switch is not what asks for members, or for others. Nothing where there is no switch, so that members are asked for.
+fn switched_otherwise(switch: Option<Term>, within: bool) -> Option<Claim>
+    ensures term { IfSome result (λ claim. (count : ℕ) → IsSwitch count switch → IsTerm count claim.term) }
+    ensures denied { IfSome result (λ claim. (sets : List IntSet) → IsDenied sets claim → IsSwitchedTo sets switch within) }
+{
+    match switch {
+        None if within => Some(never()),
+        None => None,
+        Some(term) if within => Some(Claim::other_than(term, 1)),
+        Some(term) => Some(Claim::other_than(term, 0)),
+    }
+}
+
+/// The first number from this one up that is a member, or that is none.
+fn next_asked(set: &Domain, within: bool, from: i64) -> Option<i64>
+    requires least { negsuc 999999999 ≤ℤ from }
+    requires greatest { from ≤ℤ pos 1000000001 }
+    ensures found { IfSome result (IsNextAsked set.now within from) }
+    ensures none { IfNone result (NoneAsked set.now within from) }
+{
+    if within {
+        return set.above(from - 1);
+    }
+    if set.contains(from) {
+        Some(set.run_end(from) + 1)
+    } else {
+        Some(from)
+    }
+}

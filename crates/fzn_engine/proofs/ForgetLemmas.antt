@@ -1,0 +1,210 @@
+-- A held clause that is neither a reason nor a cut may be forgotten.
+use Rattle.std.proofs.Common.{◌≡◌, ◌≢◌, ℕ, ℤ, zero, suc, ◌<◌, Bool, true, false, List, [], ◌∷◌, ◌++◌, length, get_or, set, All, Contains, Option, Some, None, refl, sym, ap, ◌∙◌, subst, inl, inr, ◌⊎◌, arith}
+use Rattle.std.specs.Prelude.{IsSome, IfSome}
+use Rattle.std.specs.Option.{unwrap_or}
+use Rattle.std.proofs.lemmas.Bool.{cases_lt, false≢true}
+use Rattle.std.proofs.lemmas.List.{length-map, length-set, get_or-set_other}
+use Rattle.std.proofs.lemmas.List.Elements.{All-get_or, All-weaker}
+use Rattle.fzn_domain.specs.declared.literal.Lit.{Lit}
+use Rattle.fzn_domain.specs.Narrow.{IsClauseOver}
+use Rattle.fzn_meaning.specs.declared.model.Model.{Model}
+use Rattle.fzn_meaning.specs.Solutions.{declared_sets, cut_of}
+use Rattle.fzn_state.specs.State.{Sets, start}
+use Rattle.fzn_cert.specs.declared.step.Step.{Step}
+use Rattle.fzn_cert.specs.Past.{Past, clause_held}
+use Rattle.fzn_cert.specs.Accepted.{past_of}
+use Rattle.fzn_inferences.specs.Inferences.{inference_at}
+use Rattle.fzn_trail.specs.declared.trail.ClauseId.{ClauseId}
+use Rattle.fzn_trail.specs.declared.trail.Entry.{Entry}
+use Rattle.fzn_trail.specs.declared.trail.Reason.{Reason}
+use Rattle.fzn_trail.specs.declared.trail.Reason.TheVariants.{Decision, Clause, Inference}
+use Rattle.fzn_clauses.specs.declared.clauses.Clauses.{Clauses}
+use Rattle.fzn_clauses.specs.Held.{Held, IsHeld, AllHeld, at_number, clause_of}
+use Rattle.fzn_clauses.specs.Kept.{KeepsWatching}
+use Rattle.fzn_clauses.specs.Watching.{held_by}
+use Rattle.fzn_clauses.proofs.HeldLemmas.{AllHeld-push}
+use Rattle.fzn_conflict.specs.Reasoned.{IsOther}
+use Rattle.fzn_conflict.proofs.CallerLemmas.{IsReasoned-grown, IsReasoned-without}
+use Rattle.fzn_engine.specs.declared.notes.Notes.{Notes}
+use Rattle.fzn_engine.specs.declared.solver.Solver.{Solver}
+use Rattle.fzn_engine.specs.Forgetting.{IsFlagged}
+use Rattle.fzn_engine.specs.Search.{IsAfter, IsTended, stock_of}
+use Rattle.fzn_engine.specs.State.{known_in, with_held, AreNumbered, IsJustified, CoreOf, StateOf}
+use Rattle.fzn_engine.proofs.NumberLemmas.{AreNumbered-push}
+use Rattle.fzn_engine.proofs.StateLemmas.{cuts-grown}
+
+none_at : (held : Held) (k : ℕ) → get_or (set held k None) k None ≡ None
+none_at [] zero = refl
+none_at [] (suc k) = refl
+none_at (x ∷ held) zero = refl
+none_at (x ∷ held) (suc k) = none_at held k
+
+same_or_other : (j k : ℕ) → (j ≡ k) ⊎ (j ≢ k)
+same_or_other j k = elim (cases_lt j k) [
+  | inl below ↦ inr (λ e. absurd (omega arith))
+  | inr here ↦ elim (cases_lt k j) [ inl above ↦ inr (λ e. absurd (omega arith)) | inr there ↦ inl (omega arith) ]
+]
+
+-- ---- the clauses that are left
+
+module _ (held : Held) (gone : ClauseId) where
+  other_id : (id : ClauseId) → IsHeld (set held gone.0 None) id → id.0 ≢ gone.0
+  other_id id is same = false≢true (subst IsSome (ap (λ (n : ℕ). get_or (set held gone.0 None) n None) same ∙ none_at held gone.0) is)
+
+  at_left : (id : ClauseId) → IsHeld (set held gone.0 None) id → at_number (set held gone.0 None) id ≡ at_number held id
+  at_left id is = get_or-set_other held gone.0 id.0 None None (other_id id is)
+
+  held_left : (id : ClauseId) → IsHeld (set held gone.0 None) id → IsHeld held id
+  held_left id is = subst IsSome (at_left id is) is
+
+  clause_left : (id : ClauseId) → IsHeld (set held gone.0 None) id → clause_of (set held gone.0 None) id ≡ clause_of held id
+  clause_left id is = ap (λ (o : Option (List Lit)). unwrap_or o []) (at_left id is)
+
+  AllHeld-left : (P : List Lit → Type 0) → AllHeld P held → AllHeld P (set held gone.0 None)
+  AllHeld-left P all id is = subst P (sym (clause_left id is)) (all id (held_left id is))
+
+  AreNumbered-left : (past : Past) (numbers : List ℕ) → AreNumbered past numbers held → AreNumbered past numbers (set held gone.0 None)
+  AreNumbered-left past numbers h = record {
+    one_each = h.one_each ∙ sym (length-set held gone.0 None);
+    gives = λ id is. h.gives id (held_left id is) ∙ ap Some (sym (clause_left id is));
+  }
+
+  Contains-left : (clause : List Lit) → (at_number held gone ≡ Some clause → ⊥) → Contains held (Some clause) → Contains (set held gone.0 None) (Some clause)
+  Contains-left clause apart there = elim (same_or_other there.0 gone.0) [
+    | inl same ↦ absurd (apart (default_same held gone.0 (Some clause) (subst (λ (n : ℕ). n < length held) same there.1) (ap (λ (n : ℕ). get_or held n (Some clause)) (sym same) ∙ there.2)))
+    | inr other ↦ (there.0, omega (arith, length-set held gone.0 None, there.1), get_or-set_other held gone.0 there.0 None (Some clause) other ∙ there.2)
+  ]
+    where
+      default_same : (xs : Held) (k : ℕ) (o : Option (List Lit)) → k < length xs → get_or xs k o ≡ o → get_or xs k None ≡ o
+      default_same [] k o below e = absurd (omega arith)
+      default_same (x ∷ xs) zero o below e = e
+      default_same (x ∷ xs) (suc k) o below e = default_same xs k o (omega arith) e
+
+-- ---- the search that is left
+
+module _ (model : Model) (old : Solver) (steps : List Step) (h : IsAfter model old steps) where
+  -- other notes are no change, nor are the sets on which learned clauses are tested, while they are the declared ones
+  pub noted-after : (scratch : Sets) → scratch ≡ start (declared_sets model.vars) → (notes : Notes) → IsAfter model (record old { scratch = scratch; notes = notes }) steps
+  noted-after scratch fresh notes = record {
+    state = h.state;
+    watching = h.watching;
+    scratch = fresh;
+    vars = h.vars;
+    found_is = h.found_is;
+    found_few = h.found_few;
+    steps_are = h.steps_are;
+    few_steps = h.few_steps;
+  }
+
+  pub noted-tended : (scratch : Sets) → scratch ≡ start (declared_sets model.vars) → (notes : Notes) → IsTended model old (record old { scratch = scratch; notes = notes }) steps
+  noted-tended scratch fresh notes = record { state = noted-after scratch fresh notes; trail = refl; nodes = refl; found = refl; learn = refl }
+
+  pub nothing-tended : (notes : Notes) → IsTended model old (record old { notes = notes }) steps
+  nothing-tended notes = noted-tended old.scratch h.scratch notes
+
+  module _ (clauses : Clauses) (gone : ClauseId) (held_is : held_by clauses ≡ set (held_by old.clauses) gone.0 None) (keeps : KeepsWatching old.clauses clauses) (apart : All (λ (entry : Entry). IsOther gone entry.reason) old.trail.entries) (no_cut : (values : List ℤ) → at_number (held_by old.clauses) gone ≡ Some (cut_of model values) → ⊥) where
+    left-core : CoreOf model (record { held = set (held_by old.clauses) gone.0 None; numbers = old.numbers; stack = old.inferences }) steps old.trail old.search.nodes
+    left-core =
+        let core = h.state.core in
+        record {
+          declared = core.declared;
+          filled = core.filled;
+          accepted = core.accepted;
+          numbered = AreNumbered-left (held_by old.clauses) gone (past_of model steps) old.numbers core.numbered;
+          justified = core.justified;
+          cuts_held = All-weaker (λ values. Contains (held_by old.clauses) (Some (cut_of model values))) (λ values. Contains (set (held_by old.clauses) gone.0 None) (Some (cut_of model values)))
+              (λ values there. Contains-left (held_by old.clauses) gone (cut_of model values) (no_cut values) there) (past_of model steps).solutions core.cuts_held;
+          held_over = AllHeld-left (held_by old.clauses) gone (IsClauseOver (length old.trail.declared)) core.held_over;
+          reasoned = IsReasoned-without (known_in (stock_of old)) gone old.trail apart core.reasoned;
+          nodes_by_conflicts = core.nodes_by_conflicts;
+        }
+
+    pub dropped-tended : IsTended model old (record old { clauses = clauses }) steps
+    dropped-tended =
+        let H : Held → Type 0 = λ held. StateOf model old.learn (record { held = held; numbers = old.numbers; stack = old.inferences }) steps old.trail old.search.nodes in
+        record {
+          state = record {
+            state = subst H (sym held_is) (record { core = left-core; plain = h.state.plain });
+            watching = keeps.watching old.trail h.watching;
+            scratch = h.scratch;
+            vars = h.vars;
+            found_is = h.found_is;
+            found_few = h.found_few;
+            steps_are = h.steps_are;
+            few_steps = h.few_steps;
+          };
+          trail = refl;
+          nodes = refl;
+          found = refl;
+          learn = refl;
+        }
+
+  -- or the clause of a written inference is held too
+  module _ (clauses : Clauses) (place : ℕ) (stacked : place < length old.inferences) (number : ℕ) (written : (inference_at old.inferences place).number ≡ Some number) (held_is : held_by clauses ≡ held_by old.clauses ++ Some (inference_at old.inferences place).clause ∷ []) (keeps : KeepsWatching old.clauses clauses) where
+    more-core : CoreOf model (with_held (inference_at old.inferences place).clause number (stock_of old)) steps old.trail old.search.nodes
+    more-core =
+        let core = h.state.core in
+        let it = inference_at old.inferences place in
+        let just = All-get_or (IsJustified model (past_of model steps)) old.inferences place _ stacked core.justified in
+        let W : Option ℕ → Type 0 = λ o. IfSome o (λ n. clause_held (past_of model steps) n ≡ Some it.clause) in
+        let sizes : length old.trail.declared ≡ length model.vars = ap length core.declared ∙ length-map model.vars (λ var. var.domain) in
+        let O : ℕ → Type 0 = λ n. IsClauseOver n it.clause in
+        record {
+          declared = core.declared;
+          filled = core.filled;
+          accepted = core.accepted;
+          numbered = AreNumbered-push (past_of model steps) old.numbers (held_by old.clauses) number it.clause core.numbered (subst W written just.written);
+          justified = core.justified;
+          cuts_held = cuts-grown model (stock_of old) steps old.trail old.search.nodes core it.clause;
+          held_over = AllHeld-push (IsClauseOver (length old.trail.declared)) (held_by old.clauses) it.clause core.held_over (subst O (sym sizes) just.over);
+          reasoned = IsReasoned-grown (known_in (stock_of old)) (Some it.clause ∷ []) old.trail core.reasoned;
+          nodes_by_conflicts = core.nodes_by_conflicts;
+        }
+
+    pub more-tended : (notes : Notes) → IsTended model old (record old { clauses = clauses; numbers = old.numbers ++ number ∷ []; notes = notes }) steps
+    more-tended notes =
+        let H : Held → Type 0 = λ held. StateOf model old.learn (record { held = held; numbers = old.numbers ++ number ∷ []; stack = old.inferences }) steps old.trail old.search.nodes in
+        record {
+          state = record {
+            state = subst H (sym held_is) (record { core = more-core; plain = h.state.plain });
+            watching = keeps.watching old.trail h.watching;
+            scratch = h.scratch;
+            vars = h.vars;
+            found_is = h.found_is;
+            found_few = h.found_few;
+            steps_are = h.steps_are;
+            few_steps = h.few_steps;
+          };
+          trail = refl;
+          nodes = refl;
+          found = refl;
+          learn = refl;
+        }
+
+pub tended-through : (model : Model) (old mid new : Solver) (before now : List Step) → IsTended model old mid before → IsTended model mid new now → IsTended model old new now
+tended-through model old mid new before now a b = record {
+  state = b.state;
+  trail = b.trail ∙ a.trail;
+  nodes = b.nodes ∙ a.nodes;
+  found = b.found ∙ a.found;
+  learn = b.learn ∙ a.learn;
+}
+
+-- ---- flags
+
+other-of : (flags : List Bool) (gone : ClauseId) → gone.0 < length flags → get_or flags gone.0 false ≡ false → (reason : Reason) → IsFlagged flags reason → IsOther gone reason
+other-of flags gone within clear Decision h = tt
+other-of flags gone within clear (Clause other) h = λ same. both (get_or flags gone.0 false) (subst (λ (n : ℕ). get_or flags n false ≡ true) same (h (omega arith))) clear
+  where
+    both : (b : Bool) → b ≡ true → b ≡ false → ⊥
+    both b set_there clear_there = cc
+other-of flags gone within clear (Inference place) h = tt
+
+-- a clause without a flag is no reason
+pub unflagged-apart : (flags : List Bool) (gone : ClauseId) (entries : List Entry) → gone.0 < length flags → get_or flags gone.0 false ≡ false → All (λ (entry : Entry). IsFlagged flags entry.reason) entries → All (λ (entry : Entry). IsOther gone entry.reason) entries
+unflagged-apart flags gone entries within clear flagged =
+    All-weaker (λ (entry : Entry). IsFlagged flags entry.reason) (λ (entry : Entry). IsOther gone entry.reason) (λ entry one. other-of flags gone within clear entry.reason one) entries flagged
+
+-- nor is one of another length a cut
+pub uncut : (model : Model) (held : Held) (gone : ClauseId) (n : ℕ) → ((values : List ℤ) → length (cut_of model values) ≡ n) → length (clause_of held gone) ≢ n → (values : List ℤ) → at_number held gone ≡ Some (cut_of model values) → ⊥
+uncut model held gone n each apart values e = apart (ap (λ (o : Option (List Lit)). length (unwrap_or o [])) e ∙ each values)

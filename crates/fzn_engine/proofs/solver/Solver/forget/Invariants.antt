@@ -1,0 +1,12 @@
+use Rattle.std.proofs.Common.{List, All}
+use Rattle.fzn_cert.specs.declared.step.Step.{Step}
+use Rattle.fzn_trail.specs.declared.trail.Entry.{Entry}
+use Rattle.fzn_engine.specs.Forgetting.{IsFlagged}
+use Rattle.fzn_engine.specs.Search.{IsAfter, IsTended}
+use Rattle.fzn_engine.proofs.solver.Solver.forget.Given as goal
+
+-- what was forgotten so far changed nothing else
+abbrev pub invariant-loop-id : goal.invariant-loop-id
+invariant-loop-id l =
+    ((steps : List Step) → IsAfter l.model l.fn.self steps → IsTended l.model l.fn.self l.self steps)
+    × All (λ (entry : Entry). IsFlagged l.are_reasons entry.reason) l.self.trail.entries

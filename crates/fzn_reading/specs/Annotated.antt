@@ -1,0 +1,14 @@
+-- What was read, without the annotations.
+use Rattle.std.specs.Prelude.{Result, Ok, Err}
+use Rattle.fzn_lexer.specs.declared.fault.ReadError.{ReadError}
+use Rattle.fzn_meaning.specs.declared.model.Model.{Model}
+use Rattle.fzn_reading.specs.declared.fault.ModelFault.{ModelFault}
+use Rattle.fzn_reading.specs.declared.annotated.Annotated.{Annotated}
+
+abbrev pub model_in : Result Annotated ReadError → Result Model ReadError
+model_in (Ok read) = Ok read.model
+model_in (Err error) = Err error
+
+abbrev pub model_read : Result Annotated ModelFault → Result Model ModelFault
+model_read (Ok read) = Ok read.model
+model_read (Err fault) = Err fault

@@ -1,0 +1,54 @@
+-- The command lines of both programs, as clap reads them.
+use Rattle.std.specs.Prelude.{true, ℕ, List, [], ◌∷◌, Some, codes}
+use Rattle.clap.specs.Simple.{new_shape}
+use Rattle.clap.specs.Words.{App, Rule, Text, new_rule}
+use Rattle.clap.specs.declared.builder.action.ArgAction.TheVariants.{SetTrue, Help, Version}
+
+-- a flag with one letter
+abbrev pub letter_flag : Text → ℕ → Rule
+letter_flag id letter = record (new_rule id) { short = Some letter; action = Some SetTrue }
+
+-- a flag with a name
+abbrev pub named_flag : Text → Rule
+named_flag id = record (new_rule id) { long = Some id; action = Some SetTrue }
+
+-- an option with one letter, and a value
+abbrev pub letter_option : Text → ℕ → Rule
+letter_option id letter = record (new_rule id) { short = Some letter; value_names = 1 }
+
+-- an option with a name, and a value
+abbrev pub named_option : Text → Rule
+named_option id = record (new_rule id) { long = Some id; value_names = 1 }
+
+-- a path, which stands by itself and may not be left out
+abbrev pub path : Text → Rule
+path id = record (new_rule id) { value_names = 1; required = true }
+
+abbrev pub all_rule : Rule
+all_rule = letter_flag (codes "all") 97
+
+abbrev pub help_rule : Rule
+help_rule = record (new_rule (codes "help")) { long = Some (codes "help"); action = Some Help }
+
+abbrev pub version_rule : Rule
+version_rule = record (new_rule (codes "version")) { long = Some (codes "version"); action = Some Version }
+
+-- a command of these arguments that is given the words after the program's name, and adds no flag of its own
+abbrev pub line_of : Text → List Rule → App
+line_of name rules =
+    let new = new_shape name in
+    record {
+      top = record new { rules = rules; no_binary_name = true; disable_help_flag = true; disable_version_flag = true; has_version = true };
+      subs = [];
+    }
+
+-- -a, -n K, -f, -r SEED, --nodes N, --learn CLAUSE, --cert FILE, MODEL, --help, --version
+unfoldable pub solve_line : App
+solve_line =
+    line_of (codes "fznsolve") (all_rule ∷ letter_option (codes "limit") 110 ∷ letter_flag (codes "free") 102 ∷ letter_option (codes "seed") 114
+    ∷ named_option (codes "nodes") ∷ named_option (codes "learn") ∷ named_option (codes "cert") ∷ path (codes "model") ∷ help_rule ∷ version_rule ∷ [])
+
+-- -a, --to2, and two paths, --help, --version
+unfoldable pub check_line : App
+check_line =
+    line_of (codes "fzncheck") (all_rule ∷ named_flag (codes "to2") ∷ path (codes "model") ∷ path (codes "cert") ∷ help_rule ∷ version_rule ∷ [])

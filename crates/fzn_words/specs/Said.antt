@@ -1,0 +1,59 @@
+-- What the options are, by what a command line says of each.
+use Rattle.std.specs.Prelude.{◌≡◌, ◌≢◌, ℕ, ◌-◌, ◌^◌, ◌≤◌, Bool, List, Option, Some, None, IfSome, bytes_eq, codes, option_map, string_bytes}
+use Rattle.std.specs.Option.{option_map_or}
+use Rattle.std.specs.Prelude.{false, true}
+use Rattle.clap.specs.Words.{Row, Text, first_of}
+use Rattle.fzn_words.specs.declared.check.CheckOptions.{CheckOptions}
+use Rattle.fzn_words.specs.declared.check.CheckOptions.TheVariants.{Check, ToVersion2}
+use Rattle.fzn_words.specs.declared.learning.Learning.{Learning}
+use Rattle.fzn_words.specs.declared.learning.Learning.TheVariants.{First}
+use Rattle.fzn_words.specs.declared.solve.Options.{Options}
+use Rattle.fzn_words.specs.Words.{number_in, learning_of}
+
+-- a flag is set where it was given
+abbrev pub is_set : Option Text → Bool
+is_set said = option_map_or (λ text. bytes_eq text (codes "true")) said false
+
+-- no number where none was given; else the one that the word spells, which is one of these
+abbrev pub SaysNumber : ℕ → ℕ → Option Text → Option ℕ → Type 0
+SaysNumber least most None number = number ≡ None
+SaysNumber least most (Some word) number = (k : ℕ) × (number ≡ Some k) × (number_in least most word ≡ Some k)
+
+-- the same, with a number for where none was given
+abbrev pub SaysNumberOr : ℕ → ℕ → ℕ → Option Text → ℕ → Type 0
+SaysNumberOr default least most None number = number ≡ default
+SaysNumberOr default least most (Some word) number = number_in least most word ≡ Some number
+
+-- that of the first unique point where none was given
+abbrev pub SaysLearning : Option Text → Learning → Type 0
+SaysLearning None learning = learning ≡ First
+SaysLearning (Some word) learning = learning_of word ≡ Some learning
+
+-- Each option is what the command line says of it, or its default.
+pub record AreSaid (rows : List Row) (options : Options) : Type 0 where
+  pub all : options.all ≡ is_set (first_of (codes "all") rows)
+  pub limit : SaysNumber 1 (10 ^ 9) (first_of (codes "limit") rows) options.limit
+  pub free : options.free ≡ is_set (first_of (codes "free") rows)
+  pub seed : SaysNumber 0 (2 ^ 64 - 1) (first_of (codes "seed") rows) options.seed
+  pub nodes : SaysNumberOr (10 ^ 7) 0 (10 ^ 12) (first_of (codes "nodes") rows) options.nodes
+  pub learn : SaysLearning (first_of (codes "learn") rows) options.learn
+  pub model : first_of (codes "model") rows ≡ Some (string_bytes options.model)
+  pub cert : first_of (codes "cert") rows ≡ option_map string_bytes options.cert
+
+-- each number lies in its range, and no path is named twice
+pub record AreFit (options : Options) : Type 0 where
+  pub limit : IfSome options.limit (λ limit. (1 ≤ limit) × (limit ≤ 10 ^ 9))
+  pub nodes : options.nodes ≤ 10 ^ 12
+  pub paths : IfSome options.cert (λ cert. string_bytes cert ≢ string_bytes options.model)
+
+-- the form is the one that the flag asks for, and its paths are those that the command line says
+abbrev pub IsSaid : List Row → CheckOptions → Type 0
+IsSaid rows (Check all model cert) = (is_set (first_of (codes "to2") rows) ≡ false) × (all ≡ is_set (first_of (codes "all") rows))
+    × (first_of (codes "model") rows ≡ Some (string_bytes model)) × (first_of (codes "cert") rows ≡ Some (string_bytes cert))
+IsSaid rows (ToVersion2 old new) = (is_set (first_of (codes "to2") rows) ≡ true)
+    × (first_of (codes "model") rows ≡ Some (string_bytes old)) × (first_of (codes "cert") rows ≡ Some (string_bytes new))
+
+-- no path is named twice
+abbrev pub AreTwoPaths : CheckOptions → Type 0
+AreTwoPaths (Check all model cert) = string_bytes cert ≢ string_bytes model
+AreTwoPaths (ToVersion2 old new) = string_bytes new ≢ string_bytes old

@@ -1,0 +1,1 @@
+include "nickelmouse_inverse_fn.mzn";
