@@ -3,14 +3,18 @@ use Rattle.std.specs.Prelude.{ℕ, List, length}
 use Rattle.fzn_domain.specs.IntSet.{IntSet}
 use Rattle.fzn_meaning.specs.declared.constraint.Constraint.{Constraint}
 use Rattle.fzn_arith.specs.declared.kinds.ArithPropagator.{ArithPropagator}
-use Rattle.fzn_arith.specs.declared.kinds.ArithPropagator.TheVariants.{Sum}
+use Rattle.fzn_arith.specs.declared.kinds.ArithPropagator.TheVariants.{Sum, Equality}
 use Rattle.fzn_arith.specs.Kinds.{IsFormOf, IsReady}
+use Rattle.fzn_arith.specs.Equality.{equality_number, EqualityIsFor, EqualityFits}
 
 abbrev pub kind_number : ArithPropagator → ℕ
 kind_number (Sum p) = p.number
+kind_number (Equality p) = equality_number p
 
 abbrev pub KindIsFor : ArithPropagator → Constraint → Type 0
 KindIsFor (Sum p) constraint = IsFormOf constraint p.form
+KindIsFor (Equality p) constraint = EqualityIsFor p constraint
 
 abbrev pub KindFits : ArithPropagator → List IntSet → Type 0
 KindFits (Sum p) declared = IsReady (length declared) p.form p.opposite
+KindFits (Equality p) declared = EqualityFits p declared

@@ -1,16 +1,20 @@
 // One type for all kinds of propagators of this crate, and which constraint gets which.
-ghost use Rattle.std.specs.Prelude.{◌≡◌, ◌-◌, ◌≤◌, length, IfOk, IfSome, IfNone, None, slice_index_or};
+ghost use Rattle.std.specs.Prelude.{◌≡◌, ◌-◌, ◌≤◌, List, length, IfOk, IfSome, IfNone, None, slice_index_or};
 ghost use Rattle.fzn_meaning.specs.declared.constraint.Constraint.{Constraint};
+ghost use Rattle.fzn_domain.specs.IntSet.{IntSet};
 ghost use Rattle.fzn_meaning.specs.Solutions.{declared_sets};
+ghost use Rattle.fzn_meaning.specs.Meaning.{IsWellFormed as IsFormed};
 ghost use Rattle.fzn_meaning.specs.WellFormed.{IsWellFormed};
 ghost use Rattle.fzn_builtin_rules.specs.Form.{form_of};
+ghost use Rattle.fzn_arith.specs.Kinds.{IsFormOf, IsReady};
 ghost use Rattle.fzn_arith.specs.AnyKind.{kind_number, KindIsFor, KindFits};
 
+use crate::equality::EqualityPropagator;
 use crate::form::form_of;
 use crate::opposite::opposite_of;
 use crate::sum::SumPropagator;
 use fzn_domain::Memory;
-use fzn_meaning::Model;
+use fzn_meaning::{Constraint, Model};
 use fzn_propagator::{Inference, Propagator};
 use fzn_trail::Trail;
 use std::alloc::Global;
@@ -19,6 +23,8 @@ use std::alloc::Global;
 pub enum ArithPropagator {
     /// A sum compares with a bound.
     Sum(SumPropagator),
+    /// Two terms are compared.
+    Equality(EqualityPropagator),
 }
 
 impl Propagator for ArithPropagator {
@@ -31,6 +37,7 @@ impl Propagator for ArithPropagator {
     fn propagate(&self, alloc: Global, trail: &Trail) -> Result<Option<Inference>, Memory> {
         match self {
             ArithPropagator::Sum(propagator) => propagator.propagate(alloc, trail),
+            ArithPropagator::Equality(propagator) => propagator.propagate(alloc, trail),
         }
     }
 }
@@ -53,9 +60,36 @@ pub fn propagator_of(
         return Ok(None);
     };
     let opposite = opposite_of(alloc, &form)?;
-    Ok(Some(ArithPropagator::Sum(SumPropagator {
+    let sum = SumPropagator {
         number: c as u64,
         form,
         opposite,
-    })))
+    };
+    Ok(Some(kind_of(constraint, sum)))
+}
+
+/// The propagator of the constraint, from that of its sum.
+#[tactic(auto, unfolding(fzn_meaning::specs::Meaning::IsWellFormed))]
+fn kind_of(constraint: &Constraint, sum: SumPropagator) -> ArithPropagator
+    ensures number { kind_number result ≡ sum.number }
+    ensures is_for { IsFormOf constraint.now sum.form → KindIsFor result constraint.now }
+    ensures fits { (declared : List IntSet) → IsFormed (length declared) constraint.now → IsReady (length declared) sum.form sum.opposite → KindFits result declared }
+{
+    match constraint {
+        Constraint::Compare {
+            relation,
+            left,
+            right,
+            switch,
+        } => {
+            ArithPropagator::Equality(EqualityPropagator {
+                sum,
+                relation: *relation,
+                left: *left,
+                right: *right,
+                switch: *switch,
+            })
+        }
+        _ => ArithPropagator::Sum(sum),
+    }
 }

@@ -8,6 +8,7 @@
 pub use fzn_propagator::{Inference, Propagator};
 pub use kinds::{ArithPropagator, propagator_of};
 
+mod equality;
 mod form;
 mod guard;
 mod kinds;

@@ -17,6 +17,7 @@ use Rattle.fzn_explain.specs.declared.claim.Claim.{Claim}
 use Rattle.fzn_explain.specs.Claims.{opposite, IsDenied, Refute}
 use Rattle.fzn_explain.proofs.CallerLemmas.{are_opposite}
 use Rattle.fzn_builtin.specs.Rows.{LeavesNoIndex, IsRuledOut}
+use Rattle.fzn_builtin.specs.Shared.{KeepApart}
 use Rattle.fzn_builtin.proofs.ListLemmas.{All-front, All-last}
 
 at_place : (entries : List Term) (k : ℕ) (d : Term) → k < length entries → term_at entries (pos (k + 1)) ≡ get_or entries k d
@@ -52,6 +53,15 @@ refuted_at count index entries value place d number leads claim other below numb
     let same : j ≡ place = omega (arith, ints) in
     let entry : get_or entries j e ≡ get_or entries place d = get_or_default entries j e d inside ∙ ap (λ (n : ℕ). get_or entries n d) same in
     are_opposite sets claim (get_or entries place d) second third v (subst (λ (t : Term). MayBe sets t v) (sym term_is) there) (subst (λ (t : Term). MayBe sets t v) entry here)))
+
+-- the entry at the place shares no value with the result
+pub refuted_shared_at : (count : ℕ) (index : Term) (entries : List Term) (value : Term) (place : ℕ) (d : Term) (number : ℤ) (claims : List Claim) (leads : Claim) → place < length entries → number ≡ pos (place + 1) → ((sets : List IntSet) (v : ℤ) → IsDenied sets leads → MayBe sets index v → v ≡ number) → KeepApart count (get_or entries place d) value claims → Refute count (claims ++ leads ∷ []) (constraint.Element index entries value) rule.Rows
+refuted_shared_at count index entries value place d number claims leads below number_is leads_is apart sets denying =
+    met_of sets index entries value (unfit_everywhere sets index entries value (λ j e inside may v here there.
+    let at : pos (j + 1) ≡ number = leads_is sets (pos (j + 1)) (All-last (IsDenied sets) claims leads denying.denied) may in
+    let same : j ≡ place = omega (arith, ints) in
+    let entry : get_or entries j e ≡ get_or entries place d = get_or_default entries j e d inside ∙ ap (λ (n : ℕ). get_or entries n d) same in
+    apart.apart sets (All-front (IsDenied sets) claims leads denying.denied) v (subst (λ (t : Term). MayBe sets t v) entry here) there))
 
 -- ---- the result against all entries
 

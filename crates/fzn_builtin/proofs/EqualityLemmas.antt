@@ -18,7 +18,7 @@ use Rattle.fzn_explain.proofs.CallerLemmas.{are_opposite}
 use Rattle.fzn_builtin.specs.Equality.{IsAskedEqual}
 use Rattle.fzn_builtin.proofs.MemberLemmas.{fixed_to}
 
-asks : (sets : List IntSet) (relation : Relation) (switch : Option Term) → is_some_empty sets ≡ false → IsSwitch (length sets) switch → IsAskedEqual sets relation switch → AsksEquality sets relation switch
+pub asks : (sets : List IntSet) (relation : Relation) (switch : Option Term) → is_some_empty sets ≡ false → IsSwitch (length sets) switch → IsAskedEqual sets relation switch → AsksEquality sets relation switch
 asks sets Equal None filled fits asked = tt
 asks sets Equal (Some switch) filled fits asked = fixed_to sets switch (pos 1) filled fits asked
 asks sets NotEqual (Some switch) filled fits asked = fixed_to sets switch (pos 0) filled fits asked

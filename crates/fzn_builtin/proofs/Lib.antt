@@ -10,3 +10,4 @@ mod ListLemmas
 mod MeaningLemmas
 mod MemberLemmas
 mod OutcomeLemmas
+mod SharedLemmas

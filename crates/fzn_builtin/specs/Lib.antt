@@ -7,3 +7,4 @@ pub mod Members
 pub mod Outcome
 pub mod Parts
 pub mod Rows
+pub mod Shared

@@ -1,5 +1,5 @@
 // Elements: by the rule `rows`.
-ghost use Rattle.std.specs.Prelude.{◌≡◌, ◌<◌, ◌≤◌, ◌≤ℤ◌, pos, negsuc, length, List, IfOk, IfSome, OnOk};
+ghost use Rattle.std.specs.Prelude.{◌≡◌, ◌<◌, ◌≤◌, ◌≤ℤ◌, pos, negsuc, length, slice_index_or, List, IfOk, IfSome, OnOk};
 ghost use Rattle.std.specs.List.{All};
 ghost use Rattle.fzn_domain.specs.Limits.{IsInLimits};
 ghost use Rattle.fzn_domain.specs.Narrow.{NoneEmpty};
@@ -10,6 +10,7 @@ ghost use Rattle.fzn_domain.specs.IntSet.{IntSet};
 ghost use Rattle.fzn_explain.specs.Claims.{IsDenied, IsJustified};
 ghost use Rattle.fzn_builtin.specs.Rows.{IsRuledOut, LeavesNoIndex};
 
+use crate::shared::{share_none, shared_values};
 use crate::terms::{
     Bound, SMALL, apart, claim_of, is_fixed, is_never, may_be, narrowing, take_out,
 };
@@ -49,6 +50,9 @@ pub fn infer_element(
             place,
             claim_of(value, bound),
         );
+    }
+    if let Some(place) = parted_at(trail, index, entries, value) {
+        return index_or_shared(alloc, trail, index, entries, value, place, entries[place]);
     }
     if let Some(bound) = end_of_all(trail, index, entries, value) {
         return value_or_entries(alloc, trail, index, entries, value, claim_of(value, bound));
@@ -104,6 +108,22 @@ fn part_at(trail: &Trail, index: Term, entries: &[Term], value: Term) -> Option<
             if let Some(bound) = bound {
                 return Some((k, bound));
             }
+        }
+    }
+    None
+}
+
+/// A place, from 0, to which the index may lead and whose entry shares no value with the result, though the ends of both overlap.
+fn parted_at(trail: &Trail, index: Term, entries: &[Term], value: Term) -> Option<usize>
+    requires index { IsTerm (length trail.now.declared) index }
+    requires entries { All (IsTerm (length trail.now.declared)) entries.now }
+    requires short { length entries.now ≤ 100000 }
+    requires value { IsTerm (length trail.now.declared) value }
+    ensures { IfSome result (λ place. place < length entries.now) }
+{
+    for k in 0..entries.len() {
+        if may_be(trail, index, k as i64 + 1) && share_none(trail, entries[k], value) {
+            return Some(k);
         }
     }
     None
@@ -228,6 +248,33 @@ fn index_or_apart(
     };
     let leads = Claim::other_than(index, place as i64 + 1);
     explain(alloc, trail, &[leads, claim, other])
+}
+
+/// The clause that the index leads elsewhere, or the entry and the result share a value.
+fn index_or_shared(
+    alloc: Global,
+    trail: &Trail,
+    index: Term,
+    entries: &[Term],
+    value: Term,
+    place: usize,
+    entry: Term,
+) -> Result<Option<Items<Lit>>, Memory>
+    requires index { IsTerm (length trail.now.declared) index }
+    requires entries { All (IsTerm (length trail.now.declared)) entries.now }
+    requires short { length entries.now ≤ 100000 }
+    requires value { IsTerm (length trail.now.declared) value }
+    requires filled { NoneEmpty trail.now.sets }
+    requires place { place < length entries.now }
+    requires entry { entry ≡ slice_index_or entries.now place entry }
+    requires entry_fits { IsTerm (length trail.now.declared) entry }
+    ensures { IfOk result (λ found. IfSome found (IsJustified trail.now (constraint.Element index entries.now value) rule.Rows)) }
+{
+    let Some(mut claims) = shared_values(alloc, trail, entry, value)? else {
+        return Ok(None);
+    };
+    claims.push(Claim::other_than(index, place as i64 + 1))?;
+    explain(alloc, trail, claims.as_slice())
 }
 
 /// The clause that the claim is true of the result, or the index leads to an entry of which its opposite is.

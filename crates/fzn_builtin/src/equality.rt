@@ -9,7 +9,8 @@ ghost use Rattle.fzn_rules.specs.declared.rule.Rule.TheVariants as rule;
 ghost use Rattle.fzn_explain.specs.Claims.{IsDenied, IsJustified};
 ghost use Rattle.fzn_builtin.specs.Equality.{IsAskedEqual};
 
-use crate::terms::{Bound, apart, claim_of, is_fixed, narrowing, never};
+use crate::shared::{share_none, shared_values};
+use crate::terms::{Bound, apart, claim_of, is_fixed, may_be, narrowing, never};
 use fzn_domain::{Lit, Memory};
 use fzn_explain::{Claim, explain};
 use fzn_list::Items;
@@ -33,7 +34,7 @@ pub fn infer_equal(
     requires filled { NoneEmpty trail.now.sets }
     ensures { IfOk result (λ found. IfSome found (IsJustified trail.now (constraint.Compare relation left right switch) rule.Rows)) }
 {
-    match bound_of(trail, left, right, switch) {
+    match bound_of(trail, relation, left, right, switch) {
         Some(bound) => {
             unasked_or_apart(
                 alloc,
@@ -45,12 +46,32 @@ pub fn infer_equal(
                 claim_of(left, bound),
             )
         }
+        None if is_open(trail, switch) && share_none(trail, left, right) => {
+            unasked_or_shared(alloc, trail, relation, left, right, switch)
+        }
         None => Ok(None),
     }
 }
 
+/// Whether a switch has several values.
+fn is_open(trail: &Trail, switch: Option<Term>) -> bool
+    requires switch { IsSwitch (length trail.now.declared) switch }
+    requires filled { NoneEmpty trail.now.sets }
+{
+    match switch {
+        Some(term) => !is_fixed(trail, term),
+        None => false,
+    }
+}
+
 /// What keeps the terms apart, while the switch is open, and else what they have to be.
-fn bound_of(trail: &Trail, left: Term, right: Term, switch: Option<Term>) -> Option<Bound>
+fn bound_of(
+    trail: &Trail,
+    relation: Relation,
+    left: Term,
+    right: Term,
+    switch: Option<Term>,
+) -> Option<Bound>
     requires left { IsTerm (length trail.now.declared) left }
     requires right { IsTerm (length trail.now.declared) right }
     requires switch { IsSwitch (length trail.now.declared) switch }
@@ -58,7 +79,16 @@ fn bound_of(trail: &Trail, left: Term, right: Term, switch: Option<Term>) -> Opt
 {
     match switch {
         Some(term) if !is_fixed(trail, term) => apart(trail, left, right),
+        Some(term) if !may_be(trail, term, asking_value(relation)) => None,
         _ => narrowing(trail, left, right),
+    }
+}
+
+/// The switch's value where the terms have to be equal.
+fn asking_value(relation: Relation) -> i64 {
+    match relation {
+        Relation::Equal => 1,
+        _ => 0,
     }
 }
 
@@ -85,6 +115,31 @@ fn unasked_or_apart(
         return Ok(None);
     };
     explain(alloc, trail, &[unasked, claim, other])
+}
+
+/// The clause that equality is not asked for, or the terms share a value.
+fn unasked_or_shared(
+    alloc: Global,
+    trail: &Trail,
+    relation: Relation,
+    left: Term,
+    right: Term,
+    switch: Option<Term>,
+) -> Result<Option<Items<Lit>>, Memory>
+    requires left { IsTerm (length trail.now.declared) left }
+    requires right { IsTerm (length trail.now.declared) right }
+    requires switch { IsSwitch (length trail.now.declared) switch }
+    requires filled { NoneEmpty trail.now.sets }
+    ensures { IfOk result (λ found. IfSome found (IsJustified trail.now (constraint.Compare relation left right switch) rule.Rows)) }
+{
+    let Some(unasked) = unasked(relation, switch) else {
+        return Ok(None);
+    };
+    let Some(mut claims) = shared_values(alloc, trail, left, right)? else {
+        return Ok(None);
+    };
+    claims.push(unasked)?;
+    explain(alloc, trail, claims.as_slice())
 }
 
 /// The claim that equality is not asked for. Nothing where it never is.

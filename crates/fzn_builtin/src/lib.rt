@@ -25,5 +25,6 @@ mod narrow;
 mod outcome;
 mod parts;
 mod quotient;
+mod shared;
 mod terms;
 mod values;

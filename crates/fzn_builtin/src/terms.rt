@@ -1,5 +1,6 @@
 // What a trail leaves to terms.
-ghost use Rattle.std.specs.Prelude.{◌≡◌, ℕ, length, ◌≤ℤ◌, pos, negsuc};
+ghost use Rattle.std.specs.Prelude.{◌≡◌, true, ℕ, length, ◌≤ℤ◌, pos, negsuc};
+ghost use Rattle.fzn_domain.specs.IntSet.{contains};
 ghost use Rattle.fzn_domain.specs.Limits.{IsInLimits};
 ghost use Rattle.fzn_domain.specs.Narrow.{NoneEmpty};
 ghost use Rattle.fzn_meaning.specs.Term.{IsTerm};
@@ -130,13 +131,49 @@ pub fn narrowing(trail: &Trail, one: Term, other: Term) -> Option<Bound>
     if other_low < low {
         return Some((Op::AtMost, low - 1));
     }
-    if high - low < SMALL {
-        for value in low..high {
-            match (may_be(trail, one, value), may_be(trail, other, value)) {
-                (true, false) => return Some((Op::NotEqual, value)),
-                (false, true) => return Some((Op::Equal, value)),
-                _ => {}
+    match difference(trail, one, other, low) {
+        Some(value) if may_be(trail, one, value) => Some((Op::NotEqual, value)),
+        Some(value) => Some((Op::Equal, value)),
+        None => None,
+    }
+}
+
+/// The least number that one of two terms may be and the other may not, where they have the same ends.
+fn difference(trail: &Trail, one: Term, other: Term, low: i64) -> Option<i64>
+    requires one { IsTerm (length trail.now.declared) one }
+    requires other { IsTerm (length trail.now.declared) other }
+{
+    let (Term::Variable(one), Term::Variable(other)) = (one, other) else {
+        return None; // Where one is a constant, so is the other by its ends.
+    };
+    let (set, other_set) = (trail.domain(one), trail.domain(other));
+    if set.contains(low) && other_set.contains(low) {
+        first_difference(set, other_set, low)
+    } else {
+        None
+    }
+}
+
+/// The least number above the common member that is in one of the sets only. It looks at runs of members, at most so many as are few.
+fn first_difference(set: &Domain, other: &Domain, common: i64) -> Option<i64>
+    requires one { contains set.now common ≡ true }
+    requires other { contains other.now common ≡ true }
+{
+    let mut value = common;
+    for _ in 0..SMALL {
+        let (end, other_end) = (set.run_end(value), other.run_end(value));
+        if end != other_end {
+            return Some(end.min(other_end) + 1);
+        }
+        match (set.above(end), other.above(end)) {
+            (Some(next), Some(other_next)) => {
+                if next != other_next {
+                    return Some(next.min(other_next));
+                }
+                value = next;
             }
+            (Some(next), None) => return Some(next),
+            (None, next) => return next,
         }
     }
     None

@@ -19,7 +19,7 @@ ghost use Rattle.fzn_clauses.specs.Looks.{IsForced, LooksAs};
 use crate::arena::{Arena, Pair};
 use crate::keys::{OPERATORS, key_of, operator_at};
 use crate::lists::{Lists, Watcher};
-use crate::state::{ClauseState, can_fail, can_falsify, is_certain_at, may_have_fallen, state_of};
+use crate::state::{ClauseState, can_fail, can_falsify, is_certain, may_have_fallen, state_of};
 use fzn_domain::{Lit, Memory, Op};
 use fzn_trail::{ClauseId, Reason, Trail};
 use std::alloc::Global;
@@ -308,14 +308,14 @@ impl Clauses {
     {
         let key = key_of(entry.var, op);
         let domain = trail.domain(entry.var);
+        let list = self.lists.list(key);
         let mut j = end;
         while j > 0 {
             j -= 1;
-            let watcher = self.lists.at(key, j);
             let lit = Lit {
                 var: entry.var,
                 op,
-                value: watcher.value,
+                value: list[j].value,
             };
             if may_have_fallen(domain, lit, entry, key) {
                 return Some(j);
@@ -361,22 +361,19 @@ impl Clauses {
         if k >= self.arena.len() || !self.arena.is_live(k) || !self.arena.is_listed(k) {
             return false;
         }
-        let clause = self.arena.clause(k);
-        let pair = self.arena.pair(k);
-        is_at(clause[pair.first], watcher, key) || is_at(clause[pair.second], watcher, key)
+        is_at(self.arena.first(k), watcher, key) || is_at(self.arena.second(k), watcher, key)
     }
 
     /// Whether one of the watched literals is true at every value that is left.
     fn is_satisfied(&self, k: usize, trail: &Trail) -> bool
         requires in_range { k < length self.now.arena }
         requires over { IsClauseOver (length trail.now.declared) (watched_at self.now.arena k).clause }
+        requires pair { IsPair (watched_at self.now.arena k).clause (watched_at self.now.arena k).pair }
         requires filled { NoneEmpty trail.now.sets }
         ensures { OnTrue result (IsSatisfied trail.now.sets
             (watched_at self.now.arena k).clause (watched_at self.now.arena k).pair) }
     {
-        let pair = self.arena.pair(k);
-        let clause = self.arena.clause(k);
-        is_certain_at(clause, trail, pair.first) || is_certain_at(clause, trail, pair.second)
+        is_certain(self.arena.first(k), trail) || is_certain(self.arena.second(k), trail)
     }
 
     /// Watches two possible literals of the clause; or asserts the one that is possible, if it is not yet true.

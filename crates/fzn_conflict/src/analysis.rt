@@ -7,7 +7,7 @@ ghost use Rattle.fzn_conflict.specs.declared.analysis.Learn.TheVariants.{Plain};
 ghost use Rattle.fzn_conflict.specs.Learned.{IsConflicting, IsDerived, IsLearned, IsPlain};
 ghost use Rattle.fzn_conflict.specs.Reasoned.{known_of, AreOver, IsReasoned};
 
-use crate::first_uip::{first_uip, unit_clause};
+use crate::first_uip::{first_uip, wanted_clause};
 use crate::implications::Implications;
 use crate::marks::Marks;
 use crate::plain::{plain_clause, plain_sources};
@@ -154,7 +154,7 @@ pub fn unit_of(
         inferences,
         vars: state.len(),
     };
-    let Some(unit) = unit_clause(alloc, graph, marks, place)? else {
+    let Some(unit) = wanted_clause(alloc, graph, marks, place)? else {
         return Ok(None);
     };
     if is_derived(trail, clauses, inferences, state, &unit)? {

@@ -7,6 +7,7 @@ use crate::merge::{canonical, implies, opposite};
 use crate::source::Source;
 use fzn_domain::{Lit, Memory};
 use fzn_list::Items;
+use fzn_trail::ClauseId;
 use std::alloc::Global;
 
 /// A clause with the sources that it follows from, if it does.
@@ -30,10 +31,9 @@ pub fn first_uip(
     let mut units = Items::new(alloc);
     replace_level_0(graph, marks, &mut replaced, &mut units)?;
     let clause = widest(alloc, graph, marks, &kept)?;
-    replaced.sort_unstable();
     Ok(Learned {
         clause: denied(alloc, graph, marks, &clause)?,
-        sources: sources_of(graph, units, &replaced, conflict)?,
+        sources: sources_of(alloc, graph, units, &replaced, marks.cited_gaps(), conflict)?,
         level: second_level(graph, &clause),
         levels: count_levels(graph, &clause),
         marked: marked_literals(alloc, graph, marks)?,
@@ -215,16 +215,30 @@ fn denied(
     Ok(items)
 }
 
-/// The clauses that stand for entries of level 0, the sources of the other entries in the order of the trail, then the conflict.
+/// The clauses that stand for entries of level 0, the sources of the other entries in the order of the trail, each before the clauses
+/// of the gaps that it moved a bound over, then the conflict.
 fn sources_of(
+    alloc: Global,
     graph: Implications,
     units: Items<Source>,
     replaced: &[usize],
+    gaps: &[(usize, ClauseId)],
     conflict: Source,
 ) -> Result<Items<Source>, Memory> {
-    let mut sources = units;
+    let mut ordered = Vec::new(alloc);
     for place in replaced {
-        if let Some(entry) = graph.entry(*place)
+        ordered.push((*place, 0, 0))?;
+    }
+    for i in 0..gaps.len() {
+        let (place, id) = gaps[i];
+        ordered.push((place, i.saturating_add(1), id.0))?;
+    }
+    ordered.sort_unstable();
+    let mut sources = units;
+    for (place, order, id) in &ordered {
+        if *order > 0 {
+            sources.push(Source::Held(ClauseId(*id)))?;
+        } else if let Some(entry) = graph.entry(*place)
             && let Some(source) = source_of(entry.reason)
         {
             sources.push(source)?;
@@ -252,8 +266,45 @@ fn marked_literals(
     Ok(items)
 }
 
+/// The clause for what has this number among what is wanted: the literal of an entry of level 0, or what stands for a gap.
+pub fn wanted_clause(
+    alloc: Global,
+    graph: Implications,
+    marks: &mut Marks,
+    wanted: usize,
+) -> Result<Option<Learned>, Memory> {
+    if wanted % 2 == 0 {
+        unit_clause(alloc, graph, marks, wanted / 2)
+    } else {
+        gap_clause(alloc, graph, marks, wanted / 2)
+    }
+}
+
+/// The clause that stands for the gap of this number.
+fn gap_clause(
+    alloc: Global,
+    graph: Implications,
+    marks: &Marks,
+    number: usize,
+) -> Result<Option<Learned>, Memory> {
+    let Some(gap) = marks.gap(number) else {
+        return Ok(None);
+    };
+    let (low, high) = gap.literals();
+    let mut clause = Items::new(alloc);
+    clause.push(low)?;
+    clause.push(high)?;
+    Ok(Some(Learned {
+        clause,
+        sources: marks.gap_sources(alloc, graph, gap)?,
+        level: 0,
+        levels: 1,
+        marked: Items::new(alloc),
+    }))
+}
+
 /// The literal of an entry of level 0 as a clause of its own.
-pub fn unit_clause(
+fn unit_clause(
     alloc: Global,
     graph: Implications,
     marks: &mut Marks,

@@ -1,7 +1,7 @@
 // The trail with the clauses that its reasons are, as the graph of what follows from what.
 ghost use Rattle.std.specs.Prelude.{◌≡◌, length};
 
-use crate::causes::{Cause, add_causes};
+use crate::causes::Causes;
 use crate::source::{Source, clause_of};
 use crate::trial::is_known;
 use fzn_clauses::Clauses;
@@ -29,10 +29,44 @@ impl<'a> Implications<'a> {
         }
     }
 
+    /// Whether the entry at this place asserts the literal.
+    pub fn is_at(self, place: usize, lit: Lit) -> bool {
+        match self.entry(place) {
+            Some(entry) => entry.lit == lit,
+            None => false,
+        }
+    }
+
+    /// The set at level 0 of the variable of an entry above it.
+    pub fn root_domain(self, place: usize) -> Option<&'a Domain> {
+        let mut found = None;
+        let mut at = place;
+        for _ in 0..self.trail.len() {
+            if at >= self.trail.len() || self.trail.entry(at).level == 0 {
+                return found;
+            }
+            found = Some(self.trail.domain_before(at));
+            match self.trail.before(at) {
+                Some(older) => at = older,
+                None => return found,
+            }
+        }
+        found
+    }
+
     /// The declared set of a variable.
     pub fn declared(self, var: VarId) -> Option<&'a Domain> {
         if 1 <= var.0 && var.0 <= self.vars {
             Some(self.trail.declared(var))
+        } else {
+            None
+        }
+    }
+
+    /// The last entry before this one on the same variable.
+    pub fn before(self, place: usize) -> Option<usize> {
+        if place < self.trail.len() {
+            self.trail.before(place)
         } else {
             None
         }
@@ -50,19 +84,26 @@ impl<'a> Implications<'a> {
     /// Finds what made the literals of the source's clause false, but for the one that it forced.
     pub fn find_causes(
         self,
-        causes: &mut Vec<Cause>,
+        causes: &mut Causes,
         source: Source,
         forced: Option<Lit>,
     ) -> Result<(), Memory> {
         causes.clear();
-        if is_known(self.clauses, self.inferences, source) {
-            for lit in clause_of(self.clauses, self.inferences, source) {
-                if Some(*lit) != forced {
-                    add_causes(causes, self, *lit)?;
-                }
+        for lit in self.clause(source) {
+            if Some(*lit) != forced {
+                causes.add(self, *lit)?;
             }
         }
         Ok(())
+    }
+
+    /// The clause of a source, without literals where there is none.
+    pub fn clause(self, source: Source) -> &'a [Lit] {
+        if is_known(self.clauses, self.inferences, source) {
+            clause_of(self.clauses, self.inferences, source)
+        } else {
+            [].as_slice()
+        }
     }
 }
 

@@ -12,6 +12,7 @@ pub use source::{Source, clause_of};
 mod analysis;
 mod causes;
 mod first_uip;
+mod gaps;
 mod implications;
 mod marks;
 mod merge;

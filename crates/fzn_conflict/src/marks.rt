@@ -1,10 +1,11 @@
 // Which entries of a trail a conflict rests on.
-use crate::causes::Cause;
+use crate::causes::{Cause, Causes};
+use crate::gaps::Gap;
 use crate::implications::{Implications, source_of};
 use crate::merge::{canonical, implies};
 use crate::roots::Roots;
 use crate::source::Source;
-use fzn_domain::{Lit, Memory};
+use fzn_domain::{Lit, Memory, Op, VarId};
 use fzn_list::Items;
 use fzn_trail::{ClauseId, Entry};
 use std::alloc::Global;
@@ -16,7 +17,7 @@ pub struct Marks {
     needs: Vec<Option<Lit>>,
     /// The places of the marked entries, in the order in which they were marked.
     marked: Vec<usize>,
-    causes: Vec<Cause>,
+    causes: Causes,
     /// What is known of the entries of level 0.
     roots: Roots,
     /// The highest level of an entry that the conflict rests on, once it is known.
@@ -31,7 +32,7 @@ impl Marks {
         Marks {
             needs: Vec::new(alloc),
             marked: Vec::new(alloc),
-            causes: Vec::new(alloc),
+            causes: Causes::new(alloc),
             roots: Roots::new(alloc),
             level: None,
             open: 0,
@@ -46,6 +47,7 @@ impl Marks {
             }
         }
         self.marked.clear();
+        self.causes.begin();
         self.level = None;
         self.open = 0;
         for _ in self.needs.len()..len {
@@ -162,20 +164,75 @@ impl Marks {
             return Ok(Some(id));
         }
         self.replace(graph, forced, source)?;
-        if !self.causes.is_empty() {
+        if self.causes.len() > 0 {
             self.roots.want(place)?;
         }
         Ok(None)
     }
 
-    /// An entry of level 0 for which a clause is wanted, those first on which others rest.
+    /// What a clause is wanted for, as a number: an entry of level 0, those first on which others rest, and then a gap.
     pub fn next_wanted(&mut self) -> Option<usize> {
-        self.roots.next_wanted()
+        match self.roots.next_wanted() {
+            Some(place) => Some(place.saturating_mul(2)),
+            None => {
+                let number = self.causes.gaps.next_wanted()?;
+                Some(number.saturating_mul(2).saturating_add(1))
+            }
+        }
     }
 
-    /// The clause stands for the entry of level 0.
-    pub fn stand_for(&mut self, place: usize, id: ClauseId) {
-        self.roots.stand_for(place, id);
+    /// The clause stands for what has this number.
+    pub fn stand_for(&mut self, wanted: usize, id: ClauseId) {
+        if wanted % 2 == 0 {
+            self.roots.stand_for(wanted / 2, id);
+        } else {
+            self.causes.gaps.stand_for(wanted / 2, id);
+        }
+    }
+
+    /// The gap of this number.
+    pub fn gap(&self, number: usize) -> Option<Gap> {
+        self.causes.gaps.gap(number)
+    }
+
+    /// The clauses of gaps that the marked entries moved over, each with the place of its entry.
+    pub fn cited_gaps(&self) -> &[(usize, ClauseId)] {
+        self.causes.cited()
+    }
+
+    /// What the values of a gap were taken out by: what stands for these entries.
+    pub fn gap_sources(
+        &self,
+        alloc: Global,
+        graph: Implications,
+        gap: Gap,
+    ) -> Result<Items<Source>, Memory> {
+        let mut places = Vec::new(alloc);
+        let mut last = graph.last_of(VarId(gap.var));
+        for _ in 0..graph.trail.len() {
+            let Some(place) = last else {
+                break;
+            };
+            let Some(entry) = graph.entry(place) else {
+                break;
+            };
+            if entry.level == 0
+                && entry.lit.op == Op::NotEqual
+                && gap.below < entry.lit.value
+                && entry.lit.value < gap.above
+            {
+                places.push(place)?;
+            }
+            last = graph.before(place);
+        }
+        places.sort_unstable();
+        let mut sources = Items::new(alloc);
+        for place in &places {
+            if let Some(cited) = self.cited(graph, *place) {
+                sources.push(cited)?;
+            }
+        }
+        Ok(sources)
     }
 
     /// What the literal of an entry of level 0 follows from: what stands for those that it rests on, then its reason.
@@ -187,10 +244,13 @@ impl Marks {
     ) -> Result<Items<Source>, Memory> {
         let mut sources = Items::new(alloc);
         if let Some(source) = source_of(entry.reason) {
+            self.causes.begin();
             graph.find_causes(&mut self.causes, source, Some(entry.lit))?;
             let mut places = Vec::new(alloc);
-            for cause in &self.causes {
-                places.push(cause.place)?;
+            for i in 0..self.causes.len() {
+                if let Some(cause) = self.causes.get(i) {
+                    places.push(cause.place)?;
+                }
             }
             places.sort_unstable();
             for place in &places {
@@ -213,18 +273,11 @@ impl Marks {
 
     fn mark_causes(&mut self, graph: Implications) -> Result<(), Memory> {
         for i in 0..self.causes.len() {
-            if let Some(cause) = self.cause_at(i) {
+            if let Some(cause) = self.causes.get(i) {
                 self.mark(graph, cause)?;
             }
         }
-        Ok(())
-    }
-
-    fn cause_at(&self, i: usize) -> Option<Cause> {
-        match self.causes.get(i) {
-            Some(cause) => Some(*cause),
-            None => None,
-        }
+        self.causes.are_marked()
     }
 
     /// Whether an entry follows from what is needed of other marked entries, and from entries of level 0, which are marked then.
@@ -234,13 +287,27 @@ impl Marks {
         forced: Lit,
         source: Source,
     ) -> Result<bool, Memory> {
-        graph.find_causes(&mut self.causes, source, Some(forced))?;
-        for cause in &self.causes {
-            if !self.is_kept(graph, *cause) {
+        self.causes.clear();
+        for lit in graph.clause(source) {
+            if *lit != forced && !self.are_kept_for(graph, *lit)? {
                 return Ok(false);
             }
         }
         self.mark_causes(graph)?;
+        Ok(true)
+    }
+
+    /// Adds what made the literal false to the causes, and answers whether all of it is kept.
+    fn are_kept_for(&mut self, graph: Implications, lit: Lit) -> Result<bool, Memory> {
+        let count = self.causes.len();
+        self.causes.add(graph, lit)?;
+        for i in count..self.causes.len() {
+            if let Some(cause) = self.causes.get(i)
+                && !self.is_kept(graph, cause)
+            {
+                return Ok(false);
+            }
+        }
         Ok(true)
     }
 

@@ -15,12 +15,14 @@ pub fn opposite(lit: Lit) -> Lit {
 pub fn canonical(lit: Lit, declared: &Domain) -> Lit {
     let value = lit.value;
     match lit.op {
+        Op::AtMost | Op::AtLeast if declared.contains(value) => lit,
         Op::AtMost => at_most_member(lit, value.saturating_add(1), declared),
         Op::AtLeast => at_least_member(lit, value.saturating_sub(1), declared),
-        Op::Equal if declared.below(value).is_none() => with(lit, Op::AtMost, value),
-        Op::Equal if declared.above(value).is_none() => with(lit, Op::AtLeast, value),
-        Op::NotEqual if declared.below(value).is_none() => at_least_member(lit, value, declared),
-        Op::NotEqual if declared.above(value).is_none() => at_most_member(lit, value, declared),
+        _ if declared.is_empty() => lit,
+        Op::Equal if value <= declared.min() => with(lit, Op::AtMost, value),
+        Op::Equal if declared.max() <= value => with(lit, Op::AtLeast, value),
+        Op::NotEqual if value <= declared.min() => at_least_member(lit, value, declared),
+        Op::NotEqual if declared.max() <= value => at_most_member(lit, value, declared),
         _ => lit,
     }
 }

@@ -29,7 +29,7 @@ use Rattle.fzn_engine.specs.declared.notes.Notes.{Notes}
 use Rattle.fzn_engine.specs.declared.solver.Solver.{Solver}
 use Rattle.fzn_engine.specs.Forgetting.{IsFlagged}
 use Rattle.fzn_engine.specs.Search.{IsAfter, IsTended, stock_of}
-use Rattle.fzn_engine.specs.State.{known_in, with_held, AreNumbered, IsJustified, CoreOf, StateOf}
+use Rattle.fzn_engine.specs.State.{known_in, with_clause, AreNumbered, IsJustified, CoreOf, StateOf}
 use Rattle.fzn_engine.proofs.NumberLemmas.{AreNumbered-push}
 use Rattle.fzn_engine.proofs.StateLemmas.{cuts-grown}
 
@@ -103,7 +103,7 @@ module _ (model : Model) (old : Solver) (steps : List Step) (h : IsAfter model o
   nothing-tended notes = noted-tended old.scratch h.scratch notes
 
   module _ (clauses : Clauses) (gone : ClauseId) (held_is : held_by clauses ≡ set (held_by old.clauses) gone.0 None) (keeps : KeepsWatching old.clauses clauses) (apart : All (λ (entry : Entry). IsOther gone entry.reason) old.trail.entries) (no_cut : (values : List ℤ) → at_number (held_by old.clauses) gone ≡ Some (cut_of model values) → ⊥) where
-    left-core : CoreOf model (record { held = set (held_by old.clauses) gone.0 None; numbers = old.numbers; stack = old.inferences }) steps old.trail old.search.nodes
+    left-core : CoreOf model (record { held = set (held_by old.clauses) gone.0 None; numbers = old.numbers; stack = old.inferences; alive = old.alive }) steps old.trail old.search.nodes
     left-core =
         let core = h.state.core in
         record {
@@ -112,6 +112,7 @@ module _ (model : Model) (old : Solver) (steps : List Step) (h : IsAfter model o
           accepted = core.accepted;
           numbered = AreNumbered-left (held_by old.clauses) gone (past_of model steps) old.numbers core.numbered;
           justified = core.justified;
+          alive = core.alive;
           cuts_held = All-weaker (λ values. Contains (held_by old.clauses) (Some (cut_of model values))) (λ values. Contains (set (held_by old.clauses) gone.0 None) (Some (cut_of model values)))
               (λ values there. Contains-left (held_by old.clauses) gone (cut_of model values) (no_cut values) there) (past_of model steps).solutions core.cuts_held;
           held_over = AllHeld-left (held_by old.clauses) gone (IsClauseOver (length old.trail.declared)) core.held_over;
@@ -121,7 +122,7 @@ module _ (model : Model) (old : Solver) (steps : List Step) (h : IsAfter model o
 
     pub dropped-tended : IsTended model old (record old { clauses = clauses }) steps
     dropped-tended =
-        let H : Held → Type 0 = λ held. StateOf model old.learn (record { held = held; numbers = old.numbers; stack = old.inferences }) steps old.trail old.search.nodes in
+        let H : Held → Type 0 = λ held. StateOf model old.learn (record { held = held; numbers = old.numbers; stack = old.inferences; alive = old.alive }) steps old.trail old.search.nodes in
         record {
           state = record {
             state = subst H (sym held_is) (record { core = left-core; plain = h.state.plain });
@@ -141,7 +142,7 @@ module _ (model : Model) (old : Solver) (steps : List Step) (h : IsAfter model o
 
   -- or the clause of a written inference is held too
   module _ (clauses : Clauses) (place : ℕ) (stacked : place < length old.inferences) (number : ℕ) (written : (inference_at old.inferences place).number ≡ Some number) (held_is : held_by clauses ≡ held_by old.clauses ++ Some (inference_at old.inferences place).clause ∷ []) (keeps : KeepsWatching old.clauses clauses) where
-    more-core : CoreOf model (with_held (inference_at old.inferences place).clause number (stock_of old)) steps old.trail old.search.nodes
+    more-core : CoreOf model (with_clause (inference_at old.inferences place).clause number (stock_of old)) steps old.trail old.search.nodes
     more-core =
         let core = h.state.core in
         let it = inference_at old.inferences place in
@@ -155,6 +156,7 @@ module _ (model : Model) (old : Solver) (steps : List Step) (h : IsAfter model o
           accepted = core.accepted;
           numbered = AreNumbered-push (past_of model steps) old.numbers (held_by old.clauses) number it.clause core.numbered (subst W written just.written);
           justified = core.justified;
+          alive = core.alive;
           cuts_held = cuts-grown model (stock_of old) steps old.trail old.search.nodes core it.clause;
           held_over = AllHeld-push (IsClauseOver (length old.trail.declared)) (held_by old.clauses) it.clause core.held_over (subst O (sym sizes) just.over);
           reasoned = IsReasoned-grown (known_in (stock_of old)) (Some it.clause ∷ []) old.trail core.reasoned;
@@ -163,7 +165,7 @@ module _ (model : Model) (old : Solver) (steps : List Step) (h : IsAfter model o
 
     pub more-tended : (notes : Notes) → IsTended model old (record old { clauses = clauses; numbers = old.numbers ++ number ∷ []; notes = notes }) steps
     more-tended notes =
-        let H : Held → Type 0 = λ held. StateOf model old.learn (record { held = held; numbers = old.numbers ++ number ∷ []; stack = old.inferences }) steps old.trail old.search.nodes in
+        let H : Held → Type 0 = λ held. StateOf model old.learn (record { held = held; numbers = old.numbers ++ number ∷ []; stack = old.inferences; alive = old.alive }) steps old.trail old.search.nodes in
         record {
           state = record {
             state = subst H (sym held_is) (record { core = more-core; plain = h.state.plain });

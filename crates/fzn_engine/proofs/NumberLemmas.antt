@@ -1,9 +1,10 @@
 -- The numbers of steps, and what becomes of them as steps are written.
-use Rattle.std.proofs.Common.{◌≡◌, ℕ, ◌+◌, ◌-◌, ◌<◌, ◌≤◌, ◌==◌, Bool, true, false, cond, inl, inr, List, [], ◌∷◌, ◌++◌, length, get_or, All, is_some, Some, None, Option, IfSome, unwrap_or, refl, sym, ap, ap₂, ◌∙◌, arith}
-use Rattle.std.proofs.lemmas.Bool.{cases_lt}
+use Rattle.std.proofs.Common.{◌≡◌, ℕ, ◌+◌, ◌-◌, ◌<◌, ◌≤◌, ◌==◌, Bool, true, false, cond, inl, inr, List, [], ◌∷◌, ◌++◌, length, get_or, All, is_some, Some, None, Option, IfSome, unwrap_or, refl, sym, ap, ap₂, ◌∙◌, subst, arith}
+use Rattle.std.specs.Prelude.{IsSome}
+use Rattle.std.proofs.lemmas.Bool.{cases_lt, false≢true}
 use Rattle.std.proofs.lemmas.Bool.Decides.{nat_tests}
 use Rattle.std.proofs.lemmas.List.{map-append, length_push, get_or_append_left, get_or_push, get_or_past}
-use Rattle.std.proofs.lemmas.List.Elements.{All-nil, All-cons}
+use Rattle.std.proofs.lemmas.List.Elements.{All-nil, All-cons, All-push, All-weaker}
 use Rattle.fzn_domain.specs.declared.literal.Lit.{Lit}
 use Rattle.fzn_cert.specs.Past.{Past, clause_held, IsHeld, clauses_held}
 use Rattle.fzn_meaning.specs.declared.model.Model.{Model}
@@ -118,3 +119,19 @@ IsJustified-grown model old new entry it grows h = record {
     still : (number : Option ℕ) → IfSome number (λ n. clause_held old n ≡ Some it.clause) → IfSome number (λ n. clause_held new n ≡ Some it.clause)
     still None w = tt
     still (Some n) w = clause_held-grown old new entry n it.clause grows w
+
+-- ---- steps that may be deleted
+
+pub given-clause : (past : Past) (n : ℕ) → IsHeld past n → (clause : List Lit) × (clause_held past n ≡ Some clause)
+given-clause past n is = by_clause (clause_held past n) refl
+  where
+    by_clause : (o : Option (List Lit)) → clause_held past n ≡ o → (clause : List Lit) × (clause_held past n ≡ Some clause)
+    by_clause None e = absurd (false≢true (subst IsSome e is))
+    by_clause (Some clause) e = (clause, e)
+
+-- one more step, and its number
+pub AreGiven-push : (old new : Past) (numbers : List ℕ) (n : ℕ) (clause : List Lit) → Grows old new (Some clause) → All (IsHeld old) numbers → clause_held new n ≡ Some clause → All (IsHeld new) (numbers ++ n ∷ [])
+AreGiven-push old new numbers n clause grows all one =
+    All-push (IsHeld new) numbers n
+    (All-weaker (IsHeld old) (IsHeld new) (λ k is. let given = given-clause old k is in ap is_some (clause_held-grown old new (Some clause) k given.0 grows given.1)) numbers all)
+    (ap is_some one)

@@ -12,7 +12,7 @@ use Rattle.fzn_meaning.specs.Solutions.{declared_sets, cut_of}
 use Rattle.fzn_meaning.specs.WellFormed.{IsWellFormed}
 use Rattle.fzn_cert.specs.declared.step.Step.{Step}
 use Rattle.fzn_cert.specs.declared.step.Step.TheVariants.{Resolve, Solution}
-use Rattle.fzn_cert.specs.declared.step.Version.TheVariants.{One}
+use Rattle.fzn_cert.specs.declared.step.Version.TheVariants.{Two}
 use Rattle.fzn_cert.specs.Past.{Past, start, IsHeld}
 use Rattle.fzn_cert.specs.Accepted.{IsAccepted, AllAccepted, past_of}
 use Rattle.fzn_cert.proofs.SoundLaws.{accepted-proper, closed-exhausted}
@@ -130,7 +130,7 @@ module _ (model : Model) (good : IsWellFormed model) (old : Solver) (before : Li
   pub record-limits : All IsInLimits values
   record-limits = values-limited model values good record-assignment
 
-  pub record-spelled : IsSpelled One (Solution values)
+  pub record-spelled : IsSpelled Two (Solution values)
   record-spelled = solution-spelled model values good record-assignment
 
   module _ (quiet : AllHeld (λ clause. possible_in old.trail.sets clause ≢ []) (held_by old.clauses)) (meets : IsQuiet model old.trail) where
@@ -146,7 +146,7 @@ module _ (model : Model) (good : IsWellFormed model) (old : Solver) (before : Li
         let state = solution-state model old.learn (stock_of old) before old.trail old.search.nodes h.state good values fixed within (old.steps + 1) next record-accepted in
         let stock = with_held (cut_of model values) (old.steps + 1) (stock_of old) in
         let S : List Step → Type 0 = λ s. StateOf model old.learn stock s old.trail old.search.nodes in
-        let there : Solver = solver_of old.trail held.clauses held.numbers held.inferences old.search old.scratch old.learn held.notes (old.found + 1) (old.steps + 1) in
+        let there : Solver = solver_of old.trail held.clauses held.numbers held.inferences held.alive old.search old.scratch old.learn held.notes (old.found + 1) (old.steps + 1) in
         let there_is : new ≡ there =
         new_is ∙ ap (λ (s : Solver). record s { found = s.found + 1 }) (solver-is held old.trail old.search old.scratch old.learn old.found (old.steps + 1) holds.trail holds.search holds.scratch holds.learn holds.found holds.steps) in
         let P : Solver → Type 0 = λ s. IsRecorded model old s now id in

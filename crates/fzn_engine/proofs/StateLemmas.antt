@@ -22,7 +22,7 @@ use Rattle.fzn_engine.specs.Volume.{volume, slack}
 use Rattle.fzn_engine.specs.Learned.{resolved, FreshAfter, negations, AllCertain, left_open, other_part}
 use Rattle.fzn_engine.specs.State.{Stock, known_in, with_held, with_inference, with_stack, IsJustified, CoreOf, PlainOf}
 use Rattle.fzn_engine.proofs.AcceptedLemmas.{past_of-push, AllAccepted-push, length-past_of}
-use Rattle.fzn_engine.proofs.NumberLemmas.{Grows, clause_held-newest, AreNumbered-grown, AreNumbered-push, IsJustified-grown}
+use Rattle.fzn_engine.proofs.NumberLemmas.{Grows, clause_held-newest, AreGiven-push, AreNumbered-grown, AreNumbered-push, IsJustified-grown}
 use Rattle.fzn_engine.proofs.VolumeLemmas.{decided-accounts}
 use Rattle.fzn_engine.proofs.WithinLemmas.{Within, Within-narrowed, backed-within}
 use Rattle.fzn_engine.proofs.FreshLemmas.{learned-fresh, LevelsBacked-push, LevelsBacked-back, backed-back}
@@ -41,6 +41,7 @@ module _ (model : Model) (stock : Stock) (steps : List Step) (trail : Levels) (n
         accepted = h.accepted;
         numbered = h.numbered;
         justified = h.justified;
+        alive = h.alive;
         cuts_held = h.cuts_held;
         held_over = subst O (sym e) h.held_over;
         reasoned = reasoned;
@@ -66,6 +67,7 @@ module _ (model : Model) (stock : Stock) (steps : List Step) (trail : Levels) (n
         accepted = AllAccepted-push model steps step h.accepted accepted;
         numbered = AreNumbered-push now stock.numbers stock.held number clause (AreNumbered-grown before now (Some clause) stock.numbers stock.held grows h.numbered) gives;
         justified = All-weaker (IsJustified model before) (IsJustified model now) (λ it j. IsJustified-grown model before now (Some clause) it grows j) stock.stack h.justified;
+        alive = AreGiven-push before now stock.alive number clause grows h.alive gives;
         cuts_held = subst C (sym past) cuts;
         held_over = subst O (sym e) (AllHeld-push (IsClauseOver (length trail.declared)) stock.held clause h.held_over over);
         reasoned = reasoned;
@@ -88,6 +90,7 @@ module _ (model : Model) (stock : Stock) (steps : List Step) (trail : Levels) (n
         accepted = h.accepted;
         numbered = h.numbered;
         justified = All-push (IsJustified model (past_of model steps)) stock.stack it h.justified justified;
+        alive = h.alive;
         cuts_held = h.cuts_held;
         held_over = h.held_over;
         reasoned = subst K (sym (map-append (λ (i : Inferred). i.clause) stock.stack (it ∷ []))) (IsReasoned-stacked (known_in stock) (it.clause ∷ []) trail h.reasoned);
@@ -104,6 +107,7 @@ module _ (model : Model) (stock : Stock) (steps : List Step) (trail : Levels) (n
         accepted = h.accepted;
         numbered = h.numbered;
         justified = All-take (IsJustified model (past_of model steps)) count stock.stack h.justified;
+        alive = h.alive;
         cuts_held = h.cuts_held;
         held_over = h.held_over;
         reasoned = subst K (take-map (λ (i : Inferred). i.clause) count stock.stack) (IsReasoned-cut (known_in stock) count trail enough h.reasoned);

@@ -5,7 +5,7 @@ use Rattle.fzn_meaning.specs.declared.model.Model.{Model}
 use Rattle.fzn_meaning.specs.WellFormed.{IsWellFormed}
 use Rattle.fzn_cert.specs.declared.step.Step.{Step}
 use Rattle.fzn_cert.specs.declared.step.Step.TheVariants.{Resolve}
-use Rattle.fzn_cert.specs.declared.step.Version.TheVariants.{One}
+use Rattle.fzn_cert.specs.declared.step.Version.TheVariants.{Two}
 use Rattle.fzn_cert.specs.Past.{Past}
 use Rattle.fzn_cert.specs.Accepted.{IsAccepted, AllAccepted, past_of}
 use Rattle.fzn_cert.specs.Spelling.{IsSpelled}
@@ -56,7 +56,7 @@ module _ (model : Model) (old mid : Solver) (first before : List Step) (w : IsWr
   unit-accepted : IsAccepted model (past_of model before) (Resolve unit.clause numbers)
   unit-accepted = derived-accepted model mid.learn (stock_of mid) before mid.trail mid.search.nodes w.state.state unit.clause unit.sources derived.over derived.accepted numbers gives
 
-  pub unit-spelled : IsWellFormed model → IsSpelled One (Resolve unit.clause numbers)
+  pub unit-spelled : IsWellFormed model → IsSpelled Two (Resolve unit.clause numbers)
   unit-spelled good =
       let few = good.few_vars in
       let sizes : length mid.trail.declared ≡ length model.vars = ap length w.state.state.core.declared ∙ length-map model.vars (λ var. var.domain) in
@@ -88,7 +88,7 @@ module _ (model : Model) (old mid : Solver) (first before : List Step) (w : IsWr
       let stock = with_held unit.clause (mid.steps + 1) (stock_of mid) in
       let S : List Step → Type 0 = λ s. StateOf model mid.learn stock s mid.trail mid.search.nodes in
       let K : Stock → Type 0 = λ k. StateOf model mid.learn k now mid.trail mid.search.nodes in
-      let there : Solver = solver_of mid.trail held.clauses held.numbers held.inferences mid.search mid.scratch mid.learn held.notes mid.found (mid.steps + 1) in
+      let there : Solver = solver_of mid.trail held.clauses held.numbers held.inferences held.alive mid.search mid.scratch mid.learn held.notes mid.found (mid.steps + 1) in
       let there_is : held ≡ there = solver-is held mid.trail mid.search mid.scratch mid.learn mid.found (mid.steps + 1) holds.trail holds.search holds.scratch holds.learn holds.found holds.steps in
       let P : Solver → Type 0 = λ s. IsTended model old (record s { notes = notes }) now in
       let lengths : length now ≡ length before + 1 = ap length now_is ∙ length_push before (Resolve unit.clause numbers) in

@@ -18,7 +18,7 @@ use Rattle.fzn_engine.specs.Volume.{slack}
 use Rattle.fzn_engine.specs.Learned.{resolved}
 use Rattle.fzn_engine.specs.State.{Stock, known_in, with_step, IsJustified, CoreOf}
 use Rattle.fzn_engine.proofs.AcceptedLemmas.{past_of-push, AllAccepted-push, resolved-append, length-past_of}
-use Rattle.fzn_engine.proofs.NumberLemmas.{Grows, clause_held-grown, clause_held-newest, AreNumbered-grown, IsJustified-grown}
+use Rattle.fzn_engine.proofs.NumberLemmas.{Grows, clause_held-grown, clause_held-newest, AreGiven-push, AreNumbered-grown, IsJustified-grown}
 
 module _ (model : Model) (stock : Stock) (steps : List Step) (trail : Levels) (nodes : ℕ) (core : CoreOf model stock steps trail nodes) (place : ℕ) (stacked : place < length stock.stack) where
   abbrev pub it : Inferred
@@ -82,6 +82,7 @@ module _ (model : Model) (stock : Stock) (steps : List Step) (trail : Levels) (n
         numbered = AreNumbered-grown (past_of model steps) now (Some it.clause) stock.numbers stock.held grows core.numbered;
         justified = All-set J stock.stack place (with_number number it) (newest number e)
             (All-weaker (IsJustified model (past_of model steps)) J (λ i j. IsJustified-grown model (past_of model steps) now (Some it.clause) i grows j) stock.stack core.justified);
+        alive = AreGiven-push (past_of model steps) now stock.alive number it.clause grows core.alive (written-there number e);
         cuts_held = subst S (sym past_is) core.cuts_held;
         held_over = core.held_over;
         reasoned = subst R (sym (known-written number)) core.reasoned;

@@ -70,10 +70,10 @@ module _ (model : Model) (old : Solver) (before : List Step) (h : IsAfter model 
         let C : List Step → Type 0 = λ s. clause_held (past_of model s) number ≡ Some it.clause in
         subst C (sym now_is) (written-there model (stock_of old) before old.trail old.search.nodes h.state.core place stacked number (e ∙ ap (λ (n : ℕ). n + 1) h.steps_are))
 
-    pub infer-written : (number : ℕ) → number ≡ old.steps + 1 → (new : Solver) → new ≡ record old { inferences = set old.inferences place (with_number number (inference_at old.inferences place)); steps = number } → IsWritten model before old new now
+    pub infer-written : (number : ℕ) → number ≡ old.steps + 1 → (new : Solver) → new ≡ record old { inferences = set old.inferences place (with_number number (inference_at old.inferences place)); alive = old.alive ++ number ∷ []; steps = number } → IsWritten model before old new now
     infer-written number e new new_is =
         let P : Solver → Type 0 = λ s. IsWritten model before old s now in
-        let S : List Step → Type 0 = λ s. IsWritten model before old (record old { inferences = set old.inferences place (with_number number it); steps = number }) s in
+        let S : List Step → Type 0 = λ s. IsWritten model before old (record old { inferences = set old.inferences place (with_number number it); alive = old.alive ++ number ∷ []; steps = number }) s in
         let core = Core-written model (stock_of old) before old.trail old.search.nodes h.state.core place stacked number (e ∙ ap (λ (n : ℕ). n + 1) h.steps_are) in
         let R : List (List Lit) → Type 0 = λ cs. PlainOf old.trail.declared old.trail.sets (opens old.trail.declared old.trail.entries) cs old.search.nodes in
         let few_before = h.found_few in

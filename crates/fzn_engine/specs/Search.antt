@@ -32,7 +32,7 @@ use Rattle.fzn_engine.specs.declared.solver.Solver.{Solver}
 
 -- the clauses that a search has
 abbrev pub stock_of : Solver → Stock
-stock_of solver = record { held = held_by solver.clauses; numbers = solver.numbers; stack = solver.inferences }
+stock_of solver = record { held = held_by solver.clauses; numbers = solver.numbers; stack = solver.inferences; alive = solver.alive }
 
 -- a search after these steps
 pub record IsAfter (model : Model) (solver : Solver) (steps : List Step) : Type 0 where

@@ -10,7 +10,7 @@ use Rattle.fzn_cert.specs.declared.step.Step.{Step}
 use Rattle.fzn_cert.specs.declared.step.Step.TheVariants.{Infer}
 use Rattle.fzn_cert.specs.declared.step.Version.TheVariants.{One}
 use Rattle.fzn_cert.specs.Accepted.{IsConstraintNumber, IsTrivial, IsRuleMet, AllAccepted, past_of}
-use Rattle.fzn_cert.specs.Past.{Past, clause_held}
+use Rattle.fzn_cert.specs.Past.{Past, clause_held, IsHeld as IsGiven}
 use Rattle.fzn_cert.specs.Spelling.{IsSpelled}
 use Rattle.fzn_inferences.specs.declared.inferences.Inferred.{Inferred}
 use Rattle.fzn_inferences.specs.Inferences.{inference_at, with_number}
@@ -23,18 +23,24 @@ use Rattle.fzn_conflict.specs.Reasoned.{Known, known_from, IsReasoned, Open, ope
 use Rattle.fzn_engine.specs.Volume.{volume, slack}
 use Rattle.fzn_engine.specs.Learned.{resolved, FreshAfter, HasCertain, LevelsBacked, left_open}
 
--- the clauses that a search has: those that it holds, with the numbers of their steps, and its inferences
+-- the clauses that a search has: those that it holds, with the numbers of their steps, its inferences, and the numbers of the
+-- steps that may be deleted once nothing of it is theirs
 pub record Stock : Type 0 where
   pub held : Held
   pub numbers : List ℕ
   pub stack : List Inferred
+  pub alive : List ℕ
 
 abbrev pub known_in : Stock → Known
 known_in stock = known_from stock.held stock.stack
 
 -- one more held clause, which the step of this number gives
+abbrev pub with_clause : List Lit → ℕ → Stock → Stock
+with_clause clause number stock = record stock { held = stock.held ++ Some clause ∷ []; numbers = stock.numbers ++ number ∷ [] }
+
+-- so with a new step
 abbrev pub with_held : List Lit → ℕ → Stock → Stock
-with_held clause number stock = record stock { held = stock.held ++ Some clause ∷ []; numbers = stock.numbers ++ number ∷ [] }
+with_held clause number stock = record (with_clause clause number stock) { alive = stock.alive ++ number ∷ [] }
 
 -- one more inference
 abbrev pub with_inference : Inferred → Stock → Stock
@@ -42,7 +48,10 @@ with_inference it stock = record stock { stack = stock.stack ++ it ∷ [] }
 
 -- the inference at this place was written as the step of this number
 abbrev pub with_step : ℕ → ℕ → Stock → Stock
-with_step place number stock = record stock { stack = slice_set stock.stack place (with_number number (inference_at stock.stack place)) }
+with_step place number stock = record stock {
+  stack = slice_set stock.stack place (with_number number (inference_at stock.stack place));
+  alive = stock.alive ++ number ∷ [];
+}
 
 -- so many inferences left
 abbrev pub with_stack : ℕ → Stock → Stock
@@ -75,6 +84,8 @@ pub record CoreOf (model : Model) (stock : Stock) (steps : List Step) (trail : L
   -- each held clause has the number of its step, and each inference is justified
   pub numbered : AreNumbered (past_of model steps) stock.numbers stock.held
   pub justified : All (IsJustified model (past_of model steps)) stock.stack
+  -- each step that may be deleted gives a clause
+  pub alive : All (IsGiven (past_of model steps)) stock.alive
   -- the cut of each solution is held
   pub cuts_held : All (λ values. Contains stock.held (Some (cut_of model values))) (past_of model steps).solutions
   pub held_over : AllHeld (IsClauseOver (length trail.declared)) stock.held

@@ -10,6 +10,12 @@ const LEARNED: usize = 800;
 /// How many clauses of inferences are kept at first.
 const INFERRED: usize = 20_000;
 
+/// How many steps beyond those in use are written before some are deleted: as many as these, and so many more, but no more of the
+/// first than the last of the numbers.
+const IDLE: usize = 10_000;
+
+const MOST_IDLE: usize = 100_000;
+
 /// What serves the next conflicts.
 #[derive(Drop)]
 pub struct Notes {
@@ -20,10 +26,14 @@ pub struct Notes {
     pub learned: Pool,
     /// The clauses of inferences that are held.
     pub inferred: Pool,
+    /// With how many steps that are not deleted some are.
+    next_deletion: usize,
     /// The places of the inferences on which the last learned clause rests.
     cited: Vec<usize>,
     /// The number of the last step of which it was asked whether its clause is to be held.
     last_step: u64,
+    /// How many conflicts there were.
+    conflicts: u64,
 }
 
 impl Notes {
@@ -33,9 +43,22 @@ impl Notes {
             next_cut: 0,
             learned: Pool::new(alloc, LEARNED),
             inferred: Pool::new(alloc, INFERRED),
+            next_deletion: IDLE,
             cited: Vec::new(alloc),
             last_step: 0,
+            conflicts: 0,
         }
+    }
+
+    /// A clause was learned from a conflict, and its literals stand on so many levels.
+    pub fn learn(&mut self, id: ClauseId, levels: usize) -> Result<(), Memory> {
+        self.conflicts = self.conflicts.saturating_add(1);
+        self.learned.push(id, levels)
+    }
+
+    /// How many conflicts there were.
+    pub fn conflicts(&self) -> u64 {
+        self.conflicts
     }
 
     /// A clause rests on these sources.
@@ -66,6 +89,18 @@ impl Notes {
     /// It was asked of the steps up to this number.
     pub fn ask_up_to(&mut self, number: u64) {
         self.last_step = number;
+    }
+
+    /// Whether some of so many steps are to be deleted.
+    pub fn has_many_steps(&self, count: usize) -> bool {
+        count >= self.next_deletion
+    }
+
+    /// So many steps are in use.
+    pub fn expect_steps(&mut self, used: usize) {
+        self.next_deletion = used
+            .saturating_add(used.min(MOST_IDLE))
+            .saturating_add(IDLE);
     }
 
     /// Whether some clauses are to be forgotten.

@@ -177,7 +177,10 @@ fn watch_constraint(
             right,
             switch,
         } => {
-            let least = least_for(comparison_of(*relation), *switch);
+            let least = match relation {
+                Relation::Equal => Change::Inside,
+                _ => least_for(comparison_of(*relation), *switch),
+            };
             watch_terms(list, place, &[*left, *right], least)?;
             watch_switch(list, place, *switch)
         }

@@ -1,4 +1,4 @@
-use fzn_solver::{RunFault, run};
+use fzn_solver::{RunFault, Unwatched, run};
 use fzn_words::{Options, options_of};
 use std::alloc::Global;
 use std::io;
@@ -7,6 +7,7 @@ use std::test::Fail;
 
 mod answers;
 mod faults;
+mod progress;
 mod writes;
 
 const TWO_BOOLEANS: &str =
@@ -31,6 +32,13 @@ fn text_of(bytes: &[u8]) -> &str {
 /// The certificate of a run that meets no fault.
 fn certificate_of(alloc: Global, options: &Options, file: &str) -> Result<Vec<u8>, RunFault> {
     let mut cert: Vec<u8> = Vec::new(alloc);
-    run(alloc, file.as_bytes(), options, &mut io::sink(), &mut cert)?;
+    run(
+        alloc,
+        file.as_bytes(),
+        options,
+        &mut io::sink(),
+        &mut cert,
+        &mut Unwatched,
+    )?;
     Ok(cert)
 }

@@ -1,7 +1,7 @@
 // A file with each form of items, and a certificate, with each byte changed: solver and checker give an answer, or the same fault; the
 // checker prints what is true of the file, or nothing.
 use fzn_checker::{CheckFault, check};
-use fzn_solver::{RunFault, run};
+use fzn_solver::{RunFault, Unwatched, run};
 use fzn_words::{Options, options_of};
 use std::alloc::{AllocError, Global};
 use std::test::Fail;
@@ -37,7 +37,7 @@ fn reply_to(alloc: Global, options: &Options, file: &[u8]) -> Reply {
     let mut out: Vec<u8> = Vec::new(alloc);
     let mut cert: Vec<u8> = Vec::new(alloc);
     let mut checked: Vec<u8> = Vec::new(alloc);
-    let solved = run(alloc, file, options, &mut out, &mut cert);
+    let solved = run(alloc, file, options, &mut out, &mut cert, &mut Unwatched);
     let seen = check(alloc, file, cert.as_slice(), options.all, &mut checked);
     let is_same = out.as_slice() == checked.as_slice();
     let is_nothing = out.is_empty() && cert.is_empty();

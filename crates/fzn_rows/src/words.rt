@@ -12,6 +12,8 @@ m.fzn --cert=c -a --nodes 007                    | a None None 7 First m.fzn c
 --nodes=1000000000000 m.fzn                      | None None 1000000000000 First m.fzn
 -a -n 3 -f -r 7 --nodes 1000 --cert c.fzc m.fzn  | a f Some(3) Some(7) 1000 First m.fzn c.fzc
 --learn plain m.fzn -r0 -n1000000000             | Some(1000000000) Some(0) 10000000 Plain m.fzn
+--progress --nodes=1000 -r 7 -- m.fzn            | p None Some(7) 1000 First m.fzn
+m.fzn -f --progress -n 2 -a                      | a f p Some(2) None 10000000 First m.fzn
 -r 18446744073709551615 --learn=first m.fzn      | None Some(18446744073709551615) 10000000 First m.fzn
 -n 00000000000000000000000000000000000000012 m   | Some(12) None 10000000 First m
 --nodes 1x m.fzn                                 | fault 23 CommandLine, status 3
@@ -53,8 +55,9 @@ fn solve_line(alloc: Global, words: &[&str]) -> Result<String, AllocError> {
     let cert = options.cert.as_deref().unwrap_or("");
     let all = if options.all { "a " } else { "" };
     let free = if options.free { "f " } else { "" };
+    let progress = if options.progress { "p " } else { "" };
     format!(in alloc;
-        "{all}{free}{:?} {:?} {} {:?} {} {cert}",
+        "{all}{free}{progress}{:?} {:?} {} {:?} {} {cert}",
         options.limit, options.seed, options.nodes, options.learn, options.model
     )
 }

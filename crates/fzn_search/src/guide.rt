@@ -109,6 +109,7 @@ impl Guide {
 
     /// The entries from this place on will be dropped.
     pub fn undo(&mut self, trail: &Trail, from: usize) {
+        self.order.undo(from);
         for place in from..trail.len() {
             let lit = trail.entry(place).lit;
             let number = lit.var.0.saturating_sub(1);

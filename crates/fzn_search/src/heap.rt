@@ -1,4 +1,4 @@
-// Numbers by their activity.
+// Numbers by their activity, or by another measure.
 
 use crate::pool::Pool;
 use fzn_domain::Memory;
@@ -66,6 +66,26 @@ impl Heap {
         self.sink(0);
     }
 
+    /// Lets a number in with this activity.
+    pub fn set(&mut self, number: usize, activity: f64) {
+        if number >= self.activities.len() {
+            return;
+        }
+        self.activities[number] = activity;
+        self.put(number);
+        if let Some(place) = self.pool.place_of(number) {
+            self.settle(place);
+        }
+    }
+
+    /// Lets a number out.
+    pub fn remove(&mut self, number: usize) {
+        if let Some(place) = self.pool.place_of(number) {
+            self.pool.take(place);
+            self.settle(place);
+        }
+    }
+
     /// The present conflict names the number.
     pub fn bump(&mut self, number: usize) {
         if number >= self.activities.len() {
@@ -93,6 +113,12 @@ impl Heap {
         for activity in self.activities.iter_mut() {
             *activity *= SMALLER;
         }
+    }
+
+    /// The number at this place alone may stand too low or too high.
+    fn settle(&mut self, place: usize) {
+        self.rise(place);
+        self.sink(place);
     }
 
     fn rise(&mut self, place: usize) {

@@ -19,10 +19,10 @@ struct Seat {
 /// The variables of an annotation that stand in none before it.
 #[derive(Drop)]
 struct Group {
-    /// By place: the variable, counted from 0, and what breaks ties.
-    members: Vec<(usize, u64)>,
-    /// The places whose variables may have more than one value.
-    open: Pool,
+    /// By place: the variable, counted from 0.
+    members: Vec<usize>,
+    /// The places whose variables had more than one value when last looked at, by the choice. Not kept where the order decides.
+    open: Heap,
     var_choice: VarChoice,
     value_choice: ValueChoice,
 }
@@ -35,6 +35,10 @@ pub struct Order {
     groups: Vec<Group>,
     /// By variable.
     seats: Vec<Option<Seat>>,
+    /// How many entries of the trail were noted in `changed`.
+    noted: usize,
+    /// The variables whose values may have changed since their groups last looked at them.
+    changed: Pool,
 }
 
 impl Order {
@@ -69,6 +73,8 @@ impl Order {
             open,
             groups,
             seats,
+            noted: 0,
+            changed: all_in(alloc, vars)?,
         })
     }
 
@@ -91,12 +97,43 @@ impl Order {
         requires { vars ≡ length trail.now.declared }
     {
         let first = self.first_open(trail, vars)?;
+        self.look(trail, vars);
         match self.seats.get(first).copied().flatten() {
             Some(seat) => match self.groups.get_mut(seat.group) {
                 Some(group) => group.next(trail, vars, first),
                 None => None,
             },
             None => least_value(trail, vars, first),
+        }
+    }
+
+    /// Each group looks at its variables whose values may have changed.
+    fn look(&mut self, trail: &Trail, vars: usize)
+        requires { vars ≡ length trail.now.declared }
+    {
+        for place in self.noted..trail.len() {
+            let number = trail.entry(place).lit.var.0.saturating_sub(1);
+            let _ = self.changed.put(number);
+        }
+        self.noted = trail.len();
+        for _ in 0..self.changed.len() {
+            if let Some(number) = self.changed.at(0) {
+                self.changed.take(0);
+                self.look_at(trail, vars, number);
+            }
+        }
+    }
+
+    fn look_at(&mut self, trail: &Trail, vars: usize, number: usize)
+        requires { vars ≡ length trail.now.declared }
+    {
+        if let Some(seat) = self.seats.get(number).copied().flatten() {
+            if let Some(group) = self.groups.get_mut(seat.group) {
+                match group.var_choice {
+                    VarChoice::InputOrder => {}
+                    _ => group.look(trail, vars, number, seat.place),
+                }
+            }
         }
     }
 
@@ -108,12 +145,23 @@ impl Order {
     /// The variable of this number, counted from 0, may have more than one value again.
     pub fn set_free(&mut self, number: usize) {
         self.open.put(number);
-        if let Some(seat) = self.seats.get(number).copied().flatten() {
-            if let Some(group) = self.groups.get_mut(seat.group) {
-                let _ = group.open.put(seat.place);
-            }
-        }
+        let _ = self.changed.put(number);
     }
+
+    /// The entries from this place on will be dropped, and their variables are set free one by one.
+    pub fn undo(&mut self, from: usize) {
+        self.noted = self.noted.min(from);
+    }
+}
+
+/// The numbers from 0 up to this count, all of them in.
+fn all_in(alloc: Global, count: usize) -> Result<Pool, Memory> {
+    let mut pool = Pool::new(alloc);
+    for _ in 0..count {
+        let number = pool.grow()?;
+        let _ = pool.put(number);
+    }
+    Ok(pool)
 }
 
 /// The variables by their ranks, and those without one after this many, by their numbers.
@@ -133,7 +181,7 @@ impl Group {
     fn new(alloc: Global, annotation: &Annotation) -> Group {
         Group {
             members: Vec::new(alloc),
-            open: Pool::new(alloc),
+            open: Heap::new(alloc),
             var_choice: annotation.var_choice,
             value_choice: annotation.value_choice,
         }
@@ -141,10 +189,8 @@ impl Group {
 
     fn add(&mut self, number: usize, ties: &mut Ties) -> Result<usize, Memory> {
         let tie = ties.tie(self.members.len() as u64);
-        self.members.push((number, tie))?;
-        let place = self.open.grow()?;
-        let _ = self.open.put(place);
-        Ok(place)
+        self.members.push(number)?;
+        self.open.grow(tie)
     }
 
     /// The literal for the chosen variable, where this one is the first with more than one value.
@@ -153,61 +199,43 @@ impl Group {
     {
         let number = match self.var_choice {
             VarChoice::InputOrder => first,
-            _ => self.best(trail, vars)?,
+            _ => self.best()?,
         };
         let domain = open_domain(trail, vars, number)?;
         literal_for(domain, VarId(number.saturating_add(1)), self.value_choice)
     }
 
-    /// The variable that the choice prefers, after a look at each that may have more than one value.
-    fn best(&mut self, trail: &Trail, vars: usize) -> Option<usize>
+    /// The variable that the choice prefers, counted from 0.
+    fn best(&self) -> Option<usize> {
+        let place = self.open.top()?;
+        self.members.get(place).copied()
+    }
+
+    /// The values of the variable of this number, which stands at this place, may have changed.
+    fn look(&mut self, trail: &Trail, vars: usize, number: usize, place: usize)
         requires { vars ≡ length trail.now.declared }
     {
-        let mut best = None;
-        let mut at = 0usize;
-        for _ in 0..self.open.len() {
-            let place = self.open.at(at)?;
-            let (number, tie) = *self.members.get(place)?;
-            match open_domain(trail, vars, number) {
-                Some(domain) => {
-                    best = better(best, number, cost_of(domain, self.var_choice), tie);
-                    at = at.saturating_add(1);
-                }
-                None => self.open.take(at),
-            }
+        match open_domain(trail, vars, number) {
+            Some(domain) => self.open.set(place, preference(domain, self.var_choice)),
+            None => self.open.remove(place),
         }
-        best.map(|candidate: Candidate| candidate.number)
     }
 }
 
-/// A variable by its number, counted from 0, and how it compares with others. The one with the least cost is taken, and of several
-/// the one with the least tie.
-#[derive(Clone, Copy)]
-struct Candidate {
-    number: usize,
-    cost: i64,
-    tie: u64,
-}
-
-fn better(best: Option<Candidate>, number: usize, cost: i64, tie: u64) -> Option<Candidate> {
-    match best {
-        Some(other) if other.cost < cost || (other.cost == cost && other.tie <= tie) => best,
-        _ => Some(Candidate { number, cost, tie }),
-    }
-}
-
-fn cost_of(domain: &Domain, var_choice: VarChoice) -> i64 {
+/// How much the choice prefers a variable with these values. Each is a whole number that a float holds exactly.
+fn preference(domain: &Domain, var_choice: VarChoice) -> f64 {
     if domain.is_empty() {
-        return 0;
+        return 0.0;
     }
     let width = domain.len().min(WIDEST) as i64;
-    match var_choice {
+    let whole = match var_choice {
         VarChoice::InputOrder => 0,
-        VarChoice::FirstFail => width,
-        VarChoice::AntiFirstFail => -width,
-        VarChoice::Smallest => domain.min(),
-        VarChoice::Largest => -domain.max(),
-    }
+        VarChoice::FirstFail => -width,
+        VarChoice::AntiFirstFail => width,
+        VarChoice::Smallest => -domain.min(),
+        VarChoice::Largest => domain.max(),
+    };
+    whole as f64
 }
 
 /// No domain has more values.

@@ -10,7 +10,7 @@ use Rattle.fzn_meaning.specs.declared.model.Model.{Model}
 use Rattle.fzn_meaning.specs.Solutions.{declared_sets, IsExhausted}
 use Rattle.fzn_meaning.specs.WellFormed.{IsWellFormed}
 use Rattle.fzn_cert.specs.declared.step.Step.{Step}
-use Rattle.fzn_cert.specs.declared.step.Version.TheVariants.{One}
+use Rattle.fzn_cert.specs.declared.step.Version.TheVariants.{Two}
 use Rattle.fzn_cert.specs.Accepted.{AllAccepted, past_of}
 use Rattle.fzn_cert.specs.Spelling.{header_lines, end_line}
 use Rattle.fzn_cert.specs.Verdict.{Verdict, accepted, header_of, lines_of, AllHaveLines}
@@ -35,17 +35,17 @@ use Rattle.fzn_words.specs.declared.solve.Options.{Options}
 
 -- ---- the verdict on the certificate
 
-pub certificate-verdict : (model : Model) (steps : List Step) (closed : Bool) → IsWellFormed model → AllAccepted model steps → AllHaveLines One 0 steps → (closed ≡ true → (past_of model steps).refuted ≡ true)
+pub certificate-verdict : (model : Model) (steps : List Step) (closed : Bool) → IsWellFormed model → AllAccepted model steps → AllHaveLines Two 0 steps → (closed ≡ true → (past_of model steps).refuted ≡ true)
     → Verdict model (certificate model steps closed) (accepted (found_by model steps) closed)
 certificate-verdict model steps closed formed all_accepted have_lines refuted =
     let few_vars = formed.few_vars in
     let few_constraints = formed.few_constraints in
     inr (
-      One,
+      Two,
       (omega arith, omega arith),
       (
         Some (lines_of steps ++ end_line closed),
-        append_assoc (header_lines (header_of model One)) (lines_of steps) (end_line closed),
+        append_assoc (header_lines (header_of model Two)) (lines_of steps) (end_line closed),
         (steps, have_lines, all_accepted, (Some (end_line closed), refl, ((Some [], sym (append-nil (end_line closed)), refl), refuted, refl))),
       ),
     )

@@ -11,7 +11,7 @@ use Rattle.fzn_output.proofs.CallerLemmas.{Appends-then, front-left, front-then}
 use Rattle.fzn_meaning.specs.declared.model.Model.{Model}
 use Rattle.fzn_cert.specs.declared.step.Step.{Step}
 use Rattle.fzn_cert.specs.declared.step.Step.TheVariants.{Infer, Resolve, Solution, Delete}
-use Rattle.fzn_cert.specs.declared.step.Version.TheVariants.{One}
+use Rattle.fzn_cert.specs.declared.step.Version.TheVariants.{Two}
 use Rattle.fzn_cert.specs.Past.{Past, start}
 use Rattle.fzn_cert.specs.Accepted.{IsAccepted, AllAcceptedAfter, after, past_of}
 use Rattle.fzn_cert.specs.Spelling.{step_line, header_lines, IsSpelled, HasRoom, HasLine}
@@ -25,22 +25,22 @@ lines_of-push : (steps : List Step) (step : Step) → lines_of (steps ++ step �
 lines_of-push [] step = append-nil (step_line step)
 lines_of-push (first ∷ steps) step = ap (λ (t : List ℕ). step_line first ++ t) (lines_of-push steps step) ∙ sym (append_assoc (step_line first) (lines_of steps) (step_line step))
 
-have-push : (count : ℕ) (steps : List Step) (step : Step) → AllHaveLines One count steps → HasLine One (count + length steps) step → AllHaveLines One count (steps ++ step ∷ [])
+have-push : (count : ℕ) (steps : List Step) (step : Step) → AllHaveLines Two count steps → HasLine Two (count + length steps) step → AllHaveLines Two count (steps ++ step ∷ [])
 have-push count [] step have line =
-    let H : ℕ → Type 0 = λ n. HasLine One n step in
+    let H : ℕ → Type 0 = λ n. HasLine Two n step in
     let same : count + 0 ≡ count = omega arith in
     (subst H same line, tt)
 have-push count (first ∷ steps) step have line =
-    let H : ℕ → Type 0 = λ n. HasLine One n step in
+    let H : ℕ → Type 0 = λ n. HasLine Two n step in
     let same : count + length (first ∷ steps) ≡ count + 1 + length steps = omega arith in
     (have.0, have-push (count + 1) steps step have.1 (subst H same line))
 
 begun-push : (model : Model) (steps : List Step) (step : Step) → begun_certificate model (steps ++ step ∷ []) ≡ begun_certificate model steps ++ step_line step
 begun-push model steps step =
-    ap (λ (t : List ℕ). header_lines (header_of model One) ++ t) (lines_of-push steps step)
-    ∙ sym (append_assoc (header_lines (header_of model One)) (lines_of steps) (step_line step))
+    ap (λ (t : List ℕ). header_lines (header_of model Two) ++ t) (lines_of-push steps step)
+    ∙ sym (append_assoc (header_lines (header_of model Two)) (lines_of steps) (step_line step))
 
-pub cert-push : (model : Model) (steps : List Step) (step : Step) (first old new : Option (List ℕ)) (written : ℕ) → IsCertInStep model steps first old written → IsSpelled One step → HasRoom written step → Appends old new (step_line step) → IsCertInStep model (steps ++ step ∷ []) first new (written + 1)
+pub cert-push : (model : Model) (steps : List Step) (step : Step) (first old new : Option (List ℕ)) (written : ℕ) → IsCertInStep model steps first old written → IsSpelled Two step → HasRoom written step → Appends old new (step_line step) → IsCertInStep model (steps ++ step ∷ []) first new (written + 1)
 cert-push model steps step first old new written in_step spelled room line =
     let H : ℕ → Type 0 = λ n. HasRoom n step in
     let count : written ≡ 0 + length steps = omega (arith, in_step.counted) in record {

@@ -12,7 +12,7 @@ use Rattle.fzn_meaning.specs.Solutions.{IsAssignment}
 use Rattle.fzn_engine.specs.declared.fault.Fault.{Fault}
 use Rattle.fzn_cert.specs.declared.step.Step.{Step}
 use Rattle.fzn_cert.specs.declared.step.Step.TheVariants.{Solution}
-use Rattle.fzn_cert.specs.declared.step.Version.TheVariants.{One}
+use Rattle.fzn_cert.specs.declared.step.Version.TheVariants.{Two}
 use Rattle.fzn_cert.specs.declared.writer.Stage.TheVariants.{Open, Shut}
 use Rattle.fzn_cert.specs.declared.writer.StepWriter.{StepWriter}
 use Rattle.fzn_cert.specs.Past.{start}
@@ -47,14 +47,14 @@ Keeps-same (Some xs) = refl
 module _ {W C : Type 0} (outs : W → Option (List ℕ)) (certs : C → Option (List ℕ)) (model : Model) where
   -- the first two lines
   pub kept-begun : (old new : StepWriter C) (out : Printer W) (alone : Bool) (first : List (W × C)) (cert_first : C) (out_first : W) → first ≡ (out_first, cert_first) ∷ [] → cert_contents certs old ≡ certs cert_first → out_contents outs out ≡ outs out_first
-      → has_printed out ≡ false → version_of new ≡ One → step_count new ≡ 0
-      → Appends (cert_contents certs old) (cert_contents certs new) (header_text One (length model.vars) (length model.constraints)) → IsKeptBy outs certs model new out alone None [] first
+      → has_printed out ≡ false → version_of new ≡ Two → step_count new ≡ 0
+      → Appends (cert_contents certs old) (cert_contents certs new) (header_text Two (length model.vars) (length model.constraints)) → IsKeptBy outs certs model new out alone None [] first
   kept-begun old new out alone first cert_first out_first begun cert_is out_is none_shown version none header =
-      let H : Option (List ℕ) → Type 0 = λ o. Appends o (cert_contents certs new) (header_text One (length model.vars) (length model.constraints)) in
+      let H : Option (List ℕ) → Type 0 = λ o. Appends o (cert_contents certs new) (header_text Two (length model.vars) (length model.constraints)) in
       let F : Option (List ℕ) → Type 0 = λ o. AppendsFront o (out_contents outs out) (shown_all model (early alone [])) in
       let O : Option (List ℕ) → Type 0 = λ o. IsOutInStep model alone [] o (out_contents outs out) (has_printed out) None in
       let in_step : IsCertInStep model [] (certs cert_first) (cert_contents certs new) (step_count new) =
-      record { lines = rw (append-nil (header_lines (header_of model One))) (subst H cert_is header); have_lines = tt; counted = none } in
+      record { lines = rw (append-nil (header_lines (header_of model Two))) (subst H cert_is header); have_lines = tt; counted = none } in
       record {
         cert_first = cert_first;
         out_first = out_first;
@@ -90,7 +90,7 @@ module _ {W C : Type 0} (outs : W → Option (List ℕ)) (certs : C → Option (
   }
 
   -- the line of a step that is no solution
-  pub kept-line : (old new : StepWriter C) (out : Printer W) (alone : Bool) (last : Option (List ℤ)) (steps : List Step) (first : List (W × C)) (step : Step) → IsKeptBy outs certs model old out alone last steps first → ((values : List ℤ) → step ≢ Solution values) → IsSpelled One step
+  pub kept-line : (old new : StepWriter C) (out : Printer W) (alone : Bool) (last : Option (List ℤ)) (steps : List Step) (first : List (W × C)) (step : Step) → IsKeptBy outs certs model old out alone last steps first → ((values : List ℤ) → step ≢ Solution values) → IsSpelled Two step
       → version_of new ≡ version_of old → stage_of old ≡ Open → step_count new ≡ step_count old + 1 → HasRoom (step_count old) step → Appends (cert_contents certs old) (cert_contents certs new) (step_line step)
       → IsKeptBy outs certs model new out alone last (steps ++ step ∷ []) first
   kept-line old new out alone last steps first step kept other spelled version was_open counted room line =
@@ -111,7 +111,7 @@ module _ {W C : Type 0} (outs : W → Option (List ℕ)) (certs : C → Option (
       }
 
   -- The line of a solution, flushed. The output follows behind it: `front` and `goes` say what is known of it then.
-  pub kept-solution : (old new : StepWriter C) (out after : Printer W) (alone : Bool) (last waiting : Option (List ℤ)) (steps : List Step) (first : List (W × C)) (values : List ℤ) → IsKeptBy outs certs model old out alone last steps first → IsSpelled One (Solution values)
+  pub kept-solution : (old new : StepWriter C) (out after : Printer W) (alone : Bool) (last waiting : Option (List ℤ)) (steps : List Step) (first : List (W × C)) (values : List ℤ) → IsKeptBy outs certs model old out alone last steps first → IsSpelled Two (Solution values)
       → version_of new ≡ version_of old → stage_of old ≡ Open → (stage_of new ≡ Open → step_count new ≡ step_count old + 1) → HasRoom (step_count old) (Solution values) → Appends (cert_contents certs old) (cert_contents certs new) (step_line (Solution values))
       → IfSome waiting (IsAssignment model)
       → ((o : Option (List ℕ)) → AppendsFront o (out_contents outs out) (shown_all model (early alone (found_by model steps))) → (is_open out ≡ true → Appends o (out_contents outs out) (shown_all model (early alone (found_by model steps)))) → AppendsFront o (out_contents outs after) (shown_all model (early alone (found_by model steps ++ values ∷ []))))
@@ -154,7 +154,7 @@ module _ {W C : Type 0} (outs : W → Option (List ℕ)) (certs : C → Option (
       refused.same_rest.out refused.same_rest.alone (ap (λ (l : MutBor (Option (List ℤ))). l.now) refused.same_rest.last) (ap taken_by refused.taken) (ap (λ (l : Log W C). l.items) refused.same_rest.first)
       (kept-refused old.cert new.cert old.out old.alone old.last.now (taken old) old.first.items (step_line step) kept refused.same_version refused.shut refused.front)
 
-  pub line-kept : (step : Step) (old new : Writers W C) → ((values : List ℤ) → step ≢ Solution values) → IsSpelled One step → IsKept outs certs model old → IsLineTaken certs step old new → IsKept outs certs model new
+  pub line-kept : (step : Step) (old new : Writers W C) → ((values : List ℤ) → step ≢ Solution values) → IsSpelled Two step → IsKept outs certs model old → IsLineTaken certs step old new → IsKept outs certs model new
   line-kept step old new other spelled kept line =
       moved new.cert old.out new.out old.alone new.alone old.last.now new.last.now (taken old ++ step ∷ []) (taken new) old.first.items new.first.items
       line.same_rest.out line.same_rest.alone (ap (λ (l : MutBor (Option (List ℤ))). l.now) line.same_rest.last) line.taken (ap (λ (l : Log W C). l.items) line.same_rest.first)
@@ -171,7 +171,7 @@ module _ {W C : Type 0} (outs : W → Option (List ℕ)) (certs : C → Option (
   assignment-of steps values accepted = (last-accepted model start steps (Solution values) accepted).0.0
 
   -- a solution that waits for the end, its line flushed
-  pub held-kept : (values : List ℤ) (old mid new : Writers W C) → old.alone ≡ true → IsAssignment model values → IsSpelled One (Solution values) → IsKept outs certs model old → IsLineTaken certs (Solution values) old mid
+  pub held-kept : (values : List ℤ) (old mid new : Writers W C) → old.alone ≡ true → IsAssignment model values → IsSpelled Two (Solution values) → IsKept outs certs model old → IsLineTaken certs (Solution values) old mid
       → Keeps (cert_contents certs mid.cert) (cert_contents certs new.cert) → (stage_of new.cert ≡ Open → step_count new.cert ≡ step_count mid.cert) → version_of new.cert ≡ version_of mid.cert
       → new.out ≡ mid.out → new.alone ≡ mid.alone → new.last.now ≡ Some values → new.first ≡ mid.first → new.taken ≡ mid.taken → IsKept outs certs model new
   held-kept values old mid new alone assignment spelled kept line nothing counted version out_is alone_is last_is first_is taken_is =
@@ -183,7 +183,7 @@ module _ {W C : Type 0} (outs : W → Option (List ℕ)) (certs : C → Option (
       (λ o front _. front) (λ o _ opened step. out-held model (found_by model (taken old)) values o (out_contents outs old.out) (has_printed old.out) old.last.now (step opened)))
 
   -- a solution that is printed, its line flushed
-  pub printed-kept : (values : List ℤ) (old mid new : Writers W C) → old.alone ≡ false → IsSpelled One (Solution values) → IsKept outs certs model old → IsLineTaken certs (Solution values) old mid
+  pub printed-kept : (values : List ℤ) (old mid new : Writers W C) → old.alone ≡ false → IsSpelled Two (Solution values) → IsKept outs certs model old → IsLineTaken certs (Solution values) old mid
       → Keeps (cert_contents certs mid.cert) (cert_contents certs new.cert) → (stage_of new.cert ≡ Open → step_count new.cert ≡ step_count mid.cert) → version_of new.cert ≡ version_of mid.cert
       → IsPrinted outs model values (stage_of new.cert ≡ Open) mid.out new.out → new.alone ≡ mid.alone → new.last ≡ mid.last → new.first ≡ mid.first → new.taken ≡ mid.taken → IsKept outs certs model new
   printed-kept values old mid new alone spelled kept line nothing counted version printed alone_is last_is first_is taken_is =
@@ -215,20 +215,20 @@ module _ {W C : Type 0} (outs : W → Option (List ℕ)) (certs : C → Option (
       })
 
   -- the first two lines stand
-  pub begun-kept : (cert : StepWriter C) (old : Writers W C) → IsFresh outs certs old → version_of cert ≡ One → step_count cert ≡ 0
-      → Appends (cert_contents certs old.cert) (cert_contents certs cert) (header_text One (length model.vars) (length model.constraints)) → IsKept outs certs model (record old { cert = cert })
+  pub begun-kept : (cert : StepWriter C) (old : Writers W C) → IsFresh outs certs old → version_of cert ≡ Two → step_count cert ≡ 0
+      → Appends (cert_contents certs old.cert) (cert_contents certs cert) (header_text Two (length model.vars) (length model.constraints)) → IsKept outs certs model (record old { cert = cert })
   begun-kept cert old fresh version none header =
       moved cert old.out old.out old.alone old.alone None old.last.now [] (taken old) old.first.items old.first.items
       refl refl fresh.none_waits (ap (λ (items : List (Step × Unit)). map (λ pair. pair.0) items) fresh.none_taken) refl
       (kept-begun old.cert cert old.out old.alone old.first.items fresh.cert_first fresh.out_first fresh.begun fresh.same_cert fresh.same_out fresh.none_shown version none header)
 
   -- a solution that waits for the end, whether or not its line was flushed
-  pub flushed-held : (step : Step) (values : List ℤ) (old mid waiting new : Writers W C) → step ≡ Solution values → old.alone ≡ true → AllAccepted model (taken old ++ step ∷ []) → IsSpelled One step → IsKept outs certs model old → IsLineTaken certs step old mid
+  pub flushed-held : (step : Step) (values : List ℤ) (old mid waiting new : Writers W C) → step ≡ Solution values → old.alone ≡ true → AllAccepted model (taken old ++ step ∷ []) → IsSpelled Two step → IsKept outs certs model old → IsLineTaken certs step old mid
       → (waiting ≡ record mid { last = waiting.last }) × (waiting.last.now ≡ Some values) → Keeps (cert_contents certs waiting.cert) (cert_contents certs new.cert) → (stage_of new.cert ≡ Open → step_count new.cert ≡ step_count waiting.cert)
       → (cert_name new.cert ≡ cert_name waiting.cert) × (version_of new.cert ≡ version_of waiting.cert) → IsRestSame waiting new × (new.taken ≡ waiting.taken) → IsKept outs certs model new
   flushed-held step values old mid waiting new is alone accepted spelled kept line waits nothing counted same rest =
       let A : Step → Type 0 = λ s. AllAccepted model (taken old ++ s ∷ []) in
-      let S : Step → Type 0 = λ s. IsSpelled One s in
+      let S : Step → Type 0 = λ s. IsSpelled Two s in
       let L : Step → Type 0 = λ s. IsLineTaken certs s old mid in
       let cert : waiting.cert ≡ mid.cert = ap (λ (w : Writers W C). w.cert) waits.0 in
       let K : StepWriter C → Type 0 = λ w. Keeps (cert_contents certs w) (cert_contents certs new.cert) in
@@ -238,22 +238,22 @@ module _ {W C : Type 0} (outs : W → Option (List ℕ)) (certs : C → Option (
       (rest.0.first ∙ ap (λ (w : Writers W C). w.first) waits.0) (rest.1 ∙ ap (λ (w : Writers W C). w.taken) waits.0)
 
   -- a solution whose line could not be flushed
-  pub unflushed-kept : (step : Step) (values : List ℤ) (old mid new : Writers W C) → step ≡ Solution values → old.alone ≡ false → IsSpelled One step → IsKept outs certs model old → IsLineTaken certs step old mid
+  pub unflushed-kept : (step : Step) (values : List ℤ) (old mid new : Writers W C) → step ≡ Solution values → old.alone ≡ false → IsSpelled Two step → IsKept outs certs model old → IsLineTaken certs step old mid
       → Keeps (cert_contents certs mid.cert) (cert_contents certs new.cert) → stage_of new.cert ≡ Shut
       → (cert_name new.cert ≡ cert_name mid.cert) × (version_of new.cert ≡ version_of mid.cert) → IsRestSame mid new × (new.taken ≡ mid.taken) → IsKept outs certs model new
   unflushed-kept step values old mid new is alone spelled kept line nothing shut same rest =
-      let S : Step → Type 0 = λ s. IsSpelled One s in
+      let S : Step → Type 0 = λ s. IsSpelled Two s in
       let L : Step → Type 0 = λ s. IsLineTaken certs s old mid in
       printed-kept values old mid new alone (subst S is spelled) kept (subst L is line) nothing (λ stays. absurd (shut_open (sym shut ∙ stays))) same.1
       (IsPrinted-none values (stage_of new.cert ≡ Open) mid.out new.out rest.0.out (λ stays. shut_open (sym shut ∙ stays))) rest.0.alone rest.0.last rest.0.first rest.1
 
   -- a solution that was printed, or a beginning of it
-  pub shown-kept : (step : Step) (values : List ℤ) (old mid flushed new : Writers W C) → step ≡ Solution values → old.alone ≡ false → IsSpelled One step → IsKept outs certs model old → IsLineTaken certs step old mid
+  pub shown-kept : (step : Step) (values : List ℤ) (old mid flushed new : Writers W C) → step ≡ Solution values → old.alone ≡ false → IsSpelled Two step → IsKept outs certs model old → IsLineTaken certs step old mid
       → Keeps (cert_contents certs mid.cert) (cert_contents certs flushed.cert) → step_count flushed.cert ≡ step_count mid.cert
       → (cert_name flushed.cert ≡ cert_name mid.cert) × (version_of flushed.cert ≡ version_of mid.cert) → IsRestSame mid flushed × (flushed.taken ≡ mid.taken)
       → (new.cert ≡ flushed.cert) × IsAllSame flushed new → IsPrinted outs model values ⊤ flushed.out new.out → IsKept outs certs model new
   shown-kept step values old mid flushed new is alone spelled kept line nothing counted same rest still printed =
-      let S : Step → Type 0 = λ s. IsSpelled One s in
+      let S : Step → Type 0 = λ s. IsSpelled Two s in
       let L : Step → Type 0 = λ s. IsLineTaken certs s old mid in
       let K : StepWriter C → Type 0 = λ w. Keeps (cert_contents certs mid.cert) (cert_contents certs w) in
       let P : Printer W → Type 0 = λ p. IsPrinted outs model values (stage_of new.cert ≡ Open) p new.out in
@@ -265,7 +265,7 @@ module _ {W C : Type 0} (outs : W → Option (List ℕ)) (certs : C → Option (
   same_origin old new rest name = rw (rest.first, rest.alone, rest.out, name) refl
 
   -- the line of a step that is no solution, taken or not
-  pub line-step : (step : Step) (old new : Writers W C) (result : Result Unit Fault) → ((values : List ℤ) → step ≢ Solution values) → IsSpelled One step → IsKept outs certs model old
+  pub line-step : (step : Step) (old new : Writers W C) (result : Result Unit Fault) → ((values : List ℤ) → step ≢ Solution values) → IsSpelled Two step → IsKept outs certs model old
       → OnOk result (IsLineTaken certs step old new) → OnErr result (IsLineRefused certs step old new)
       → IsLogged step old new × OnOk result (taken new ≡ taken old ++ step ∷ []) × OnOk result (length (taken new) < 10 ^ 18) × IsKept outs certs model new × (origin new ≡ origin old)
   line-step step old new (Ok v) other spelled kept line refused = (inr line.taken, line.taken, line-few step old new kept line, line-kept step old new other spelled kept line, same_origin old new line.same_rest line.same_cert)

@@ -5,7 +5,7 @@ use Rattle.fzn_output.specs.Output.{AppendsFront}
 use Rattle.fzn_meaning.specs.declared.model.Model.{Model}
 use Rattle.fzn_meaning.specs.Solutions.{IsProper, IsExhausted}
 use Rattle.fzn_cert.specs.declared.step.Step.{Step}
-use Rattle.fzn_cert.specs.declared.step.Version.TheVariants.{One}
+use Rattle.fzn_cert.specs.declared.step.Version.TheVariants.{Two}
 use Rattle.fzn_cert.specs.Spelling.{header_lines}
 use Rattle.fzn_cert.specs.Verdict.{Verdict, accepted, header_of}
 use Rattle.fzn_printer.specs.Answer.{answer_text}
@@ -16,7 +16,7 @@ use Rattle.fzn_solver.specs.Standing.{found_by, is_alone, early, begun_certifica
 -- the lines of the steps stand whole, and perhaps a beginning of another text; or no step does, and a beginning of the first two lines
 abbrev pub HasLines : Model → List Step → Option (List ℕ) → Option (List ℕ) → Type 0
 HasLines model steps cert_old cert_new =
-    ((steps ≡ []) × AppendsFront cert_old cert_new (header_lines (header_of model One)))
+    ((steps ≡ []) × AppendsFront cert_old cert_new (header_lines (header_of model Two)))
     ⊎ ((more : List ℕ) × Appends cert_old cert_new (begun_certificate model steps ++ more))
 
 -- The run stopped on the way: its steps show a proper list, and a beginning of the text of these solutions stands on the output, nothing

@@ -8,7 +8,7 @@ use Rattle.fzn_meaning.specs.declared.model.Goal.{Goal}
 use Rattle.fzn_meaning.specs.declared.model.Goal.TheVariants.{Satisfy, Minimize, Maximize}
 use Rattle.fzn_meaning.specs.declared.model.Model.{Model}
 use Rattle.fzn_cert.specs.declared.step.Step.{Step}
-use Rattle.fzn_cert.specs.declared.step.Version.TheVariants.{One}
+use Rattle.fzn_cert.specs.declared.step.Version.TheVariants.{Two}
 use Rattle.fzn_cert.specs.Accepted.{past_of}
 use Rattle.fzn_cert.specs.Spelling.{header_lines, end_line}
 use Rattle.fzn_cert.specs.Verdict.{header_of, lines_of, AllHaveLines}
@@ -36,7 +36,7 @@ late false found = []
 
 -- the first two lines, and those of the steps
 abbrev pub begun_certificate : Model → List Step → List ℕ
-begun_certificate model steps = header_lines (header_of model One) ++ lines_of steps
+begun_certificate model steps = header_lines (header_of model Two) ++ lines_of steps
 
 -- the whole certificate
 abbrev pub certificate : Model → List Step → Bool → List ℕ
@@ -56,7 +56,7 @@ pub record IsStanding (model : Model) (alone : Bool) (steps : List Step) (cert_f
 -- The lines of the steps stand on the certificate and nothing else.
 pub record IsCertInStep (model : Model) (steps : List Step) (first now : Option (List ℕ)) (written : ℕ) : Type 0 where
   pub lines : Appends first now (begun_certificate model steps)
-  pub have_lines : AllHaveLines One 0 steps
+  pub have_lines : AllHaveLines Two 0 steps
   pub counted : written ≡ length steps
 
 -- The text of the solutions stands on the output and nothing else, but for those that wait for the end.

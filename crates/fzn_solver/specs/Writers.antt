@@ -7,7 +7,7 @@ use Rattle.fzn_output.specs.Output.{AppendsFront}
 use Rattle.fzn_meaning.specs.declared.model.Model.{Model}
 use Rattle.fzn_meaning.specs.Solutions.{IsAssignment}
 use Rattle.fzn_cert.specs.declared.step.Step.{Step}
-use Rattle.fzn_cert.specs.declared.step.Version.TheVariants.{One}
+use Rattle.fzn_cert.specs.declared.step.Version.TheVariants.{Two}
 use Rattle.fzn_cert.specs.declared.writer.Stage.TheVariants.{Fresh, Open, Shut}
 use Rattle.fzn_cert.specs.declared.writer.StepWriter.{StepWriter}
 use Rattle.fzn_cert.specs.Verdict.{AllHaveLines}
@@ -48,7 +48,7 @@ pub record IsKeptBy {W C : Type 0} (outs : W → Option (List ℕ)) (certs : C �
   pub cert_first : C
   pub out_first : W
   pub begun : first ≡ (out_first, cert_first) ∷ []
-  pub version : version_of cert ≡ One
+  pub version : version_of cert ≡ Two
   pub standing : IsStanding model alone steps (certs cert_first) (cert_contents certs cert) (outs out_first) (out_contents outs out)
   pub assignment : IfSome last (IsAssignment model)
   pub cert_in_step : stage_of cert ≡ Open → IsCertInStep model steps (certs cert_first) (cert_contents certs cert) (step_count cert)
@@ -105,7 +105,7 @@ pub record IsAllSame {W C : Type 0} (old new : Writers W C) : Type 0 where
 
 -- the first two lines do not stand, perhaps a beginning of them
 pub record IsUnbegun {W C : Type 0} (certs : C → Option (List ℕ)) (model : Model) (old new : Writers W C) : Type 0 where
-  pub front : AppendsFront (cert_contents certs old.cert) (cert_contents certs new.cert) (header_text One (length model.vars) (length model.constraints))
+  pub front : AppendsFront (cert_contents certs old.cert) (cert_contents certs new.cert) (header_text Two (length model.vars) (length model.constraints))
   pub out : new.out ≡ old.out
 
 -- a text was not printed: a beginning of it stands, and nothing where the output was shut
@@ -126,7 +126,7 @@ pub record IsClosed {W C : Type 0} (outs : W → Option (List ℕ)) (certs : C �
   pub cert_first : C
   pub out_first : W
   pub begun : old.first.items ≡ (out_first, cert_first) ∷ []
-  pub have_lines : AllHaveLines One 0 (taken old)
+  pub have_lines : AllHaveLines Two 0 (taken old)
   pub cert : Appends (certs cert_first) (cert_contents certs new.cert) (certificate model (taken old) closed)
   pub out :
       Appends (outs out_first) (out_contents outs new.out)

@@ -13,10 +13,11 @@ ghost use Rattle.fzn_solver.specs.Run.{IsRun, IsRunFault};
 use crate::choice::{choice_for, for_search};
 use crate::fault::RunFault;
 use crate::learning::learn_for;
+use crate::progress::{Watch, solve_watched};
 use crate::report::{Report, ending_for};
 use crate::writers::{Writers, is_alone};
 use fzn_cert::StepWriter;
-use fzn_engine::{Limits, solve};
+use fzn_engine::Limits;
 use fzn_meaning::Model;
 use fzn_printer::Printer;
 use fzn_propagators::Propagators;
@@ -29,13 +30,14 @@ use std::io::{Read, Write};
 
 /// Solves a file: prints its answer on `out`, and writes a certificate of the answer on `cert`. The paths among the options are not
 /// looked at. The line of a solution stands on the certificate, flushed, before the solution is printed, and the whole certificate
-/// before the line that ends the answer.
-pub fn run<R: Read + Drop, W: Write, C: Write>(
+/// before the line that ends the answer. After decisions and conflicts `watch` is told how far the search has come.
+pub fn run<R: Read + Drop, W: Write, C: Write, P: Watch>(
     alloc: Global,
     input: R,
     options: &Options,
     out: &mut W,
     cert: &mut C,
+    watch: &mut P,
 ) -> Result<Report, RunFault>
     ensures ran { IfOk result (IsRun (R.remaining input) options.now (W.contents out.old) (W.contents out.new) (C.contents cert.old) (C.contents cert.new)) }
     ensures fault { IfErr result (IsRunFault (R.remaining input) options.now.all (W.contents out.old) (W.contents out.new) (C.contents cert.old) (C.contents cert.new)) }
@@ -53,11 +55,12 @@ pub fn run<R: Read + Drop, W: Write, C: Write>(
         options,
         out,
         cert,
+        watch,
     )
 }
 
 /// Searches a model for its answer, by its annotations.
-fn answer<W: Write, C: Write>(
+fn answer<W: Write, C: Write, P: Watch>(
     alloc: Global,
     model: &Model,
     annotations: &[Annotation],
@@ -65,6 +68,7 @@ fn answer<W: Write, C: Write>(
     options: &Options,
     out: &mut W,
     cert: &mut C,
+    watch: &mut P,
 ) -> Result<Report, RunFault>
     requires model { IsWellFormed model.now }
     requires propagators { StandFor propagators.old model.now }
@@ -88,17 +92,19 @@ fn answer<W: Write, C: Write>(
         propagators,
         options,
         &mut writers,
+        watch,
     )
 }
 
 /// Searches a model for its answer, on fresh writers.
-fn search<W: Write, C: Write>(
+fn search<W: Write, C: Write, P: Watch>(
     alloc: Global,
     model: &Model,
     annotations: &[Annotation],
     propagators: &mut Propagators,
     options: &Options,
     writers: &mut Writers<'_, '_, '_, W, C>,
+    watch: &mut P,
 ) -> Result<Report, RunFault>
     requires model { IsWellFormed model.now }
     requires propagators { StandFor propagators.old model.now }
@@ -115,7 +121,7 @@ fn search<W: Write, C: Write>(
         solutions: wanted(options.all, options.limit),
     };
     let learn = learn_for(options.learn);
-    let outcome = solve(
+    let outcome = solve_watched(
         alloc,
         model,
         limits,
@@ -124,6 +130,7 @@ fn search<W: Write, C: Write>(
         annotations,
         propagators,
         writers,
+        watch,
     )?;
     let ending = ending_for(outcome.ending, outcome.solutions);
     writers.close(model, ending)?;

@@ -1,17 +1,19 @@
 //! A run of the solver: from the bytes of a file to its answer, with a certificate.
 //!
-//! In: a reader of the file, the options, and a writer each for the answer and the certificate. Out: the answer and its certificate on
-//! the writers, and what a run tells. Proved against `specs/Run.antt`: the certificate's verdict is accepted, the answer is that of the
+//! In: a reader of the file, the options, a writer each for the answer and the certificate, and one that is told how far the search has
+//! come. Out: the answer and its certificate on the writers, and what a run tells. Proved against `specs/Run.antt`: the certificate's verdict is accepted, the answer is that of the
 //! verdict and true of the file, and it is left open only where a limit was really reached.
 #![tactic(auto)]
 
 pub use answer::run;
 pub use fault::RunFault;
+pub use progress::{Progress, Unwatched, Watch};
 pub use report::Report;
 
 mod answer;
 mod choice;
 mod fault;
 mod learning;
+mod progress;
 mod report;
 mod writers;

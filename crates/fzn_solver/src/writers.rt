@@ -9,7 +9,7 @@ ghost use Rattle.fzn_cert.specs.declared.step.Step.TheVariants.{Solution};
 ghost use Rattle.fzn_cert.specs.declared.writer.Stage.TheVariants.{Open, Shut};
 ghost use Rattle.std.specs.Io.KnownBytes.{Keeps};
 ghost use Rattle.std.specs.Borrow.{GName};
-ghost use Rattle.fzn_cert.specs.declared.step.Version.TheVariants.{One};
+ghost use Rattle.fzn_cert.specs.declared.step.Version.TheVariants.{Two};
 ghost use Rattle.fzn_printer.specs.Printer.{contents_of as out_contents, out_name, is_open};
 ghost use Rattle.std.specs.Option.{option_to_list};
 ghost use Rattle.fzn_engine.specs.declared.fault.Fault.TheVariants.{WriteOutput};
@@ -52,7 +52,7 @@ impl<'o, 'c, 'l, W: Write, C: Write> Writers<'o, 'c, 'l, W, C> {
     {
         let variables = model.vars.len() as u64;
         let constraints = model.constraints.len() as u64;
-        match self.cert.begin(alloc, Version::One, variables, constraints) {
+        match self.cert.begin(alloc, Version::Two, variables, constraints) {
             Ok(()) => Ok(()),
             Err(fault) => Err(fault_of(fault)),
         }
@@ -60,8 +60,8 @@ impl<'o, 'c, 'l, W: Write, C: Write> Writers<'o, 'c, 'l, W, C> {
 
     /// Writes the line of a step.
     fn line(&mut self, alloc: Global, step: &Step) -> Result<(), Fault>
-        requires spelled { IsSpelled One step.now }
-        requires version { version_of self.old.cert ≡ One }
+        requires spelled { IsSpelled Two step.now }
+        requires version { version_of self.old.cert ≡ Two }
         ensures ok { OnOk result (IsLineTaken C.contents step.now self.old self.new) }
         ensures err { OnErr result (IsLineRefused C.contents step.now self.old self.new) }
     {
@@ -84,7 +84,7 @@ impl<'o, 'c, 'l, W: Write, C: Write> Writers<'o, 'c, 'l, W, C> {
         step: &Step,
         values: &Items<i64>,
     ) -> Result<(), Fault>
-        requires spelled { IsSpelled One step.now }
+        requires spelled { IsSpelled Two step.now }
         requires accepted { AllAccepted model.now (taken self.old ++ step.now ∷ []) }
         requires kept { IsKept W.contents C.contents model.now self.old }
         requires is { (step.now ≡ Solution values.now) × (self.old.alone ≡ true) }
@@ -109,7 +109,7 @@ impl<'o, 'c, 'l, W: Write, C: Write> Writers<'o, 'c, 'l, W, C> {
         values: &Items<i64>,
     ) -> Result<(), Fault>
         requires model { IsWellFormed model.now }
-        requires spelled { IsSpelled One step.now }
+        requires spelled { IsSpelled Two step.now }
         requires accepted { AllAccepted model.now (taken self.old ++ step.now ∷ []) }
         requires kept { IsKept W.contents C.contents model.now self.old }
         requires is { (step.now ≡ Solution values.now) × (self.old.alone ≡ false) }

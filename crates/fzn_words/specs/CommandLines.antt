@@ -42,11 +42,11 @@ line_of name rules =
       subs = [];
     }
 
--- -a, -n K, -f, -r SEED, --nodes N, --learn CLAUSE, --cert FILE, MODEL, --help, --version
+-- -a, -n K, -f, -r SEED, --nodes N, --learn CLAUSE, --cert FILE, --progress, MODEL, --help, --version
 unfoldable pub solve_line : App
 solve_line =
     line_of (codes "fznsolve") (all_rule ∷ letter_option (codes "limit") 110 ∷ letter_flag (codes "free") 102 ∷ letter_option (codes "seed") 114
-    ∷ named_option (codes "nodes") ∷ named_option (codes "learn") ∷ named_option (codes "cert") ∷ path (codes "model") ∷ help_rule ∷ version_rule ∷ [])
+    ∷ named_option (codes "nodes") ∷ named_option (codes "learn") ∷ named_option (codes "cert") ∷ named_flag (codes "progress") ∷ path (codes "model") ∷ help_rule ∷ version_rule ∷ [])
 
 -- -a, --to2, and two paths, --help, --version
 unfoldable pub check_line : App

@@ -37,6 +37,7 @@ pub record AreSaid (rows : List Row) (options : Options) : Type 0 where
   pub seed : SaysNumber 0 (2 ^ 64 - 1) (first_of (codes "seed") rows) options.seed
   pub nodes : SaysNumberOr (10 ^ 7) 0 (10 ^ 12) (first_of (codes "nodes") rows) options.nodes
   pub learn : SaysLearning (first_of (codes "learn") rows) options.learn
+  pub progress : options.progress ≡ is_set (first_of (codes "progress") rows)
   pub model : first_of (codes "model") rows ≡ Some (string_bytes options.model)
   pub cert : first_of (codes "cert") rows ≡ option_map string_bytes options.cert
 

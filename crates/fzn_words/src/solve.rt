@@ -7,7 +7,9 @@ ghost use Rattle.fzn_words.specs.Said.{AreFit, AreSaid, SaysLearning};
 use crate::fault::{OptionsFault, fault_of};
 use crate::learning::{Learning, learning_of};
 use crate::parts;
-use crate::parts::{all, bare, help, letter_flag, letter_option, named_option, version, with};
+use crate::parts::{
+    all, bare, help, letter_flag, letter_option, named_flag, named_option, version, with,
+};
 use crate::said::{is_set, number, path, said};
 use clap::{ArgMatches, Command};
 use std::alloc::{AllocError, Global};
@@ -34,6 +36,9 @@ const LEARN: &str =
     "Learn the clause of the decisions (plain) or of the first unique implication point (first; also without)";
 
 const CERT: &str = "Write the certificate to FILE (without: nowhere)";
+
+const PROGRESS: &str =
+    "Tell on standard error, twice a second at most, how far the search has come (without: nothing)";
 
 const MODEL: &str = "The FlatZinc file";
 
@@ -63,6 +68,8 @@ pub struct Options {
     pub nodes: u64,
     /// Which clause is learned from a conflict.
     pub learn: Learning,
+    /// Whether standard error tells how far the search has come.
+    pub progress: bool,
     pub model: String,
     /// Where the certificate goes, if anywhere.
     pub cert: Option<String>,
@@ -91,6 +98,7 @@ fn command<'a>(alloc: Global) -> Result<Command<'a>, AllocError>
     let command = with(command, named_option(alloc, "nodes", "N", NODES))?;
     let command = with(command, named_option(alloc, "learn", "CLAUSE", LEARN))?;
     let command = with(command, named_option(alloc, "cert", "FILE", CERT))?;
+    let command = with(command, named_flag(alloc, "progress", PROGRESS))?;
     let command = with(command, parts::path(alloc, "model", "MODEL", MODEL))?;
     let command = with(command, help(alloc))?;
     let command = with(command, version(alloc))?;
@@ -109,6 +117,7 @@ fn options_in(alloc: Global, matches: &ArgMatches<'_>) -> Result<Options, Option
         seed: number(matches, "seed", 0, u64::MAX)?,
         nodes: number(matches, "nodes", 0, MAX_NODES)?.unwrap_or(DEFAULT_NODES),
         learn: learning(matches)?,
+        progress: is_set(matches, "progress"),
         cert: certificate(alloc, matches, model.as_str())?,
         model,
     })

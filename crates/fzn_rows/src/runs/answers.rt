@@ -1,5 +1,5 @@
 // What a run tells of itself.
-use fzn_solver::{Report, run};
+use fzn_solver::{Report, Unwatched, run};
 use fzn_words::options_of;
 use std::alloc::Global;
 use std::io;
@@ -31,6 +31,7 @@ fn report_of(alloc: Global, words: &str, file: &str) -> Result<Report, Fail> {
         &options,
         &mut io::sink(),
         &mut io::sink(),
+        &mut Unwatched,
     )?)
 }
 

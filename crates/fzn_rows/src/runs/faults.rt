@@ -1,6 +1,6 @@
 use super::{TWO_BOOLEANS, all_of, text_of};
 use fzn_lexer::{Fault, FaultKind, Place};
-use fzn_solver::{RunFault, run};
+use fzn_solver::{RunFault, Unwatched, run};
 use std::alloc::Global;
 use std::io;
 use std::io::Read;
@@ -10,7 +10,14 @@ use std::test::Fail;
 fn fault_of<R: Read + Drop>(alloc: Global, input: R) -> Result<String, Fail> {
     let mut out = Vec::from_slice(alloc, b"before")?;
     let mut cert = Vec::from_slice(alloc, b"first")?;
-    let Err(fault) = run(alloc, input, &all_of(alloc)?, &mut out, &mut cert) else {
+    let Err(fault) = run(
+        alloc,
+        input,
+        &all_of(alloc)?,
+        &mut out,
+        &mut cert,
+        &mut Unwatched,
+    ) else {
         return Err("the file is answered")?;
     };
     if text_of(&out) != "before" || text_of(&cert) != "first" {

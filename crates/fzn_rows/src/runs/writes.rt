@@ -1,5 +1,5 @@
 use super::{ANSWER, LEAST, SOLUTION, TWO_BOOLEANS, all_of, certificate_of, text_of};
-use fzn_solver::{Report, RunFault, run};
+use fzn_solver::{Report, RunFault, Unwatched, run};
 use fzn_words::{Options, options_of};
 use std::alloc::Global;
 use std::cell::RefCell;
@@ -52,7 +52,14 @@ fn solve<W: Write, C: Write>(
     out: &mut W,
     cert: &mut C,
 ) -> Result<Report, RunFault> {
-    run(alloc, TWO_BOOLEANS.as_bytes(), options, out, cert)
+    run(
+        alloc,
+        TWO_BOOLEANS.as_bytes(),
+        options,
+        out,
+        cert,
+        &mut Unwatched,
+    )
 }
 
 #[test]
@@ -187,7 +194,14 @@ fn certificate_before_answer(rt: HostRuntime) -> Result<(), Fail> {
             all: &all,
             name: "<cert>",
         };
-        run(alloc, file.as_bytes(), &options, &mut out, &mut cert)?;
+        run(
+            alloc,
+            file.as_bytes(),
+            &options,
+            &mut out,
+            &mut cert,
+            &mut Unwatched,
+        )?;
         let calls = all.into_inner();
         assert!(rt; text_of(&calls).contains(solution), "{}", text_of(&calls));
         assert!(rt; text_of(&calls).ends_with(end), "{}", text_of(&calls));

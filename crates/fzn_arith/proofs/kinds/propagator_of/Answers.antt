@@ -4,6 +4,7 @@ use Rattle.std.proofs.lemmas.Option.{IfSome_then}
 use Rattle.fzn_meaning.specs.declared.constraint.Constraint.{Constraint}
 use Rattle.fzn_meaning.specs.declared.model.Var.{Var}
 use Rattle.fzn_meaning.specs.Meaning.{IsWellFormed}
+use Rattle.fzn_meaning.specs.Solutions.{declared_sets}
 use Rattle.fzn_builtin_rules.specs.Form.{form_of}
 use Rattle.fzn_builtin_rules.proofs.CallerLemmas.{form_fits}
 use Rattle.fzn_arith.specs.Kinds.{IsReady}
@@ -37,5 +38,7 @@ returns-clause-fits c =
     let well = subst (λ (x : Constraint). IsWellFormed (length c.args.model.now.vars) x) same (c.requires.model.constraints (c.args.c - 1) c.index-as_slice-c.result below) in
     let form = some_form c.index-as_slice-c.result c.in_ok-form.field-0 c.in-Some.form c.in-Some.is c.in_ok-form.ensures.found in
     let fits = fits_of (length c.args.model.now.vars) c.index-as_slice-c.result c.in-Some.form form well in
-    subst (λ (n : ℕ). IsReady n c.in-Some.form c.in_ok-opposite.opposite) (sym (length-map c.args.model.now.vars (λ (var : Var). var.domain)))
-    (ready_of (length c.args.model.now.vars) c.in-Some.form c.in_ok-opposite.opposite fits c.in_ok-opposite.ensures)
+    let one_each = sym (length-map c.args.model.now.vars (λ (var : Var). var.domain)) in
+    c.kind_of.ensures.fits (declared_sets c.args.model.now.vars)
+    (subst (λ (n : ℕ). IsWellFormed n c.index-as_slice-c.result) one_each well)
+    (subst (λ (n : ℕ). IsReady n c.in-Some.form c.in_ok-opposite.opposite) one_each (ready_of (length c.args.model.now.vars) c.in-Some.form c.in_ok-opposite.opposite fits c.in_ok-opposite.ensures))

@@ -1,4 +1,4 @@
-use Rattle.std.proofs.Common.{arith, ◌≡◌, ◌<◌, ◌≤◌, ◌-◌, ◌^◌, ℕ, ℤ, FitsSigned, w64, rules, to_z-of_z, length, get_or, sym, ap, ◌∙◌, subst}
+use Rattle.std.proofs.Common.{arith, List, ◌≡◌, ◌<◌, ◌≤◌, ◌-◌, ◌^◌, ℕ, ℤ, FitsSigned, w64, rules, to_z-of_z, length, get_or, sym, ap, ◌∙◌, subst}
 use Rattle.fzn_domain.specs.IntSet.{IntSet}
 use Rattle.fzn_domain.specs.Narrow.{set_of}
 use Rattle.fzn_clauses.specs.declared.lists.Watcher.{Watcher}
@@ -16,12 +16,13 @@ loop-j-init c = record {
 
 pub loop-j-preserved : goal.loop-j-preserved
 loop-j-preserved c =
-    let at : c.at-watcher.result ≡ get_or (list_at c.args.self.now.lists (key_at c.args.entry.var c.args.op)) (c.loop-j.j - 1) no_watcher =
-    c.at-watcher.ensures ∙ ap (λ (n : ℕ). get_or (list_at c.args.self.now.lists n) (c.loop-j.j - 1) no_watcher) c.key_of-key.ensures in
-    let fits : FitsSigned w64 c.at-watcher.result.value = search rules in
+    let here = get_or c.list-list.result.now (c.loop-j.j - 1) no_watcher in
+    let at : here ≡ get_or (list_at c.args.self.now.lists (key_at c.args.entry.var c.args.op)) (c.loop-j.j - 1) no_watcher =
+    ap (λ (l : List Watcher). get_or l (c.loop-j.j - 1) no_watcher) (c.list-list.ensures ∙ ap (λ (n : ℕ). list_at c.args.self.now.lists n) c.key_of-key.ensures) in
+    let fits : FitsSigned w64 here.value = search rules in
     let on_domain = subst (λ (v : ℤ). IsStill c.args.entry c.domain-domain.result.now (record { var = c.args.entry.var; op = c.args.op; value = v })) (to_z-of_z fits) c.if-may_have_fallen.ensures.still in
-    let on_set : IsStill c.args.entry (set_of c.args.trail.now.sets c.args.entry.var) (record { var = c.args.entry.var; op = c.args.op; value = c.at-watcher.result.value }) =
-    subst (λ (s : IntSet). IsStill c.args.entry s (record { var = c.args.entry.var; op = c.args.op; value = c.at-watcher.result.value })) c.domain-domain.ensures.value on_domain in
+    let on_set : IsStill c.args.entry (set_of c.args.trail.now.sets c.args.entry.var) (record { var = c.args.entry.var; op = c.args.op; value = here.value }) =
+    subst (λ (s : IntSet). IsStill c.args.entry s (record { var = c.args.entry.var; op = c.args.op; value = here.value })) c.domain-domain.ensures.value on_domain in
     record {
       within = omega (arith, c.loop-j.invariant.within);
       spared =
@@ -31,12 +32,6 @@ loop-j-preserved c =
           (subst (λ (w : Watcher). IsStill c.args.entry (set_of c.args.trail.now.sets c.args.entry.var) (record { var = c.args.entry.var; op = c.args.op; value = w.value })) at on_set)
           c.loop-j.invariant.spared;
     }
-
-pub at-watcher-requires : goal.at-watcher-requires
-at-watcher-requires c =
-    let room : c.args.end ≤ length (list_at c.args.self.now.lists c.key_of-key.result) =
-    subst (λ (n : ℕ). c.args.end ≤ length (list_at c.args.self.now.lists n)) (sym c.key_of-key.ensures) c.requires.within in
-    omega (arith, room, c.loop-j-test.true, c.loop-j.invariant.within)
 
 pub returns-then-may_have_fallen-clause-found : goal.returns-then-may_have_fallen-clause-found
 returns-then-may_have_fallen-clause-found c = (

@@ -1,0 +1,197 @@
+-- Steps on which nothing rests are deleted.
+use Rattle.std.proofs.Common.{◌≡◌, ◌≢◌, ℕ, ◌+◌, ◌-◌, ◌*◌, ◌^◌, ◌<◌, ◌≤◌, ◌==◌, ◌⊎◌, cond, List, [], ◌∷◌, ◌++◌, length, get_or, set, All, Contains, Option, Some, None, IfSome, is_some, refl, sym, ap, ◌∙◌, subst, inl, inr, arith}
+use Rattle.std.specs.List.{AllByRecursion}
+use Rattle.std.proofs.lemmas.List.{length_push, append-nil, get_or-set_other}
+use Rattle.std.proofs.lemmas.List.Elements.{All-head, All-tail, All-weaker, All-get_or, All-from_get_or, All-contains, Contains-get_or}
+use Rattle.fzn_domain.specs.declared.literal.Lit.{Lit}
+use Rattle.fzn_meaning.specs.declared.model.Model.{Model}
+use Rattle.fzn_meaning.specs.Solutions.{cut_of}
+use Rattle.fzn_cert.specs.declared.step.Step.{Step}
+use Rattle.fzn_cert.specs.declared.step.Step.TheVariants.{Delete}
+use Rattle.fzn_cert.specs.declared.step.Version.TheVariants.{Two}
+use Rattle.fzn_cert.specs.Past.{Past, clause_held, IsHeld as IsGiven, without, after_deletion}
+use Rattle.fzn_cert.specs.Accepted.{IsAccepted, AllAccepted, past_of}
+use Rattle.fzn_cert.specs.Spelling.{IsNumber, IdsRise, IsSpelled}
+use Rattle.fzn_inferences.specs.Inferences.{inference_at}
+use Rattle.fzn_trail.specs.Levels.{Levels}
+use Rattle.fzn_clauses.specs.Held.{clause_of}
+use Rattle.fzn_clauses.specs.Watching.{held_by}
+use Rattle.fzn_conflict.specs.Reasoned.{opens}
+use Rattle.fzn_engine.specs.declared.notes.Notes.{Notes}
+use Rattle.fzn_engine.specs.declared.solver.Solver.{Solver}
+use Rattle.fzn_engine.specs.Deletion.{IsInUse}
+use Rattle.fzn_engine.specs.Volume.{slack}
+use Rattle.fzn_engine.specs.Learned.{resolved}
+use Rattle.fzn_engine.specs.Outcome.{count}
+use Rattle.fzn_engine.specs.Search.{IsAfter, IsTended, stock_of}
+use Rattle.fzn_engine.specs.State.{Stock, AreNumbered, IsJustified, CoreOf, PlainOf, StateOf}
+use Rattle.fzn_engine.proofs.AcceptedLemmas.{past_of-push, AllAccepted-push, resolved-append, logged-accepted, length-past_of}
+use Rattle.fzn_engine.proofs.NumberLemmas.{number-of, clause_held-grown, given-clause}
+
+-- ---- the clauses that are left
+
+without-other : (clauses : List (Option (List Lit))) (ids : List ℕ) (k : ℕ) → All (λ (id : ℕ). id - 1 ≢ k) ids → get_or (without clauses ids) k None ≡ get_or clauses k None
+without-other clauses [] k apart = refl
+without-other clauses (id ∷ ids) k apart =
+    let head : id - 1 ≢ k = All-head (λ (i : ℕ). i - 1 ≢ k) id ids apart in
+    without-other (set clauses (id - 1) None) ids k (All-tail (λ (i : ℕ). i - 1 ≢ k) id ids apart)
+    ∙ get_or-set_other clauses (id - 1) k None None (λ e. head (sym e))
+
+module _ (past : Past) (ids : List ℕ) (ones : All (λ (id : ℕ). 1 ≤ id) ids) where
+  -- a step that is not deleted gives its clause
+  clause_held-left : (n : ℕ) (clause : List Lit) → All (λ (id : ℕ). id ≢ n) ids → clause_held past n ≡ Some clause → clause_held (after_deletion past ids) n ≡ Some clause
+  clause_held-left n clause apart gives =
+      let mid : Past = record { clauses = without past.clauses ids; solutions = past.solutions; refuted = past.refuted } in
+      let one = number-of past n clause gives in
+      let places : All (λ (id : ℕ). id - 1 ≢ n - 1) ids =
+      All-from_get_or (λ (id : ℕ). id - 1 ≢ n - 1) ids 0 (λ i below. place_apart (get_or ids i 0) n (All-get_or (λ (id : ℕ). 1 ≤ id) ids i 0 below ones) one.0 (All-get_or (λ (id : ℕ). id ≢ n) ids i 0 below apart)) in
+      clause_held-grown mid (after_deletion past ids) None n clause refl (ap (λ (o : Option (List Lit)). cond (n == 0) None o) (without-other past.clauses ids (n - 1) places) ∙ gives)
+    where
+      place_apart : (id k : ℕ) → 1 ≤ id → 1 ≤ k → id ≢ k → id - 1 ≢ k - 1
+      place_apart id k a b apart e = apart (omega arith)
+
+-- ---- the search that is left
+
+module _ (model : Model) (stock : Stock) (steps : List Step) (trail : Levels) (nodes : ℕ) (core : CoreOf model stock steps trail nodes) (ids : List ℕ) (alive : All (Contains stock.alive) ids) (idle : (n : ℕ) → IsInUse stock.held stock.numbers stock.stack n → Contains ids n → ⊥) where
+  abbrev past : Past
+  past = past_of model steps
+
+  abbrev now : Past
+  now = after_deletion past ids
+
+  given : All (IsGiven (past_of model steps)) ids
+  given = All-weaker (Contains stock.alive) (IsGiven past) (λ n in_alive. in_list n in_alive) ids alive
+    where
+      in_list : (n : ℕ) → Contains stock.alive n → IsGiven past n
+      in_list n h = subst (IsGiven past) h.2 (All-get_or (IsGiven past) stock.alive h.0 n h.1 core.alive)
+
+  ones : All (λ (id : ℕ). 1 ≤ id) ids
+  ones = All-weaker (IsGiven past) (λ (id : ℕ). 1 ≤ id) (λ n is. let clause = given-clause past n is in (number-of past n clause.0 clause.1).0) ids given
+
+  apart : (n : ℕ) → IsInUse stock.held stock.numbers stock.stack n → All (λ (id : ℕ). id ≢ n) ids
+  apart n in_use = All-from_get_or (λ (id : ℕ). id ≢ n) ids 0 (λ i below e. idle n in_use (subst (Contains ids) e (Contains-get_or ids i 0 below)))
+
+  numbered_left : AreNumbered now stock.numbers stock.held
+  numbered_left = record {
+    one_each = core.numbered.one_each;
+    gives = λ id is. clause_held-left past ids ones (get_or stock.numbers id.0 0) (clause_of stock.held id) (apart (get_or stock.numbers id.0 0) (inl (id, is, refl))) (core.numbered.gives id is);
+  }
+
+  justified_left : All (IsJustified model now) stock.stack
+  justified_left = All-from_get_or (IsJustified model now) stock.stack _ (λ i below. left i below (All-get_or (IsJustified model past) stock.stack i _ below core.justified))
+    where
+      left : (i : ℕ) → i < length stock.stack → IsJustified model past (inference_at stock.stack i) → IsJustified model now (inference_at stock.stack i)
+      left i below j =
+          let it = inference_at stock.stack i in
+          record {
+            over = j.over;
+            numbered = j.numbered;
+            justified = j.justified;
+            spelled = j.spelled;
+            written = still it.number refl j.written;
+          }
+        where
+          still : (o : Option ℕ) → (inference_at stock.stack i).number ≡ o → IfSome o (λ n. clause_held past n ≡ Some (inference_at stock.stack i).clause) → IfSome o (λ n. clause_held now n ≡ Some (inference_at stock.stack i).clause)
+          still None e w = tt
+          still (Some n) e w = clause_held-left past ids ones n (inference_at stock.stack i).clause (apart n (inr (i, below, e))) w
+
+  used_left : (n : ℕ) → IsInUse stock.held stock.numbers stock.stack n → IsGiven now n
+  used_left n (inl h) = subst (IsGiven now) h.2 (ap is_some (numbered_left.gives h.0 h.1))
+  used_left n (inr h) =
+      let it = inference_at stock.stack h.0 in
+      let j = All-get_or (IsJustified model now) stock.stack h.0 _ h.1 justified_left in
+      let W : Option ℕ → Type 0 = λ o. IfSome o (λ k. clause_held now k ≡ Some it.clause) in
+      ap is_some (subst W h.2 j.written)
+
+  pub delete-accepted : IsAccepted model (past_of model steps) (Delete ids)
+  delete-accepted = given
+
+  pub same_learned : resolved (steps ++ Delete ids ∷ []) ≡ resolved steps
+  same_learned = resolved-append steps (Delete ids ∷ []) ∙ append-nil (resolved steps)
+
+  pub Core-deleted : (used : List ℕ) → All (IsInUse stock.held stock.numbers stock.stack) used → CoreOf model (record { held = stock.held; numbers = stock.numbers; stack = stock.stack; alive = used }) (steps ++ Delete ids ∷ []) trail nodes
+  Core-deleted used only =
+      let is : past_of model (steps ++ Delete ids ∷ []) ≡ now = past_of-push model steps (Delete ids) in
+      let A : Past → Type 0 = λ p. AreNumbered p stock.numbers stock.held in
+      let J : Past → Type 0 = λ p. All (IsJustified model p) stock.stack in
+      let G : Past → Type 0 = λ p. All (IsGiven p) used in
+      let S : Past → Type 0 = λ p. All (λ values. Contains stock.held (Some (cut_of model values))) p.solutions in
+      let N : List (List Lit) → Type 0 = λ cs. nodes + slack trail.sets ≤ (length cs + 1) * slack trail.declared in
+      record {
+        declared = core.declared;
+        filled = core.filled;
+        accepted = AllAccepted-push model steps (Delete ids) core.accepted given;
+        numbered = subst A (sym is) numbered_left;
+        justified = subst J (sym is) justified_left;
+        alive = subst G (sym is) (All-weaker (IsInUse stock.held stock.numbers stock.stack) (IsGiven now) used_left used only);
+        cuts_held = subst S (sym is) core.cuts_held;
+        held_over = core.held_over;
+        reasoned = core.reasoned;
+        nodes_by_conflicts = subst N (sym same_learned) core.nodes_by_conflicts;
+      }
+
+  -- their numbers are those of steps
+  pub ids-spelled : length steps < 10 ^ 18 → 0 < length ids → IdsRise ids → IsSpelled Two (Delete ids)
+  ids-spelled few some rise = (refl, some, each ids (All-weaker (IsGiven past) IsNumber (λ n is. number n is) ids given), rise)
+    where
+      within : (k a b : ℕ) → k ≤ a → a ≡ b → b < 10 ^ 18 → k < 10 ^ 18
+      within k a b h e room = omega arith
+
+      number : (n : ℕ) → IsGiven past n → IsNumber n
+      number n is =
+          let clause = given-clause past n is in
+          let step = number-of past n clause.0 clause.1 in
+          (step.0, within n (length past.clauses) (length steps) step.1 (length-past_of model steps) few)
+
+      each : (ns : List ℕ) → All IsNumber ns → AllByRecursion IsNumber ns
+      each [] all = tt
+      each (n ∷ ns) all = (All-head IsNumber n ns all, each ns (All-tail IsNumber n ns all))
+
+-- of the numbers that were told, those that are not among these
+module _ (model : Model) (old : Solver) (before : List Step) (h : IsAfter model old before) (ids told numbers used among : List ℕ) (told_is : told ≡ old.alive) (numbers_is : numbers ≡ old.numbers) (among_is : among ≡ used) (in_told : All (Contains told) ids) (all : (n : ℕ) → IsInUse (held_by old.clauses) numbers old.inferences n → Contains used n) (apart_from : All (λ n. Contains among n → ⊥) ids) where
+  alive : All (Contains old.alive) ids
+  alive = let T : List ℕ → Type 0 = λ t. All (Contains t) ids in subst T told_is in_told
+
+  idle : (n : ℕ) → IsInUse (held_by old.clauses) old.numbers old.inferences n → Contains ids n → ⊥
+  idle n in_use there =
+      let U : List ℕ → Type 0 = λ ns. IsInUse (held_by old.clauses) ns old.inferences n in
+      let C : List ℕ → Type 0 = λ ns. Contains ns n in
+      All-contains (λ k. Contains among k → ⊥) ids n apart_from there (subst C (sym among_is) (all n (subst U (sym numbers_is) in_use)))
+
+  pub delete-spelled : 0 < length ids → IdsRise ids → IsSpelled Two (Delete ids)
+  delete-spelled some rise = ids-spelled model (stock_of old) before old.trail old.search.nodes h.state.core ids alive idle h.few_steps some rise
+
+  pub delete-logged : (now : List Step) → (now ≡ before) ⊎ (now ≡ before ++ Delete ids ∷ []) → AllAccepted model now
+  delete-logged now log = logged-accepted model before now (Delete ids) h.state.core.accepted (delete-accepted model (stock_of old) before old.trail old.search.nodes h.state.core ids alive idle) log
+
+  pub deleted-tended : (now : List Step) → now ≡ before ++ Delete ids ∷ [] → length now < 10 ^ 18 → (left : List ℕ) → left ≡ used → All (IsInUse (held_by old.clauses) numbers old.inferences) used → (number : ℕ) → number ≡ old.steps + 1 → (notes : Notes) → IsTended model old (record old { alive = left; notes = notes; steps = number }) now
+  deleted-tended now now_is few left left_is only number newest notes =
+      let V : List ℕ → Type 0 = λ ns. All (IsInUse (held_by old.clauses) ns old.inferences) left in
+      let W : List ℕ → Type 0 = λ ns. All (IsInUse (held_by old.clauses) numbers old.inferences) ns in
+      let core = Core-deleted model (stock_of old) before old.trail old.search.nodes h.state.core ids alive idle left (subst V numbers_is (subst W (sym left_is) only)) in
+      let same = same_learned model (stock_of old) before old.trail old.search.nodes h.state.core ids alive idle in
+      let R : List (List Lit) → Type 0 = λ cs. PlainOf old.trail.declared old.trail.sets (opens old.trail.declared old.trail.entries) cs old.search.nodes in
+      let stock : Stock = record { held = held_by old.clauses; numbers = old.numbers; stack = old.inferences; alive = left } in
+      let S : List Step → Type 0 = λ s. StateOf model old.learn stock s old.trail old.search.nodes in
+      let lengths : length now ≡ length before + 1 = ap length now_is ∙ length_push before (Delete ids) in
+      let counts : count model now ≡ count model before =
+      ap (λ (s : List Step). length (past_of model s).solutions) now_is ∙ ap (λ (p : Past). length p.solutions) (past_of-push model before (Delete ids)) in
+      record {
+        state = record {
+          state = subst S (sym now_is) (record { core = core; plain = λ plain. subst R (sym same) (h.state.plain plain) });
+          watching = h.watching;
+          scratch = h.scratch;
+          vars = h.vars;
+          found_is = h.found_is ∙ sym counts;
+          found_few = few_by old.found (length before) (length now) h.found_few lengths;
+          steps_are = newest ∙ ap (λ (n : ℕ). n + 1) h.steps_are ∙ sym lengths;
+          few_steps = few;
+        };
+        trail = refl;
+        nodes = refl;
+        found = refl;
+        learn = refl;
+      }
+    where
+      few_by : (a b d : ℕ) → a ≤ b → d ≡ b + 1 → a ≤ d
+      few_by a b d k e = omega arith

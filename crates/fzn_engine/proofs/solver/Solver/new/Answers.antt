@@ -1,0 +1,28 @@
+use Rattle.std.proofs.Common.{rules}
+use Rattle.fzn_engine.proofs.solver.Solver.new.Goals as goal
+
+pub returns-clause-fresh : goal.returns-clause-fresh
+returns-clause-fresh c = record {
+  state = record {
+    core = record {
+      declared = search rules;
+      filled = search rules;
+      accepted = search rules;
+      numbered = search rules;
+      justified = search rules;
+      alive = search rules;
+      cuts_held = search rules;
+      held_over = search rules;
+      reasoned = search rules;
+      nodes_by_conflicts = search rules;
+    };
+    plain = λ is. search rules;
+  };
+  watching = search rules;
+  scratch = search rules;
+  vars = search rules;
+  found_is = search rules;
+  found_few = search rules;
+  steps_are = search rules;
+  few_steps = search rules;
+}

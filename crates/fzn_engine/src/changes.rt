@@ -1,0 +1,225 @@
+// One change of a search after the other, to its end.
+ghost use Rattle.std.specs.Prelude.{◌≡◌, ◌≢◌, ◌+◌, ◌<◌, [], length, IfOk, MatchBool, Some, false};
+ghost use Rattle.fzn_domain.specs.Narrow.{possible_in};
+ghost use Rattle.fzn_meaning.specs.declared.model.Model.{Model};
+ghost use Rattle.fzn_meaning.specs.WellFormed.{IsWellFormed};
+ghost use Rattle.fzn_cert.specs.declared.step.Step.{Step};
+ghost use Rattle.fzn_cert.specs.Accepted.{AllAccepted};
+ghost use Rattle.fzn_clauses.specs.Held.{AllHeld};
+ghost use Rattle.fzn_clauses.specs.Watching.{held_by};
+ghost use Rattle.fzn_search.specs.Fixed.{AllFixed};
+ghost use Rattle.fzn_engine.specs.Inference.{IsQuiet};
+ghost use Rattle.fzn_engine.specs.Outcome.{IsReached};
+ghost use Rattle.fzn_engine.specs.Search.{IsAfter, IsWithinLimits, IsRecorded, Goes, Continues, IsOver, ending_of};
+
+use crate::fault::Fault;
+use crate::inference::Constraints;
+use crate::limits::{Ending, Limits};
+use crate::sink::Sink;
+use crate::solver::Solver;
+use fzn_cert::Step;
+use fzn_conflict::Source;
+use fzn_meaning::{Goal, Model};
+use fzn_search::{cut, values_of};
+use fzn_trail::ClauseId;
+use std::alloc::Global;
+
+impl Solver {
+    /// Writes the solution that the fixed variables give, and answers the number of its cut.
+    fn record<S: Sink>(
+        &mut self,
+        alloc: Global,
+        model: &Model,
+        sink: &mut S,
+    ) -> Result<ClauseId, Fault>
+        requires model { IsWellFormed model.now }
+        requires state { IsAfter model.now self.old (S.written sink.old) }
+        requires kept { S.keeps model.now sink.old }
+        requires fixed { AllFixed self.old.trail.sets }
+        requires quiet { AllHeld (λ clause. possible_in self.old.trail.sets clause ≢ []) (held_by self.old.clauses) }
+        requires meets { IsQuiet model.now self.old.trail }
+        ensures recorded { IfOk result (IsRecorded model.now self.old self.new (S.written sink.new)) }
+        ensures accepted { AllAccepted model.now (S.written sink.new) }
+        ensures kept { S.keeps model.now sink.new × (S.origin sink.new ≡ S.origin sink.old) }
+    {
+        let values = values_of(alloc, &self.trail, model.vars.len())?;
+        let clause = cut(alloc, model, values.as_slice())?;
+        let id = self.hold(clause.as_slice(), [].as_slice(), [].as_slice(), None)?;
+        let step = Step::Solution(values);
+        sink.step(alloc, model, &step)?;
+        self.found += 1;
+        Ok(id)
+    }
+
+    /// Writes a solution, and goes on behind its cut where there is room for another.
+    fn go_on_behind<S: Sink>(
+        &mut self,
+        alloc: Global,
+        model: &Model,
+        limits: Limits,
+        sink: &mut S,
+    ) -> Result<Option<Ending>, Fault>
+        requires model { IsWellFormed model.now }
+        requires state { IsAfter model.now self.old (S.written sink.old) }
+        requires kept { S.keeps model.now sink.old }
+        requires within { IsWithinLimits model.now limits self.old }
+        requires fixed { AllFixed self.old.trail.sets }
+        requires quiet { AllHeld (λ clause. possible_in self.old.trail.sets clause ≢ []) (held_by self.old.clauses) }
+        requires meets { IsQuiet model.now self.old.trail }
+        ensures continues { IfOk result (Continues model.now limits self.old self.new (S.written sink.new)) }
+        ensures accepted { AllAccepted model.now (S.written sink.new) }
+        ensures kept { S.keeps model.now sink.new × (S.origin sink.new ≡ S.origin sink.old) }
+    {
+        let id = self.record(alloc, model, sink)?;
+        if is_reached(model.goal, limits.solutions, self.found) {
+            return Ok(Some(Ending::SolutionLimit));
+        }
+        let goes_on = self.learn(alloc, model, sink, Source::Held(id))?;
+        Ok(ending_of(goes_on))
+    }
+
+    /// Goes on where no held clause is false or forces a literal: by an inference, a solution or a decision.
+    fn extend<S: Sink, C: Constraints>(
+        &mut self,
+        alloc: Global,
+        model: &Model,
+        limits: Limits,
+        constraints: &mut C,
+        sink: &mut S,
+    ) -> Result<Option<Ending>, Fault>
+        requires model { IsWellFormed model.now }
+        requires is_for { C.is_for constraints.old model.now }
+        requires state { IsAfter model.now self.old (S.written sink.old) }
+        requires kept { S.keeps model.now sink.old }
+        requires within { IsWithinLimits model.now limits self.old }
+        requires seen { self.old.trail.mark ≡ length self.old.trail.entries }
+        requires quiet { AllHeld (λ clause. possible_in self.old.trail.sets clause ≢ []) (held_by self.old.clauses) }
+        ensures continues { IfOk result (Continues model.now limits self.old self.new (S.written sink.new)) }
+        ensures accepted { AllAccepted model.now (S.written sink.new) }
+        ensures kept { S.keeps model.now sink.new × (S.origin sink.new ≡ S.origin sink.old) }
+        ensures is_for { C.is_for constraints.new model.now }
+    {
+        if let Some(inference) = constraints.infer(alloc, model, &self.trail)? {
+            let goes_on = self.apply(alloc, model, sink, inference)?;
+            return Ok(ending_of(goes_on));
+        }
+        if self.is_fixed() {
+            let ending = self.go_on_behind(alloc, model, limits, sink)?;
+            return Ok(ending);
+        }
+        if self.search.nodes() == limits.nodes {
+            return Ok(Some(Ending::NodeLimit));
+        }
+        self.decide()?;
+        Ok(None)
+    }
+
+    /// One change of the search, after all that the held clauses force.
+    fn advance<S: Sink, C: Constraints>(
+        &mut self,
+        alloc: Global,
+        model: &Model,
+        limits: Limits,
+        constraints: &mut C,
+        sink: &mut S,
+    ) -> Result<Option<Ending>, Fault>
+        requires model { IsWellFormed model.now }
+        requires is_for { C.is_for constraints.old model.now }
+        requires state { IsAfter model.now self.old (S.written sink.old) }
+        requires kept { S.keeps model.now sink.old }
+        requires within { IsWithinLimits model.now limits self.old }
+        ensures continues { IfOk result (Continues model.now limits self.old self.new (S.written sink.new)) }
+        ensures accepted { AllAccepted model.now (S.written sink.new) }
+        ensures kept { S.keeps model.now sink.new × (S.origin sink.new ≡ S.origin sink.old) }
+        ensures is_for { C.is_for constraints.new model.now }
+    {
+        match self.propagate()? {
+            Some(id) => {
+                let goes_on = self.learn(alloc, model, sink, Source::Held(id))?;
+                Ok(ending_of(goes_on))
+            }
+            None => {
+                let ending = self.extend(alloc, model, limits, constraints, sink)?;
+                Ok(ending)
+            }
+        }
+    }
+
+    /// One change of the search, after which it is tended.
+    fn change<S: Sink, C: Constraints>(
+        &mut self,
+        alloc: Global,
+        model: &Model,
+        limits: Limits,
+        constraints: &mut C,
+        sink: &mut S,
+    ) -> Result<Option<Ending>, Fault>
+        requires model { IsWellFormed model.now }
+        requires is_for { C.is_for constraints.old model.now }
+        requires state { IsAfter model.now self.old (S.written sink.old) }
+        requires kept { S.keeps model.now sink.old }
+        requires within { IsWithinLimits model.now limits self.old }
+        ensures continues { IfOk result (Continues model.now limits self.old self.new (S.written sink.new)) }
+        ensures accepted { AllAccepted model.now (S.written sink.new) }
+        ensures kept { S.keeps model.now sink.new × (S.origin sink.new ≡ S.origin sink.old) }
+        ensures is_for { C.is_for constraints.new model.now }
+    {
+        match self.advance(alloc, model, limits, constraints, sink)? {
+            Some(ending) => Ok(Some(ending)),
+            None => {
+                self.tend(alloc, model, sink)?;
+                Ok(None)
+            }
+        }
+    }
+
+    /// Searches to the end.
+    pub fn run<S: Sink, C: Constraints>(
+        &mut self,
+        alloc: Global,
+        model: &Model,
+        limits: Limits,
+        constraints: &mut C,
+        sink: &mut S,
+    ) -> Result<Ending, Fault>
+        requires model { IsWellFormed model.now }
+        requires is_for { C.is_for constraints.old model.now }
+        requires state { IsAfter model.now self.old (S.written sink.old) }
+        requires kept { S.keeps model.now sink.old }
+        requires within { IsWithinLimits model.now limits self.old }
+        ensures over { IfOk result (IsOver model.now self.old.learn limits self.new (S.written sink.new)) }
+        ensures accepted { AllAccepted model.now (S.written sink.new) }
+        ensures kept { S.keeps model.now sink.new × (S.origin sink.new ≡ S.origin sink.old) }
+    {
+        'changes: loop {
+            let ending = self.change(alloc, model, limits, constraints, sink)?;
+            sink.tell(self.search.nodes(), self.notes.conflicts());
+            if let Some(ending) = ending {
+                return Ok(ending);
+            }
+            // The last entry may stand where one that was shown was dropped; those before it were not changed.
+            constraints.rewind(model, self.trail.len().saturating_sub(1));
+        }
+    }
+}
+
+/// The search has ended where it does not go on.
+fn ending_of(goes_on: bool) -> Option<Ending>
+    ensures { result ≡ ending_of goes_on }
+{
+    if goes_on { None } else { Some(Ending::Closed) }
+}
+
+/// Whether these are as many solutions as the limit.
+fn is_reached(goal: Goal, limit: Option<u64>, count: u64) -> bool
+    ensures { MatchBool result (IsReached goal limit count) (IsReached goal limit count → ⊥) }
+{
+    match goal {
+        Goal::Satisfy => match limit {
+            Some(most) => count == most,
+            None => false,
+        },
+        Goal::Minimize(_) => false,
+        Goal::Maximize(_) => false,
+    }
+}

@@ -1,0 +1,81 @@
+// Which clauses are forgotten.
+ghost use Rattle.std.specs.Prelude.{◌≡◌, ◌≢◌, ◌<◌, ℤ, List, length, OnOk, IsTrue, Some, false, slice_index_or};
+ghost use Rattle.std.specs.List.{All};
+ghost use Rattle.fzn_meaning.specs.declared.model.Model.{Model};
+ghost use Rattle.fzn_meaning.specs.Solutions.{cut_of};
+ghost use Rattle.fzn_cert.specs.declared.step.Step.{Step};
+ghost use Rattle.fzn_clauses.specs.Held.{IsHeld, at_number};
+ghost use Rattle.fzn_clauses.specs.Watching.{held_by};
+ghost use Rattle.fzn_engine.specs.Forgetting.{IsFlagged};
+ghost use Rattle.fzn_engine.specs.Search.{IsAfter, IsTended};
+
+use crate::reasons::reasons_on;
+use crate::solver::Solver;
+use fzn_cert::Step;
+use fzn_domain::Memory;
+use fzn_meaning::{Goal, Model};
+use fzn_search::cut;
+use fzn_trail::ClauseId;
+use std::alloc::Global;
+
+impl Solver {
+    /// Forgets learned clauses that are of little use, where there are many.
+    pub fn forget(&mut self, alloc: Global, model: &Model) -> Result<(), Memory>
+        ensures tended { OnOk result ((steps : List Step) → IsAfter model.now self.old steps → IsTended model.now self.old self.new steps) }
+    {
+        if !self.notes.has_many() {
+            return Ok(());
+        }
+        let flags = reasons_on(alloc, &self.trail, self.clauses.len())?;
+        let are_reasons = flags.as_slice();
+        let worst = self.notes.take_worst(alloc, are_reasons)?;
+        for id in &worst {
+            self.drop_clause(model, *id, are_reasons);
+        }
+        Ok(())
+    }
+
+    /// Forgets a clause, if it may be forgotten.
+    fn drop_clause(&mut self, model: &Model, id: ClauseId, are_reasons: &[bool])
+        requires { All (λ entry. IsFlagged are_reasons.now entry.reason) self.old.trail.entries }
+        ensures tended { (steps : List Step) → IsAfter model.now self.old steps → IsTended model.now self.old self.new steps }
+        ensures trail { self.new.trail ≡ self.old.trail }
+    {
+        if !self.is_idle(model, id, are_reasons) {
+            return;
+        }
+        self.clauses.remove(id);
+    }
+
+    /// Whether the clause is held, no reason, and by its length neither a cut nor one that stands for an entry.
+    fn is_idle(&self, model: &Model, id: ClauseId, are_reasons: &[bool]) -> bool
+        ensures held { IsTrue result → IsHeld (held_by self.now.clauses) id }
+        ensures unflagged { IsTrue result → (id.0 < length are_reasons.now) × (slice_index_or are_reasons.now id.0 false ≡ false) }
+        ensures no_cut { IsTrue result → (values : List ℤ) → at_number (held_by self.now.clauses) id ≢ Some (cut_of model.now values) }
+    {
+        if !self.clauses.is_held(id) {
+            return false;
+        }
+        let k = id.0 as usize;
+        if k >= are_reasons.len() || are_reasons[k] {
+            return false;
+        }
+        let len = self.clauses.clause(id).len();
+        let cut = cut_len(model);
+        if len == cut {
+            return false;
+        }
+        len > 1
+    }
+}
+
+/// How many literals each cut has.
+fn cut_len(model: &Model) -> usize
+    ensures { (values : List ℤ) → length (cut_of model.now values) ≡ result }
+{
+    match model.goal {
+        Goal::Satisfy => model.outputs.len(),
+        Goal::Minimize(_) => 1,
+        Goal::Maximize(_) => 1,
+    }
+}

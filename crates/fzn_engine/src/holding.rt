@@ -1,0 +1,78 @@
+// Which clauses are held.
+ghost use Rattle.std.specs.Prelude.{◌≡◌, ◌+◌, ◌<◌, ◌^◌, List, length, IfOk, OnOk, Some};
+ghost use Rattle.fzn_domain.specs.declared.literal.Lit.{Lit};
+ghost use Rattle.fzn_meaning.specs.declared.model.Model.{Model};
+ghost use Rattle.fzn_cert.specs.declared.step.Step.{Step};
+ghost use Rattle.fzn_clauses.specs.Watching.{held_by};
+ghost use Rattle.fzn_engine.specs.Search.{IsAfter, Holds, IsTended};
+
+use crate::solver::Solver;
+use fzn_cert::Step;
+use fzn_conflict::Source;
+use fzn_domain::{Lit, Memory};
+use fzn_meaning::Model;
+use fzn_trail::ClauseId;
+
+/// How many literals the clause of an inference has at most that is held.
+const SHORT: usize = 4;
+
+impl Solver {
+    /// Holds the clause of the next step, and tells the search which literals its conflict rests on, and notes on which sources the
+    /// clause rests. One whose literals stand on a number of levels may be forgotten.
+    pub fn hold(
+        &mut self,
+        clause: &[Lit],
+        marked: &[Lit],
+        sources: &[Source],
+        levels: Option<usize>,
+    ) -> Result<ClauseId, Memory>
+        requires room { self.old.steps < 10 ^ 18 }
+        ensures held { OnOk result (Holds clause.now self.old self.new) }
+        ensures id { IfOk result (λ id. id.0 ≡ length (held_by self.old.clauses)) }
+    {
+        self.search.bump(marked)?;
+        let id = self.clauses.add(clause)?;
+        self.notes.cite(sources)?;
+        if let Some(levels) = levels {
+            self.notes.learn(id, levels)?;
+        }
+        self.steps += 1;
+        self.numbers.push(self.steps)?;
+        self.alive.push(self.steps)?;
+        Ok(id)
+    }
+
+    /// Holds the clauses of inferences that were just written, where they are short: they are not inferred and written again.
+    pub fn hold_cited(&mut self) -> Result<(), Memory>
+        ensures tended { OnOk result ((model : Model) (steps : List Step) → IsAfter model self.old steps → IsTended model self.old self.new steps) }
+    {
+        'cited: for _ in 0..self.notes.count_cited() {
+            if let Some(place) = self.notes.next_cited() {
+                self.hold_inference(place)?;
+            }
+        }
+        self.notes.ask_up_to(self.steps);
+        Ok(())
+    }
+
+    /// Holds the clause of the inference at this place, if it was just written and is short.
+    fn hold_inference(&mut self, place: usize) -> Result<(), Memory>
+        ensures tended { OnOk result ((model : Model) (steps : List Step) → IsAfter model self.old steps → IsTended model self.old self.new steps) }
+    {
+        if place >= self.inferences.len() {
+            return Ok(());
+        }
+        let inference = self.inferences.get(place);
+        let clause = inference.clause.as_slice();
+        let Some(number) = inference.number else {
+            return Ok(());
+        };
+        if clause.len() < 2 || SHORT < clause.len() || !self.notes.is_new(number) {
+            return Ok(());
+        }
+        let id = self.clauses.add(clause)?;
+        self.numbers.push(number)?;
+        self.notes.inferred.push(id, 0)?;
+        Ok(())
+    }
+}

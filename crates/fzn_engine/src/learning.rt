@@ -1,0 +1,141 @@
+// What is learned from a false clause.
+ghost use Rattle.std.specs.Prelude.{◌≡◌, ◌<◌, IfOk, IsTrue, Some, false};
+ghost use Rattle.fzn_meaning.specs.declared.model.Model.{Model};
+ghost use Rattle.fzn_meaning.specs.WellFormed.{IsWellFormed};
+ghost use Rattle.fzn_cert.specs.declared.step.Step.{Step};
+ghost use Rattle.fzn_cert.specs.Accepted.{AllAccepted};
+ghost use Rattle.fzn_conflict.specs.declared.analysis.Learn.TheVariants.{First};
+ghost use Rattle.fzn_conflict.specs.Learned.{IsConflicting};
+ghost use Rattle.fzn_engine.specs.Inference.{IsInference};
+ghost use Rattle.fzn_engine.specs.State.{known_in};
+ghost use Rattle.fzn_engine.specs.Search.{IsAfter, stock_of, IsWritten, Learns, Goes};
+
+use crate::fault::Fault;
+use crate::inference::Inference;
+use crate::sink::Sink;
+use crate::solver::Solver;
+use fzn_cert::Step;
+use fzn_conflict::{Learn, Learned, Source, analyse};
+use fzn_list::Items;
+use fzn_meaning::Model;
+use std::alloc::Global;
+
+impl Solver {
+    /// What is learned from a false clause, with the numbers of the steps of its sources, which are written.
+    fn derive<S: Sink>(
+        &mut self,
+        alloc: Global,
+        model: &Model,
+        sink: &mut S,
+        conflict: Source,
+    ) -> Result<(Learned, Items<u64>), Fault>
+        requires model { IsWellFormed model.now }
+        requires state { IsAfter model.now self.old (S.written sink.old) }
+        requires kept { S.keeps model.now sink.old }
+        requires conflict { IsConflicting (known_in (stock_of self.old)) self.old.trail.sets conflict }
+        ensures written { IfOk result (λ _. IsWritten model.now (S.written sink.old) self.old self.new (S.written sink.new)) }
+        ensures learns { IfOk result (λ derived. Learns model.now self.new (S.written sink.new) conflict derived.0 derived.1) }
+        ensures accepted { AllAccepted model.now (S.written sink.new) }
+        ensures kept { S.keeps model.now sink.new × (S.origin sink.new ≡ S.origin sink.old) }
+    {
+        let learned = analyse(
+            alloc,
+            &self.trail,
+            &self.clauses,
+            &self.inferences,
+            &mut self.scratch,
+            &mut self.notes.marks,
+            conflict,
+            self.learn,
+        )?;
+        let ids = self.write_sources(alloc, model, sink, learned.sources.as_slice())?;
+        Ok((learned, ids))
+    }
+
+    /// Learns from a false clause: writes the step, goes back, and asserts there what the learned clause forces, or restarts.
+    /// Answers whether the search goes on: after an empty clause nothing is left.
+    pub fn learn<S: Sink>(
+        &mut self,
+        alloc: Global,
+        model: &Model,
+        sink: &mut S,
+        conflict: Source,
+    ) -> Result<bool, Fault>
+        requires model { IsWellFormed model.now }
+        requires state { IsAfter model.now self.old (S.written sink.old) }
+        requires kept { S.keeps model.now sink.old }
+        requires conflict { IsConflicting (known_in (stock_of self.old)) self.old.trail.sets conflict }
+        ensures goes { IfOk result (Goes model.now self.old self.new (S.written sink.new)) }
+        ensures accepted { AllAccepted model.now (S.written sink.new) }
+        ensures kept { S.keeps model.now sink.new × (S.origin sink.new ≡ S.origin sink.old) }
+    {
+        let (learned, ids) = self.derive(alloc, model, sink, conflict)?;
+        let Learned {
+            clause,
+            sources,
+            level,
+            levels,
+            marked,
+        } = learned;
+        let id = self.hold(
+            clause.as_slice(),
+            marked.as_slice(),
+            sources.as_slice(),
+            Some(levels),
+        )?;
+        let is_empty = clause.len() == 0;
+        sink.step(alloc, model, &Step::Resolve { clause, ids })?;
+        if is_empty {
+            return Ok(false);
+        }
+        if self.is_restart_due() {
+            self.restart();
+            return Ok(true);
+        }
+        self.go_back(level);
+        self.force(Source::Held(id))?;
+        Ok(true)
+    }
+
+    /// Counts the conflict, and answers whether the search is to restart. In plain learning it never does.
+    fn is_restart_due(&mut self) -> bool
+        ensures first { IsTrue result → self.old.learn ≡ First }
+        ensures same { self.new ≡ self.old }
+    {
+        let is_due = self.search.conflict();
+        match self.learn {
+            Learn::Plain => false,
+            Learn::First => is_due,
+        }
+    }
+
+    /// Stacks an inference, and acts on it.
+    pub fn apply<S: Sink>(
+        &mut self,
+        alloc: Global,
+        model: &Model,
+        sink: &mut S,
+        inference: Inference,
+    ) -> Result<bool, Fault>
+        requires model { IsWellFormed model.now }
+        requires state { IsAfter model.now self.old (S.written sink.old) }
+        requires kept { S.keeps model.now sink.old }
+        requires inferred { IsInference model.now self.old.trail inference }
+        ensures goes { IfOk result (Goes model.now self.old self.new (S.written sink.new)) }
+        ensures accepted { AllAccepted model.now (S.written sink.new) }
+        ensures kept { S.keeps model.now sink.new × (S.origin sink.new ≡ S.origin sink.old) }
+    {
+        let Inference {
+            constraint,
+            rule,
+            clause,
+        } = inference;
+        let place = self.inferences.push(constraint, rule, clause)?;
+        let source = Source::Stacked(place);
+        if self.force(source)? {
+            return Ok(true);
+        }
+        let goes_on = self.learn(alloc, model, sink, source)?;
+        Ok(goes_on)
+    }
+}

@@ -1,0 +1,172 @@
+// What changes the trail of a search.
+ghost use Rattle.std.specs.Prelude.{◌≡◌, ◌≢◌, ◌+◌, ◌<◌, ◌≤◌, [], ◌∷◌, List, length, IfOk, IfSome, IfNone, OnOk, MatchOption, IsTrue, IsFalse, Some, false};
+ghost use Rattle.std.specs.List.{All};
+ghost use Rattle.fzn_domain.specs.declared.literal.Lit.{Lit};
+ghost use Rattle.fzn_domain.specs.Narrow.{IsClauseOver, NoneEmpty, possible_in};
+ghost use Rattle.fzn_meaning.specs.declared.model.Model.{Model};
+ghost use Rattle.fzn_cert.specs.declared.step.Step.{Step};
+ghost use Rattle.fzn_clauses.specs.Held.{AllHeld};
+ghost use Rattle.fzn_clauses.specs.Watching.{held_by, IsWatching};
+ghost use Rattle.fzn_conflict.specs.declared.source.Source.TheVariants.{Held};
+ghost use Rattle.fzn_conflict.specs.Learned.{IsConflicting};
+ghost use Rattle.fzn_conflict.specs.Reasoned.{IsKnown, IsBelow, IsReasoned, reason_of, clause_of};
+ghost use Rattle.fzn_search.specs.Fixed.{AllFixed, HasMany};
+ghost use Rattle.fzn_trail.specs.Levels.{level_of};
+ghost use Rattle.fzn_engine.specs.State.{known_in};
+ghost use Rattle.fzn_engine.specs.Search.{IsAfter, stock_of, IsBackAt, IsForcedBy, IsDecided, IsKeptBy, Goes};
+
+use crate::inference::Inference;
+use crate::notes::Notes;
+use crate::solver::Solver;
+use fzn_cert::Step;
+use fzn_conflict::{Source, clause_of};
+use fzn_domain::{Lit, Memory};
+use fzn_meaning::Model;
+use fzn_trail::{ClauseId, Reason, Trail};
+
+/// How many inferences without an entry may stand beside those on which entries may rest.
+const SPARE: usize = 256;
+
+impl Solver {
+    /// Asserts what the held clauses force, and gives one that is false.
+    pub fn propagate(&mut self) -> Result<Option<ClauseId>, Memory>
+        requires over { AllHeld (IsClauseOver (length self.old.trail.declared)) (held_by self.old.clauses) }
+        requires filled { NoneEmpty self.old.trail.sets }
+        requires watching { IsWatching self.old.clauses self.old.trail }
+        ensures kept { IfOk result (λ _. (model : Model) (steps : List Step) → IsAfter model self.old steps → IsKeptBy model steps self.old self.new) }
+        ensures conflict { IfOk result (λ found. IfSome found (λ id. IsConflicting (known_in (stock_of self.new)) self.new.trail.sets (Held id))) }
+        ensures quiet { IfOk result (λ found. IfNone found (AllHeld (λ clause. possible_in self.new.trail.sets clause ≢ []) (held_by self.new.clauses))) }
+        ensures seen { IfOk result (λ found. IfNone found (self.new.trail.mark ≡ length self.new.trail.entries)) }
+    {
+        match self.clauses.propagate(&mut self.trail)? {
+            Some(id) => Ok(Some(id)),
+            None => Ok(None),
+        }
+    }
+
+    /// Asserts what the clause of a source forces, and answers whether it has a possible literal.
+    pub fn force(&mut self, source: Source) -> Result<bool, Memory>
+        requires known { IsKnown (known_in (stock_of self.old)) source }
+        requires over { IsClauseOver (length self.old.trail.declared) (clause_of (known_in (stock_of self.old)) source) }
+        ensures { IfOk result (IsForcedBy self.old source self.new) }
+    {
+        match first_possible(
+            clause_of(&self.clauses, &self.inferences, source),
+            &self.trail,
+        ) {
+            Some(lit) => {
+                self.trail.assert(lit, reason_of(source))?;
+                Ok(true)
+            }
+            None => Ok(false),
+        }
+    }
+
+    /// Assumes a literal on a new level.
+    pub fn decide(&mut self) -> Result<(), Memory>
+        requires vars { self.old.search.vars ≡ length self.old.trail.declared }
+        requires filled { NoneEmpty self.old.trail.sets }
+        requires one_each { length self.old.trail.sets ≡ length self.old.trail.declared }
+        requires countable { self.old.search.nodes + 1 < 18446744073709551616 }
+        requires not_fixed { ¬ (AllFixed self.old.trail.sets) }
+        ensures { OnOk result (IsDecided self.old self.new) }
+    {
+        if let Some(lit) = self.search.decide(&self.trail) {
+            self.trail.push_level()?;
+            self.trail.assert(lit, Reason::Decision)?;
+        }
+        Ok(())
+    }
+
+    /// Goes back to the level, with the inferences that its entries rest on.
+    pub fn go_back(&mut self, level: usize)
+        requires level { level ≤ level_of self.old.trail }
+        requires reasoned { IsReasoned (known_in (stock_of self.old)) self.old.trail }
+        ensures { IsBackAt level self.old self.new }
+    {
+        self.search.undo(&self.trail, self.trail.count_at(level));
+        self.trail.back_to(level);
+        let len = kept_len(&self.trail, self.inferences.len(), &mut self.notes);
+        self.inferences.truncate(len);
+    }
+
+    /// Goes back to level 0.
+    pub fn restart(&mut self)
+        requires { IsReasoned (known_in (stock_of self.old)) self.old.trail }
+        ensures { IsBackAt 0 self.old self.new }
+    {
+        self.go_back(0);
+    }
+
+    /// Whether each variable has one value.
+    pub fn is_fixed(&mut self) -> bool
+        requires vars { self.old.search.vars ≡ length self.old.trail.declared }
+        requires filled { NoneEmpty self.old.trail.sets }
+        ensures fixed { IsTrue result → AllFixed self.new.trail.sets }
+        ensures many { IsFalse result → HasMany self.new.trail.sets }
+        ensures same { self.new ≡ self.old }
+    {
+        self.search.is_fixed(&self.trail)
+    }
+}
+
+/// The first literal of the clause that some value makes true.
+fn first_possible(clause: &[Lit], trail: &Trail) -> Option<Lit>
+    requires { IsClauseOver (length trail.now.declared) clause.now }
+    ensures { MatchOption result (possible_in trail.now.sets clause.now ≡ []) (λ lit. (rest : List Lit) × (possible_in trail.now.sets clause.now ≡ lit ∷ rest)) }
+{
+    for lit in clause {
+        if !trail.domain(lit.var).is_false(*lit) {
+            return Some(*lit);
+        }
+    }
+    None
+}
+
+/// The reason for asserting what the clause of this source forces.
+fn reason_of(source: Source) -> Reason
+    ensures { result ≡ reason_of source }
+{
+    match source {
+        Source::Held(id) => Reason::Clause(id),
+        Source::Stacked(place) => Reason::Inference(place),
+    }
+}
+
+/// How many inferences are kept, all on which entries rest among them. It goes over the trail only where enough were stacked since the
+/// last time.
+fn kept_len(trail: &Trail, count: usize, notes: &mut Notes) -> usize
+    requires { All (λ entry. IsBelow count entry.reason) trail.now.entries }
+    ensures { All (λ entry. IsBelow result entry.reason) trail.now.entries }
+{
+    if count < notes.next_cut {
+        return count;
+    }
+    let len = stack_len(trail, count);
+    notes.next_cut = len.saturating_add(trail.len()).saturating_add(SPARE);
+    len
+}
+
+/// How many inferences the entries rest on: no reason is one from this place of the stack on.
+fn stack_len(trail: &Trail, count: usize) -> usize
+    requires { All (λ entry. IsBelow count entry.reason) trail.now.entries }
+    ensures { All (λ entry. IsBelow result entry.reason) trail.now.entries }
+{
+    let mut len = 0;
+    for i in 0..trail.len() {
+        len = len.max(place_after(trail.entry(i).reason, count));
+    }
+    len
+}
+
+/// The place behind the one of the inference, and the first where there is none.
+fn place_after(reason: Reason, count: usize) -> usize
+    requires { IsBelow count reason }
+    ensures { IsBelow result reason }
+{
+    match reason {
+        Reason::Decision => 0,
+        Reason::Clause(_) => 0,
+        Reason::Inference(place) => place + 1,
+    }
+}

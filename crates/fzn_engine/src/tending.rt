@@ -1,0 +1,119 @@
+// What serves the next conflicts.
+ghost use Rattle.std.specs.Prelude.{◌≡◌, ◌<◌, [], OnOk, Some};
+ghost use Rattle.fzn_meaning.specs.declared.model.Model.{Model};
+ghost use Rattle.fzn_meaning.specs.WellFormed.{IsWellFormed};
+ghost use Rattle.fzn_cert.specs.declared.step.Step.{Step};
+ghost use Rattle.fzn_cert.specs.Accepted.{AllAccepted};
+ghost use Rattle.fzn_conflict.specs.declared.analysis.Learn.TheVariants.{First};
+ghost use Rattle.fzn_engine.specs.Search.{IsAfter, Learns, IsTended};
+
+use crate::fault::Fault;
+use crate::sink::Sink;
+use crate::solver::Solver;
+use fzn_cert::Step;
+use fzn_conflict::{Learn, unit_of};
+use fzn_meaning::Model;
+use std::alloc::Global;
+
+impl Solver {
+    /// Serves the next conflicts: clauses stand for entries of level 0 on which conflicts rested, what is of little use is forgotten, and
+    /// where the first unique implication point is learned the steps on which nothing rests are deleted.
+    pub fn tend<S: Sink>(&mut self, alloc: Global, model: &Model, sink: &mut S) -> Result<(), Fault>
+        requires model { IsWellFormed model.now }
+        requires state { IsAfter model.now self.old (S.written sink.old) }
+        requires kept { S.keeps model.now sink.old }
+        ensures tended { OnOk result (IsTended model.now self.old self.new (S.written sink.new)) }
+        ensures accepted { AllAccepted model.now (S.written sink.new) }
+        ensures kept { S.keeps model.now sink.new × (S.origin sink.new ≡ S.origin sink.old) }
+    {
+        self.prove_units(alloc, model, sink)?;
+        self.hold_cited()?;
+        self.forget(alloc, model)?;
+        self.delete(alloc, model, sink)?;
+        Ok(())
+    }
+
+    /// Learns the literals of the entries of level 0 for which clauses are wanted.
+    fn prove_units<S: Sink>(
+        &mut self,
+        alloc: Global,
+        model: &Model,
+        sink: &mut S,
+    ) -> Result<(), Fault>
+        requires model { IsWellFormed model.now }
+        requires state { IsAfter model.now self.old (S.written sink.old) }
+        requires kept { S.keeps model.now sink.old }
+        ensures tended { OnOk result (IsTended model.now self.old self.new (S.written sink.new)) }
+        ensures accepted { AllAccepted model.now (S.written sink.new) }
+        ensures kept { S.keeps model.now sink.new × (S.origin sink.new ≡ S.origin sink.old) }
+    {
+        match self.learn {
+            Learn::Plain => Ok(()),
+            Learn::First => {
+                self.prove_wanted(alloc, model, sink)?;
+                Ok(())
+            }
+        }
+    }
+
+    /// Learns them where learning is by the first unique implication point.
+    fn prove_wanted<S: Sink>(
+        &mut self,
+        alloc: Global,
+        model: &Model,
+        sink: &mut S,
+    ) -> Result<(), Fault>
+        requires model { IsWellFormed model.now }
+        requires state { IsAfter model.now self.old (S.written sink.old) }
+        requires kept { S.keeps model.now sink.old }
+        requires first { self.old.learn ≡ First }
+        ensures tended { OnOk result (IsTended model.now self.old self.new (S.written sink.new)) }
+        ensures accepted { AllAccepted model.now (S.written sink.new) }
+        ensures kept { S.keeps model.now sink.new × (S.origin sink.new ≡ S.origin sink.old) }
+    {
+        'wanted: for _ in 0..self.trail.len() {
+            let Some(place) = self.notes.marks.next_wanted() else {
+                return Ok(());
+            };
+            self.prove_unit(alloc, model, sink, place)?;
+        }
+        Ok(())
+    }
+
+    /// Learns the literal of an entry of level 0 as a clause of its own, where it follows as it should.
+    fn prove_unit<S: Sink>(
+        &mut self,
+        alloc: Global,
+        model: &Model,
+        sink: &mut S,
+        place: usize,
+    ) -> Result<(), Fault>
+        requires model { IsWellFormed model.now }
+        requires state { IsAfter model.now self.old (S.written sink.old) }
+        requires kept { S.keeps model.now sink.old }
+        requires first { self.old.learn ≡ First }
+        ensures tended { OnOk result (IsTended model.now self.old self.new (S.written sink.new)) }
+        ensures accepted { AllAccepted model.now (S.written sink.new) }
+        ensures kept { S.keeps model.now sink.new × (S.origin sink.new ≡ S.origin sink.old) }
+    {
+        let found = unit_of(
+            alloc,
+            &self.trail,
+            &self.clauses,
+            &self.inferences,
+            &mut self.scratch,
+            &mut self.notes.marks,
+            place,
+        )?;
+        let Some(unit) = found else {
+            return Ok(());
+        };
+        let ids = self.write_sources(alloc, model, sink, unit.sources.as_slice())?;
+        let clause = unit.clause;
+        let id = self.hold(clause.as_slice(), [].as_slice(), [].as_slice(), None)?;
+        let step = Step::Resolve { clause, ids };
+        sink.step(alloc, model, &step)?;
+        self.notes.marks.stand_for(place, id);
+        Ok(())
+    }
+}

@@ -1,0 +1,113 @@
+// Inferences are written where a clause that is written rests on them.
+ghost use Rattle.std.specs.Prelude.{◌≡◌, ◌+◌, ◌<◌, IfOk, Some};
+ghost use Rattle.std.specs.List.{All};
+ghost use Rattle.fzn_meaning.specs.declared.model.Model.{Model};
+ghost use Rattle.fzn_meaning.specs.WellFormed.{IsWellFormed};
+ghost use Rattle.fzn_cert.specs.declared.step.Step.{Step};
+ghost use Rattle.fzn_cert.specs.Accepted.{AllAccepted, past_of};
+ghost use Rattle.fzn_cert.specs.Past.{clause_held};
+ghost use Rattle.fzn_inferences.specs.Inferences.{IsStacked, inferred_clause};
+ghost use Rattle.fzn_conflict.specs.Reasoned.{IsKnown, clause_of};
+ghost use Rattle.fzn_engine.specs.State.{known_in};
+ghost use Rattle.fzn_engine.specs.Search.{IsAfter, stock_of, GiveSources, IsWritten};
+
+use crate::fault::Fault;
+use crate::sink::Sink;
+use crate::solver::Solver;
+use fzn_cert::Step;
+use fzn_conflict::{Source, clause_of};
+use fzn_inferences::Inferred;
+use fzn_list::Items;
+use fzn_meaning::Model;
+use std::alloc::Global;
+
+impl Solver {
+    /// Writes the inferences among the sources that are not written yet, and gives the numbers of all the sources' steps.
+    pub fn write_sources<S: Sink>(
+        &mut self,
+        alloc: Global,
+        model: &Model,
+        sink: &mut S,
+        sources: &[Source],
+    ) -> Result<Items<u64>, Fault>
+        requires model { IsWellFormed model.now }
+        requires state { IsAfter model.now self.old (S.written sink.old) }
+        requires kept { S.keeps model.now sink.old }
+        requires known { All (IsKnown (known_in (stock_of self.old))) sources.now }
+        ensures written { IfOk result (λ _. IsWritten model.now (S.written sink.old) self.old self.new (S.written sink.new)) }
+        ensures numbers { IfOk result (λ numbers. GiveSources (past_of model.now (S.written sink.new)) (known_in (stock_of self.old)) numbers sources.now) }
+        ensures accepted { AllAccepted model.now (S.written sink.new) }
+        ensures kept { S.keeps model.now sink.new × (S.origin sink.new ≡ S.origin sink.old) }
+    {
+        let mut numbers = Items::new(alloc);
+        for source in sources {
+            let number = self.write_source(alloc, model, sink, *source)?;
+            numbers.push(number)?;
+        }
+        Ok(numbers)
+    }
+
+    /// The number of the step that gives the source's clause, which is written where it was not.
+    fn write_source<S: Sink>(
+        &mut self,
+        alloc: Global,
+        model: &Model,
+        sink: &mut S,
+        source: Source,
+    ) -> Result<u64, Fault>
+        requires model { IsWellFormed model.now }
+        requires state { IsAfter model.now self.old (S.written sink.old) }
+        requires kept { S.keeps model.now sink.old }
+        requires known { IsKnown (known_in (stock_of self.old)) source }
+        ensures written { IfOk result (λ _. IsWritten model.now (S.written sink.old) self.old self.new (S.written sink.new)) }
+        ensures number { IfOk result (λ number. clause_held (past_of model.now (S.written sink.new)) number ≡ Some (clause_of (known_in (stock_of self.old)) source)) }
+        ensures accepted { AllAccepted model.now (S.written sink.new) }
+        ensures kept { S.keeps model.now sink.new × (S.origin sink.new ≡ S.origin sink.old) }
+    {
+        match source {
+            Source::Held(id) => Ok(self.numbers.as_slice()[id.0 as usize]),
+            Source::Stacked(place) => match self.inferences.get(place).number {
+                Some(number) => Ok(number),
+                None => {
+                    let number = self.write_inference(alloc, model, sink, place)?;
+                    Ok(number)
+                }
+            },
+        }
+    }
+
+    /// Writes the inference at this place, and gives the number of its step.
+    fn write_inference<S: Sink>(
+        &mut self,
+        alloc: Global,
+        model: &Model,
+        sink: &mut S,
+        place: usize,
+    ) -> Result<u64, Fault>
+        requires model { IsWellFormed model.now }
+        requires state { IsAfter model.now self.old (S.written sink.old) }
+        requires kept { S.keeps model.now sink.old }
+        requires stacked { IsStacked self.old.inferences place }
+        ensures written { IfOk result (λ _. IsWritten model.now (S.written sink.old) self.old self.new (S.written sink.new)) }
+        ensures number { IfOk result (λ number. clause_held (past_of model.now (S.written sink.new)) number ≡ Some (inferred_clause self.old.inferences place)) }
+        ensures accepted { AllAccepted model.now (S.written sink.new) }
+        ensures kept { S.keeps model.now sink.new × (S.origin sink.new ≡ S.origin sink.old) }
+    {
+        let Inferred {
+            constraint,
+            rule,
+            clause,
+            number: _,
+        } = self.inferences.copy(place)?;
+        let step = Step::Infer {
+            constraint,
+            rule,
+            clause,
+        };
+        self.alive.push(self.steps + 1)?;
+        sink.step(alloc, model, &step)?;
+        self.steps += 1;
+        self.inferences.set_number(place, self.steps);
+        Ok(self.steps)
+    }
+}
