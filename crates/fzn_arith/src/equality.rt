@@ -6,8 +6,8 @@ ghost use Rattle.fzn_meaning.specs.Term.{IsTerm};
 ghost use Rattle.fzn_arith.specs.Equality.{equality_number, EqualityIsFor, EqualityFits};
 
 use crate::sum::SumPropagator;
-use fzn_builtin::infer_equal;
 use fzn_domain::Memory;
+use fzn_equality::infer_equal;
 use fzn_meaning::{Relation, Term};
 use fzn_propagator::{Inference, Propagator};
 use fzn_rules::Rule;

@@ -1,10 +1,10 @@
 -- Intervals in which nothing meets a constraint refute it.
-use Rattle.std.proofs.Common.{◌≡◌, ℕ, ◌*◌, ◌≤◌, ◌<◌, true, false, List, [], ◌∷◌, length, refl, sym, ap, subst, ◌⊎◌, inl, inr, arith, ℤ, pos, negsuc, ◌+ℤ◌, ◌-ℤ◌, unsigned_abs, ◌*ℤ◌, ◌<ℤ◌, ◌≤ℤ◌, All}
+use Rattle.std.proofs.Common.{◌≡◌, ℕ, ◌*◌, ◌≤◌, true, false, List, [], ◌∷◌, length, refl, sym, ap, subst, ◌⊎◌, inl, inr, arith, ℤ, pos, negsuc, ◌+ℤ◌, ◌-ℤ◌, unsigned_abs, ◌*ℤ◌, ◌<ℤ◌, ◌≤ℤ◌}
 use Rattle.std.proofs.lemmas.Int.{ints}
 use Rattle.std.proofs.lemmas.List.Elements.{All-from_recursion, recursion_from_All}
 use Rattle.std.proofs.Math.IntN.{*ℤ_comm, pos-*ℤ-pos}
 use Rattle.std.proofs.Math.Nat.{mul-le-mul}
-use Rattle.fzn_domain.specs.IntSet.{IntSet, contains, size, width, range, natural_part}
+use Rattle.fzn_domain.specs.IntSet.{IntSet, contains, width, range, natural_part}
 use Rattle.fzn_domain.specs.Narrow.{set_of, is_some_empty}
 use Rattle.fzn_domain.proofs.DomainLemmas.{by_order}
 use Rattle.fzn_domain.proofs.SetLemmas.{size_within, size-range, contains-range}
@@ -14,9 +14,9 @@ use Rattle.fzn_meaning.specs.declared.arithmetic.Operation.{Operation}
 use Rattle.fzn_meaning.specs.declared.arithmetic.Operation.TheVariants as operation
 use Rattle.fzn_meaning.specs.declared.constraint.Constraint.TheVariants as constraint
 use Rattle.fzn_meaning.specs.Term.{IsTerm}
-use Rattle.fzn_state.specs.Terms.{MayBe, least_value, greatest_value}
+use Rattle.fzn_state.specs.Terms.{least_value, greatest_value}
 use Rattle.fzn_state.proofs.ValueLemmas.{IsBetween, MayBe-ends}
-use Rattle.fzn_builtin_rules.specs.Choices.{inputs_of, result_of, Relates, NoneOf, count_of, choices, IsChoice}
+use Rattle.fzn_builtin_rules.specs.Choices.{inputs_of, result_of, Relates, NoneOf, count_of, IsChoice}
 use Rattle.fzn_builtin_rules.specs.Product.{corners, IsBoxMet}
 use Rattle.fzn_builtin_rules.specs.Rows.{IsRowsMet}
 use Rattle.fzn_sums.proofs.CallerLemmas.{mono_up, mono_down}

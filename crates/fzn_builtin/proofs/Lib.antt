@@ -1,13 +1,3 @@
 mod AmountLemmas
-mod DenialLemmas
-mod ElementLemmas
-mod EqualityLemmas
-mod ExtremumLemmas
-mod FixedLemmas
 mod IntervalLemmas
-mod LastLemmas
-mod ListLemmas
-mod MeaningLemmas
 mod MemberLemmas
-mod OutcomeLemmas
-mod SharedLemmas

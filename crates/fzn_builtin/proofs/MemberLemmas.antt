@@ -1,5 +1,5 @@
 -- Claims of a term and a switch that refute a membership.
-use Rattle.std.proofs.Common.{◌≡◌, ℕ, ◌+◌, Bool, true, false, not, List, [], ◌∷◌, ◌++◌, length, sym, subst, ◌∙◌, inl, inr, arith, ℤ, pos, ◌≤ℤ◌, ◌<ℤ◌, ◌+ℤ◌, ◌-ℤ◌, All, Option, Some, None}
+use Rattle.std.proofs.Common.{◌≡◌, ℕ, Bool, true, false, not, List, [], ◌∷◌, ◌++◌, length, sym, subst, ◌∙◌, inl, inr, arith, ℤ, pos, ◌≤ℤ◌, ◌<ℤ◌, ◌+ℤ◌, ◌-ℤ◌, All, Option, Some, None}
 use Rattle.std.proofs.lemmas.Int.{ints}
 use Rattle.std.proofs.lemmas.Bool.{true≢false, cases_Bool}
 use Rattle.std.proofs.lemmas.List.Elements.{All-push, All-from_recursion, recursion_from_All}
@@ -10,8 +10,7 @@ use Rattle.fzn_meaning.specs.declared.term.Term.{Term}
 use Rattle.fzn_meaning.specs.declared.constraint.Constraint.TheVariants as constraint
 use Rattle.fzn_meaning.specs.Meaning.{IsSwitch}
 use Rattle.fzn_meaning.specs.Term.{IsTerm}
-use Rattle.fzn_state.specs.Terms.{MayBe, IsFixedTo, least_value, greatest_value}
-use Rattle.fzn_state.proofs.ValueLemmas.{MayBe-ends}
+use Rattle.fzn_state.specs.Terms.{MayBe}
 use Rattle.fzn_builtin_rules.specs.Rows.{IsRowsMet, IsSetMissed}
 use Rattle.fzn_rules.specs.declared.rule.Rule.TheVariants as rule
 use Rattle.fzn_rules.specs.Rules.{IsMet}
@@ -20,10 +19,7 @@ use Rattle.fzn_explain.specs.Claims.{IsDenied, Refute}
 use Rattle.fzn_builtin.specs.declared.interval.Interval.{Interval}
 use Rattle.fzn_builtin.specs.Intervals.{LiesIn}
 use Rattle.fzn_builtin.specs.Members.{AreAsked, IsNextAsked, NoneAsked, IsSwitchedTo}
-use Rattle.fzn_builtin.proofs.ListLemmas.{All-front, All-last}
-
-pub fixed_to : (sets : List IntSet) (switch : Term) (k : ℤ) → is_some_empty sets ≡ false → IsTerm (length sets) switch → ((v : ℤ) → MayBe sets switch v → v ≡ k) → IsFixedTo sets switch k
-fixed_to sets switch k filled fits only = let ends = MayBe-ends sets switch filled fits in (only (least_value sets switch) ends.0, only (greatest_value sets switch) ends.1)
+use Rattle.fzn_equality.proofs.CallerLemmas.{fixed_to, All-front, All-last}
 
 missed : (sets : List IntSet) (term : Term) (s : IntSet) (switch : Option Term) (within : Bool) → is_some_empty sets ≡ false → IsSwitch (length sets) switch → IsSwitchedTo sets switch within → ((v : ℤ) → MayBe sets term v → contains s v ≡ not within) → IsSetMissed sets term s switch
 missed sets term s None true filled fits switched none = λ v may here. true≢false (sym here ∙ none v may)

@@ -1,5 +1,5 @@
 -- Intervals of a constraint's places in which nothing meets it.
-use Rattle.std.specs.Prelude.{◌≡◌, ◌⊎◌, ◌*◌, ◌≤◌, ℤ, pos, ◌*ℤ◌, ◌<ℤ◌, ◌≤ℤ◌, List, unsigned_abs}
+use Rattle.std.specs.Prelude.{◌⊎◌, ◌*◌, ◌≤◌, ℤ, pos, ◌*ℤ◌, ◌<ℤ◌, ◌≤ℤ◌, List, unsigned_abs}
 use Rattle.fzn_domain.specs.Limits.{IsInLimits}
 use Rattle.fzn_domain.specs.IntSet.{IntSet, width}
 use Rattle.fzn_meaning.specs.declared.term.Term.{Term}

@@ -1,19 +1,13 @@
 -- The ghost members of the propagator of any kind.
-use Rattle.std.specs.Prelude.{◌≡◌, ℕ, false, List, length, ℤ}
-use Rattle.std.specs.List.{All}
-use Rattle.fzn_domain.specs.declared.literal.Lit.{Lit}
+use Rattle.std.specs.Prelude.{◌≡◌, ℕ, List, length}
 use Rattle.fzn_domain.specs.IntSet.{IntSet}
-use Rattle.fzn_domain.specs.Narrow.{IsClauseOver, IsWithin, denied, is_some_empty}
 use Rattle.fzn_meaning.specs.declared.constraint.Constraint.{Constraint}
-use Rattle.fzn_meaning.specs.Meaning.{Meets}
-use Rattle.fzn_builtin_rules.specs.Choices.{IsFixedMet}
 use Rattle.fzn_trail.specs.Levels.{Levels}
-use Rattle.fzn_trail.specs.Unit.{IsFalseOrUnit}
-use Rattle.fzn_propagator.specs.Inference.{IsWritable, HasWritableHints, AllFixed}
+use Rattle.fzn_propagator.specs.Inference.{HasWritableHints}
 use Rattle.fzn_explain.specs.Claims.{IsJustified}
 use Rattle.fzn_builtin.specs.declared.kinds.BuiltinPropagator.{BuiltinPropagator}
 use Rattle.fzn_builtin.specs.declared.narrow.Found.{Found}
-use Rattle.fzn_builtin.specs.Parts.{IsReady}
+use Rattle.fzn_fixed.specs.Parts.{IsReady}
 
 abbrev pub builtin_number : BuiltinPropagator → ℕ
 builtin_number propagator = propagator.number
@@ -23,18 +17,6 @@ BuiltinIsFor propagator constraint = propagator.parts.constraint ≡ constraint
 
 abbrev pub BuiltinFits : BuiltinPropagator → List IntSet → Type 0
 BuiltinFits propagator declared = IsReady (length declared) propagator.parts
-
--- a clause that is false or forces one literal, and on whose denied sets the rule `fixed` is met
-pub record IsFixedClause (trail : Levels) (constraint : Constraint) (clause : List Lit) : Type 0 where
-  pub over : IsClauseOver (length trail.declared) clause
-  pub writable : All IsWritable clause
-  pub forces : IsFalseOrUnit trail.sets clause
-  pub met : is_some_empty (denied trail.declared clause) ≡ false → IsFixedMet constraint (denied trail.declared clause)
-
--- where all variables are fixed, the constraint holds
-abbrev pub HoldsWhereFixed : Levels → Constraint → Type 0
-HoldsWhereFixed trail constraint =
-    AllFixed trail.sets → (values : List ℤ) → IsWithin trail.declared values → IsWithin trail.sets values → Meets constraint values
 
 -- a clause that is false or forces one literal, and from the constraint by the rule with it
 pub record IsFound (trail : Levels) (constraint : Constraint) (found : Found) : Type 0 where

@@ -1,10 +1,3 @@
-pub mod Demand
-pub mod Denial
-pub mod Equality
 pub mod Intervals
 pub mod Kinds
 pub mod Members
-pub mod Outcome
-pub mod Parts
-pub mod Rows
-pub mod Shared

@@ -8,8 +8,8 @@ ghost use Rattle.fzn_explain.specs.Claims.{IsJustified};
 
 use crate::excluded::Shape;
 use crate::exclusion::infer_ends;
-use crate::terms::{SMALL, may_be};
 use fzn_domain::{GREATEST_VALUE, LEAST_VALUE, Lit, Memory};
+use fzn_equality::{SMALL, may_be};
 use fzn_explain::{Claim, explain};
 use fzn_list::Items;
 use fzn_meaning::Term;

@@ -4,10 +4,10 @@ ghost use Rattle.fzn_domain.specs.Limits.{IsInLimits};
 ghost use Rattle.fzn_domain.specs.IntSet.{width};
 ghost use Rattle.fzn_meaning.specs.Arithmetic.{IsArithmetic};
 ghost use Rattle.fzn_builtin.specs.Intervals.{IsIn, IsLimitedInterval, IsProductBeyond, IsAmountBeyond, NoneGives, IsFew, AreFewPairs, IsExcluded};
-ghost use Rattle.fzn_builtin.specs.Outcome.{Admits};
+ghost use Rattle.fzn_fixed.specs.Outcome.{Admits};
 
 use crate::interval::Interval;
-use crate::outcome::{Outcome, of_operation};
+use fzn_fixed::{Outcome, of_operation};
 use fzn_meaning::Operation;
 
 /// How many numbers are gone over at most.

@@ -7,8 +7,8 @@ ghost use Rattle.fzn_meaning.specs.Term.{IsTerm};
 ghost use Rattle.fzn_explain.specs.Claims.{IsDenied};
 ghost use Rattle.fzn_builtin.specs.Intervals.{LiesIn, IsLimitedInterval};
 
-use crate::terms::never;
 use fzn_domain::{GREATEST_VALUE, LEAST_VALUE};
+use fzn_equality::never;
 use fzn_explain::Claim;
 use fzn_meaning::Term;
 use fzn_sums::{greatest_value, least_value};

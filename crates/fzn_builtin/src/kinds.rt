@@ -7,10 +7,9 @@ ghost use Rattle.fzn_builtin_rules.specs.Choices.{inputs_of};
 ghost use Rattle.fzn_builtin_rules.specs.Form.{form_of};
 ghost use Rattle.fzn_builtin.specs.Kinds.{builtin_number, BuiltinIsFor, BuiltinFits};
 
-use crate::fixed::refute_fixed;
 use crate::narrow::narrow;
-use crate::parts::{Parts, parts_of};
 use fzn_domain::Memory;
+use fzn_fixed::{Parts, parts_of, refute_fixed};
 use fzn_meaning::Model;
 use fzn_propagator::{Inference, Propagator};
 use fzn_rules::Rule;

@@ -14,8 +14,8 @@ ghost use Rattle.fzn_builtin.specs.Intervals.{IsLimitedInterval};
 ghost use Rattle.fzn_builtin.specs.Members.{AreAsked, IsNextAsked, NoneAsked, IsSwitchedTo};
 
 use crate::interval::{Interval, interval_of};
-use crate::terms::{SMALL, is_fixed, may_be, never};
 use fzn_domain::{Domain, GREATEST_VALUE, LEAST_VALUE, Lit, Memory};
+use fzn_equality::{SMALL, is_fixed, may_be, never};
 use fzn_explain::{Claim, explain};
 use fzn_list::Items;
 use fzn_meaning::Term;

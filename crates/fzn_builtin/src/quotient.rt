@@ -8,9 +8,9 @@ ghost use Rattle.fzn_builtin.specs.Intervals.{IsLimitedInterval, shaped, rule_of
 use crate::excluded::{Shape, are_few};
 use crate::exclusion::{infer_ends, outside_of};
 use crate::interval::{Interval, interval_of};
-use crate::outcome::{Outcome, of_operation};
-use crate::terms::SMALL;
 use fzn_domain::{Domain, GREATEST_VALUE, LEAST_VALUE, Lit, Memory, Op, VarId};
+use fzn_equality::SMALL;
+use fzn_fixed::{Outcome, of_operation};
 use fzn_list::Items;
 use fzn_meaning::{Operation, Term};
 use fzn_sums::{greatest_value, least_value};

@@ -1,9 +1,11 @@
 -- The lines of a certificate: the one spelling of each step, and which steps have one.
-use Rattle.std.specs.Prelude.{◌≡◌, ℕ, ◌^◌, ◌<◌, ◌≤◌, ℤ, pos, negsuc, ◌≤ℤ◌, ◌<ℤ◌, List, [], ◌∷◌, length}
+use Rattle.std.specs.Prelude.{◌≡◌, ℕ, ◌^◌, ◌<◌, ◌≤◌, ℤ, ◌≤ℤ◌, ◌<ℤ◌, List, [], ◌∷◌, length}
 use Rattle.std.specs.List.{AllByRecursion}
 use Rattle.fzn_domain.specs.declared.literal.Lit.{Lit}
+use Rattle.fzn_domain.specs.Limits.{IsNearLimits}
 use Rattle.fzn_rules.specs.declared.rule.Rule.{Rule}
 use Rattle.fzn_rules.specs.declared.rule.Rule.TheVariants.{Cut}
+pub use Rattle.fzn_rules.specs.Hints.{IsHint}
 use Rattle.fzn_cert.specs.declared.step.Step.{Step}
 use Rattle.fzn_cert.specs.declared.step.Step.TheVariants.{Infer, Resolve, Solution, Delete}
 use Rattle.fzn_cert.specs.declared.header.Header.{Header}
@@ -23,11 +25,7 @@ IsNumber n = (1 ≤ n) × (n < 10 ^ 18)
 
 -- from -1,000,000,001 to 1,000,000,001
 abbrev pub IsValue : ℤ → Type 0
-IsValue z = IsIn (negsuc 1000000000) (pos 1000000001) z
-
--- from -4,000,000,000 to 4,000,000,000
-abbrev pub IsHint : ℤ → Type 0
-IsHint z = IsIn (negsuc 3999999999) (pos 4000000000) z
+IsValue z = IsNearLimits z
 
 abbrev pub IsLiteral : Lit → Type 0
 IsLiteral lit = IsNumber lit.var.0 × IsValue lit.value

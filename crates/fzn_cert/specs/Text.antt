@@ -6,6 +6,7 @@ use Rattle.fzn_domain.specs.declared.literal.Op.{Op}
 use Rattle.fzn_domain.specs.declared.literal.Op.TheVariants.{AtMost, AtLeast, Equal, NotEqual}
 use Rattle.fzn_domain.specs.declared.literal.Lit.{Lit}
 use Rattle.fzn_rules.specs.declared.rule.Rule.{Rule}
+use Rattle.fzn_rules.specs.Hints.{hints_of}
 use Rattle.fzn_rules.specs.declared.rule.Rule.TheVariants.{Lin, Rows, Box, Fixed, Enum, Hall, Load, Energy, Cut, Pair}
 use Rattle.fzn_cert.specs.declared.step.Step.{Step}
 use Rattle.fzn_cert.specs.declared.step.Step.TheVariants.{Infer, Resolve, Solution, Delete}
@@ -37,16 +38,7 @@ rule_name (Cut ps) = codes "cut"
 rule_name (Pair i j) = codes "pair"
 
 abbrev pub hints : Rule → List ℤ
-hints Lin = []
-hints Rows = []
-hints Box = []
-hints Fixed = []
-hints Enum = []
-hints (Hall a b) = a ∷ b ∷ []
-hints (Load t) = t ∷ []
-hints (Energy t u) = t ∷ u ∷ []
-hints (Cut ps) = ps
-hints (Pair i j) = i ∷ j ∷ []
+hints rule = hints_of rule
 
 -- the words of a step's line
 abbrev pub step_words : Step → List (List ℕ)

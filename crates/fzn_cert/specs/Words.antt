@@ -1,12 +1,14 @@
 -- Reading one word, and words in a row.
-use Rattle.std.specs.Prelude.{ℕ, ◌==◌, nat_eq, nat_le, Bool, not, ◌&&◌, ◌||◌, ℤ, pos, negsuc, int_le, neg_ℤ, List, [], ◌∷◌, length, take, drop, slice_index, Option, Some, None, if◌then◌else◌, codes}
+use Rattle.std.specs.Prelude.{ℕ, ◌==◌, nat_eq, nat_le, Bool, not, ◌&&◌, ◌||◌, ℤ, pos, int_le, neg_ℤ, List, [], ◌∷◌, length, take, drop, slice_index, Option, Some, None, if◌then◌else◌, codes}
 use Rattle.std.specs.List.{list_all, position_or_len, starts_with}
 use Rattle.std.specs.Char.{is_ascii_digit}
 use Rattle.std.specs.Str.{bytes_eq}
 use Rattle.std.specs.Str.Parse.{digits_value}
+use Rattle.fzn_domain.specs.declared.literal.TheConstants.{LEAST_BOUND, GREATEST_BOUND}
 use Rattle.fzn_domain.specs.declared.literal.Op.{Op}
 use Rattle.fzn_domain.specs.declared.literal.Op.TheVariants.{AtMost, AtLeast, Equal, NotEqual}
 use Rattle.fzn_domain.specs.declared.literal.Lit.{Lit}
+use Rattle.fzn_rules.specs.declared.rule.TheConstants.{LEAST_HINT, GREATEST_HINT}
 
 infixl 10 ◌>>=◌
 abbrev pub ◌>>=◌ : {A B : Type 0} → Option A → (A → Option B) → Option B
@@ -41,13 +43,13 @@ unfoldable pub integer_within : ℤ → ℤ → List ℕ → Option ℤ
 integer_within low high word = integer_of word >>= λ z. if is_within low high z then Some z else None
 
 abbrev pub is_value : ℤ → Bool
-is_value z = is_within (negsuc 1000000000) (pos 1000000001) z
+is_value z = is_within LEAST_BOUND GREATEST_BOUND z
 
 abbrev pub value_of : List ℕ → Option ℤ
-value_of word = integer_within (negsuc 1000000000) (pos 1000000001) word
+value_of word = integer_within LEAST_BOUND GREATEST_BOUND word
 
 abbrev pub hint_of : List ℕ → Option ℤ
-hint_of word = integer_within (negsuc 3999999999) (pos 4000000000) word
+hint_of word = integer_within LEAST_HINT GREATEST_HINT word
 
 -- an operator at the front, and the bytes after it
 unfoldable pub op_at : List ℕ → Option (Op × List ℕ)

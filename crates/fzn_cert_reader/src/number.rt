@@ -5,6 +5,8 @@ ghost use Rattle.std.specs.Str.Parse.{digits_value};
 ghost use Rattle.fzn_cert.specs.Words.{is_sized, natural_of, number_of, integer_of, is_within, hint_of, value_of, is_value};
 
 use crate::words::Item;
+use fzn_domain::{GREATEST_BOUND, LEAST_BOUND};
+use fzn_rules::{GREATEST_HINT, LEAST_HINT};
 
 #[tactic(auto, unfolding(fzn_cert::specs::Words::natural_of))]
 /// The number that a word of at most 18 digits spells.
@@ -55,7 +57,7 @@ fn is_negative(word: &[u8]) -> bool
 pub fn is_value(number: i64) -> bool
     ensures { result ≡ is_value number }
 {
-    -1_000_000_001 <= number && number <= 1_000_000_001
+    LEAST_BOUND <= number && number <= GREATEST_BOUND
 }
 
 /// The number of a literal or of a solution that a word spells.
@@ -77,7 +79,7 @@ impl Item for i64 {
     #[tactic(auto, unfolding(fzn_cert::specs::Words::integer_within))]
     fn of_word(word: &[u8]) -> Option<i64> {
         match integer_of(word) {
-            Some(number) if -4_000_000_000 <= number && number <= 4_000_000_000 => Some(number),
+            Some(number) if LEAST_HINT <= number && number <= GREATEST_HINT => Some(number),
             _ => None,
         }
     }

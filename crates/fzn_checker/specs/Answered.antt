@@ -2,7 +2,7 @@
 use Rattle.std.specs.Prelude.{◌≡◌, ℕ, Bool, true, ℤ, List, length, Option, IfSome, Ok, Err}
 use Rattle.std.specs.Io.KnownBytes.{Appends, Keeps}
 use Rattle.fzn_output.specs.Output.{AppendsFront}
-use Rattle.fzn_lexer.specs.declared.fault.ReadError.TheVariants as errors
+use Rattle.fzn_lexer.specs.declared.halt.Halt.TheVariants as errors
 use Rattle.fzn_meaning.specs.declared.model.Model.{Model}
 use Rattle.fzn_meaning.specs.Solutions.{IsProper, IsExhausted}
 use Rattle.fzn_printer.specs.Answer.{answer_text}

@@ -4,19 +4,16 @@ ghost use Rattle.std.specs.List.{All};
 ghost use Rattle.fzn_domain.specs.Limits.{IsLimited};
 ghost use Rattle.fzn_state.specs.State.{start};
 ghost use Rattle.fzn_conflict.specs.declared.analysis.Learn.TheVariants.{Plain};
-ghost use Rattle.fzn_conflict.specs.Learned.{IsConflicting, IsDerived, IsLearned, IsPlain};
-ghost use Rattle.fzn_conflict.specs.Reasoned.{known_of, AreOver, IsReasoned};
+ghost use Rattle.fzn_learned.specs.Learned.{IsConflicting, IsDerived, IsLearned, IsPlain};
+ghost use Rattle.fzn_learned.specs.Reasoned.{known_of, AreOver, IsReasoned};
 
 use crate::first_uip::{first_uip, wanted_clause};
-use crate::implications::Implications;
 use crate::marks::Marks;
-use crate::plain::{plain_clause, plain_sources};
-use crate::source::Source;
-use crate::trial::{is_derived, is_sound};
+use fzn_causes::Implications;
 use fzn_clauses::Clauses;
-use fzn_domain::{Lit, Memory};
+use fzn_domain::Memory;
 use fzn_inferences::Inferences;
-use fzn_list::Items;
+use fzn_learned::{Learned, Source, is_derived, is_sound, plain_learned};
 use fzn_state::State;
 use fzn_trail::Trail;
 use std::alloc::Global;
@@ -28,42 +25,6 @@ pub enum Learn {
     Plain,
     /// That of the first unique implication point, and where it does not serve the plain one.
     First,
-}
-
-/// A clause that follows by unit propagation from the clauses of these sources, in this order.
-#[derive(Debug, Drop)]
-pub struct Learned {
-    pub clause: Items<Lit>,
-    pub sources: Items<Source>,
-    /// Where the search goes back to.
-    pub level: usize,
-    /// How many levels its literals stand on.
-    pub levels: usize,
-    /// What was needed of the entries that the analysis looked at, once for each; none for the plain clause.
-    pub marked: Items<Lit>,
-}
-
-/// The plain clause.
-fn plain(
-    alloc: Global,
-    trail: &Trail,
-    clauses: &Clauses,
-    inferences: &Inferences,
-    conflict: Source,
-) -> Result<Learned, Memory>
-    requires reasoned { IsReasoned (known_of clauses.now inferences.now) trail.now }
-    requires limited { All IsLimited trail.now.declared }
-    requires conflict { IsConflicting (known_of clauses.now inferences.now) trail.now.sets conflict }
-    ensures learned { IfOk result (IsLearned (known_of clauses.now inferences.now) trail.now) }
-    ensures plain { IfOk result (IsPlain trail.now conflict) }
-{
-    Ok(Learned {
-        clause: plain_clause(alloc, trail, clauses, inferences)?,
-        sources: plain_sources(alloc, trail, conflict)?,
-        level: trail.level().saturating_sub(1),
-        levels: trail.level(),
-        marked: Items::new(alloc),
-    })
 }
 
 /// What is learned from a known clause that is false on the trail. The state has the declared sets, and is restored.
@@ -88,7 +49,7 @@ pub fn analyse(
 {
     match learn {
         Learn::Plain => {
-            let learned = plain(alloc, trail, clauses, inferences, conflict)?;
+            let learned = plain_learned(alloc, trail, clauses, inferences, conflict)?;
             Ok(learned)
         }
         Learn::First => {
@@ -128,7 +89,7 @@ fn first_or_plain(
     if is_sound(trail, clauses, inferences, state, &found)? {
         return Ok(found);
     }
-    let learned = plain(alloc, trail, clauses, inferences, conflict)?;
+    let learned = plain_learned(alloc, trail, clauses, inferences, conflict)?;
     Ok(learned)
 }
 

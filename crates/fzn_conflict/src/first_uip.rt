@@ -1,11 +1,9 @@
 // The clause of the first unique implication point (Zhang, Madigan, Moskewicz, Malik, Efficient Conflict Driven Learning, 2001).
 // Nothing is promised of it: what is learned is tested.
-use crate::analysis::Learned;
-use crate::implications::{Implications, source_of};
 use crate::marks::Marks;
-use crate::merge::{canonical, implies, opposite};
-use crate::source::Source;
+use fzn_causes::{Implications, canonical, implies, opposite, source_of};
 use fzn_domain::{Lit, Memory};
+use fzn_learned::{Learned, Source};
 use fzn_list::Items;
 use fzn_trail::ClauseId;
 use std::alloc::Global;
@@ -248,7 +246,7 @@ fn sources_of(
     Ok(sources)
 }
 
-/// What is needed of the marked entries above level 0.
+/// What is needed of the marked entries above level 0, and the equations that clauses need.
 fn marked_literals(
     alloc: Global,
     graph: Implications,
@@ -262,6 +260,9 @@ fn marked_literals(
         {
             items.push(need)?;
         }
+    }
+    for equation in marks.equations() {
+        items.push(*equation)?;
     }
     Ok(items)
 }

@@ -1,11 +1,8 @@
 // Which entries of a trail a conflict rests on.
-use crate::causes::{Cause, Causes};
-use crate::gaps::Gap;
-use crate::implications::{Implications, source_of};
-use crate::merge::{canonical, implies};
 use crate::roots::Roots;
-use crate::source::Source;
+use fzn_causes::{Cause, Causes, Gap, Implications, canonical, implies, opposite, source_of};
 use fzn_domain::{Lit, Memory, Op, VarId};
+use fzn_learned::Source;
 use fzn_list::Items;
 use fzn_trail::{ClauseId, Entry};
 use std::alloc::Global;
@@ -17,6 +14,8 @@ pub struct Marks {
     needs: Vec<Option<Lit>>,
     /// The places of the marked entries, in the order in which they were marked.
     marked: Vec<usize>,
+    /// The equations that the clauses of the analysis need, once for each clause.
+    equations: Vec<Lit>,
     causes: Causes,
     /// What is known of the entries of level 0.
     roots: Roots,
@@ -32,6 +31,7 @@ impl Marks {
         Marks {
             needs: Vec::new(alloc),
             marked: Vec::new(alloc),
+            equations: Vec::new(alloc),
             causes: Causes::new(alloc),
             roots: Roots::new(alloc),
             level: None,
@@ -47,6 +47,7 @@ impl Marks {
             }
         }
         self.marked.clear();
+        self.equations.clear();
         self.causes.begin();
         self.level = None;
         self.open = 0;
@@ -135,6 +136,7 @@ impl Marks {
 
     /// Marks what made the literals of the conflict's clause false.
     pub fn explain(&mut self, graph: Implications, conflict: Source) -> Result<(), Memory> {
+        self.note_equations(graph, conflict, None)?;
         graph.find_causes(&mut self.causes, conflict, None)?;
         self.mark_causes(graph)
     }
@@ -146,9 +148,34 @@ impl Marks {
         forced: Lit,
         source: Source,
     ) -> Result<(), Memory> {
+        self.note_equations(graph, source, Some(forced))?;
+        self.rest_on(graph, forced, source)
+    }
+
+    fn rest_on(&mut self, graph: Implications, forced: Lit, source: Source) -> Result<(), Memory> {
         self.open = self.open.saturating_sub(1);
         graph.find_causes(&mut self.causes, source, Some(forced))?;
         self.mark_causes(graph)
+    }
+
+    /// Notes the equations that make literals of the source's clause false, but for the one that it forced.
+    fn note_equations(
+        &mut self,
+        graph: Implications,
+        source: Source,
+        forced: Option<Lit>,
+    ) -> Result<(), Memory> {
+        for lit in graph.clause(source) {
+            if lit.op == Op::NotEqual && Some(*lit) != forced {
+                self.equations.push(opposite(*lit))?;
+            }
+        }
+        Ok(())
+    }
+
+    /// The equations that were needed, once for each clause of the analysis that names one.
+    pub fn equations(&self) -> &[Lit] {
+        self.equations.as_slice()
     }
 
     /// The clause that stands for a marked entry of level 0, where there is one. Else marks what it rests on, and notes that a clause
@@ -163,7 +190,7 @@ impl Marks {
         if let Some(id) = self.roots.unit(place) {
             return Ok(Some(id));
         }
-        self.replace(graph, forced, source)?;
+        self.rest_on(graph, forced, source)?;
         if self.causes.len() > 0 {
             self.roots.want(place)?;
         }

@@ -21,6 +21,8 @@ pub struct Roots {
     roots: Vec<Root>,
     /// Those for which a clause is wanted.
     wanted: Vec<usize>,
+    /// Whether they stand last to first.
+    sorted: bool,
 }
 
 impl Roots {
@@ -29,6 +31,7 @@ impl Roots {
         Roots {
             roots: Vec::new(alloc),
             wanted: Vec::new(alloc),
+            sorted: true,
         }
     }
 
@@ -48,17 +51,18 @@ impl Roots {
         if place < self.roots.len() && self.roots[place] == Root::Unused {
             self.roots[place] = Root::Wanted;
             self.wanted.push(place)?;
+            self.sorted = false;
         }
         Ok(())
     }
 
     /// The first of the entries for which a clause is wanted, which is no longer noted.
     pub fn next_wanted(&mut self) -> Option<usize> {
-        if self.wanted.is_empty() {
-            return None;
+        if !self.sorted {
+            self.wanted.sort_unstable();
+            self.wanted.reverse();
+            self.sorted = true;
         }
-        self.wanted.sort_unstable();
-        self.wanted.reverse();
         self.wanted.pop()
     }
 

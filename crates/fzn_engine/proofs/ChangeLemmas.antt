@@ -22,10 +22,10 @@ use Rattle.fzn_trail.specs.Levels.{Levels, level_of, pushed, asserted, returned}
 use Rattle.fzn_trail.proofs.CallerLemmas.{declared-returned, level_of-returned}
 use Rattle.fzn_conflict.specs.declared.analysis.Learn.{Learn}
 use Rattle.fzn_conflict.specs.declared.analysis.Learn.TheVariants.{Plain}
-use Rattle.fzn_conflict.specs.declared.source.Source.{Source}
-use Rattle.fzn_conflict.specs.declared.source.Source.TheVariants.{Held}
-use Rattle.fzn_conflict.specs.Reasoned.{IsBelow, IsReasoned, Open, opens, reason_of}
-use Rattle.fzn_conflict.proofs.CallerLemmas.{IsReasoned-returned}
+use Rattle.fzn_learned.specs.declared.source.Source.{Source}
+use Rattle.fzn_learned.specs.declared.source.Source.TheVariants.{Held}
+use Rattle.fzn_learned.specs.Reasoned.{IsBelow, IsReasoned, Open, opens, reason_of}
+use Rattle.fzn_learned.proofs.CallerLemmas.{IsReasoned-returned}
 use Rattle.fzn_engine.specs.Volume.{volume, slack}
 use Rattle.fzn_engine.specs.Learned.{resolved, FreshAfter, negations}
 use Rattle.fzn_engine.specs.State.{Stock, known_in, with_held, with_inference, with_stack, IsJustified, CoreOf, PlainOf, StateOf, work}

@@ -16,7 +16,7 @@ use Rattle.fzn_inferences.specs.Inferences.{inference_at}
 use Rattle.fzn_trail.specs.Levels.{Levels}
 use Rattle.fzn_clauses.specs.Held.{clause_of}
 use Rattle.fzn_clauses.specs.Watching.{held_by}
-use Rattle.fzn_conflict.specs.Reasoned.{opens}
+use Rattle.fzn_learned.specs.Reasoned.{opens}
 use Rattle.fzn_engine.specs.declared.notes.Notes.{Notes}
 use Rattle.fzn_engine.specs.declared.solver.Solver.{Solver}
 use Rattle.fzn_engine.specs.Deletion.{IsInUse}

@@ -23,8 +23,8 @@ use Rattle.fzn_clauses.specs.Held.{Held, IsHeld, AllHeld, at_number, clause_of}
 use Rattle.fzn_clauses.specs.Kept.{KeepsWatching}
 use Rattle.fzn_clauses.specs.Watching.{held_by}
 use Rattle.fzn_clauses.proofs.HeldLemmas.{AllHeld-push}
-use Rattle.fzn_conflict.specs.Reasoned.{IsOther}
-use Rattle.fzn_conflict.proofs.CallerLemmas.{IsReasoned-grown, IsReasoned-without}
+use Rattle.fzn_learned.specs.Reasoned.{IsOther}
+use Rattle.fzn_learned.proofs.CallerLemmas.{IsReasoned-grown, IsReasoned-without}
 use Rattle.fzn_engine.specs.declared.notes.Notes.{Notes}
 use Rattle.fzn_engine.specs.declared.solver.Solver.{Solver}
 use Rattle.fzn_engine.specs.Forgetting.{IsFlagged}

@@ -16,7 +16,7 @@ use Rattle.fzn_trail.specs.Levels.{Levels}
 use Rattle.fzn_clauses.specs.Held.{AllHeld}
 use Rattle.fzn_conflict.specs.declared.analysis.Learn.{Learn}
 use Rattle.fzn_conflict.specs.declared.analysis.Learn.TheVariants.{Plain}
-use Rattle.fzn_conflict.proofs.CallerLemmas.{IsReasoned-grown}
+use Rattle.fzn_learned.proofs.CallerLemmas.{IsReasoned-grown}
 use Rattle.fzn_search.specs.Fixed.{AllFixed}
 use Rattle.fzn_engine.specs.Volume.{volume}
 use Rattle.fzn_engine.specs.State.{Stock, known_in, with_held, StateOf}

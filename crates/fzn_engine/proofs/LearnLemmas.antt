@@ -17,12 +17,12 @@ use Rattle.fzn_trail.proofs.CallerLemmas.{declared-returned}
 use Rattle.fzn_clauses.proofs.HeldLemmas.{IsHeld-newest, clause_of-newest}
 use Rattle.fzn_conflict.specs.declared.analysis.Learn.{Learn}
 use Rattle.fzn_conflict.specs.declared.analysis.Learn.TheVariants.{Plain}
-use Rattle.fzn_conflict.specs.declared.analysis.Learned.{Learned}
-use Rattle.fzn_conflict.specs.declared.source.Source.{Source}
-use Rattle.fzn_conflict.specs.declared.source.Source.TheVariants.{Held}
-use Rattle.fzn_conflict.specs.Learned.{IsEmptyOrForces, IsLearned, IsPlain}
-use Rattle.fzn_conflict.specs.Reasoned.{IsKnown, clause_of, reason_of, IsForced, IsReasoned}
-use Rattle.fzn_conflict.proofs.CallerLemmas.{IsReasoned-grown, IsReasoned-returned, IsReasoned-forced}
+use Rattle.fzn_learned.specs.declared.learned.Learned.{Learned}
+use Rattle.fzn_learned.specs.declared.source.Source.{Source}
+use Rattle.fzn_learned.specs.declared.source.Source.TheVariants.{Held}
+use Rattle.fzn_learned.specs.Learned.{IsEmptyOrForces, IsLearned, IsPlain}
+use Rattle.fzn_learned.specs.Reasoned.{IsKnown, clause_of, reason_of, IsForced, IsReasoned}
+use Rattle.fzn_learned.proofs.CallerLemmas.{IsReasoned-grown, IsReasoned-returned, IsReasoned-forced}
 use Rattle.fzn_engine.specs.State.{Stock, known_in, with_held, StateOf, work}
 use Rattle.fzn_engine.specs.Search.{GiveSources}
 use Rattle.fzn_engine.specs.Outcome.{IsCertified, IsRefuted}

@@ -27,9 +27,9 @@ use Rattle.fzn_clauses.proofs.HeldLemmas.{IsHeld-newest, clause_of-newest}
 use Rattle.fzn_clauses.proofs.WatchingLemmas.{IsWatching-asserted, IsWatching-pushed}
 use Rattle.fzn_conflict.specs.declared.analysis.Learn.{Learn}
 use Rattle.fzn_conflict.specs.declared.analysis.Learn.TheVariants.{Plain}
-use Rattle.fzn_conflict.specs.declared.source.Source.TheVariants.{Held}
-use Rattle.fzn_conflict.specs.Reasoned.{IsKnown, clause_of}
-use Rattle.fzn_conflict.proofs.CallerLemmas.{IsReasoned-decided}
+use Rattle.fzn_learned.specs.declared.source.Source.TheVariants.{Held}
+use Rattle.fzn_learned.specs.Reasoned.{IsKnown, clause_of}
+use Rattle.fzn_learned.proofs.CallerLemmas.{IsReasoned-decided}
 use Rattle.fzn_search.specs.Fixed.{AllFixed, HasMany}
 use Rattle.fzn_engine.specs.declared.limits.Ending.{Ending}
 use Rattle.fzn_engine.specs.declared.limits.Ending.TheVariants.{Closed, NodeLimit, SolutionLimit}

@@ -31,12 +31,12 @@ use Rattle.fzn_clauses.proofs.HeldLemmas.{IsHeld-newest, clause_of-newest}
 use Rattle.fzn_clauses.proofs.WatchingLemmas.{IsWatching-asserted, IsWatching-returned}
 use Rattle.fzn_conflict.specs.declared.analysis.Learn.{Learn}
 use Rattle.fzn_conflict.specs.declared.analysis.Learn.TheVariants.{Plain}
-use Rattle.fzn_conflict.specs.declared.analysis.Learned.{Learned}
-use Rattle.fzn_conflict.specs.declared.source.Source.{Source}
-use Rattle.fzn_conflict.specs.declared.source.Source.TheVariants.{Held, Stacked}
-use Rattle.fzn_conflict.specs.Learned.{IsConflicting, IsLearned, IsPlain}
-use Rattle.fzn_conflict.specs.Reasoned.{Known, AreOver, IsKnown, IsBelow, IsReasoned, clause_of, reason_of, IsForced}
-use Rattle.fzn_conflict.proofs.CallerLemmas.{IsReasoned-grown, IsReasoned-returned}
+use Rattle.fzn_learned.specs.declared.learned.Learned.{Learned}
+use Rattle.fzn_learned.specs.declared.source.Source.{Source}
+use Rattle.fzn_learned.specs.declared.source.Source.TheVariants.{Held, Stacked}
+use Rattle.fzn_learned.specs.Learned.{IsConflicting, IsLearned, IsPlain}
+use Rattle.fzn_learned.specs.Reasoned.{Known, AreOver, IsKnown, IsBelow, IsReasoned, clause_of, reason_of, IsForced}
+use Rattle.fzn_learned.proofs.CallerLemmas.{IsReasoned-grown, IsReasoned-returned}
 use Rattle.fzn_engine.specs.declared.inference.Inference.{Inference}
 use Rattle.fzn_engine.specs.declared.notes.Notes.{Notes}
 use Rattle.fzn_engine.specs.declared.solver.Solver.{Solver}

@@ -16,8 +16,8 @@ use Rattle.fzn_trail.specs.declared.trail.Entry.{Entry}
 use Rattle.fzn_trail.specs.Levels.{Levels}
 use Rattle.fzn_clauses.specs.Held.{AllHeld}
 use Rattle.fzn_clauses.proofs.HeldLemmas.{AllHeld-push}
-use Rattle.fzn_conflict.specs.Reasoned.{IsBelow, IsReasoned, Open}
-use Rattle.fzn_conflict.proofs.CallerLemmas.{IsReasoned-stacked, IsReasoned-cut}
+use Rattle.fzn_learned.specs.Reasoned.{IsBelow, IsReasoned, Open}
+use Rattle.fzn_learned.proofs.CallerLemmas.{IsReasoned-stacked, IsReasoned-cut}
 use Rattle.fzn_engine.specs.Volume.{volume, slack}
 use Rattle.fzn_engine.specs.Learned.{resolved, FreshAfter, negations, AllCertain, left_open, other_part}
 use Rattle.fzn_engine.specs.State.{Stock, known_in, with_held, with_inference, with_stack, IsJustified, CoreOf, PlainOf}

@@ -11,10 +11,10 @@ use Rattle.fzn_cert.specs.Accepted.{IsAccepted, AllAccepted, past_of}
 use Rattle.fzn_cert.specs.Spelling.{IsSpelled}
 use Rattle.fzn_trail.specs.Levels.{Levels}
 use Rattle.fzn_conflict.specs.declared.analysis.Learn.TheVariants.{Plain}
-use Rattle.fzn_conflict.specs.declared.analysis.Learned.{Learned}
-use Rattle.fzn_conflict.specs.Learned.{IsDerived}
-use Rattle.fzn_conflict.specs.Reasoned.{Known, clause_of}
-use Rattle.fzn_conflict.proofs.CallerLemmas.{IsReasoned-grown}
+use Rattle.fzn_learned.specs.declared.learned.Learned.{Learned}
+use Rattle.fzn_learned.specs.Learned.{IsDerived}
+use Rattle.fzn_learned.specs.Reasoned.{Known, clause_of}
+use Rattle.fzn_learned.proofs.CallerLemmas.{IsReasoned-grown}
 use Rattle.fzn_engine.specs.declared.limits.Limits.{Limits}
 use Rattle.fzn_engine.specs.declared.notes.Notes.{Notes}
 use Rattle.fzn_engine.specs.declared.solver.Solver.{Solver}

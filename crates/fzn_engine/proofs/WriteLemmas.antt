@@ -13,7 +13,7 @@ use Rattle.fzn_cert.specs.Accepted.{IsAccepted, after, past_of}
 use Rattle.fzn_inferences.specs.declared.inferences.Inferred.{Inferred}
 use Rattle.fzn_inferences.specs.Inferences.{inference_at, with_number}
 use Rattle.fzn_trail.specs.Levels.{Levels}
-use Rattle.fzn_conflict.specs.Reasoned.{Known, IsReasoned}
+use Rattle.fzn_learned.specs.Reasoned.{Known, IsReasoned}
 use Rattle.fzn_engine.specs.Volume.{slack}
 use Rattle.fzn_engine.specs.Learned.{resolved}
 use Rattle.fzn_engine.specs.State.{Stock, known_in, with_step, IsJustified, CoreOf}

@@ -9,8 +9,8 @@ use Rattle.fzn_cert.specs.Past.{Past, clause_held}
 use Rattle.fzn_cert.specs.Accepted.{AllAccepted, past_of}
 use Rattle.fzn_inferences.specs.declared.inferences.Inferred.{Inferred}
 use Rattle.fzn_inferences.specs.Inferences.{inference_at, with_number}
-use Rattle.fzn_conflict.specs.declared.source.Source.{Source}
-use Rattle.fzn_conflict.specs.Reasoned.{Known, clause_of, opens}
+use Rattle.fzn_learned.specs.declared.source.Source.{Source}
+use Rattle.fzn_learned.specs.Reasoned.{Known, clause_of, opens}
 use Rattle.fzn_engine.specs.declared.solver.Solver.{Solver}
 use Rattle.fzn_engine.specs.State.{Give, PlainOf}
 use Rattle.fzn_engine.specs.Search.{IsAfter, stock_of, GiveSources, StillGive, IsWritten}

@@ -17,11 +17,11 @@ use Rattle.fzn_clauses.specs.Kept.{KeepsWatching}
 use Rattle.fzn_clauses.specs.Watching.{held_by, IsWatching}
 use Rattle.fzn_conflict.specs.declared.analysis.Learn.{Learn}
 use Rattle.fzn_conflict.specs.declared.analysis.Learn.TheVariants.{Plain}
-use Rattle.fzn_conflict.specs.declared.analysis.Learned.{Learned}
-use Rattle.fzn_conflict.specs.declared.source.Source.{Source}
-use Rattle.fzn_conflict.specs.declared.source.Source.TheVariants.{Held}
-use Rattle.fzn_conflict.specs.Learned.{IsConflicting, IsLearned, IsPlain}
-use Rattle.fzn_conflict.specs.Reasoned.{Known, IsBelow, reason_of, clause_of}
+use Rattle.fzn_learned.specs.declared.learned.Learned.{Learned}
+use Rattle.fzn_learned.specs.declared.source.Source.{Source}
+use Rattle.fzn_learned.specs.declared.source.Source.TheVariants.{Held}
+use Rattle.fzn_learned.specs.Learned.{IsConflicting, IsLearned, IsPlain}
+use Rattle.fzn_learned.specs.Reasoned.{Known, IsBelow, reason_of, clause_of}
 use Rattle.fzn_search.specs.Fixed.{Splits}
 use Rattle.fzn_engine.specs.State.{Stock, known_in, with_held, with_stack, Give, StateOf, work}
 use Rattle.fzn_engine.specs.Outcome.{HasRoom, count, IsCertified, IsRefuted, IsEnded}

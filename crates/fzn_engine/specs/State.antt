@@ -19,7 +19,7 @@ use Rattle.fzn_trail.specs.Levels.{Levels}
 use Rattle.fzn_clauses.specs.Held.{Held, IsHeld, AllHeld, clause_of}
 use Rattle.fzn_conflict.specs.declared.analysis.Learn.{Learn}
 use Rattle.fzn_conflict.specs.declared.analysis.Learn.TheVariants.{Plain}
-use Rattle.fzn_conflict.specs.Reasoned.{Known, known_from, IsReasoned, Open, opens}
+use Rattle.fzn_learned.specs.Reasoned.{Known, known_from, IsReasoned, Open, opens}
 use Rattle.fzn_engine.specs.Volume.{volume, slack}
 use Rattle.fzn_engine.specs.Learned.{resolved, FreshAfter, HasCertain, LevelsBacked, left_open}
 

@@ -18,7 +18,7 @@ use crate::limits::{Ending, Limits};
 use crate::sink::Sink;
 use crate::solver::Solver;
 use fzn_cert::Step;
-use fzn_conflict::Source;
+use fzn_learned::Source;
 use fzn_meaning::{Goal, Model};
 use fzn_search::{cut, values_of};
 use fzn_trail::ClauseId;

@@ -8,8 +8,8 @@ ghost use Rattle.fzn_engine.specs.Search.{IsAfter, Holds, IsTended};
 
 use crate::solver::Solver;
 use fzn_cert::Step;
-use fzn_conflict::Source;
 use fzn_domain::{Lit, Memory};
+use fzn_learned::Source;
 use fzn_meaning::Model;
 use fzn_trail::ClauseId;
 

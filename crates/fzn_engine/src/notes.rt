@@ -1,6 +1,7 @@
 // What a search notes for its own speed. Nothing is promised of it: what comes of it is tested.
-use fzn_conflict::{Marks, Source};
+use fzn_conflict::Marks;
 use fzn_domain::Memory;
+use fzn_learned::Source;
 use fzn_trail::ClauseId;
 use std::alloc::Global;
 

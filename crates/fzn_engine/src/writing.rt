@@ -7,7 +7,7 @@ ghost use Rattle.fzn_cert.specs.declared.step.Step.{Step};
 ghost use Rattle.fzn_cert.specs.Accepted.{AllAccepted, past_of};
 ghost use Rattle.fzn_cert.specs.Past.{clause_held};
 ghost use Rattle.fzn_inferences.specs.Inferences.{IsStacked, inferred_clause};
-ghost use Rattle.fzn_conflict.specs.Reasoned.{IsKnown, clause_of};
+ghost use Rattle.fzn_learned.specs.Reasoned.{IsKnown, clause_of};
 ghost use Rattle.fzn_engine.specs.State.{known_in};
 ghost use Rattle.fzn_engine.specs.Search.{IsAfter, stock_of, GiveSources, IsWritten};
 
@@ -15,8 +15,8 @@ use crate::fault::Fault;
 use crate::sink::Sink;
 use crate::solver::Solver;
 use fzn_cert::Step;
-use fzn_conflict::{Source, clause_of};
 use fzn_inferences::Inferred;
+use fzn_learned::{Source, clause_of};
 use fzn_list::Items;
 use fzn_meaning::Model;
 use std::alloc::Global;

@@ -6,7 +6,7 @@ ghost use Rattle.fzn_lexer.specs.Kept.{inside};
 use crate::token::Symbol;
 
 /// What a token is, beside its text.
-#[derive(Clone, Copy, Debug, PartialEq, Eq)]
+#[derive(Clone, Copy, Debug)]
 pub enum Form {
     Symbol(Symbol),
     Name,
@@ -30,7 +30,7 @@ impl Form {
 }
 
 /// A token, the bytes of a file from `start` up to `end`.
-#[derive(Clone, Copy, Debug, PartialEq, Eq)]
+#[derive(Clone, Copy, Debug)]
 pub struct Kept {
     pub form: Form,
     pub start: u32,

@@ -5,8 +5,9 @@ ghost use Rattle.fzn_lexer.specs.Steps.{StandsNext};
 ghost use Rattle.fzn_lexer.specs.Tokens.{IsKnown, Lexes, EndsInEnd};
 
 use crate::bytes::Class;
-use crate::fault::{Fault, FaultKind, ReadError};
+use crate::fault::{Fault, FaultKind};
 use crate::gap::gap_len;
+use crate::halt::Halt;
 use crate::kept::{Form, Kept};
 use crate::lexeme::read_lexeme;
 use crate::list::TokenList;
@@ -18,7 +19,7 @@ use std::alloc::Global;
 pub const MAX_FILE: usize = 16_777_216;
 
 /// What stands next in a file.
-#[derive(Clone, Copy, Debug)]
+#[derive(Clone, Copy)]
 pub enum Next {
     Token(Kept),
     End(Kept),
@@ -52,7 +53,7 @@ fn read_next(bytes: &[u8], from: usize) -> Result<Next, Fault>
 }
 
 /// The tokens of a file all of whose bytes may stand in one.
-fn scan(alloc: Global, bytes: &[u8]) -> Result<TokenList<'_>, ReadError>
+fn scan(alloc: Global, bytes: &[u8]) -> Result<TokenList<'_>, Halt<Fault>>
     requires { IsKnown bytes.now }
     ensures { Lexes bytes.now result }
 {
@@ -68,25 +69,25 @@ fn scan(alloc: Global, bytes: &[u8]) -> Result<TokenList<'_>, ReadError>
                 kept.push(token)?;
                 return Ok(TokenList::new(bytes, kept));
             }
-            Err(fault) => return Err(ReadError::Fault(fault)),
+            Err(fault) => return Err(Halt::Fault(fault)),
         }
     }
 }
 
 /// The tokens of a file, or its first fault.
-pub fn tokens(alloc: Global, bytes: &[u8]) -> Result<TokenList<'_>, ReadError>
+pub fn tokens(alloc: Global, bytes: &[u8]) -> Result<TokenList<'_>, Halt<Fault>>
     ensures right { Lexes bytes.now result }
     ensures ends { IfOk result EndsInEnd }
 {
     if bytes.len() > MAX_FILE {
-        return Err(ReadError::Fault(Fault {
+        return Err(Halt::Fault(Fault {
             kind: FaultKind::FileTooLong,
             place: Place::START,
         }));
     }
     let known = Class::Known.run(bytes);
     if known < bytes.len() {
-        return Err(ReadError::Fault(Fault {
+        return Err(Halt::Fault(Fault {
             kind: FaultKind::BadByte,
             place: Place::START.behind(&bytes[..known]),
         }));

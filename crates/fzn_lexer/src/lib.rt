@@ -7,6 +7,7 @@
 mod bytes;
 mod fault;
 mod gap;
+mod halt;
 mod kept;
 mod law;
 mod lexeme;
@@ -20,7 +21,8 @@ mod token;
 mod word;
 
 pub use bytes::Class;
-pub use fault::{Fault, FaultKind, ReadError};
+pub use fault::{Fault, FaultKind};
+pub use halt::Halt;
 pub use kept::{Form, Kept, inside};
 pub use law::one_reading;
 pub use lexer::{MAX_FILE, tokens};

@@ -8,7 +8,7 @@ use crate::token::Place;
 use std::marker::Model;
 
 /// The place of the byte with an index.
-#[derive(Clone, Copy, Debug)]
+#[derive(Clone, Copy)]
 pub struct Known {
     pub index: usize,
     pub place: Place,

@@ -2,9 +2,10 @@
 
 use crate::kinds::model_of;
 use crate::rules::declared;
+use fzn_builtin_rules::{Places, form_is_meant, form_of, outcome_of, relation_is_meant};
 use fzn_domain::{Memory, VarId};
 use fzn_list::{Items, Shared};
-use fzn_meaning::{Rows, Term};
+use fzn_meaning::{Model, Operation, Place, Rows, Term};
 use fzn_state::{State, greatest_value, is_fixed_to, is_index, least_value, may_be, term_at};
 use std::alloc::Global;
 use std::test::*;
@@ -70,4 +71,64 @@ fn rows_are_their_constants(rt: HostRuntime) -> Result<(), Fail> {
     let want = [Term::Constant(4), Term::Constant(-2)];
     assert!(rt; rows.constants() == want.as_slice());
     Ok(())
+}
+
+#[test]
+fn places_of_a_form(rt: HostRuntime) {
+    let x = Term::Variable(VarId(1));
+    let five = Term::Constant(5);
+    let places = Places::Difference(x, five);
+    assert_eq!(rt; places.len(), 2);
+    assert_eq!(rt;
+        places.place(0),
+        Place {
+            coefficient: 1,
+            term: x
+        }
+    );
+    assert_eq!(rt;
+        places.place(1),
+        Place {
+            coefficient: -1,
+            term: five
+        }
+    );
+}
+
+/// The bound of each constraint's form.
+fn bounds_of_forms(alloc: Global, model: &Model) -> Result<String, Memory> {
+    let mut text = String::new(alloc);
+    for constraint in model.constraints.as_slice() {
+        match form_of(constraint) {
+            Some(form) => write!(text, "{} ", form.bound)?,
+            None => text.push_str("none ")?,
+        }
+    }
+    Ok(text)
+}
+
+#[test]
+fn forms_of_constraints(rt: HostRuntime) -> Result<(), Fail> {
+    let model = model_of(
+        rt.alloc(),
+        "var bool: a; var bool: b; var 0..5: x; constraint bool_clause([a,b],[a,b,b]); constraint int_lin_le([2],[x],7);
+        constraint bool_not(a,b); constraint int_abs(x,x); solve satisfy;",
+    )?;
+    assert_eq!(rt;
+        bounds_of_forms(rt.alloc(), &model)?.as_str(),
+        "2 7 1 none "
+    );
+    Ok(())
+}
+
+#[test]
+fn rules_know_what_is_meant(rt: HostRuntime) {
+    assert_eq!(rt; (form_is_meant(), relation_is_meant()), ((), ()));
+}
+
+#[test]
+fn quotients_round_towards_0(rt: HostRuntime) {
+    assert_eq!(rt; outcome_of(Operation::Quotient, &-7, &2), Some(-3));
+    assert_eq!(rt; outcome_of(Operation::Remainder, &-7, &2), Some(-1));
+    assert_eq!(rt; outcome_of(Operation::Quotient, &-7, &0), None);
 }

@@ -11,7 +11,7 @@ ghost use Rattle.fzn_symbols.specs.Variables.{vars_of};
 use crate::fault::{added_by, var_fault};
 use crate::param::param_names;
 use fzn_domain::VarId;
-use fzn_lexer::ReadError;
+use fzn_lexer::{Fault, Halt};
 use fzn_list::Text;
 use fzn_symbols::{Declared, NamedList, Names, kind_of, terms_of};
 use fzn_tree::{Param, Var};
@@ -61,7 +61,7 @@ fn var_names(
     earlier: Names,
     mut before: usize,
     mut vars: &[Var],
-) -> Result<Names, ReadError>
+) -> Result<Names, Halt<Fault>>
     requires before { before ≤ longest }
     requires within { All IsVarWithin vars.now }
     requires few { length (vars_of vars.now) ≤ longest }
@@ -71,7 +71,7 @@ fn var_names(
     let mut number = 1;
     while let [var, rest @ ..] = vars {
         if let Some(fault) = var_fault(&names, before, var) {
-            return Err(ReadError::Fault(fault));
+            return Err(Halt::Fault(fault));
         }
         let value = var_value(alloc, &names, number, var)?;
         names.insert(alloc, name_of(var), value)?;
@@ -88,7 +88,7 @@ pub fn names_of(
     params: &[Param],
     vars: &[Var],
     stated: usize,
-) -> Result<Names, ReadError>
+) -> Result<Names, Halt<Fault>>
     requires within { AreDeclarationsWithin params.now vars.now }
     requires stated { stated ≤ longest }
     ensures { Gives (declaration_faults params.now vars.now stated) (λ names. known names ≡ names_of params.now vars.now) result }

@@ -10,7 +10,7 @@ ghost use Rattle.fzn_symbols.specs.Types.{set_literals, wrong_literals};
 ghost use Rattle.fzn_symbols.specs.Values.{literal_value};
 
 use fzn_domain::Domain;
-use fzn_lexer::{Fault, FaultKind, Place, ReadError};
+use fzn_lexer::{Fault, FaultKind, Halt, Place};
 use fzn_meaning::Kind;
 use fzn_registry::Argument;
 use fzn_symbols::{
@@ -184,14 +184,14 @@ fn param_value(alloc: Global, param: &Param) -> Result<Declared, AllocError>
 
 /// The names of the parameters, or their first fault.
 #[tactic(auto, using(fzn_symbols::proofs::CallerLemmas::firsts))]
-pub fn param_names(alloc: Global, mut params: &[Param]) -> Result<Names, ReadError>
+pub fn param_names(alloc: Global, mut params: &[Param]) -> Result<Names, Halt<Fault>>
     requires { All IsParamWithin params.now }
     ensures { Gives (params_faults [] params.now) (λ names. known names ≡ param_names params.now) result }
 {
     let mut names = Names::new(alloc);
     while let [param, rest @ ..] = params {
         if let Some(fault) = param_fault(&names, param) {
-            return Err(ReadError::Fault(fault));
+            return Err(Halt::Fault(fault));
         }
         let value = param_value(alloc, param)?;
         names.insert(alloc, &param.name.text, value)?;

@@ -7,7 +7,7 @@ ghost use Rattle.fzn_typing.specs.Limits.{IsConWithin, IsWithinLimits};
 
 use crate::symbols::set;
 use fzn_domain::VarId;
-use fzn_lexer::{ReadError, tokens};
+use fzn_lexer::{Fault, Halt, tokens};
 use fzn_list::{Items, Text};
 use fzn_meaning::{OutputItem, Term};
 use fzn_names::{names_of, outputs_of, shown_of};
@@ -218,7 +218,7 @@ fn vars(alloc: Global, text: &mut String, tree: &Tree) -> Result<(), AllocError>
     Ok(())
 }
 
-fn declared(alloc: Global, text: &mut String, tree: &Tree) -> Result<(), ReadError>
+fn declared(alloc: Global, text: &mut String, tree: &Tree) -> Result<(), Halt<Fault>>
     requires { IsWithinLimits tree.now }
 {
     let names = names_of(alloc, tree.params.as_slice(), tree.vars.as_slice(), 1)?;
@@ -228,7 +228,7 @@ fn declared(alloc: Global, text: &mut String, tree: &Tree) -> Result<(), ReadErr
     Ok(())
 }
 
-fn model(alloc: Global, text: &mut String, tree: &Tree) -> Result<(), ReadError>
+fn model(alloc: Global, text: &mut String, tree: &Tree) -> Result<(), Halt<Fault>>
     requires { IsWithinLimits tree.now }
 {
     let model = type_check(alloc, tree)?;

@@ -4,7 +4,7 @@ use Rattle.fzn_lexer.specs.declared.token.Token.{Token}
 use Rattle.fzn_lexer.specs.declared.fault.FaultKind.{FaultKind}
 use Rattle.fzn_lexer.specs.declared.fault.FaultKind.TheVariants.{Syntax}
 use Rattle.fzn_tree.specs.Piece.{Piece, Fits, AreSpelled, AreWithin}
-use Rattle.fzn_parser.specs.Parse.{NoEnd}
+use Rattle.fzn_lexer.specs.Tokens.{NoEnd}
 use Rattle.fzn_parser.specs.Reading.{Outcome, next_is}
 
 -- both lists end, or both go on with this token

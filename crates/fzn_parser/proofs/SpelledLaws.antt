@@ -3,7 +3,7 @@ use Rattle.std.proofs.Common.{◌≡◌, ℕ, zero, suc, ◌+◌, Bool, List, []
 use Rattle.fzn_lexer.specs.declared.token.Token.{Token}
 use Rattle.fzn_lexer.specs.declared.fault.FaultKind.{FaultKind}
 use Rattle.fzn_tree.specs.Piece.{Piece, AreSpelled, AreWithin}
-use Rattle.fzn_parser.specs.Parse.{NoEnd}
+use Rattle.fzn_lexer.specs.Tokens.{NoEnd}
 use Rattle.fzn_parser.specs.Reading.{next_is}
 use Rattle.fzn_parser.proofs.Exact.{SameNext, IsPast, Limited}
 

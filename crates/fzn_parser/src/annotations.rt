@@ -5,11 +5,12 @@ ghost use Rattle.fzn_lexer.specs.declared.token.Symbol.TheVariants.{CloseBracket
 ghost use Rattle.fzn_parser.specs.Reading.{Gives};
 ghost use Rattle.fzn_parser.specs.Readers as spec;
 
-use crate::cursor::{MOST, Start, Stop, Tokens};
+use crate::cursor::Start::Sign;
+use crate::cursor::{Start, Stop, Tokens};
 use crate::lists::{Part, many};
 use crate::values::literal;
 use fzn_lexer::{FaultKind, Symbol};
-use fzn_list::Items;
+use fzn_list::{Items, LONGEST};
 use fzn_tree::{Ann, AnnArg, AnnTerm};
 use std::alloc::Global;
 
@@ -21,10 +22,9 @@ const DEEPEST: usize = 64;
 fn ann(alloc: Global, tokens: &mut Tokens<'_>, levels: usize) -> Result<Ann, Stop>
     ensures gives { Gives (spec.ann levels tokens.old) result tokens.new }
     ensures shorter { OnOk result (length tokens.new < length tokens.old) }
-    ensures never_longer { length tokens.new ≤ length tokens.old }
 {
     let name = tokens.name(alloc)?;
-    if !tokens.sees(Symbol::OpenParen) {
+    if !tokens.sees(Sign(Symbol::OpenParen)) {
         return Ok(Ann { name, args: None });
     }
     if levels == 0 {
@@ -46,16 +46,16 @@ fn ann_args(
     levels: usize,
 ) -> Result<Items<AnnArg<Ann>>, Stop>
     ensures gives { Gives (spec.ann_args levels tokens.old) result tokens.new }
-    ensures never_longer { length tokens.new ≤ length tokens.old }
+    ensures never_longer { OnOk result (length tokens.new ≤ length tokens.old) }
 {
     let mut args = Items::new(alloc);
-    if tokens.sees(Symbol::CloseParen) {
+    if tokens.sees(Sign(Symbol::CloseParen)) {
         tokens.symbol(Symbol::CloseParen)?;
         return Ok(args);
     }
     let first = ann_arg(alloc, tokens, levels)?;
     args.push(first)?;
-    'more_args: while tokens.sees(Symbol::Comma) {
+    'more_args: while tokens.sees(Sign(Symbol::Comma)) {
         tokens.symbol(Symbol::Comma)?;
         let arg = ann_arg(alloc, tokens, levels)?;
         args.push(arg)?;
@@ -68,9 +68,9 @@ fn ann_args(
 #[tactic(auto, unfolding(crate::specs::Readers::Annotations::ann_arg, crate::specs::Readers::Annotations::levels, crate::specs::Readers::Annotations::ann_term, crate::specs::Readers::Annotations::ann))]
 fn ann_arg(alloc: Global, tokens: &mut Tokens<'_>, levels: usize) -> Result<AnnArg<Ann>, Stop>
     ensures gives { Gives (spec.ann_arg levels tokens.old) result tokens.new }
-    ensures never_longer { length tokens.new ≤ length tokens.old }
+    ensures never_longer { OnOk result (length tokens.new ≤ length tokens.old) }
 {
-    if !tokens.sees(Symbol::OpenBracket) {
+    if !tokens.sees(Sign(Symbol::OpenBracket)) {
         return Ok(AnnArg::One(ann_term(alloc, tokens, levels)?));
     }
     if levels == 0 {
@@ -88,16 +88,16 @@ fn ann_terms(
     levels: usize,
 ) -> Result<Items<AnnTerm<Ann>>, Stop>
     ensures gives { Gives (spec.ann_terms levels tokens.old) result tokens.new }
-    ensures never_longer { length tokens.new ≤ length tokens.old }
+    ensures never_longer { OnOk result (length tokens.new ≤ length tokens.old) }
 {
     let mut terms = Items::new(alloc);
-    if tokens.sees(Symbol::CloseBracket) {
+    if tokens.sees(Sign(Symbol::CloseBracket)) {
         tokens.symbol(Symbol::CloseBracket)?;
         return Ok(terms);
     }
     let first = ann_entry(alloc, tokens, levels, 0)?;
     terms.push(first)?;
-    'more_terms: while tokens.sees(Symbol::Comma) {
+    'more_terms: while tokens.sees(Sign(Symbol::Comma)) {
         tokens.symbol(Symbol::Comma)?;
         let term = ann_entry(alloc, tokens, levels, terms.len())?;
         terms.push(term)?;
@@ -116,9 +116,9 @@ fn ann_entry(
     number: usize,
 ) -> Result<AnnTerm<Ann>, Stop>
     ensures gives { Gives (spec.each_term (spec.ann levels) number tokens.old) result tokens.new }
-    ensures never_longer { length tokens.new ≤ length tokens.old }
+    ensures never_longer { OnOk result (length tokens.new ≤ length tokens.old) }
 {
-    if number < MOST {
+    if number < LONGEST {
         ann_term(alloc, tokens, levels)
     } else {
         Err(tokens.refuse_more(Start::Term))
@@ -129,13 +129,13 @@ fn ann_entry(
 #[tactic(auto, unfolding(crate::specs::Readers::Annotations::ann_term))]
 fn ann_term(alloc: Global, tokens: &mut Tokens<'_>, levels: usize) -> Result<AnnTerm<Ann>, Stop>
     ensures gives { Gives (spec.ann_term levels tokens.old) result tokens.new }
-    ensures never_longer { length tokens.new ≤ length tokens.old }
+    ensures never_longer { OnOk result (length tokens.new ≤ length tokens.old) }
 {
-    if tokens.begins(Start::Text) {
+    if tokens.sees(Start::Text) {
         let (text, place) = tokens.text(alloc)?;
         return Ok(AnnTerm::Text(text, place));
     }
-    if tokens.begins(Start::Name) {
+    if tokens.sees(Start::Name) {
         return Ok(AnnTerm::Ann(ann(alloc, tokens, levels)?));
     }
     Ok(AnnTerm::Literal(literal(alloc, tokens)?))
@@ -155,7 +155,7 @@ impl Part for Ann {
 #[tactic(auto, unfolding(crate::specs::Readers::Annotations::anns))]
 pub fn anns(alloc: Global, tokens: &mut Tokens<'_>) -> Result<Items<Ann>, Stop>
     ensures gives { Gives (spec.anns tokens.old) result tokens.new }
-    ensures never_longer { length tokens.new ≤ length tokens.old }
+    ensures never_longer { OnOk result (length tokens.new ≤ length tokens.old) }
 {
     many(alloc, tokens, Symbol::Colons)
 }

@@ -1,48 +1,24 @@
 //! The tokens that are left, and why the next one is refused.
 
-ghost use Rattle.std.specs.Prelude.{◌≡◌, ◌<◌, ◌≤◌, ℕ, List, length, OnOk};
-ghost use Rattle.fzn_parser.specs.declared.cursor.Stop.TheVariants.{Memory, Refused};
+ghost use Rattle.std.specs.Prelude.{◌≡◌, ◌<◌, ℕ, List, length, OnOk};
 ghost use Rattle.fzn_lexer.specs.Kept.{kind_in};
 ghost use Rattle.fzn_parser.specs.Readers.{literal_signs, starts, value_in, text_in};
 
-use fzn_lexer::{FaultKind, Form, Kept, Place, Places, Symbol, TokenList, inside};
-use fzn_list::Text;
+use fzn_lexer::{FaultKind, Form, Halt, Kept, Place, Places, Symbol, TokenList, inside};
+use fzn_list::{LONGEST, Text};
 use fzn_tree::{Int, Name};
-use std::alloc::{AllocError, AllocFailed, Global};
+use std::alloc::Global;
 use std::marker::Model;
 
 /// A fault of this kind at the token with which this many are left, that token among them.
-#[derive(Clone, Copy, Debug, PartialEq, Eq)]
+#[derive(Clone, Copy)]
 pub struct Refusal {
     pub kind: FaultKind,
     pub left: usize,
 }
 
 /// Why reading stopped.
-#[derive(Debug, Drop)]
-pub enum Stop {
-    Memory,
-    Refused(Refusal),
-}
-
-impl From<AllocError> for Stop {
-    ghost from_gives = { λ _ e. e ≡ Memory };
-
-    fn from(_e: AllocError) -> Stop {
-        Stop::Memory
-    }
-}
-
-impl<T: Drop> From<AllocFailed<T>> for Stop {
-    ghost from_gives = { λ _ e. e ≡ Memory };
-
-    fn from(_e: AllocFailed<T>) -> Stop {
-        Stop::Memory
-    }
-}
-
-/// The limit on variables, on constraints and on the entries of one array.
-pub const MOST: usize = 100_000;
+pub type Stop = Halt<Refusal>;
 
 /// What the first token of a phrase may be.
 #[derive(Clone, Copy)]
@@ -165,7 +141,8 @@ impl<'a> Model for Tokens<'a> {
 
 impl<'a> Tokens<'a> {
     ghost use Rattle.fzn_lexer.specs.declared.fault.FaultKind.TheVariants.{Syntax};
-    ghost use Rattle.fzn_parser.specs.Reading.{Gives, next_is, over_limit};
+    ghost use Rattle.fzn_lexer.specs.declared.halt.Halt.TheVariants.{Fault};
+    ghost use Rattle.fzn_parser.specs.Reading.{Gives, next_is, over_limit, refusal};
     ghost use Rattle.fzn_parser.specs.Readers as read;
 
     /// All of these tokens.
@@ -181,16 +158,16 @@ impl<'a> Tokens<'a> {
 
     /// A fault of this kind at the next token.
     pub fn refuse(&self, kind: FaultKind) -> Stop
-        ensures { result ≡ Stop.Refused (record { kind = kind; left = length self.now }) }
+        ensures { result ≡ Fault (refusal kind self.now) }
     {
-        Stop::Refused(Refusal {
+        Halt::Fault(Refusal {
             kind,
             left: self.rest.len(),
         })
     }
 
     /// Whether the next token is one of these.
-    pub fn begins(&self, wanted: Start) -> bool
+    pub fn sees(&self, wanted: Start) -> bool
         ensures { result ≡ next_is (read.begins wanted) self.now }
     {
         match self.rest {
@@ -199,18 +176,11 @@ impl<'a> Tokens<'a> {
         }
     }
 
-    /// Whether the next token is this symbol.
-    pub fn sees(&self, symbol: Symbol) -> bool
-        ensures { result ≡ next_is (read.is symbol) self.now }
-    {
-        self.begins(Start::Sign(symbol))
-    }
-
     /// Why one more, which begins with one of these, is refused where there are as many as there may be.
     pub fn refuse_more(&self, wanted: Start) -> Stop
         ensures { Gives (over_limit {A = Unit {0}} (next_is (read.begins wanted) self.now) self.now) (Err result) self.now }
     {
-        if self.begins(wanted) {
+        if self.sees(wanted) {
             self.refuse(FaultKind::TooMany)
         } else {
             self.refuse(FaultKind::Syntax)
@@ -222,7 +192,6 @@ impl<'a> Tokens<'a> {
     fn take_if(&mut self, wanted: Start) -> Result<Taken<'a>, Stop>
         ensures gives { Gives (read.taken wanted self.old) result self.new }
         ensures shorter { OnOk result (length self.new < length self.old) }
-        ensures never_longer { length self.new ≤ length self.old }
     {
         let [token, rest @ ..] = self.rest else {
             return Err(self.refuse(FaultKind::Syntax));
@@ -245,7 +214,6 @@ impl<'a> Tokens<'a> {
     pub fn symbol(&mut self, symbol: Symbol) -> Result<(), Stop>
         ensures gives { Gives (read.symbol symbol self.old) result self.new }
         ensures shorter { OnOk result (length self.new < length self.old) }
-        ensures never_longer { length self.new ≤ length self.old }
     {
         self.take_if(Start::Sign(symbol))?;
         Ok(())
@@ -256,7 +224,6 @@ impl<'a> Tokens<'a> {
     pub fn symbol_place(&mut self, symbol: Symbol) -> Result<Place, Stop>
         ensures gives { Gives (read.symbol_place symbol self.old) result self.new }
         ensures shorter { OnOk result (length self.new < length self.old) }
-        ensures never_longer { length self.new ≤ length self.old }
     {
         let token = self.take_if(Start::Sign(symbol))?;
         Ok(token.place)
@@ -267,7 +234,6 @@ impl<'a> Tokens<'a> {
     pub fn name(&mut self, alloc: Global) -> Result<Name, Stop>
         ensures gives { Gives (read.name self.old) result self.new }
         ensures shorter { OnOk result (length self.new < length self.old) }
-        ensures never_longer { length self.new ≤ length self.old }
     {
         let token = self.take_if(Start::Name)?;
         Ok(Name {
@@ -281,7 +247,6 @@ impl<'a> Tokens<'a> {
     pub fn text(&mut self, alloc: Global) -> Result<(Text, Place), Stop>
         ensures gives { Gives (read.text self.old) result self.new }
         ensures shorter { OnOk result (length self.new < length self.old) }
-        ensures never_longer { length self.new ≤ length self.old }
     {
         let token = self.take_if(Start::Text)?;
         let text = Text::from_slice(alloc, token.text())?;
@@ -293,7 +258,6 @@ impl<'a> Tokens<'a> {
     pub fn int(&mut self) -> Result<Int, Stop>
         ensures gives { Gives (read.int self.old) result self.new }
         ensures shorter { OnOk result (length self.new < length self.old) }
-        ensures never_longer { length self.new ≤ length self.old }
     {
         let token = self.take_if(Start::Int)?;
         Ok(Int {
@@ -307,7 +271,6 @@ impl<'a> Tokens<'a> {
     pub fn number(&mut self) -> Result<i64, Stop>
         ensures gives { Gives (read.number self.old) result self.new }
         ensures shorter { OnOk result (length self.new < length self.old) }
-        ensures never_longer { length self.new ≤ length self.old }
     {
         let token = self.take_if(Start::Int)?;
         Ok(token.value())
@@ -318,7 +281,6 @@ impl<'a> Tokens<'a> {
     pub fn one(&mut self) -> Result<(), Stop>
         ensures gives { Gives (read.one self.old) result self.new }
         ensures shorter { OnOk result (length self.new < length self.old) }
-        ensures never_longer { length self.new ≤ length self.old }
     {
         let refused = self.refuse(FaultKind::Syntax);
         if self.number()? != 1 {
@@ -327,12 +289,11 @@ impl<'a> Tokens<'a> {
         Ok(())
     }
 
-    /// The number of an array's entries. A syntax fault where the next token is no number or is below 0, too many above `MOST`.
+    /// The number of an array's entries. A syntax fault where the next token is no number or is below 0, too many above `LONGEST`.
     #[tactic(auto, unfolding(crate::specs::Readers::Numbers::size))]
     pub fn size(&mut self) -> Result<usize, Stop>
         ensures gives { Gives (read.size self.old) result self.new }
         ensures shorter { OnOk result (length self.new < length self.old) }
-        ensures never_longer { length self.new ≤ length self.old }
     {
         let refused = self.refuse(FaultKind::Syntax);
         let too_many = self.refuse(FaultKind::TooMany);
@@ -341,7 +302,7 @@ impl<'a> Tokens<'a> {
             return Err(refused);
         }
         let size = value as usize;
-        if size > MOST {
+        if size > LONGEST {
             return Err(too_many);
         }
         Ok(size)

@@ -6,12 +6,13 @@ ghost use Rattle.fzn_parser.specs.Reading.{Gives, made};
 ghost use Rattle.fzn_parser.specs.Readers as spec;
 
 use crate::annotations::anns;
-use crate::cursor::{MOST, Start, Stop, Tokens};
+use crate::cursor::Start::Sign;
+use crate::cursor::{Start, Stop, Tokens};
 use crate::lists::listed;
 use crate::types::{array_of, base};
 use crate::values::{array, basic, literal};
 use fzn_lexer::Symbol;
-use fzn_list::Items;
+use fzn_list::{Items, LONGEST};
 use fzn_tree::{ArrayVar, Basic, Literal, Param, ParamBase, ParamValue, SingleVar, Size, Var};
 use std::alloc::Global;
 
@@ -19,12 +20,11 @@ use std::alloc::Global;
 fn param_base(tokens: &mut Tokens<'_>) -> Result<ParamBase, Stop>
     ensures gives { Gives (spec.param_base tokens.old) result tokens.new }
     ensures shorter { OnOk result (length tokens.new < length tokens.old) }
-    ensures never_longer { length tokens.new ≤ length tokens.old }
 {
-    if tokens.sees(Symbol::Bool) {
+    if tokens.sees(Sign(Symbol::Bool)) {
         return Ok(ParamBase::Bool(tokens.symbol_place(Symbol::Bool)?));
     }
-    if tokens.sees(Symbol::Int) {
+    if tokens.sees(Sign(Symbol::Int)) {
         return Ok(ParamBase::Int(tokens.symbol_place(Symbol::Int)?));
     }
     let place = tokens.symbol_place(Symbol::Set)?;
@@ -36,9 +36,9 @@ fn param_base(tokens: &mut Tokens<'_>) -> Result<ParamBase, Stop>
 #[tactic(auto, unfolding(crate::specs::Readers::Params::param_value))]
 fn param_value(alloc: Global, tokens: &mut Tokens<'_>) -> Result<ParamValue, Stop>
     ensures gives { Gives (spec.param_value tokens.old) result tokens.new }
-    ensures never_longer { length tokens.new ≤ length tokens.old }
+    ensures never_longer { OnOk result (length tokens.new ≤ length tokens.old) }
 {
-    if !tokens.sees(Symbol::OpenBracket) {
+    if !tokens.sees(Sign(Symbol::OpenBracket)) {
         return Ok(ParamValue::Literal(literal(alloc, tokens)?));
     }
     let place = tokens.symbol_place(Symbol::OpenBracket)?;
@@ -51,7 +51,6 @@ fn param_value(alloc: Global, tokens: &mut Tokens<'_>) -> Result<ParamValue, Sto
 fn param_rest(alloc: Global, tokens: &mut Tokens<'_>, size: Option<Size>) -> Result<Param, Stop>
     ensures gives { Gives (made (spec.param_of size) (spec.param_rest tokens.old)) result tokens.new }
     ensures shorter { OnOk result (length tokens.new < length tokens.old) }
-    ensures never_longer { length tokens.new ≤ length tokens.old }
 {
     let base = param_base(tokens)?;
     tokens.symbol(Symbol::Colon)?;
@@ -71,9 +70,9 @@ fn param_rest(alloc: Global, tokens: &mut Tokens<'_>, size: Option<Size>) -> Res
 #[tactic(auto, unfolding(crate::specs::Readers::Variables::given))]
 fn given(alloc: Global, tokens: &mut Tokens<'_>) -> Result<Option<Basic>, Stop>
     ensures gives { Gives (spec.given tokens.old) result tokens.new }
-    ensures never_longer { length tokens.new ≤ length tokens.old }
+    ensures never_longer { OnOk result (length tokens.new ≤ length tokens.old) }
 {
-    if !tokens.sees(Symbol::Equals) {
+    if !tokens.sees(Sign(Symbol::Equals)) {
         tokens.symbol(Symbol::Semicolon)?;
         return Ok(None);
     }
@@ -87,7 +86,6 @@ fn given(alloc: Global, tokens: &mut Tokens<'_>) -> Result<Option<Basic>, Stop>
 fn single_var(alloc: Global, tokens: &mut Tokens<'_>) -> Result<SingleVar, Stop>
     ensures gives { Gives (spec.single_var tokens.old) result tokens.new }
     ensures shorter { OnOk result (length tokens.new < length tokens.old) }
-    ensures never_longer { length tokens.new ≤ length tokens.old }
 {
     let place = tokens.symbol_place(Symbol::Var)?;
     let base = base(alloc, tokens)?;
@@ -109,7 +107,6 @@ fn single_var(alloc: Global, tokens: &mut Tokens<'_>) -> Result<SingleVar, Stop>
 fn array_rest(alloc: Global, tokens: &mut Tokens<'_>, size: Size) -> Result<ArrayVar, Stop>
     ensures gives { Gives (made (spec.array_var_of size) (spec.array_rest tokens.old)) result tokens.new }
     ensures shorter { OnOk result (length tokens.new < length tokens.old) }
-    ensures never_longer { length tokens.new ≤ length tokens.old }
 {
     tokens.symbol(Symbol::Var)?;
     let base = base(alloc, tokens)?;
@@ -131,25 +128,24 @@ fn array_rest(alloc: Global, tokens: &mut Tokens<'_>, size: Size) -> Result<Arra
 /// A variable or an array of them, behind so many single variables.
 #[tactic(auto, unfolding(crate::specs::Readers::Variables::var, crate::specs::Readers::Variables::counted_single))]
 fn var(alloc: Global, tokens: &mut Tokens<'_>, singles: usize) -> Result<Var, Stop>
-    requires { singles ≤ MOST }
+    requires { singles ≤ LONGEST }
     ensures gives { Gives (spec.var singles tokens.old) result tokens.new }
-    ensures few { IfOk result (λ found. singles_with singles found ≤ MOST) }
+    ensures few { IfOk result (λ found. singles_with singles found ≤ LONGEST) }
     ensures shorter { OnOk result (length tokens.new < length tokens.old) }
-    ensures never_longer { length tokens.new ≤ length tokens.old }
 {
-    if tokens.sees(Symbol::Array) {
+    if tokens.sees(Sign(Symbol::Array)) {
         let size = array_of(tokens)?;
         return Ok(Var::Array(array_rest(alloc, tokens, size)?));
     }
-    if singles >= MOST {
-        return Err(tokens.refuse_more(Start::Sign(Symbol::Var)));
+    if singles >= LONGEST {
+        return Err(tokens.refuse_more(Sign(Symbol::Var)));
     }
     Ok(Var::Single(single_var(alloc, tokens)?))
 }
 
 /// How many single variables there are with this one.
 fn count_single(singles: usize, var: &Var) -> usize
-    requires { singles ≤ MOST }
+    requires { singles ≤ LONGEST }
     ensures { result ≡ singles_with singles var.now }
 {
     match var {
@@ -165,10 +161,9 @@ fn more_vars(
     mut vars: Items<Var>,
 ) -> Result<Items<Var>, Stop>
     ensures gives { Gives (made (λ more. vars ++ more) (spec.vars 0 tokens.old)) result tokens.new }
-    ensures never_longer { length tokens.new ≤ length tokens.old }
 {
     let mut singles: usize = 0;
-    'vars: while tokens.begins(Start::Var) {
+    'vars: while tokens.sees(Start::Var) {
         let var = var(alloc, tokens, singles)?;
         singles = count_single(singles, &var);
         vars.push(var)?;
@@ -187,13 +182,12 @@ pub enum Declared {
 fn declaration(alloc: Global, tokens: &mut Tokens<'_>) -> Result<Declared, Stop>
     ensures gives { Gives (spec.declaration tokens.old) result tokens.new }
     ensures shorter { OnOk result (length tokens.new < length tokens.old) }
-    ensures never_longer { length tokens.new ≤ length tokens.old }
 {
-    if !tokens.sees(Symbol::Array) {
+    if !tokens.sees(Sign(Symbol::Array)) {
         return Ok(Declared::Param(param_rest(alloc, tokens, None)?));
     }
     let size = array_of(tokens)?;
-    if tokens.sees(Symbol::Var) {
+    if tokens.sees(Sign(Symbol::Var)) {
         return Ok(Declared::Array(array_rest(alloc, tokens, size)?));
     }
     Ok(Declared::Param(param_rest(alloc, tokens, Some(size))?))
@@ -205,11 +199,10 @@ pub fn declarations(
     tokens: &mut Tokens<'_>,
 ) -> Result<(Items<Param>, Items<Var>), Stop>
     ensures gives { Gives (spec.declarations tokens.old) result tokens.new }
-    ensures never_longer { length tokens.new ≤ length tokens.old }
 {
     let mut params = Items::new(alloc);
     let mut vars = Items::new(alloc);
-    'params: while tokens.begins(Start::Declaration) {
+    'params: while tokens.sees(Start::Declaration) {
         match declaration(alloc, tokens)? {
             Declared::Param(param) => params.push(param)?,
             Declared::Array(array) => {

@@ -1,16 +1,17 @@
 //! Constraints, the goal and the whole file.
 
-ghost use Rattle.std.specs.Prelude.{◌<◌, ◌≤◌, length, OnOk};
+ghost use Rattle.std.specs.Prelude.{◌<◌, length, OnOk};
 ghost use Rattle.fzn_parser.specs.Reading.{Gives};
 ghost use Rattle.fzn_parser.specs.Readers as spec;
 
 use crate::annotations::anns;
-use crate::cursor::{MOST, Start, Stop, Tokens};
+use crate::cursor::Start::Sign;
+use crate::cursor::{Stop, Tokens};
 use crate::declarations::declarations;
 use crate::lists::{Part, listed, many};
 use crate::values::basic;
 use fzn_lexer::Symbol;
-use fzn_list::Items;
+use fzn_list::{Items, LONGEST};
 use fzn_tree::{Arg, Con, Goal, Predicate, Solve, Tree};
 use std::alloc::Global;
 
@@ -18,7 +19,6 @@ use std::alloc::Global;
 fn con(alloc: Global, tokens: &mut Tokens<'_>) -> Result<Con, Stop>
     ensures gives { Gives (spec.con tokens.old) result tokens.new }
     ensures shorter { OnOk result (length tokens.new < length tokens.old) }
-    ensures never_longer { length tokens.new ≤ length tokens.old }
 {
     tokens.symbol(Symbol::Constraint)?;
     let name = tokens.name(alloc)?;
@@ -34,10 +34,10 @@ impl Part for Con {
 
     #[tactic(auto, unfolding(crate::specs::Readers::Items::each_con))]
     fn read(alloc: Global, tokens: &mut Tokens<'_>, number: usize) -> Result<Con, Stop> {
-        if number < MOST {
+        if number < LONGEST {
             con(alloc, tokens)
         } else {
-            Err(tokens.refuse_more(Start::Sign(Symbol::Constraint)))
+            Err(tokens.refuse_more(Sign(Symbol::Constraint)))
         }
     }
 }
@@ -45,13 +45,12 @@ impl Part for Con {
 #[tactic(auto, unfolding(crate::specs::Readers::Items::goal))]
 fn goal(alloc: Global, tokens: &mut Tokens<'_>) -> Result<Goal, Stop>
     ensures gives { Gives (spec.goal tokens.old) result tokens.new }
-    ensures never_longer { length tokens.new ≤ length tokens.old }
 {
-    if tokens.sees(Symbol::Satisfy) {
+    if tokens.sees(Sign(Symbol::Satisfy)) {
         tokens.symbol(Symbol::Satisfy)?;
         return Ok(Goal::Satisfy);
     }
-    if tokens.sees(Symbol::Minimize) {
+    if tokens.sees(Sign(Symbol::Minimize)) {
         tokens.symbol(Symbol::Minimize)?;
         return Ok(Goal::Minimize(basic(alloc, tokens)?));
     }
@@ -62,7 +61,6 @@ fn goal(alloc: Global, tokens: &mut Tokens<'_>) -> Result<Goal, Stop>
 #[tactic(auto, unfolding(crate::specs::Readers::Items::solve))]
 fn solve(alloc: Global, tokens: &mut Tokens<'_>) -> Result<Solve, Stop>
     ensures gives { Gives (spec.solve tokens.old) result tokens.new }
-    ensures never_longer { length tokens.new ≤ length tokens.old }
 {
     tokens.symbol(Symbol::Solve)?;
     let anns = anns(alloc, tokens)?;

@@ -5,6 +5,7 @@ ghost use Rattle.fzn_parser.specs.Reading.{Gives, made, many, many_all};
 ghost use Rattle.fzn_parser.specs.Readers as spec;
 ghost use Rattle.fzn_lexer.specs.declared.token.Symbol.TheVariants.{Comma};
 
+use crate::cursor::Start::Sign;
 use crate::cursor::{Stop, Tokens};
 use fzn_lexer::Symbol;
 use fzn_list::Items;
@@ -20,8 +21,7 @@ pub trait Part: Sized + Drop {
     /// The part that is next, behind so many others. The first fault where it is not written so, or where there are as many as there may be.
     fn read(alloc: Global, tokens: &mut Tokens<'_>, number: usize) -> Result<Self, Stop>
         ensures gives { Gives (reader number tokens.old) result tokens.new }
-        ensures shorter { OnOk result (length tokens.new < length tokens.old) }
-        ensures never_longer { length tokens.new ≤ length tokens.old };
+        ensures shorter { OnOk result (length tokens.new < length tokens.old) };
 }
 
 /// The parts behind commas, at the end of `parts`.
@@ -31,9 +31,9 @@ fn after_commas<P: Part>(
     mut parts: Items<P>,
 ) -> Result<Items<P>, Stop>
     ensures gives { Gives (made (λ more. parts ++ more) (many (spec.is Comma) (spec.after_comma P.reader) (suc (length tokens.old)) (length parts) tokens.old)) result tokens.new }
-    ensures never_longer { length tokens.new ≤ length tokens.old }
+    ensures never_longer { OnOk result (length tokens.new ≤ length tokens.old) }
 {
-    'commas: while tokens.sees(Symbol::Comma) {
+    'commas: while tokens.sees(Sign(Symbol::Comma)) {
         tokens.symbol(Symbol::Comma)?;
         let part = P::read(alloc, tokens, parts.len())?;
         parts.push(part)?;
@@ -50,10 +50,9 @@ pub fn listed<P: Part>(
 ) -> Result<Items<P>, Stop>
     ensures gives { Gives (spec.listed P.reader close tokens.old) result tokens.new }
     ensures shorter { OnOk result (length tokens.new < length tokens.old) }
-    ensures never_longer { length tokens.new ≤ length tokens.old }
 {
     let mut parts = Items::new(alloc);
-    if tokens.sees(close) {
+    if tokens.sees(Sign(close)) {
         tokens.symbol(close)?;
         return Ok(parts);
     }
@@ -71,10 +70,10 @@ pub fn many<P: Part>(
     begins: Symbol,
 ) -> Result<Items<P>, Stop>
     ensures gives { Gives (many_all (spec.is begins) P.reader 0 tokens.old) result tokens.new }
-    ensures never_longer { length tokens.new ≤ length tokens.old }
+    ensures never_longer { OnOk result (length tokens.new ≤ length tokens.old) }
 {
     let mut parts = Items::new(alloc);
-    'parts: while tokens.sees(begins) {
+    'parts: while tokens.sees(Sign(begins)) {
         let part = P::read(alloc, tokens, parts.len())?;
         parts.push(part)?;
     }

@@ -2,9 +2,10 @@
 
 ghost use Rattle.fzn_parser.specs.Readers as spec;
 
-use crate::cursor::{MOST, Start, Stop, Tokens};
+use crate::cursor::{Start, Stop, Tokens};
 use crate::lists::Part;
 use crate::values::literal;
+use fzn_list::LONGEST;
 use fzn_tree::Literal;
 use std::alloc::Global;
 
@@ -14,7 +15,7 @@ impl Part for Literal {
 
     #[tactic(auto, unfolding(crate::specs::Readers::Values::param_entry))]
     fn read(alloc: Global, tokens: &mut Tokens<'_>, number: usize) -> Result<Literal, Stop> {
-        if number < MOST {
+        if number < LONGEST {
             literal(alloc, tokens)
         } else {
             Err(tokens.refuse_more(Start::Literal))

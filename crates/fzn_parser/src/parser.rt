@@ -1,25 +1,38 @@
 //! The parser.
 
-ghost use Rattle.fzn_parser.specs.Parse.{EndsInEnd, IsTree, Parses, Finds};
+ghost use Rattle.std.specs.Prelude.{◌≡◌, ◌<◌, ◌≤◌, ◌-◌, length, slice_get, Some};
+ghost use Rattle.fzn_lexer.specs.declared.token.Token.{Token};
+ghost use Rattle.fzn_lexer.specs.Tokens.{EndsInEnd};
+ghost use Rattle.fzn_parser.specs.Parse.{IsTree, Parses, Finds};
 
-use crate::cursor::{Stop, Tokens};
+use crate::cursor::{Refusal, Tokens};
 use crate::items;
-use fzn_lexer::{Fault, ReadError, TokenList};
+use fzn_lexer::{Fault, Halt, TokenList};
 use fzn_tree::Tree;
 use std::alloc::Global;
 
+/// The fault at the token with which so many are left.
+fn fault_of(tokens: &TokenList<'_>, refusal: Refusal) -> Fault
+    requires some { 0 < refusal.left }
+    requires in_range { refusal.left ≤ length tokens.now }
+    ensures kind { result.kind ≡ refusal.kind }
+    ensures place { (token : Token) → slice_get tokens.now (length tokens.now - refusal.left) ≡ Some token → result.place ≡ token.span.place }
+{
+    Fault {
+        kind: refusal.kind,
+        place: tokens.place(tokens.len() - refusal.left),
+    }
+}
+
 /// The tree that the tokens spell, or the first fault.
-pub fn parse(alloc: Global, tokens: &TokenList<'_>) -> Result<Tree, ReadError>
+pub fn parse(alloc: Global, tokens: &TokenList<'_>) -> Result<Tree, Halt<Fault>>
     requires { EndsInEnd tokens.now }
     ensures right { Parses tokens.now result }
     ensures only { (t : Tree) → IsTree tokens.now t → Finds t result }
 {
     match items::tree(alloc, &mut Tokens::new(tokens)) {
         Ok(tree) => Ok(tree),
-        Err(Stop::Memory) => Err(ReadError::Memory),
-        Err(Stop::Refused(refusal)) => Err(ReadError::Fault(Fault {
-            kind: refusal.kind,
-            place: tokens.place(tokens.len() - refusal.left),
-        })),
+        Err(Halt::Memory) => Err(Halt::Memory),
+        Err(Halt::Fault(refusal)) => Err(Halt::Fault(fault_of(tokens, refusal))),
     }
 }

@@ -4,6 +4,7 @@ ghost use Rattle.std.specs.Prelude.{◌<◌, ◌≤◌, length, OnOk};
 ghost use Rattle.fzn_parser.specs.Reading.{Gives};
 ghost use Rattle.fzn_parser.specs.Readers as spec;
 
+use crate::cursor::Start::Sign;
 use crate::cursor::{Stop, Tokens};
 use crate::lists::{Part, listed};
 use crate::types::{base, index};
@@ -15,9 +16,9 @@ use std::alloc::Global;
 #[tactic(auto, unfolding(crate::specs::Readers::Predicates::index_set))]
 fn index_set(tokens: &mut Tokens<'_>) -> Result<Indices, Stop>
     ensures gives { Gives (spec.index_set tokens.old) result tokens.new }
-    ensures never_longer { length tokens.new ≤ length tokens.old }
+    ensures never_longer { OnOk result (length tokens.new ≤ length tokens.old) }
 {
-    if tokens.sees(Symbol::Int) {
+    if tokens.sees(Sign(Symbol::Int)) {
         tokens.symbol(Symbol::Int)?;
         return Ok(Indices::Any);
     }
@@ -28,9 +29,9 @@ fn index_set(tokens: &mut Tokens<'_>) -> Result<Indices, Stop>
 #[tactic(auto, unfolding(crate::specs::Readers::Predicates::predicate_array))]
 fn predicate_array(tokens: &mut Tokens<'_>) -> Result<Option<Indices>, Stop>
     ensures gives { Gives (spec.predicate_array tokens.old) result tokens.new }
-    ensures never_longer { length tokens.new ≤ length tokens.old }
+    ensures never_longer { OnOk result (length tokens.new ≤ length tokens.old) }
 {
-    if !tokens.sees(Symbol::Array) {
+    if !tokens.sees(Sign(Symbol::Array)) {
         return Ok(None);
     }
     tokens.symbol(Symbol::Array)?;
@@ -45,9 +46,9 @@ fn predicate_array(tokens: &mut Tokens<'_>) -> Result<Option<Indices>, Stop>
 #[tactic(auto, unfolding(crate::specs::Readers::Predicates::optional_var))]
 fn optional_var(tokens: &mut Tokens<'_>) -> Result<bool, Stop>
     ensures gives { Gives (spec.optional_var tokens.old) result tokens.new }
-    ensures never_longer { length tokens.new ≤ length tokens.old }
+    ensures never_longer { OnOk result (length tokens.new ≤ length tokens.old) }
 {
-    if !tokens.sees(Symbol::Var) {
+    if !tokens.sees(Sign(Symbol::Var)) {
         return Ok(false);
     }
     tokens.symbol(Symbol::Var)?;

@@ -4,10 +4,11 @@ ghost use Rattle.std.specs.Prelude.{ℕ, ◌<◌, ◌≤◌, length, OnOk};
 ghost use Rattle.fzn_parser.specs.Reading.{Gives};
 ghost use Rattle.fzn_parser.specs.Readers as spec;
 
-use crate::cursor::{MOST, Start, Stop, Tokens};
+use crate::cursor::Start::Sign;
+use crate::cursor::{Start, Stop, Tokens};
 use crate::lists::{Part, listed};
 use fzn_lexer::Symbol;
-use fzn_list::Items;
+use fzn_list::{Items, LONGEST};
 use fzn_tree::{Arg, Array, Basic, Listed, Literal, Range, Values};
 use std::alloc::Global;
 
@@ -32,7 +33,7 @@ impl Part for i64 {
 #[tactic(auto, unfolding(crate::specs::Readers::Values::listed_values))]
 fn listed_values(alloc: Global, tokens: &mut Tokens<'_>) -> Result<Items<i64>, Stop>
     ensures gives { Gives (spec.listed_values tokens.old) result tokens.new }
-    ensures never_longer { length tokens.new ≤ length tokens.old }
+    ensures never_longer { OnOk result (length tokens.new ≤ length tokens.old) }
 {
     listed(alloc, tokens, Symbol::CloseBrace)
 }
@@ -41,9 +42,9 @@ fn listed_values(alloc: Global, tokens: &mut Tokens<'_>) -> Result<Items<i64>, S
 #[tactic(auto, unfolding(crate::specs::Readers::Values::values))]
 pub fn values(alloc: Global, tokens: &mut Tokens<'_>) -> Result<Values, Stop>
     ensures gives { Gives (spec.values tokens.old) result tokens.new }
-    ensures never_longer { length tokens.new ≤ length tokens.old }
+    ensures never_longer { OnOk result (length tokens.new ≤ length tokens.old) }
 {
-    if tokens.sees(Symbol::OpenBrace) {
+    if tokens.sees(Sign(Symbol::OpenBrace)) {
         tokens.symbol(Symbol::OpenBrace)?;
         return Ok(Values::Listed(listed_values(alloc, tokens)?));
     }
@@ -58,10 +59,9 @@ pub fn values(alloc: Global, tokens: &mut Tokens<'_>) -> Result<Values, Stop>
 fn numeric(tokens: &mut Tokens<'_>) -> Result<Literal, Stop>
     ensures gives { Gives (spec.numeric tokens.old) result tokens.new }
     ensures shorter { OnOk result (length tokens.new < length tokens.old) }
-    ensures never_longer { length tokens.new ≤ length tokens.old }
 {
     let low = tokens.int()?;
-    if tokens.sees(Symbol::Dots) {
+    if tokens.sees(Sign(Symbol::Dots)) {
         tokens.symbol(Symbol::Dots)?;
         let high = tokens.number()?;
         return Ok(Literal::Range(Range { low, high }));
@@ -74,15 +74,14 @@ fn numeric(tokens: &mut Tokens<'_>) -> Result<Literal, Stop>
 pub fn literal(alloc: Global, tokens: &mut Tokens<'_>) -> Result<Literal, Stop>
     ensures gives { Gives (spec.literal tokens.old) result tokens.new }
     ensures shorter { OnOk result (length tokens.new < length tokens.old) }
-    ensures never_longer { length tokens.new ≤ length tokens.old }
 {
-    if tokens.sees(Symbol::True) {
+    if tokens.sees(Sign(Symbol::True)) {
         return Ok(Literal::Bool(true, tokens.symbol_place(Symbol::True)?));
     }
-    if tokens.sees(Symbol::False) {
+    if tokens.sees(Sign(Symbol::False)) {
         return Ok(Literal::Bool(false, tokens.symbol_place(Symbol::False)?));
     }
-    if tokens.sees(Symbol::OpenBrace) {
+    if tokens.sees(Sign(Symbol::OpenBrace)) {
         let place = tokens.symbol_place(Symbol::OpenBrace)?;
         let values = listed_values(alloc, tokens)?;
         return Ok(Literal::Set(place, Listed::new(alloc, values)?));
@@ -95,9 +94,8 @@ pub fn literal(alloc: Global, tokens: &mut Tokens<'_>) -> Result<Literal, Stop>
 pub fn basic(alloc: Global, tokens: &mut Tokens<'_>) -> Result<Basic, Stop>
     ensures gives { Gives (spec.basic tokens.old) result tokens.new }
     ensures shorter { OnOk result (length tokens.new < length tokens.old) }
-    ensures never_longer { length tokens.new ≤ length tokens.old }
 {
-    if tokens.begins(Start::Name) {
+    if tokens.sees(Start::Name) {
         Ok(Basic::Name(tokens.name(alloc)?))
     } else {
         Ok(Basic::Literal(literal(alloc, tokens)?))
@@ -110,7 +108,7 @@ impl Part for Basic {
 
     #[tactic(auto, unfolding(crate::specs::Readers::Values::entry))]
     fn read(alloc: Global, tokens: &mut Tokens<'_>, number: usize) -> Result<Basic, Stop> {
-        if number < MOST {
+        if number < LONGEST {
             basic(alloc, tokens)
         } else {
             Err(tokens.refuse_more(Start::Basic))
@@ -118,12 +116,11 @@ impl Part for Basic {
     }
 }
 
-/// Entries in brackets. The faults of an entry, and too many at an entry past `MOST`.
+/// Entries in brackets. The faults of an entry, and too many at an entry past `LONGEST`.
 #[tactic(auto, unfolding(crate::specs::Readers::Values::array))]
 pub fn array(alloc: Global, tokens: &mut Tokens<'_>) -> Result<Array, Stop>
     ensures gives { Gives (spec.array tokens.old) result tokens.new }
     ensures shorter { OnOk result (length tokens.new < length tokens.old) }
-    ensures never_longer { length tokens.new ≤ length tokens.old }
 {
     let place = tokens.symbol_place(Symbol::OpenBracket)?;
     let entries: Items<Basic> = listed(alloc, tokens, Symbol::CloseBracket)?;
@@ -134,9 +131,8 @@ pub fn array(alloc: Global, tokens: &mut Tokens<'_>) -> Result<Array, Stop>
 fn arg(alloc: Global, tokens: &mut Tokens<'_>) -> Result<Arg, Stop>
     ensures gives { Gives (spec.arg tokens.old) result tokens.new }
     ensures shorter { OnOk result (length tokens.new < length tokens.old) }
-    ensures never_longer { length tokens.new ≤ length tokens.old }
 {
-    if tokens.sees(Symbol::OpenBracket) {
+    if tokens.sees(Sign(Symbol::OpenBracket)) {
         Ok(Arg::Array(array(alloc, tokens)?))
     } else {
         Ok(Arg::Basic(basic(alloc, tokens)?))

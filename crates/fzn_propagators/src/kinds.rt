@@ -7,11 +7,13 @@ ghost use Rattle.fzn_propagators.specs.AnyCrate.{any_number, AnyIsFor, AnyFits};
 
 use fzn_arith::ArithPropagator;
 use fzn_builtin::BuiltinPropagator;
+use fzn_circuit::CircuitPropagator;
 use fzn_domain::Memory;
 use fzn_globals::GlobalPropagator;
 use fzn_meaning::Model;
 use fzn_propagator::{Inference, Propagator};
-use fzn_schedule::SchedulePropagator;
+use fzn_schedule::CumulativePropagator;
+use fzn_table::TablePropagator;
 use fzn_trail::Trail;
 use std::alloc::Global;
 
@@ -22,10 +24,11 @@ pub enum AnyPropagator {
     Arith(ArithPropagator),
     /// The other builtins.
     Builtin(BuiltinPropagator),
-    /// All different, table and inverse.
+    /// All different and inverse.
     Global(GlobalPropagator),
-    /// Cumulative and circuit.
-    Schedule(SchedulePropagator),
+    Table(TablePropagator),
+    Circuit(CircuitPropagator),
+    Cumulative(CumulativePropagator),
 }
 
 impl Propagator for AnyPropagator {
@@ -40,7 +43,9 @@ impl Propagator for AnyPropagator {
             AnyPropagator::Arith(propagator) => propagator.propagate(alloc, trail),
             AnyPropagator::Builtin(propagator) => propagator.propagate(alloc, trail),
             AnyPropagator::Global(propagator) => propagator.propagate(alloc, trail),
-            AnyPropagator::Schedule(propagator) => propagator.propagate(alloc, trail),
+            AnyPropagator::Table(propagator) => propagator.propagate(alloc, trail),
+            AnyPropagator::Circuit(propagator) => propagator.propagate(alloc, trail),
+            AnyPropagator::Cumulative(propagator) => propagator.propagate(alloc, trail),
         }
     }
 }
@@ -59,11 +64,17 @@ pub(crate) fn propagator_of(alloc: Global, model: &Model, c: usize) -> Result<An
     if let Some(propagator) = fzn_builtin::propagator_of(alloc, model, c)? {
         return Ok(AnyPropagator::Builtin(propagator));
     }
-    if let Some(propagator) = fzn_globals::propagator_of(alloc, model, c)? {
+    if let Some(propagator) = fzn_globals::propagator_of(model, c)? {
         return Ok(AnyPropagator::Global(propagator));
     }
+    if let Some(propagator) = fzn_table::propagator_of(alloc, model, c)? {
+        return Ok(AnyPropagator::Table(propagator));
+    }
+    if let Some(propagator) = fzn_circuit::propagator_of(model, c)? {
+        return Ok(AnyPropagator::Circuit(propagator));
+    }
     match fzn_schedule::propagator_of(model, c)? {
-        Some(propagator) => Ok(AnyPropagator::Schedule(propagator)),
+        Some(propagator) => Ok(AnyPropagator::Cumulative(propagator)),
         None => unreachable!(), // One of the crates has one.
     }
 }

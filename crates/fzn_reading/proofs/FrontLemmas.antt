@@ -1,8 +1,8 @@
 -- What is read of a file that is too long is read of a front of it.
 use Rattle.std.proofs.Common.{◌≡◌, ℕ, ◌<◌, List, ◌++◌, length, inl, inr, sym, subst, Option, Some, None, IfSome, Result, Ok, Err, arith, length-append}
 use Rattle.fzn_lexer.specs.declared.fault.Fault.{Fault}
-use Rattle.fzn_lexer.specs.declared.fault.ReadError.{ReadError}
-use Rattle.fzn_lexer.specs.declared.fault.ReadError.TheVariants as errors
+use Rattle.fzn_lexer.specs.declared.halt.Halt.{Halt}
+use Rattle.fzn_lexer.specs.declared.halt.Halt.TheVariants as errors
 use Rattle.fzn_lexer.specs.declared.token.Token.{Token}
 use Rattle.fzn_lexer.specs.Tokens.{Lexes, max_file}
 use Rattle.fzn_meaning.specs.declared.model.Model.{Model}
@@ -18,7 +18,7 @@ fault_of_front bytes more fault long (inl f) = inl (f.0, omega (arith, long, len
 fault_of_front bytes more fault long (inr (inl f)) = absurd (omega (arith, long, f.1.short))
 fault_of_front bytes more fault long (inr (inr f)) = absurd (omega (arith, long, f.file.short))
 
-front_reads : (bytes more : List ℕ) (result : Result Model ReadError) → max_file < length bytes → Reads bytes result → Reads (bytes ++ more) result
+front_reads : (bytes more : List ℕ) (result : Result Model (Halt Fault)) → max_file < length bytes → Reads bytes result → Reads (bytes ++ more) result
 front_reads bytes more (Ok model) long r = absurd (no_tokens bytes r.1.tokens long r.1.lexed)
 front_reads bytes more (Err errors.Memory) long r = tt
 front_reads bytes more (Err (errors.Fault fault)) long (inl f) = inl (fault_of_front bytes more fault long f)
@@ -26,11 +26,11 @@ front_reads bytes more (Err (errors.Fault fault)) long (inr (inl f)) = absurd (n
 front_reads bytes more (Err (errors.Fault fault)) long (inr (inr f)) = absurd (no_tokens bytes f.1.tokens long f.1.lexed)
 
 -- what is read of enough of a file is read of the file
-pub enough_reads : (whole bytes : List ℕ) (result : Result Model ReadError) → IsEnoughOf whole bytes → Reads bytes result → Reads whole result
+pub enough_reads : (whole bytes : List ℕ) (result : Result Model (Halt Fault)) → IsEnoughOf whole bytes → Reads bytes result → Reads whole result
 enough_reads whole bytes result (inl same) r = subst (λ z. Reads z result) (sym same) r
 enough_reads whole bytes result (inr f) r = subst (λ z. Reads z result) (sym f.1) (front_reads bytes f.0 result f.2 r)
 
 -- the same where the reader tells the file
-pub known_reads : (known : Option (List ℕ)) (bytes seen : List ℕ) (result : Result Model ReadError) → seen ≡ bytes → IfSome known (λ whole. IsEnoughOf whole bytes) → Reads seen result → IfSome known (λ whole. Reads whole result)
+pub known_reads : (known : Option (List ℕ)) (bytes seen : List ℕ) (result : Result Model (Halt Fault)) → seen ≡ bytes → IfSome known (λ whole. IsEnoughOf whole bytes) → Reads seen result → IfSome known (λ whole. Reads whole result)
 known_reads None bytes seen result same enough r = tt
 known_reads (Some whole) bytes seen result same enough r = enough_reads whole bytes result enough (subst (λ z. Reads z result) same r)

@@ -1,8 +1,8 @@
 -- The bytes of a file have one model or one fault.
 use Rattle.std.proofs.Common.{◌≡◌, ◌≢◌, ◌⊎◌, ℕ, List, Result, Ok, Err, inl, inr, refl, ap, subst}
 use Rattle.fzn_lexer.specs.declared.fault.Fault.{Fault}
-use Rattle.fzn_lexer.specs.declared.fault.ReadError.{ReadError}
-use Rattle.fzn_lexer.specs.declared.fault.ReadError.TheVariants as errors
+use Rattle.fzn_lexer.specs.declared.halt.Halt.{Halt}
+use Rattle.fzn_lexer.specs.declared.halt.Halt.TheVariants as errors
 use Rattle.fzn_lexer.specs.declared.token.Token.{Token}
 use Rattle.fzn_lexer.specs.Tokens.{AreTokens, IsLexicalFault}
 use Rattle.fzn_lexer.proofs.OneList as lexer
@@ -23,16 +23,16 @@ same_right a b e = cc
 two_sides : {A B : Type 0} (a : A) (b : B) → ◌≡◌ {A = A ⊎ B} (inl a) (inr b) → ⊥
 two_sides a b e = cc
 
-same_fault : (f g : Fault) → ◌≡◌ {A = Result Model ReadError} (Err (errors.Fault f)) (Err (errors.Fault g)) → f ≡ g
+same_fault : (f g : Fault) → ◌≡◌ {A = Result Model (Halt Fault)} (Err (errors.Fault f)) (Err (errors.Fault g)) → f ≡ g
 same_fault f g e = cc
 
-model_or_fault : (m : Model) (f : Fault) → ◌≡◌ {A = Result Model ReadError} (Ok m) (Err (errors.Fault f)) → ⊥
+model_or_fault : (m : Model) (f : Fault) → ◌≡◌ {A = Result Model (Halt Fault)} (Ok m) (Err (errors.Fault f)) → ⊥
 model_or_fault m f e = cc
 
-no_model : (m : Model) → ◌≢◌ {A = Result Model ReadError} (Ok m) (Err errors.Memory)
+no_model : (m : Model) → ◌≢◌ {A = Result Model (Halt Fault)} (Ok m) (Err errors.Memory)
 no_model m e = cc
 
-no_fault : (f : Fault) → ◌≢◌ {A = Result Model ReadError} (Err (errors.Fault f)) (Err errors.Memory)
+no_fault : (f : Fault) → ◌≢◌ {A = Result Model (Halt Fault)} (Err (errors.Fault f)) (Err errors.Memory)
 no_fault f e = cc
 
 module _ (bytes : List ℕ) where
@@ -54,7 +54,7 @@ module _ (bytes : List ℕ) where
   parsed : (t : Tree) (a : List Token) (f : Fault) → HasTree bytes t → AreTokens bytes a → IsFault a f → ⊥
   parsed t a f x p y = two_sides t f (parser.one_reading a (inl t) (inr f) (subst (λ ts. IsTree ts t) (one_tokens x.tokens a x.lexed p) x.parsed) y)
 
-  one_typed : (t u : Tree) (x y : Result Model ReadError) → HasTree bytes t → HasTree bytes u → IsTyped t x → IsTyped u y → x ≢ Err errors.Memory → y ≢ Err errors.Memory → x ≡ y
+  one_typed : (t u : Tree) (x y : Result Model (Halt Fault)) → HasTree bytes t → HasTree bytes u → IsTyped t x → IsTyped u y → x ≢ Err errors.Memory → y ≢ Err errors.Memory → x ≡ y
   one_typed t u x y a b p q = one_model_lem u x y (subst (λ t. IsTyped t x) (one_tree t u a b) p) q
 
   one_fault : (f g : Fault) → Reads bytes (Err (errors.Fault f)) → Reads bytes (Err (errors.Fault g)) → f ≡ g
@@ -73,7 +73,7 @@ module _ (bytes : List ℕ) where
   model_only m f x (inr (inl y)) = parsed x.0 y.0 f x.1 y.1 y.2
   model_only m f x (inr (inr y)) = model_or_fault m f (one_typed x.0 y.0 (Ok m) (Err (errors.Fault f)) x.1 y.1 x.2 y.2 (no_model m) (no_fault f))
 
-pub one_read : (bytes : List ℕ) (x y : Result Model ReadError) → Reads bytes x → Reads bytes y → x ≢ Err errors.Memory → y ≢ Err errors.Memory → x ≡ y
+pub one_read : (bytes : List ℕ) (x y : Result Model (Halt Fault)) → Reads bytes x → Reads bytes y → x ≢ Err errors.Memory → y ≢ Err errors.Memory → x ≡ y
 one_read bytes (Ok m) (Ok n) h k some other = one_typed bytes h.0 k.0 (Ok m) (Ok n) h.1 k.1 h.2 k.2 some other
 one_read bytes (Err errors.Memory) y h k some other = absurd (some refl)
 one_read bytes x (Err errors.Memory) h k some other = absurd (other refl)

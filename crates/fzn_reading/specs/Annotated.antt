@@ -1,11 +1,12 @@
 -- What was read, without the annotations.
 use Rattle.std.specs.Prelude.{Result, Ok, Err}
-use Rattle.fzn_lexer.specs.declared.fault.ReadError.{ReadError}
+use Rattle.fzn_lexer.specs.declared.fault.Fault.{Fault}
+use Rattle.fzn_lexer.specs.declared.halt.Halt.{Halt}
 use Rattle.fzn_meaning.specs.declared.model.Model.{Model}
 use Rattle.fzn_reading.specs.declared.fault.ModelFault.{ModelFault}
 use Rattle.fzn_reading.specs.declared.annotated.Annotated.{Annotated}
 
-abbrev pub model_in : Result Annotated ReadError → Result Model ReadError
+abbrev pub model_in : Result Annotated (Halt Fault) → Result Model (Halt Fault)
 model_in (Ok read) = Ok read.model
 model_in (Err error) = Err error
 

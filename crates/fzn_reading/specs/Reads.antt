@@ -1,7 +1,8 @@
 -- From the bytes of a file to its model.
 use Rattle.std.specs.Prelude.{◌≡◌, ◌<◌, ℕ, List, ◌++◌, length, ◌⊎◌, Result, Ok, Err}
-use Rattle.fzn_lexer.specs.declared.fault.ReadError.{ReadError}
-use Rattle.fzn_lexer.specs.declared.fault.ReadError.TheVariants as errors
+use Rattle.fzn_lexer.specs.declared.fault.Fault.{Fault}
+use Rattle.fzn_lexer.specs.declared.halt.Halt.{Halt}
+use Rattle.fzn_lexer.specs.declared.halt.Halt.TheVariants as errors
 use Rattle.fzn_lexer.specs.declared.token.Token.{Token}
 use Rattle.fzn_lexer.specs.Tokens.{Lexes, max_file}
 use Rattle.fzn_meaning.specs.declared.model.Model.{Model}
@@ -18,7 +19,7 @@ pub record HasTree (bytes : List ℕ) (tree : Tree) : Type 0 where
   pub parsed : Parses tokens (Ok tree)
 
 -- The model of the tree; or the lexer's fault, else the parser's on the tokens, else that of the tree.
-abbrev pub Reads : List ℕ → Result Model ReadError → Type 0
+abbrev pub Reads : List ℕ → Result Model (Halt Fault) → Type 0
 Reads bytes (Ok model) = (tree : Tree) × HasTree bytes tree × IsTyped tree (Ok model)
 Reads bytes (Err errors.Memory) = Unit {0}
 Reads bytes (Err (errors.Fault fault)) =

@@ -8,7 +8,7 @@ ghost use Rattle.fzn_reading.specs.Reads.{Answers, Reads};
 use crate::fault::ModelFault;
 use crate::input::read_bytes;
 use fzn_annotations::{Annotation, annotations_of};
-use fzn_lexer::{ReadError, tokens};
+use fzn_lexer::{Fault, Halt, tokens};
 use fzn_meaning::Model;
 use fzn_parser::parse;
 use fzn_typing::type_check_named;
@@ -23,7 +23,7 @@ pub struct Annotated {
 }
 
 /// The model of these bytes with its annotations, or their first fault.
-fn annotated_of(alloc: Global, bytes: &[u8]) -> Result<Annotated, ReadError>
+fn annotated_of(alloc: Global, bytes: &[u8]) -> Result<Annotated, Halt<Fault>>
     ensures right { Reads bytes.now (model_in result) }
     ensures well_formed { IfOk result (λ read. IsWellFormed read.model) }
 {
@@ -48,7 +48,7 @@ pub fn read_annotated<R: Read>(alloc: Global, input: &mut R) -> Result<Annotated
     let bytes = read_bytes(alloc, input)?;
     match annotated_of(alloc, bytes.as_slice()) {
         Ok(annotated) => Ok(annotated),
-        Err(ReadError::Memory) => Err(ModelFault::Memory),
-        Err(ReadError::Fault(fault)) => Err(ModelFault::File(fault)),
+        Err(Halt::Memory) => Err(ModelFault::Memory),
+        Err(Halt::Fault(fault)) => Err(ModelFault::File(fault)),
     }
 }

@@ -13,5 +13,5 @@ mod model;
 
 pub use annotated::{Annotated, read_annotated};
 pub use fault::ModelFault;
-pub use law::one_model;
+pub use law::{one_model, within_limits};
 pub use model::read_model;

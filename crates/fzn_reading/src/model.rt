@@ -6,7 +6,7 @@ ghost use Rattle.fzn_reading.specs.Reads.{Answers, Reads};
 
 use crate::fault::ModelFault;
 use crate::input::read_bytes;
-use fzn_lexer::{ReadError, tokens};
+use fzn_lexer::{Fault, Halt, tokens};
 use fzn_meaning::Model;
 use fzn_parser::parse;
 use fzn_typing::type_check;
@@ -14,7 +14,7 @@ use std::alloc::Global;
 use std::io::Read;
 
 /// The model of these bytes, or their first fault.
-fn model_of(alloc: Global, bytes: &[u8]) -> Result<Model, ReadError>
+fn model_of(alloc: Global, bytes: &[u8]) -> Result<Model, Halt<Fault>>
     ensures right { Reads bytes.now result }
     ensures well_formed { IfOk result IsWellFormed }
 {
@@ -33,7 +33,7 @@ pub fn read_model<R: Read>(alloc: Global, input: &mut R) -> Result<Model, ModelF
     let bytes = read_bytes(alloc, input)?;
     match model_of(alloc, bytes.as_slice()) {
         Ok(model) => Ok(model),
-        Err(ReadError::Memory) => Err(ModelFault::Memory),
-        Err(ReadError::Fault(fault)) => Err(ModelFault::File(fault)),
+        Err(Halt::Memory) => Err(ModelFault::Memory),
+        Err(Halt::Fault(fault)) => Err(ModelFault::File(fault)),
     }
 }

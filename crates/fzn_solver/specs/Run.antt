@@ -1,7 +1,7 @@
 -- What a run leaves, from the bytes of a file.
 use Rattle.std.specs.Prelude.{◌⊎◌, ℕ, Bool, List, Option, IfSome, Ok, Err}
 use Rattle.std.specs.Io.KnownBytes.{Keeps}
-use Rattle.fzn_lexer.specs.declared.fault.ReadError.TheVariants as errors
+use Rattle.fzn_lexer.specs.declared.halt.Halt.TheVariants as errors
 use Rattle.fzn_meaning.specs.declared.model.Model.{Model}
 use Rattle.fzn_reading.specs.Reads.{Reads}
 use Rattle.fzn_solver.specs.declared.fault.RunFault.{RunFault}

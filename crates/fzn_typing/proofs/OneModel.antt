@@ -2,8 +2,8 @@
 use Rattle.std.proofs.Common.{◌≡◌, ◌≢◌, List, [], Result, Ok, Err, Some, refl, sym, ◌∙◌, ap, subst}
 use Rattle.fzn_domain.specs.declared.literal.VarId.{VarId}
 use Rattle.fzn_lexer.specs.declared.fault.Fault.{Fault}
-use Rattle.fzn_lexer.specs.declared.fault.ReadError.{ReadError}
-use Rattle.fzn_lexer.specs.declared.fault.ReadError.TheVariants as errors
+use Rattle.fzn_lexer.specs.declared.halt.Halt.{Halt}
+use Rattle.fzn_lexer.specs.declared.halt.Halt.TheVariants as errors
 use Rattle.fzn_meaning.specs.declared.constraint.Constraint.{Constraint}
 use Rattle.fzn_meaning.specs.declared.model.Goal.{Goal}
 use Rattle.fzn_meaning.specs.declared.model.Model.{Model}
@@ -41,7 +41,7 @@ module _ (tree : Tree) where
   no_fault : (f : Fault) → faults_of tree ≡ [] → first (faults_of tree) ≡ Some f → ⊥
   no_fault f none is = let e : first {A = Fault} [] ≡ Some f = subst (λ fs. first fs ≡ Some f) none is in cc
 
-  pub one_typed : (x y : Result Model ReadError) → IsTyped tree x → IsTyped tree y → x ≢ Err errors.Memory → y ≢ Err errors.Memory → x ≡ y
+  pub one_typed : (x y : Result Model (Halt Fault)) → IsTyped tree x → IsTyped tree y → x ≢ Err errors.Memory → y ≢ Err errors.Memory → x ≡ y
   one_typed (Ok m) (Ok n) h k some other = ap (λ (model : Model). Ok model) (same_model m n h.1 k.1)
   one_typed (Err errors.Memory) y h k some other = absurd (some refl)
   one_typed x (Err errors.Memory) h k some other = absurd (other refl)
@@ -49,5 +49,5 @@ module _ (tree : Tree) where
   one_typed (Err (errors.Fault f)) (Ok n) h k some other = absurd (no_fault f k.0 h)
   one_typed (Err (errors.Fault f)) (Err (errors.Fault g)) h k some other = let e : Some f ≡ Some g = sym h ∙ k in let same : f ≡ g = cc in ap (λ (fault : Fault). Err (errors.Fault fault)) same
 
-pub one_model_lem : (tree : Tree) (x y : Result Model ReadError) → IsTyped tree x → IsTyped tree y → x ≢ Err errors.Memory → y ≢ Err errors.Memory → x ≡ y
+pub one_model_lem : (tree : Tree) (x y : Result Model (Halt Fault)) → IsTyped tree x → IsTyped tree y → x ≢ Err errors.Memory → y ≢ Err errors.Memory → x ≡ y
 one_model_lem tree = one_typed tree

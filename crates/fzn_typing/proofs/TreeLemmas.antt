@@ -5,7 +5,7 @@ use Rattle.std.proofs.lemmas.List.Elements.{All-append}
 use Rattle.fzn_domain.specs.declared.literal.VarId.{VarId}
 use Rattle.fzn_domain.specs.Narrow.{IsVariable}
 use Rattle.fzn_lexer.specs.declared.fault.Fault.{Fault}
-use Rattle.fzn_lexer.specs.declared.fault.ReadError.{ReadError}
+use Rattle.fzn_lexer.specs.declared.halt.Halt.{Halt}
 use Rattle.fzn_meaning.specs.declared.model.Model.{Model}
 use Rattle.fzn_meaning.specs.declared.model.OutputItem.{OutputItem}
 use Rattle.fzn_meaning.specs.declared.constraint.Constraint.{Constraint}
@@ -36,7 +36,7 @@ use Rattle.fzn_typing.proofs.WellFormedLemmas.{length-stated, few_written, all_s
 
 -- ---- without the names
 
-pub model-err : (result : Result Named ReadError) (P : ReadError → Type 0) → IsErrAnd result P → IsErrAnd (model_in result) P
+pub model-err : (result : Result Named (Halt Fault)) (P : (Halt Fault) → Type 0) → IsErrAnd result P → IsErrAnd (model_in result) P
 model-err (Ok named) P is = is
 model-err (Err error) P is = is
 
@@ -52,7 +52,7 @@ module _ (tree : Tree) where
   abbrev pub in_goal : List Fault
   in_goal = goal_faults (tree_names tree) tree.solve.goal
 
-  module _ {A : Type 0} (P : A → Type 0) (e : ReadError) (result : Result Model ReadError) (is : IsErrAnd result (λ x. x ≡ e)) where
+  module _ {A : Type 0} (P : A → Type 0) (e : Halt Fault) (result : Result Model (Halt Fault)) (is : IsErrAnd result (λ x. x ≡ e)) where
     fault_in_names : Gives in_names P (Err e) → IsTyped tree result
     unfolding faults_of
     fault_in_names h =
@@ -132,7 +132,7 @@ module _ (tree : Tree) (params : List Param) (declared : List Var) (count : ℕ)
   names_moved : declaration_faults params declared count ≡ in_names tree
   names_moved = rw (params_are, vars_are, many) refl
 
-  pub err_names : {A : Type 0} (P : A → Type 0) (e : ReadError) (result : Result Model ReadError) → Gives (declaration_faults params declared count) P (Err e) → IsErrAnd result (λ x. x ≡ e) → IsTyped tree result
+  pub err_names : {A : Type 0} (P : A → Type 0) (e : Halt Fault) (result : Result Model (Halt Fault)) → Gives (declaration_faults params declared count) P (Err e) → IsErrAnd result (λ x. x ≡ e) → IsTyped tree result
   err_names P e result h is = fault_in_names tree P e result is (subst (λ fs. Gives fs P (Err e)) names_moved h)
 
   module _ (names : NameList) (cons : List Con) (faultless : declaration_faults params declared count ≡ []) (names_are : names ≡ names_of params declared) (cons_are : cons ≡ tree.cons) where
@@ -151,14 +151,14 @@ module _ (tree : Tree) (params : List Param) (declared : List Var) (count : ℕ)
     goal_moved : goal_faults names tree.solve.goal ≡ in_goal tree
     goal_moved = rw names_right refl
 
-    pub err_cons : {A : Type 0} (P : A → Type 0) (e : ReadError) (result : Result Model ReadError) → Gives (flat_map (constraint_faults names) cons) P (Err e) → IsErrAnd result (λ x. x ≡ e) → IsTyped tree result
+    pub err_cons : {A : Type 0} (P : A → Type 0) (e : Halt Fault) (result : Result Model (Halt Fault)) → Gives (flat_map (constraint_faults names) cons) P (Err e) → IsErrAnd result (λ x. x ≡ e) → IsTyped tree result
     err_cons P e result h is = fault_in_cons tree P e result is none_in_names (subst (λ fs. Gives fs P (Err e)) cons_moved h)
 
     module _ (right : flat_map (constraint_faults names) cons ≡ []) where
       pub none_in_cons : in_cons tree ≡ []
       none_in_cons = sym cons_moved ∙ right
 
-      pub err_goal : {A : Type 0} (P : A → Type 0) (e : ReadError) (result : Result Model ReadError) → Gives (goal_faults names tree.solve.goal) P (Err e) → IsErrAnd result (λ x. x ≡ e) → IsTyped tree result
+      pub err_goal : {A : Type 0} (P : A → Type 0) (e : Halt Fault) (result : Result Model (Halt Fault)) → Gives (goal_faults names tree.solve.goal) P (Err e) → IsErrAnd result (λ x. x ≡ e) → IsTyped tree result
       err_goal P e result h is = fault_in_goal tree P e result is none_in_names none_in_cons (subst (λ fs. Gives fs P (Err e)) goal_moved h)
 
       module _ (model : Model) (aimed : goal_faults names tree.solve.goal ≡ []) (goal_is : goal_of names tree.solve.goal ≡ Some model.goal) (vars_is : model.vars ≡ vars_of declared)

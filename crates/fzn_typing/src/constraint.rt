@@ -13,7 +13,7 @@ ghost use Rattle.fzn_typing.specs.Models.{stated};
 use crate::argument::{first_set, first_unknown, first_wrong};
 use crate::given::{has_lengths, has_negatives};
 use crate::table::constraint_for;
-use fzn_lexer::{Fault, FaultKind, ReadError};
+use fzn_lexer::{Fault, FaultKind, Halt};
 use fzn_list::Items;
 use fzn_meaning::Constraint;
 use fzn_names::Names;
@@ -134,7 +134,7 @@ pub fn constraints_of(
     alloc: Global,
     names: &Names,
     mut cons: &[Con],
-) -> Result<Items<Constraint>, ReadError>
+) -> Result<Items<Constraint>, Halt<Fault>>
     requires { All IsConWithin cons.now }
     ensures { Gives (flat_map (constraint_faults (known names.now)) cons.now)
         (λ found. found ≡ flat_map (stated (known names.now)) cons.now) result }
@@ -142,7 +142,7 @@ pub fn constraints_of(
     let mut constraints = Items::new(alloc);
     while let [con, rest @ ..] = cons {
         if let Some(fault) = constraint_fault(names, con) {
-            return Err(ReadError::Fault(fault));
+            return Err(Halt::Fault(fault));
         }
         state(alloc, names, con, &mut constraints)?;
         cons = rest;

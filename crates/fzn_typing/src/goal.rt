@@ -6,28 +6,28 @@ ghost use Rattle.fzn_typing.specs.Faults.{objective_of, objective_faults, goal_f
 ghost use Rattle.fzn_typing.specs.Models.{goal_of};
 
 use fzn_domain::VarId;
-use fzn_lexer::{Fault, FaultKind, ReadError};
+use fzn_lexer::{Fault, FaultKind, Halt};
 use fzn_meaning::Kind;
 use fzn_names::{Declared, Names, place_of};
 use fzn_tree::{Basic, Goal};
 
 /// The integer variable that is named.
-fn objective_of(names: &Names, basic: &Basic) -> Result<VarId, ReadError>
+fn objective_of(names: &Names, basic: &Basic) -> Result<VarId, Halt<Fault>>
     ensures { Gives (objective_faults (known names.now) basic.now)
         (λ var. objective_of (known names.now) basic.now ≡ Some var) result }
 {
     match basic {
-        Basic::Literal(_) => Err(ReadError::Fault(Fault {
+        Basic::Literal(_) => Err(Halt::Fault(Fault {
             kind: FaultKind::Type,
             place: place_of(basic),
         })),
         Basic::Name(name) => match names.meaning(&name.text) {
-            None => Err(ReadError::Fault(Fault {
+            None => Err(Halt::Fault(Fault {
                 kind: FaultKind::UnknownName,
                 place: name.place,
             })),
             Some(Declared::Variable(Kind::Integer, var)) => Ok(*var),
-            Some(_) => Err(ReadError::Fault(Fault {
+            Some(_) => Err(Halt::Fault(Fault {
                 kind: FaultKind::Type,
                 place: name.place,
             })),
@@ -36,7 +36,7 @@ fn objective_of(names: &Names, basic: &Basic) -> Result<VarId, ReadError>
 }
 
 /// The goal, or its fault: a name that is not declared, or what is no integer variable.
-pub fn goal_of(names: &Names, goal: &Goal) -> Result<fzn_meaning::Goal, ReadError>
+pub fn goal_of(names: &Names, goal: &Goal) -> Result<fzn_meaning::Goal, Halt<Fault>>
     ensures { Gives (goal_faults (known names.now) goal.now)
         (λ found. goal_of (known names.now) goal.now ≡ Some found) result }
 {

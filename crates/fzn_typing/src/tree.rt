@@ -7,7 +7,7 @@ ghost use Rattle.fzn_typing.specs.Typed.{IsTyped, model_in};
 use crate::constraint::constraints_of;
 use crate::goal::goal_of;
 use crate::written::with_written;
-use fzn_lexer::ReadError;
+use fzn_lexer::{Fault, Halt};
 use fzn_meaning::Model;
 use fzn_names::{Names, names_of, outputs_of, shown_of, vars_of};
 use fzn_tree::Tree;
@@ -21,7 +21,7 @@ pub struct Named {
 }
 
 /// The model of the tree, or its first fault.
-pub fn type_check(alloc: Global, tree: &Tree) -> Result<Model, ReadError>
+pub fn type_check(alloc: Global, tree: &Tree) -> Result<Model, Halt<Fault>>
     requires { IsWithinLimits tree.now }
     ensures right { IsTyped tree.now result }
     ensures well_formed { IfOk result IsWellFormed }
@@ -33,7 +33,7 @@ pub fn type_check(alloc: Global, tree: &Tree) -> Result<Model, ReadError>
 }
 
 /// The model of the tree with its names, or its first fault.
-pub fn type_check_named(alloc: Global, tree: &Tree) -> Result<Named, ReadError>
+pub fn type_check_named(alloc: Global, tree: &Tree) -> Result<Named, Halt<Fault>>
     requires { IsWithinLimits tree.now }
     ensures right { IsTyped tree.now (model_in result) }
     ensures well_formed { IfOk result (λ named. IsWellFormed named.model) }

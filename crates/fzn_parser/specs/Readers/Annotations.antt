@@ -5,12 +5,12 @@ use Rattle.fzn_lexer.specs.declared.token.Place.{Place}
 use Rattle.fzn_lexer.specs.declared.token.Symbol.{Symbol}
 use Rattle.fzn_lexer.specs.declared.fault.FaultKind.TheVariants.{TooDeep}
 use Rattle.fzn_lexer.specs.declared.token.Symbol.TheVariants as s
+use Rattle.fzn_tree.specs.Grammar.{most, deepest}
 use Rattle.fzn_tree.specs.declared.tree.Ann.{Ann, roll-Ann}
 use Rattle.fzn_tree.specs.declared.tree.AnnArg.{AnnArg}
 use Rattle.fzn_tree.specs.declared.tree.AnnTerm.{AnnTerm}
 use Rattle.fzn_tree.specs.declared.tree.Literal.{Literal}
 use Rattle.fzn_tree.specs.declared.tree.Name.{Name}
-use Rattle.fzn_tree.specs.Grammar.{most, deepest}
 use Rattle.fzn_tree.specs.declared.tree.AnnArg.TheVariants as inner_args
 use Rattle.fzn_tree.specs.declared.tree.AnnTerm.TheVariants as terms
 use Rattle.fzn_parser.specs.Reading.{Reader, ◌then◌, ◌<$>◌, made, followed, next_is, syntax, either, many_all, limited}

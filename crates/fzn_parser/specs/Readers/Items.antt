@@ -3,6 +3,7 @@ use Rattle.std.specs.Prelude.{ℕ, List, nat_lt, ◌⊎◌}
 use Rattle.std.proofs.Common.{inl, inr}
 use Rattle.fzn_lexer.specs.declared.token.Place.{Place}
 use Rattle.fzn_lexer.specs.declared.token.Symbol.TheVariants as s
+use Rattle.fzn_tree.specs.Grammar.{most}
 use Rattle.fzn_tree.specs.declared.tree.Ann.{Ann}
 use Rattle.fzn_tree.specs.declared.tree.Arg.{Arg}
 use Rattle.fzn_tree.specs.declared.tree.Basic.{Basic}
@@ -13,7 +14,6 @@ use Rattle.fzn_tree.specs.declared.tree.Predicate.{Predicate}
 use Rattle.fzn_tree.specs.declared.tree.PredicateParam.{PredicateParam}
 use Rattle.fzn_tree.specs.declared.tree.Solve.{Solve}
 use Rattle.fzn_tree.specs.declared.tree.Tree.{Tree}
-use Rattle.fzn_tree.specs.Grammar.{most}
 use Rattle.fzn_tree.specs.declared.tree.Goal.TheVariants as goals
 use Rattle.fzn_parser.specs.Reading.{Reader, ◌then◌, ◌<$>◌, either, many_all, limited}
 use Rattle.fzn_parser.specs.Readers.Tokens.{is, symbol, symbol_place, name}

@@ -6,8 +6,8 @@ use Rattle.fzn_lexer.specs.declared.token.Place.{Place}
 use Rattle.fzn_lexer.specs.declared.token.Token.{Token}
 use Rattle.fzn_lexer.specs.declared.fault.FaultKind.TheVariants.{TooMany}
 use Rattle.fzn_lexer.specs.declared.token.Kind.TheVariants as k
-use Rattle.fzn_tree.specs.declared.tree.Int.{Int}
 use Rattle.fzn_tree.specs.Grammar.{most}
+use Rattle.fzn_tree.specs.declared.tree.Int.{Int}
 use Rattle.fzn_parser.specs.declared.cursor.Start.TheVariants as w
 use Rattle.fzn_parser.specs.Reading.{Outcome, Reader, ◌<$>◌, syntax}
 use Rattle.fzn_parser.specs.Readers.Tokens.{taken}

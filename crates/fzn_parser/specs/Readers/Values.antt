@@ -3,6 +3,7 @@ use Rattle.std.specs.Prelude.{ℕ, true, false, ℤ, List, Ok, nat_lt, ◌⊎◌
 use Rattle.std.proofs.Common.{inl, inr}
 use Rattle.fzn_lexer.specs.declared.token.Place.{Place}
 use Rattle.fzn_lexer.specs.declared.token.Symbol.TheVariants as s
+use Rattle.fzn_tree.specs.Grammar.{most, most_listed}
 use Rattle.fzn_tree.specs.declared.tree.Arg.{Arg}
 use Rattle.fzn_tree.specs.declared.tree.Array.{Array}
 use Rattle.fzn_tree.specs.declared.tree.Basic.{Basic}
@@ -11,7 +12,6 @@ use Rattle.fzn_tree.specs.declared.tree.Literal.{Literal}
 use Rattle.fzn_tree.specs.declared.tree.Name.{Name}
 use Rattle.fzn_tree.specs.declared.tree.Range.{Range}
 use Rattle.fzn_tree.specs.declared.tree.Values.{Values}
-use Rattle.fzn_tree.specs.Grammar.{most, most_listed}
 use Rattle.fzn_tree.specs.declared.tree.Arg.TheVariants as args
 use Rattle.fzn_tree.specs.declared.tree.Basic.TheVariants as basics
 use Rattle.fzn_tree.specs.declared.tree.Literal.TheVariants as l

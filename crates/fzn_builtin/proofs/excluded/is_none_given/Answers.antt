@@ -1,4 +1,4 @@
-use Rattle.std.proofs.Common.{◌≡◌, ℤ, pos, ◌+ℤ◌, arith, sym, subst}
+use Rattle.std.proofs.Common.{ℤ, pos, ◌+ℤ◌, arith}
 use Rattle.std.proofs.lemmas.Int.{ints}
 use Rattle.fzn_meaning.specs.Arithmetic.{IsArithmetic}
 use Rattle.fzn_builtin.specs.Intervals.{IsIn}

@@ -2,7 +2,7 @@ use Rattle.std.proofs.Common.{◌≡◌, ℤ, pos, ◌≤ℤ◌, List, ◌∷◌
 use Rattle.std.proofs.lemmas.Int.{ints}
 use Rattle.fzn_domain.specs.declared.domain.TheConstants.{LEAST_VALUE}
 use Rattle.fzn_explain.specs.declared.claim.Claim.{Claim}
-use Rattle.fzn_builtin.proofs.MemberLemmas.{AreAskedBelow, asked_none, asked_push, asked_to_end, asked_beyond}
+use Rattle.fzn_builtin.proofs.MemberLemmas.{AreAskedBelow, asked_none, asked_push, asked_beyond}
 use Rattle.fzn_builtin.proofs.member.asked_values.Goals as goal
 
 pub loop-init : goal.loop-init

@@ -1,4 +1,4 @@
-use Rattle.std.proofs.Common.{ℤ, pos, ◌≤ℤ◌}
+use Rattle.std.proofs.Common.{pos, ◌≤ℤ◌}
 use Rattle.fzn_domain.specs.declared.domain.TheConstants.{LEAST_VALUE}
 use Rattle.fzn_builtin.proofs.MemberLemmas.{AreAskedBelow}
 use Rattle.fzn_builtin.proofs.member.asked_values.Given as goal

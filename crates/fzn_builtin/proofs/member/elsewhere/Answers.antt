@@ -1,4 +1,4 @@
-use Rattle.std.proofs.Common.{◌≡◌, length, List, ◌∷◌, ◌++◌, [], sym, subst, ◌∙◌, IfOk, IfSome, Option, All}
+use Rattle.std.proofs.Common.{length, List, ◌∷◌, ◌++◌, [], sym, subst, ◌∙◌, IfOk, IfSome, Option, All}
 use Rattle.std.proofs.lemmas.List.Elements.{All-push}
 use Rattle.fzn_meaning.specs.declared.constraint.Constraint.TheVariants as constraint
 use Rattle.fzn_meaning.specs.Term.{IsTerm}

@@ -1,4 +1,4 @@
-use Rattle.std.proofs.Common.{ℕ, length, subst, arith}
+use Rattle.std.proofs.Common.{arith}
 use Rattle.fzn_globals.proofs.KindLemmas.{different_met}
 use Rattle.fzn_globals.proofs.all_different.first_compared.Goals as goal
 

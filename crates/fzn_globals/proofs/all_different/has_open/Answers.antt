@@ -1,7 +1,6 @@
-use Rattle.std.proofs.Common.{ℤ, arith, subst}
+use Rattle.std.proofs.Common.{arith, subst}
 use Rattle.fzn_domain.proofs.DomainLemmas.{real}
-use Rattle.fzn_globals.specs.Claims.{HasOther}
-use Rattle.fzn_globals.specs.Supports.{place_at}
+use Rattle.fzn_terms.specs.Claims.{HasOther, place_at}
 use Rattle.fzn_globals.proofs.all_different.has_open.Goals as goal
 
 pub returns-then-has_other : goal.returns-then-has_other

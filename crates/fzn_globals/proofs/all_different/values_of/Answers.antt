@@ -1,4 +1,4 @@
-use Rattle.std.proofs.Common.{List, [], ◌∷◌, ◌++◌, ℤ, ap, ◌∙◌}
+use Rattle.std.proofs.Common.{[], ◌∷◌, ◌++◌, ℤ, ap, ◌∙◌}
 use Rattle.fzn_domain.proofs.DomainLemmas.{real}
 use Rattle.fzn_globals.proofs.DifferentLemmas.{members_more}
 use Rattle.fzn_globals.proofs.all_different.values_of.Goals as goal

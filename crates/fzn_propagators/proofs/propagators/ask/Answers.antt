@@ -1,5 +1,5 @@
 -- What the propagator at this place finds.
-use Rattle.std.proofs.Common.{◌≡◌, get_or, ap, ◌∙◌}
+use Rattle.std.proofs.Common.{get_or, ap, ◌∙◌}
 use Rattle.fzn_propagators.proofs.FoundLemmas.{fits-trail, found-inference}
 use Rattle.fzn_propagators.proofs.propagators.ask.Goals as goal
 

@@ -1,5 +1,5 @@
 use Rattle.std.proofs.Common.{Err, subst}
-use Rattle.fzn_lexer.specs.declared.fault.ReadError.TheVariants as errors
+use Rattle.fzn_lexer.specs.declared.halt.Halt.TheVariants as errors
 use Rattle.fzn_reading.specs.Reads.{Reads}
 use Rattle.fzn_reading.proofs.FrontLemmas.{known_reads}
 use Rattle.fzn_reading.proofs.model.read_model.Goals as goal

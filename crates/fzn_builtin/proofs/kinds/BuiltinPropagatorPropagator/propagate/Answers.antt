@@ -4,8 +4,9 @@ use Rattle.fzn_meaning.specs.declared.constraint.Constraint.{Constraint}
 use Rattle.fzn_propagator.specs.Inference.{IsInference}
 use Rattle.fzn_explain.proofs.CallerLemmas.{inference_of}
 use Rattle.fzn_builtin.specs.declared.narrow.Found.{Found}
-use Rattle.fzn_builtin.specs.Kinds.{IsFixedClause, IsFound}
-use Rattle.fzn_builtin.proofs.FixedLemmas.{fixed_inference}
+use Rattle.fzn_fixed.specs.Fixed.{IsFixedClause}
+use Rattle.fzn_fixed.proofs.CallerLemmas.{fixed_inference}
+use Rattle.fzn_builtin.specs.Kinds.{IsFound}
 use Rattle.fzn_builtin.proofs.kinds.BuiltinPropagatorPropagator.propagate.Goals as goal
 
 pub returns-clause-found : goal.returns-clause-found

@@ -5,9 +5,9 @@ use Rattle.fzn_domain.specs.declared.literal.Lit.{Lit}
 use Rattle.fzn_cert.specs.Accepted.{past_of}
 use Rattle.fzn_conflict.specs.declared.analysis.Learn.{Learn}
 use Rattle.fzn_conflict.specs.declared.analysis.Learn.TheVariants.{Plain, First}
-use Rattle.fzn_conflict.specs.declared.analysis.Learned.{Learned}
-use Rattle.fzn_conflict.specs.declared.source.Source.{Source}
-use Rattle.fzn_conflict.specs.Learned.{IsDerived}
+use Rattle.fzn_learned.specs.declared.learned.Learned.{Learned}
+use Rattle.fzn_learned.specs.declared.source.Source.{Source}
+use Rattle.fzn_learned.specs.Learned.{IsDerived}
 use Rattle.fzn_engine.specs.State.{known_in}
 use Rattle.fzn_engine.specs.Search.{stock_of, GiveSources, Holds}
 use Rattle.fzn_engine.proofs.SolverLemmas.{known-over, written-beside}

@@ -2,8 +2,8 @@
 use Rattle.std.proofs.Common.{ℕ, List, Some, get_or, ap, subst, sym, ◌∙◌}
 use Rattle.fzn_cert.specs.Past.{clause_held}
 use Rattle.fzn_cert.specs.Accepted.{past_of}
-use Rattle.fzn_conflict.specs.declared.source.Source.{Source}
-use Rattle.fzn_conflict.specs.Reasoned.{IsKnown, clause_of}
+use Rattle.fzn_learned.specs.declared.source.Source.{Source}
+use Rattle.fzn_learned.specs.Reasoned.{IsKnown, clause_of}
 use Rattle.fzn_engine.specs.State.{known_in}
 use Rattle.fzn_engine.specs.Search.{stock_of}
 use Rattle.fzn_engine.proofs.solver.Solver.write_source.Goals as goal

@@ -25,12 +25,32 @@ returns-in-Global-clause-none c =
     subst (λ (p : AnyPropagator). IfOk c.propagate-in-Global.result (λ (found : Option Inference). IfNone found (AreExhausted (AnyIsFor p) c.args.trail.now))) (sym c.in-Global.is)
     c.propagate-in-Global.ensures.none
 
-pub returns-in-Schedule-clause-found : goal.returns-in-Schedule-clause-found
-returns-in-Schedule-clause-found c =
-    subst (λ (p : AnyPropagator). IfOk c.propagate-in-Schedule.result (λ (found : Option Inference). IfSome found (IsInferenceOf (any_number p) (AnyIsFor p) c.args.trail.now))) (sym c.in-Schedule.is)
-    c.propagate-in-Schedule.ensures.found
+pub returns-in-Table-clause-found : goal.returns-in-Table-clause-found
+returns-in-Table-clause-found c =
+    subst (λ (p : AnyPropagator). IfOk c.propagate-in-Table.result (λ (found : Option Inference). IfSome found (IsInferenceOf (any_number p) (AnyIsFor p) c.args.trail.now))) (sym c.in-Table.is)
+    c.propagate-in-Table.ensures.found
 
-pub returns-in-Schedule-clause-none : goal.returns-in-Schedule-clause-none
-returns-in-Schedule-clause-none c =
-    subst (λ (p : AnyPropagator). IfOk c.propagate-in-Schedule.result (λ (found : Option Inference). IfNone found (AreExhausted (AnyIsFor p) c.args.trail.now))) (sym c.in-Schedule.is)
-    c.propagate-in-Schedule.ensures.none
+pub returns-in-Table-clause-none : goal.returns-in-Table-clause-none
+returns-in-Table-clause-none c =
+    subst (λ (p : AnyPropagator). IfOk c.propagate-in-Table.result (λ (found : Option Inference). IfNone found (AreExhausted (AnyIsFor p) c.args.trail.now))) (sym c.in-Table.is)
+    c.propagate-in-Table.ensures.none
+
+pub returns-in-Circuit-clause-found : goal.returns-in-Circuit-clause-found
+returns-in-Circuit-clause-found c =
+    subst (λ (p : AnyPropagator). IfOk c.propagate-in-Circuit.result (λ (found : Option Inference). IfSome found (IsInferenceOf (any_number p) (AnyIsFor p) c.args.trail.now))) (sym c.in-Circuit.is)
+    c.propagate-in-Circuit.ensures.found
+
+pub returns-in-Circuit-clause-none : goal.returns-in-Circuit-clause-none
+returns-in-Circuit-clause-none c =
+    subst (λ (p : AnyPropagator). IfOk c.propagate-in-Circuit.result (λ (found : Option Inference). IfNone found (AreExhausted (AnyIsFor p) c.args.trail.now))) (sym c.in-Circuit.is)
+    c.propagate-in-Circuit.ensures.none
+
+pub returns-in-Cumulative-clause-found : goal.returns-in-Cumulative-clause-found
+returns-in-Cumulative-clause-found c =
+    subst (λ (p : AnyPropagator). IfOk c.propagate-in-Cumulative.result (λ (found : Option Inference). IfSome found (IsInferenceOf (any_number p) (AnyIsFor p) c.args.trail.now))) (sym c.in-Cumulative.is)
+    c.propagate-in-Cumulative.ensures.found
+
+pub returns-in-Cumulative-clause-none : goal.returns-in-Cumulative-clause-none
+returns-in-Cumulative-clause-none c =
+    subst (λ (p : AnyPropagator). IfOk c.propagate-in-Cumulative.result (λ (found : Option Inference). IfNone found (AreExhausted (AnyIsFor p) c.args.trail.now))) (sym c.in-Cumulative.is)
+    c.propagate-in-Cumulative.ensures.none

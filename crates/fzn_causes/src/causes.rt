@@ -1,0 +1,360 @@
+// Which entries of a trail made literals false.
+ghost use Rattle.std.specs.Prelude.{IsTrue};
+ghost use Rattle.fzn_causes.specs.Implied.{IsTrueOn};
+
+use crate::gaps::{Gap, Gaps};
+use crate::implications::Implications;
+use crate::implied::{canonical, implies, opposite};
+use fzn_domain::{Domain, Lit, Memory, Op};
+use fzn_trail::ClauseId;
+use std::alloc::Global;
+
+/// An entry, by its place, and the literal that is needed of it: its own, or one that follows from it.
+#[derive(Clone, Copy, Debug)]
+pub struct Cause {
+    pub place: usize,
+    pub need: Lit,
+}
+
+/// The values between two numbers, over which a bound moved as they were out before.
+#[derive(Clone, Copy, Debug)]
+struct Crossing {
+    from: i64,
+    until: i64,
+}
+
+/// What made literals false. Of a bound that moved over values that were out before the entries that took these out are causes too;
+/// within one analysis they are given once.
+#[derive(Drop)]
+pub struct Causes {
+    found: Vec<Cause>,
+    /// By place: the crossing of the entry whose causes are marked.
+    crossings: Vec<Option<Crossing>>,
+    /// The places that have one.
+    places: Vec<usize>,
+    /// The crossings whose causes were found and are not marked yet.
+    fresh: Vec<(usize, Crossing)>,
+    /// What is known of gaps of level 0.
+    pub gaps: Gaps,
+    /// The clauses of gaps that bounds moved over, with the place of the entry; those of what was found and is not marked yet.
+    passed: Vec<(usize, ClauseId)>,
+    /// Those of what is marked.
+    cited: Vec<(usize, ClauseId)>,
+}
+
+impl Causes {
+    /// None is found.
+    pub fn new(alloc: Global) -> Causes {
+        Causes {
+            found: Vec::new(alloc),
+            crossings: Vec::new(alloc),
+            places: Vec::new(alloc),
+            fresh: Vec::new(alloc),
+            gaps: Gaps::new(alloc),
+            passed: Vec::new(alloc),
+            cited: Vec::new(alloc),
+        }
+    }
+
+    /// Begins an analysis: nothing is found, and nothing is marked.
+    pub fn begin(&mut self) {
+        for place in &self.places {
+            if *place < self.crossings.len() {
+                self.crossings[*place] = None;
+            }
+        }
+        self.places.clear();
+        self.cited.clear();
+        self.clear();
+    }
+
+    /// None is found.
+    pub fn clear(&mut self) {
+        self.found.clear();
+        self.fresh.clear();
+        self.passed.clear();
+    }
+
+    /// The clauses of gaps that the marked entries moved over, each with the place of its entry, in the order in which an entry met them.
+    pub fn cited(&self) -> &[(usize, ClauseId)] {
+        self.cited.as_slice()
+    }
+
+    /// How many were found.
+    pub fn len(&self) -> usize {
+        self.found.len()
+    }
+
+    /// The cause that was found after so many others.
+    pub fn get(&self, i: usize) -> Option<Cause> {
+        self.found.get(i).copied()
+    }
+
+    /// All that were found are marked.
+    pub fn are_marked(&mut self) -> Result<(), Memory> {
+        for (place, crossing) in &self.fresh {
+            for _ in self.crossings.len()..place.saturating_add(1) {
+                self.crossings.push(None)?;
+            }
+            if *place < self.crossings.len() {
+                self.crossings[*place] = Some(*crossing);
+                self.places.push(*place)?;
+            }
+        }
+        self.fresh.clear();
+        for cited in &self.passed {
+            self.cited.push(*cited)?;
+        }
+        self.passed.clear();
+        Ok(())
+    }
+
+    /// Adds the entries that made the literal false. None is added where it is false on the declared set.
+    pub fn add(&mut self, graph: Implications, lit: Lit) -> Result<(), Memory> {
+        let Some(declared) = graph.declared(lit.var) else {
+            return Ok(());
+        };
+        let truth = canonical(opposite(lit), declared);
+        let last = graph.last_of(truth.var);
+        if truth.op != Op::Equal {
+            let place = first_true(graph, declared, truth, last);
+            return self.add_from(graph, declared, truth, place);
+        }
+        let least = Lit {
+            op: Op::AtLeast,
+            ..truth
+        };
+        let greatest = Lit {
+            op: Op::AtMost,
+            ..truth
+        };
+        let lower = first_true(graph, declared, least, last);
+        let upper = first_true(graph, declared, greatest, last);
+        if let Some(place) = lower
+            && lower == upper
+            && graph.is_at(place, truth)
+        {
+            self.found.push(Cause { place, need: truth })?;
+            return Ok(());
+        }
+        self.add_from(graph, declared, least, lower)?;
+        self.add_from(graph, declared, greatest, upper)
+    }
+
+    /// Adds the entries that made a literal true that is no equation: the first one after which it is true, where there is one, and
+    /// those that it needs.
+    fn add_from(
+        &mut self,
+        graph: Implications,
+        declared: &Domain,
+        truth: Lit,
+        first: Option<usize>,
+    ) -> Result<(), Memory> {
+        let mut truth = truth;
+        let mut first = first;
+        for _ in 0..graph.trail.len() {
+            let Some(place) = first else {
+                return Ok(());
+            };
+            if place >= graph.trail.len() {
+                return Ok(());
+            }
+            let lit = canonical(graph.trail.entry(place).lit, declared);
+            if implies(lit, truth) {
+                self.found.push(Cause { place, need: truth })?;
+                return Ok(());
+            }
+            // The bound moved over values that were out before, further than the entry's literal says.
+            self.found.push(Cause { place, need: lit })?;
+            let Some(older) = self.add_crossed(graph, declared, place, lit, truth)? else {
+                return Ok(());
+            };
+            truth = older;
+            first = first_true(graph, declared, truth, graph.trail.before(place));
+        }
+        Ok(())
+    }
+
+    /// Adds the entries before this one that took out the values that a bound moved over, and gives the bound before it where that
+    /// is needed too.
+    fn add_crossed(
+        &mut self,
+        graph: Implications,
+        declared: &Domain,
+        place: usize,
+        lit: Lit,
+        truth: Lit,
+    ) -> Result<Option<Lit>, Memory> {
+        let is_bound = lit.op == truth.op;
+        // The number that a bound names was crossed, that of an inequality was taken out by it.
+        let own = if is_bound { 1 } else { 0 };
+        let (from, until) = match truth.op {
+            Op::AtLeast => (lit.value.saturating_sub(own), truth.value),
+            _ => (truth.value, lit.value.saturating_add(own)),
+        };
+        let crossing = Crossing { from, until };
+        if !self.is_marked(place, crossing) {
+            if !self.pass_gaps(graph, declared, place, crossing, truth.op)? {
+                self.add_taken_out(graph, declared, place, crossing, None)?;
+            }
+            self.fresh.push((place, crossing))?;
+        }
+        if is_bound {
+            return Ok(None);
+        }
+        Ok(Some(Lit {
+            value: lit.value,
+            ..truth
+        }))
+    }
+
+    /// Whether what took out the values that the entry's bound moved over is marked.
+    fn is_marked(&self, place: usize, crossing: Crossing) -> bool {
+        match self.crossings.get(place).copied().flatten() {
+            Some(known) => known.from <= crossing.from && crossing.until <= known.until,
+            None => false,
+        }
+    }
+
+    /// Passes over the gaps of level 0 by the clauses that stand for them, and adds the entries before this one that took out the other
+    /// values that were crossed. Answers false, and adds nothing, where there is no gap, or one has no clause: then one is wanted.
+    fn pass_gaps(
+        &mut self,
+        graph: Implications,
+        declared: &Domain,
+        place: usize,
+        crossing: Crossing,
+        op: Op,
+    ) -> Result<bool, Memory> {
+        let Some(root) = graph.root_domain(place) else {
+            return Ok(false);
+        };
+        let Some(entry) = graph.entry(place) else {
+            return Ok(false);
+        };
+        let var = entry.lit.var.0;
+        let count = self.passed.len();
+        let mut value = crossing.from;
+        let mut are_known = true;
+        for _ in 0..graph.trail.len() {
+            match declared.above(value) {
+                Some(next) if next < crossing.until => {
+                    value = next;
+                    if !root.contains(next)
+                        && let Some(below) = root.below(next)
+                        && let Some(above) = root.above(next)
+                    {
+                        let gap = Gap { var, below, above };
+                        value = above.saturating_sub(1);
+                        match self.gaps.clause(gap) {
+                            Some(id) => self.passed.push((place, id))?,
+                            None => {
+                                are_known = false;
+                                self.gaps.want(gap)?;
+                            }
+                        }
+                    }
+                }
+                _ => break,
+            }
+        }
+        if !are_known || self.passed.len() == count {
+            self.passed.truncate(count);
+            return Ok(false);
+        }
+        if op == Op::AtMost && count < self.passed.len() {
+            self.passed[count..].reverse();
+        }
+        self.add_taken_out(graph, declared, place, crossing, Some(root))?;
+        Ok(true)
+    }
+
+    /// Adds the entries before this one that took out the members of the declared set that were crossed; where a set is given, its
+    /// members alone.
+    fn add_taken_out(
+        &mut self,
+        graph: Implications,
+        declared: &Domain,
+        place: usize,
+        crossing: Crossing,
+        root: Option<&Domain>,
+    ) -> Result<(), Memory> {
+        let Crossing { from, until } = crossing;
+        let members = match root {
+            Some(root) => root,
+            None => declared,
+        };
+        let mut missing = count_between(members, from, until, graph.trail.len());
+        let mut at = place;
+        for _ in 0..graph.trail.len() {
+            if missing == 0 || at >= graph.trail.len() {
+                return Ok(());
+            }
+            let Some(older) = graph.trail.before(at) else {
+                return Ok(());
+            };
+            at = older;
+            if at < graph.trail.len() {
+                let need = graph.trail.entry(at).lit;
+                if need.op == Op::NotEqual
+                    && from < need.value
+                    && need.value < until
+                    && members.contains(need.value)
+                {
+                    self.found.push(Cause { place: at, need })?;
+                    missing -= 1;
+                }
+            }
+        }
+        Ok(())
+    }
+}
+
+/// How many members lie between the numbers, at most so many.
+fn count_between(declared: &Domain, from: i64, until: i64, most: usize) -> usize {
+    let mut value = from;
+    for count in 0..most {
+        match declared.above(value) {
+            Some(next) if next < until => value = next,
+            _ => return count,
+        }
+    }
+    most
+}
+
+/// The earliest of the entries on a variable, from this one down, after which the literal is true; none where it always was.
+fn first_true(
+    graph: Implications,
+    declared: &Domain,
+    truth: Lit,
+    last: Option<usize>,
+) -> Option<usize> {
+    if is_true_on(declared, truth) {
+        return None;
+    }
+    let mut at = last?;
+    for _ in 0..graph.trail.len() {
+        if at >= graph.trail.len() || !is_true_on(graph.trail.domain_before(at), truth) {
+            return Some(at);
+        }
+        at = graph.trail.before(at)?;
+    }
+    None
+}
+
+/// Whether the literal is true at each value of the set.
+fn is_true_on(domain: &Domain, lit: Lit) -> bool
+    ensures { IsTrue result → IsTrueOn domain.now lit }
+{
+    if domain.is_empty() {
+        return true;
+    }
+    match lit.op {
+        Op::AtLeast => lit.value <= domain.min(),
+        Op::AtMost => domain.max() <= lit.value,
+        Op::Equal => lit.value == domain.min() && lit.value == domain.max(),
+        Op::NotEqual => {
+            lit.value < domain.min() || domain.max() < lit.value || !domain.contains(lit.value)
+        }
+    }
+}

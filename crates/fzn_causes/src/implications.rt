@@ -1,0 +1,121 @@
+// The trail with the clauses that its reasons are, as the graph of what follows from what.
+ghost use Rattle.std.specs.Prelude.{◌≡◌, IfSome, IfNone, length};
+ghost use Rattle.fzn_trail.specs.declared.trail.Reason.TheVariants.{Decision};
+ghost use Rattle.fzn_learned.specs.Reasoned.{reason_of};
+
+use crate::causes::Causes;
+use fzn_clauses::Clauses;
+use fzn_domain::{Domain, Lit, Memory, VarId};
+use fzn_inferences::Inferences;
+use fzn_learned::{Source, clause_of, is_known};
+use fzn_trail::{Entry, Reason, Trail};
+
+/// The entries of a trail, and the clauses of their reasons.
+#[derive(Clone, Copy)]
+pub struct Implications<'a> {
+    pub trail: &'a Trail,
+    pub clauses: &'a Clauses,
+    pub inferences: &'a Inferences,
+    pub vars: usize,
+    ghost variables: { vars ≡ length trail.now.declared },
+}
+
+impl<'a> Implications<'a> {
+    /// The entry at this place, where there is one.
+    pub fn entry(self, place: usize) -> Option<Entry> {
+        if place < self.trail.len() {
+            Some(self.trail.entry(place))
+        } else {
+            None
+        }
+    }
+
+    /// Whether the entry at this place asserts the literal.
+    pub fn is_at(self, place: usize, lit: Lit) -> bool {
+        match self.entry(place) {
+            Some(entry) => entry.lit == lit,
+            None => false,
+        }
+    }
+
+    /// The set at level 0 of the variable of an entry above it.
+    pub fn root_domain(self, place: usize) -> Option<&'a Domain> {
+        let mut found = None;
+        let mut at = place;
+        for _ in 0..self.trail.len() {
+            if at >= self.trail.len() || self.trail.entry(at).level == 0 {
+                return found;
+            }
+            found = Some(self.trail.domain_before(at));
+            match self.trail.before(at) {
+                Some(older) => at = older,
+                None => return found,
+            }
+        }
+        found
+    }
+
+    /// The declared set of a variable.
+    pub fn declared(self, var: VarId) -> Option<&'a Domain> {
+        if 1 <= var.0 && var.0 <= self.vars {
+            Some(self.trail.declared(var))
+        } else {
+            None
+        }
+    }
+
+    /// The last entry before this one on the same variable.
+    pub fn before(self, place: usize) -> Option<usize> {
+        if place < self.trail.len() {
+            self.trail.before(place)
+        } else {
+            None
+        }
+    }
+
+    /// The last entry on a variable.
+    pub fn last_of(self, var: VarId) -> Option<usize> {
+        if 1 <= var.0 && var.0 <= self.vars {
+            self.trail.last_of(var)
+        } else {
+            None
+        }
+    }
+
+    /// Finds what made the literals of the source's clause false, but for the one that it forced.
+    pub fn find_causes(
+        self,
+        causes: &mut Causes,
+        source: Source,
+        forced: Option<Lit>,
+    ) -> Result<(), Memory> {
+        causes.clear();
+        for lit in self.clause(source) {
+            if Some(*lit) != forced {
+                causes.add(self, *lit)?;
+            }
+        }
+        Ok(())
+    }
+
+    /// The clause of a source, without literals where there is none.
+    pub fn clause(self, source: Source) -> &'a [Lit] {
+        if is_known(self.clauses, self.inferences, source) {
+            clause_of(self.clauses, self.inferences, source)
+        } else {
+            [].as_slice()
+        }
+    }
+}
+
+/// The source of what an entry rests on; none where it is a decision.
+pub fn source_of(reason: Reason) -> Option<Source>
+    ensures some { IfSome result (λ source. reason_of source ≡ reason) }
+    ensures none { IfNone result (reason ≡ Decision) }
+{
+    match reason {
+        Reason::Decision => None,
+        Reason::Clause(id) => Some(Source::Held(id)),
+        Reason::Inference(place) => Some(Source::Stacked(place)),
+    }
+}

@@ -1,0 +1,4 @@
+mod CircuitLemmas
+mod ClosingLemmas
+mod PropagatorLemmas
+mod WayLemmas

@@ -1,0 +1,57 @@
+use Rattle.std.proofs.Common.{rules, ◌≡◌, ◌<◌, length, arith, ap, sym, subst, ◌∙◌, ℤ, w64, to_z, of_z, FitsSigned, IsPermutation}
+use Rattle.std.proofs.lemmas.Int.{to_z-of_z}
+use Rattle.fzn_domain.specs.declared.literal.Op.TheVariants.{Equal}
+use Rattle.fzn_meaning.specs.declared.term.Term.{Term}
+use Rattle.fzn_state.specs.Terms.{term_at}
+use Rattle.fzn_terms.specs.Denied.{IsForced, NoneIs}
+use Rattle.fzn_terms.proofs.CaseLemmas.{if_true, if_false}
+use Rattle.fzn_circuit.specs.Circuits.{IsWay, IsAtEnd}
+use Rattle.fzn_circuit.proofs.WayLemmas.{hints_are, cut_inferred, none_of_apart}
+use Rattle.fzn_circuit.proofs.circuit.explain_cut.Goals as goal
+
+pub returns-then-branch-clause-found : goal.returns-then-branch-clause-found
+returns-then-branch-clause-found c =
+    let trail = c.args.trail.now in
+    let xs = c.args.successors.now in
+    let last = c.in_ok-last.last in
+    let fits : FitsSigned w64 c.args.start = search rules in
+    let fits_last : FitsSigned w64 c.in_ok-last.last = search rules in
+    let start_is : to_z w64 (of_z w64 c.args.start) ≡ c.args.start = to_z-of_z w64 c.args.start fits in
+    let at : c.term_at.result ≡ term_at xs last = c.term_at.ensures.value ∙ ap (term_at xs) (to_z-of_z w64 c.in_ok-last.last fits_last) in
+    let way = subst (λ (x : ℤ). IsWay trail xs x c.in_ok-last.last c.follow.new.places.items c.follow.new.clause) start_is c.in_ok-last.ensures.way in
+    let sorted = c.deref.result.now in
+    let order = subst (IsPermutation c.follow.new.places.items) (sym c.deref.ensures.value) c.sort_unstable.ensures.permutation in
+    let forced = subst (λ (t : Term). IsForced trail Equal c.args.start t c.follow.new.clause c.force.new.clause) at
+    (subst (λ (x : ℤ). IsForced trail Equal x c.term_at.result c.follow.new.clause c.force.new.clause) start_is
+    (if_true _ (NoneIs Equal (to_z w64 (of_z w64 c.args.start)) c.term_at.result trail.sets) c.in_ok-force.field-0 c.if-branch.true c.in_ok-force.ensures)) in
+    let few = c.in_ok-places.ensures.few in
+    let len = c.len.ensures in
+    let short = c.if-len-successors.false in
+    let as_many = ap length c.deref.ensures.value in
+    let sorted_len = c.sort_unstable.ensures.len in
+    let fewer : length c.in_ok-places.places < length xs = omega arith in
+    cut_inferred trail xs c.args.start last c.follow.new.places.items sorted c.in_ok-places.places c.follow.new.clause way order c.in_ok-places.ensures.same c.in_ok-places.ensures.all c.force.new.clause c.in_ok-places.ensures.ascending fewer forced
+
+pub returns-then-branch-clause-hints : goal.returns-then-branch-clause-hints
+returns-then-branch-clause-hints c =
+    let order = subst (IsPermutation c.follow.new.places.items) (sym c.deref.ensures.value) c.sort_unstable.ensures.permutation in
+    let way = c.in_ok-last.ensures.way in
+    hints_are c.args.trail.now c.args.successors.now _ _ c.follow.new.places.items c.deref.result.now c.in_ok-places.places c.follow.new.clause way order c.in_ok-places.ensures.same c.in_ok-places.ensures.all c.requires.terms.1 c.in_ok-places.ensures.ascending
+
+pub returns-clause-none : goal.returns-clause-none
+returns-clause-none c =
+    let trail = c.args.trail.now in
+    let xs = c.args.successors.now in
+    let last = c.in_ok-last.last in
+    let fits : FitsSigned w64 c.args.start = search rules in
+    let fits_last : FitsSigned w64 c.in_ok-last.last = search rules in
+    let start_is : to_z w64 (of_z w64 c.args.start) ≡ c.args.start = to_z-of_z w64 c.args.start fits in
+    let at : c.term_at.result ≡ term_at xs last = c.term_at.ensures.value ∙ ap (term_at xs) (to_z-of_z w64 c.in_ok-last.last fits_last) in
+    let way = subst (λ (x : ℤ). IsWay trail xs x c.in_ok-last.last c.follow.new.places.items c.follow.new.clause) start_is c.in_ok-last.ensures.way in
+    let end = subst (λ (x : ℤ). IsAtEnd trail.sets xs x c.follow.new.places.items) start_is c.in_ok-last.ensures.end in
+    let none = subst (λ (t : Term). NoneIs Equal c.args.start t trail.sets) at
+    (subst (λ (x : ℤ). NoneIs Equal x c.term_at.result trail.sets) start_is
+    (if_false (IsForced trail Equal (to_z w64 (of_z w64 c.args.start)) c.term_at.result c.follow.new.clause c.force.new.clause) _ c.in_ok-force.field-0 c.if-branch.false c.in_ok-force.ensures)) in
+    let len = c.len.ensures in
+    let short = c.if-len-successors.false in
+    none_of_apart trail xs c.args.start last c.follow.new.places.items c.follow.new.clause way (omega arith) c.requires.filled c.len-entries.ensures.narrower.one_each c.requires.terms.0 end none

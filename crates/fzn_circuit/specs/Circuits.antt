@@ -1,0 +1,52 @@
+-- Where the fixed successors of places lead.
+use Rattle.std.specs.Prelude.{◌≡◌, ◌≢◌, ◌⊎◌, ℕ, ◌+◌, ◌-◌, ◌<◌, ◌≤◌, ℤ, pos, List, length, slice_index_or}
+use Rattle.std.specs.List.{All}
+use Rattle.fzn_domain.specs.declared.literal.Lit.{Lit}
+use Rattle.fzn_domain.specs.IntSet.{IntSet}
+use Rattle.fzn_meaning.specs.declared.term.Term.{Term}
+use Rattle.fzn_meaning.specs.Circuit.{reached_from}
+use Rattle.fzn_meaning.specs.Entries.{IsIndex}
+use Rattle.fzn_state.specs.Terms.{IsFixedTo, term_at}
+use Rattle.fzn_global_rules.specs.Cut.{LeadsInto}
+use Rattle.fzn_trail.specs.Levels.{Levels}
+use Rattle.fzn_domain.specs.declared.literal.Op.TheVariants.{AtMost, AtLeast, Equal}
+use Rattle.fzn_terms.specs.Denied.{Says, NoneIs, IsFalseClause}
+
+-- each successor has one value, these in order, and each is a place
+pub record AreFixedPlaces (sets : List IntSet) (successors : List Term) (values : List ℤ) : Type 0 where
+  pub one_each : length values ≡ length successors
+  pub places : All (IsIndex (length values)) values
+  pub fixed : (k : ℕ) (default : Term) → k < length successors → IsFixedTo sets (slice_index_or successors k default) (slice_index_or values k (pos 0))
+
+-- the places that a way through fixed successors goes through, in order, and what a clause says of them
+pub record IsWay (trail : Levels) (successors : List Term) (start last : ℤ) (places : List ℤ) (clause : List Lit) : Type 0 where
+  pub still : IsFalseClause trail clause
+  pub some : 0 < length places
+  pub few : length places ≤ length successors
+  pub indices : All (IsIndex (length successors)) places
+  pub first : slice_index_or places 0 (pos 0) ≡ start
+  pub ends : slice_index_or places (length places - 1) (pos 0) ≡ last
+  pub leads : Says trail.declared clause (λ sets. All (λ place. (place ≡ last) ⊎ LeadsInto sets places (term_at successors place)) places)
+  -- the steps are those of the values, and none comes back
+  pub steps : (values : List ℤ) → AreFixedPlaces trail.sets successors values → (k : ℕ) → k < length places → slice_index_or places k (pos 0) ≡ reached_from values start k
+  pub not_back : (k : ℕ) → 1 ≤ k → k < length places → slice_index_or places k (pos 0) ≡ start → ⊥
+
+-- the way goes through as many places as there are, or where all successors are fixed the next step comes back
+abbrev pub IsAtEnd : List IntSet → List Term → ℤ → List ℤ → Type 0
+IsAtEnd sets successors start places = (length places ≡ length successors) ⊎ ((values : List ℤ) → AreFixedPlaces sets successors values → reached_from values start (length places) ≡ start)
+
+-- where all successors are fixed, the way from the start comes back with no step before the last
+abbrev pub HasNoShortWay : List IntSet → List Term → ℤ → Type 0
+HasNoShortWay sets successors start =
+    (values : List ℤ) → AreFixedPlaces sets successors values → (k : ℕ) → 1 ≤ k → k < length values → reached_from values start k ≡ start → ⊥
+
+-- no successor has a value that is no place
+abbrev pub AreInside : List IntSet → List Term → Type 0
+AreInside sets successors =
+    (k : ℕ) (default : Term) → k < length successors → NoneIs AtMost (pos 0) (slice_index_or successors k default) sets × NoneIs AtLeast (pos (length successors + 1)) (slice_index_or successors k default) sets
+
+-- the value of a fixed successor is no value of another
+abbrev pub AreApart : List IntSet → List Term → Type 0
+AreApart sets successors =
+    (i j : ℕ) (default : Term) (value : ℤ) → i ≢ j → i < length successors → j < length successors → IsFixedTo sets (slice_index_or successors i default) value
+    → NoneIs Equal value (slice_index_or successors j default) sets

@@ -1,0 +1,6 @@
+pub mod CallerLemmas
+mod ElementLemmas
+mod EqualityLemmas
+mod ExtremumLemmas
+mod ListLemmas
+mod SharedLemmas

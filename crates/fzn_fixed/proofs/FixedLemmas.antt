@@ -1,0 +1,146 @@
+-- By the rule `fixed`: inputs that have one value each, and what their outcome asks of the result.
+use Rattle.std.proofs.Common.{◌≡◌, ◌↔◌, ℕ, zero, suc, ◌-◌, ◌*◌, ◌<◌, false, List, [], ◌∷◌, length, map, get_or, nat_eq, refl, sym, ap₂, subst, ◌∙◌, inl, inr, arith, ℤ, All, Option, Some, None, IfNone, IsSomeAnd, MatchOption}
+use Rattle.std.proofs.lemmas.Bool.{or_parts, cases_Bool, true≢false}
+use Rattle.std.proofs.lemmas.List.Elements.{All-nil, All-head, All-tail}
+use Rattle.fzn_domain.specs.declared.literal.Lit.{Lit}
+use Rattle.fzn_domain.specs.Literal.{is_true_at}
+use Rattle.fzn_domain.specs.IntSet.{IntSet, size, no_values}
+use Rattle.fzn_domain.specs.Narrow.{IsClauseOver, set_of, denied, is_some_empty}
+use Rattle.fzn_domain.proofs.SetLemmas.{member_of_size, size_of_one}
+use Rattle.fzn_domain.proofs.NarrowLemmas.{length-denied}
+use Rattle.fzn_meaning.specs.declared.term.Term.{Term}
+use Rattle.fzn_meaning.specs.declared.term.Term.TheVariants.{Constant, Variable}
+use Rattle.fzn_meaning.specs.declared.constraint.Constraint.{Constraint}
+use Rattle.fzn_meaning.specs.Term.{IsTerm}
+use Rattle.fzn_state.specs.Terms.{MayBe, least_value}
+use Rattle.fzn_builtin_rules.specs.Choices.{inputs_of, result_of, Relates, NoneOf, count_of, choices, IsChoice, IsFixedMet}
+use Rattle.fzn_trail.specs.Levels.{Levels}
+use Rattle.fzn_propagator.specs.Left.{IsLeft}
+use Rattle.fzn_propagator.proofs.CallerLemmas.{left_of_denied}
+use Rattle.fzn_propagator.specs.Inference.{IsHint, IsInference}
+use Rattle.fzn_rules.specs.declared.rule.Rule.TheVariants.{Fixed}
+use Rattle.fzn_rules.specs.Rules.{IsMet}
+use Rattle.fzn_fixed.specs.declared.outcome.Outcome.{Outcome}
+use Rattle.fzn_fixed.specs.declared.parts.Parts.{Parts}
+use Rattle.fzn_fixed.specs.Demand.{AdmitsWhere}
+use Rattle.fzn_fixed.specs.Denial.{IsOnlyLeft, IsDenial, IsForcing}
+use Rattle.fzn_fixed.specs.Fixed.{IsFixedClause}
+use Rattle.fzn_fixed.specs.Outcome.{Admits, IsOutcome}
+use Rattle.fzn_fixed.specs.Parts.{IsReady}
+
+not_zero : (n : ℕ) → nat_eq n 0 ≡ false → 0 < n
+not_zero n h = grind arith
+
+nonempty_at : (sets : List IntSet) (k : ℕ) → is_some_empty sets ≡ false → k < length sets → 0 < size (get_or sets k no_values)
+nonempty_at [] k none below = absurd (omega arith)
+nonempty_at (s ∷ sets) zero none below = not_zero (size s) (or_parts (nat_eq (size s) 0) (is_some_empty sets) none).0
+nonempty_at (s ∷ sets) (suc k) none below = nonempty_at sets k (or_parts (nat_eq (size s) 0) (is_some_empty sets) none).1 (omega arith)
+
+-- the values of the inputs on the trail
+abbrev pub values_on : Levels → List Term → List ℤ
+values_on trail inputs = map (least_value trail.sets) inputs
+
+module _ (trail : Levels) (clause : List Lit) (over : IsClauseOver (length trail.declared) clause) where
+  -- a value of the denied sets is one that the clause leaves
+  left_of_may : (term : Term) (v : ℤ) → MayBe (denied trail.declared clause) term v → IsLeft trail.declared clause term v
+  left_of_may (Constant k) v may = sym may
+  left_of_may (Variable var) v may = left_of_denied clause trail.declared var v over may
+
+  -- the only choice for the inputs is that of their values on the trail
+  choice_is : (inputs : List Term) (choice : List ℤ) → All (IsOnlyLeft trail clause) inputs → IsChoice (denied trail.declared clause) inputs choice → choice ≡ values_on trail inputs
+  choice_is [] [] only is = refl
+  choice_is [] (x ∷ xs) only is = absurd is
+  choice_is (t ∷ inputs) [] only is = absurd is
+  choice_is (t ∷ inputs) (x ∷ xs) only is =
+      ap₂ (λ (y : ℤ) (ys : List ℤ). y ∷ ys) (All-head (IsOnlyLeft trail clause) t inputs only x (left_of_may t x is.0))
+      (choice_is inputs xs (All-tail (IsOnlyLeft trail clause) t inputs only) is.1)
+
+  module _ (some : is_some_empty (denied trail.declared clause) ≡ false) where
+    count_one : (term : Term) → IsTerm (length trail.declared) term → IsOnlyLeft trail clause term → count_of (denied trail.declared clause) term ≡ 1
+    count_one (Constant k) fits only = refl
+    count_one (Variable var) fits only =
+        let s = set_of (denied trail.declared clause) var in
+        let member = member_of_size s (nonempty_at (denied trail.declared clause) (var.0 - 1) some (omega (arith, length-denied clause trail.declared))) in
+        size_of_one s member.0 member.1 (λ w here. only w (left_of_may (Variable var) w here) ∙ sym (only member.0 (left_of_may (Variable var) member.0 member.1)))
+
+    one_choice : (inputs : List Term) → All (IsTerm (length trail.declared)) inputs → All (IsOnlyLeft trail clause) inputs → choices (denied trail.declared clause) inputs ≡ 1
+    one_choice [] fit only = refl
+    one_choice (t ∷ inputs) fit only =
+        ap₂ (λ (m n : ℕ). m * n) (count_one t (All-head (IsTerm (length trail.declared)) t inputs fit) (All-head (IsOnlyLeft trail clause) t inputs only))
+        (one_choice inputs (All-tail (IsTerm (length trail.declared)) t inputs fit) (All-tail (IsOnlyLeft trail clause) t inputs only))
+
+-- no value that the clause leaves the result is admitted
+abbrev pub NoneLeft : Levels → List Lit → Option Term → Outcome → Type 0
+NoneLeft trail clause None outcome = Admits outcome None → ⊥
+NoneLeft trail clause (Some term) outcome = (v : ℤ) → IsLeft trail.declared clause term v → Admits outcome (Some v) → ⊥
+
+-- so no value of the denied sets relates
+none_relates : (trail : Levels) (clause : List Lit) (of : Option Term) (outcome : Outcome) (R : Option ℤ → Type 0) → IsClauseOver (length trail.declared) clause → MatchOption of (R None ↔ Admits outcome None) (λ _. (r : ℤ) → R (Some r) ↔ Admits outcome (Some r)) → NoneLeft trail clause of outcome → NoneOf (denied trail.declared clause) of R
+none_relates trail clause None outcome R over is none = λ related. none (is.0 related)
+none_relates trail clause (Some term) outcome R over is none = λ v may related. none v (left_of_may trail clause over term v may) ((is v).0 related)
+
+declared_none : (trail : Levels) (clause : List Lit) (of : Option Term) (outcome : Outcome) → NoneOf trail.declared of (Admits outcome) → NoneLeft trail clause of outcome
+declared_none trail clause None outcome none = none
+declared_none trail clause (Some (Constant k)) outcome none = λ v left. none v (sym left)
+declared_none trail clause (Some (Variable var)) outcome none = λ v left. none v left.0
+
+literal_none : (trail : Levels) (clause : List Lit) (of : Option Term) (outcome : Outcome) (lit : Lit) → AdmitsWhere trail.declared of outcome lit → ((v : ℤ) → IsLeft trail.declared clause (Variable lit.var) v → is_true_at lit v ≡ false) → NoneLeft trail clause of outcome
+literal_none trail clause of outcome lit where_true fails =
+    subst (λ (o : Option Term). NoneLeft trail clause o outcome) (sym where_true.of_result)
+    (λ v left admitted. true≢false (sym ((where_true.admitted v left.0).0 admitted) ∙ fails v left))
+
+some_and : {A : Type 0} (found : Option A) (a : A) (P : A → Type 0) → found ≡ Some a → P a → IsSomeAnd found P
+some_and {A = A} found a P is h = subst (λ (o : Option A). IsSomeAnd o P) (sym is) h
+
+module _ (trail : Levels) (parts : Parts) (outcome : Outcome) (clause : List Lit) (ready : IsReady (length trail.declared) parts) (fit : All (IsTerm (length trail.declared)) parts.inputs) (is : IsOutcome parts.constraint (values_on trail parts.inputs) outcome) where
+  pub fixed_met : IsClauseOver (length trail.declared) clause → All (IsOnlyLeft trail clause) parts.inputs → NoneLeft trail clause parts.result outcome → is_some_empty (denied trail.declared clause) ≡ false → IsFixedMet parts.constraint (denied trail.declared clause)
+  fixed_met over only none some =
+      some_and (inputs_of parts.constraint) parts.inputs _ ready.parts_of.inputs (
+        one_choice trail clause over some parts.inputs fit only,
+        λ choice chosen.
+            let C = parts.constraint in
+            let same = choice_is trail clause over parts.inputs choice only chosen in
+            let last : NoneLeft trail clause (result_of C) outcome = subst (λ (of : Option Term). NoneLeft trail clause of outcome) (sym ready.parts_of.result) none in
+            subst (λ (xs : List ℤ). NoneOf (denied trail.declared clause) (result_of C) (Relates C xs)) (sym same)
+            (none_relates trail clause (result_of C) outcome (Relates C (values_on trail parts.inputs)) over is last),
+      )
+
+  -- no declared value of the result is admitted
+  pub fixed_denied : NoneOf trail.declared parts.result (Admits outcome) → IsDenial trail parts.inputs clause → IsFixedClause trail parts.constraint clause
+  fixed_denied none denial = record {
+    over = denial.over;
+    writable = denial.writable;
+    forces = inl denial.impossible;
+    met = fixed_met denial.over denial.only (declared_none trail clause parts.result outcome none);
+  }
+
+  -- those values are admitted at which the literal is true
+  pub fixed_forced : (lit : Lit) → AdmitsWhere trail.declared parts.result outcome lit → IsForcing trail parts.inputs lit clause → IsFixedClause trail parts.constraint clause
+  fixed_forced lit where_true forcing = record {
+    over = forcing.over;
+    writable = forcing.writable;
+    forces = forcing.forces;
+    met = fixed_met forcing.over forcing.only (literal_none trail clause parts.result outcome lit where_true forcing.literal);
+  }
+
+-- ---- an inference by the rule
+
+pub none_then : {X : Type 0} (o : Option X) (A B : Type 0) → IfNone o A → (A → B) → IfNone o B
+none_then None A B h so = so h
+none_then (Some x) A B h so = h
+
+-- the inference that the clause makes
+pub fixed_inference : (trail : Levels) (number : ℕ) (C : Constraint) (clause : List Lit) → IsFixedClause trail C clause → (constraint : Constraint) → C ≡ constraint → IsInference number constraint trail (record { constraint = number; rule = Fixed; clause = clause })
+unfolding IsMet
+fixed_inference trail number C clause found constraint same =
+    subst (λ (x : Constraint). IsInference number x trail (record { constraint = number; rule = Fixed; clause = clause })) same (record {
+      of_constraint = refl;
+      over = found.over;
+      writable = found.writable;
+      hints = All-nil IsHint;
+      accepted = elim (cases_Bool (is_some_empty (denied trail.declared clause))) [
+        | inl empty ↦ inl empty
+        | inr some ↦ inr (found.met some)
+      ];
+      forces = found.forces;
+    })

@@ -1,0 +1,6 @@
+pub mod CallerLemmas
+mod DenialLemmas
+mod FixedLemmas
+mod LastLemmas
+mod MeaningLemmas
+mod OutcomeLemmas

@@ -1,0 +1,5 @@
+pub mod Demand
+pub mod Denial
+pub mod Fixed
+pub mod Outcome
+pub mod Parts

@@ -1,0 +1,77 @@
+// What the outcome of a constraint asks of its result.
+ghost use Rattle.std.specs.Prelude.{List, Some, length};
+ghost use Rattle.fzn_domain.specs.IntSet.{IntSet};
+ghost use Rattle.fzn_domain.specs.Narrow.{IsVariable};
+ghost use Rattle.fzn_meaning.specs.declared.term.Term.TheVariants.{Constant, Variable};
+ghost use Rattle.fzn_meaning.specs.Meaning.{IsSwitch};
+ghost use Rattle.fzn_fixed.specs.Demand.{IsDemand};
+
+use crate::outcome::Outcome;
+use fzn_domain::{Lit, Op, VarId};
+use fzn_meaning::Term;
+use fzn_trail::Trail;
+
+/// What has to be so for the constraint to hold.
+#[derive(Clone, Copy, Debug, PartialEq, Eq)]
+pub enum Demand {
+    /// Nothing: it holds.
+    Nothing,
+    /// What no declared value gives.
+    Impossible,
+    /// This literal, on the result, is true.
+    Literal(Lit),
+}
+
+/// What the outcome asks of the result, whose declared set may hold more than the trail leaves.
+pub fn demand_of(trail: &Trail, of: Option<Term>, outcome: Outcome) -> Demand
+    requires { IsSwitch (length trail.now.declared) of }
+    ensures { IsDemand trail.now.declared of outcome result }
+{
+    let Some(term) = of else {
+        return match outcome {
+            Outcome::Holds => Demand::Nothing,
+            _ => Demand::Impossible,
+        };
+    };
+    match term {
+        Term::Constant(k) => of_constant(k, outcome),
+        Term::Variable(var) => of_variable(trail, var, outcome),
+    }
+}
+
+fn of_constant(k: i64, outcome: Outcome) -> Demand
+    ensures { (declared : List IntSet) → IsDemand declared (Some (Constant k)) outcome result }
+{
+    let holds = match outcome {
+        Outcome::Only(value) => k == value,
+        Outcome::AllBut(value) => k != value,
+        _ => false,
+    };
+    if holds {
+        Demand::Nothing
+    } else {
+        Demand::Impossible
+    }
+}
+
+fn of_variable(trail: &Trail, var: VarId, outcome: Outcome) -> Demand
+    requires { IsVariable (length trail.now.declared) var }
+    ensures { IsDemand trail.now.declared (Some (Variable var)) outcome result }
+{
+    let declared = trail.declared(var);
+    let _none = declared.is_empty(); // Its values lie within the limits.
+    match outcome {
+        Outcome::Only(value) if declared.contains(value) => Demand::Literal(Lit {
+            var,
+            op: Op::Equal,
+            value,
+        }),
+        Outcome::AllBut(value) if declared.contains(value) => Demand::Literal(Lit {
+            var,
+            op: Op::NotEqual,
+            value,
+        }),
+        Outcome::AllBut(_) => Demand::Nothing,
+        _ => Demand::Impossible,
+    }
+}

@@ -1,0 +1,73 @@
+// What follows where each input has one value: by the rule `fixed`.
+ghost use Rattle.std.specs.Prelude.{length, IfOk, IfSome, IfNone};
+ghost use Rattle.std.specs.List.{All};
+ghost use Rattle.fzn_domain.specs.Narrow.{IsVariable, NoneEmpty};
+ghost use Rattle.fzn_meaning.specs.Term.{IsTerm};
+ghost use Rattle.fzn_propagator.specs.Inference.{IsWritable};
+ghost use Rattle.fzn_fixed.specs.Denial.{IsFixed, IsForcing, IsTrueOn};
+ghost use Rattle.fzn_fixed.specs.Fixed.{IsFixedClause, HoldsWhereFixed};
+ghost use Rattle.fzn_fixed.specs.Parts.{IsReady};
+
+use crate::demand::{Demand, demand_of};
+use crate::outcome::outcome_of;
+use crate::parts::Parts;
+use crate::values::{are_fixed, denial, values_of};
+use fzn_domain::{Lit, Memory};
+use fzn_list::Items;
+use fzn_meaning::Term;
+use fzn_trail::Trail;
+use std::alloc::Global;
+
+/// A clause by the rule `fixed`.
+pub fn refute_fixed(
+    alloc: Global,
+    trail: &Trail,
+    parts: &Parts,
+) -> Result<Option<Items<Lit>>, Memory>
+    requires ready { IsReady (length trail.now.declared) parts.now }
+    requires filled { NoneEmpty trail.now.sets }
+    ensures found { IfOk result (λ found. IfSome found (IsFixedClause trail.now parts.now.constraint)) }
+    ensures none { IfOk result (λ found. IfNone found (HoldsWhereFixed trail.now parts.now.constraint)) }
+{
+    let inputs = parts.inputs.as_slice();
+    if !are_fixed(trail, inputs) {
+        return Ok(None);
+    }
+    let values = values_of(alloc, trail, inputs)?;
+    let chosen = values.as_slice();
+    let outcome = outcome_of(&parts.constraint, chosen);
+    match demand_of(trail, parts.result, outcome) {
+        Demand::Nothing => Ok(None),
+        Demand::Impossible => {
+            let clause = denial(alloc, trail, inputs)?;
+            Ok(Some(clause))
+        }
+        Demand::Literal(lit) => {
+            let found = force(alloc, trail, inputs, lit)?;
+            Ok(found)
+        }
+    }
+}
+
+/// A clause that the literal is true or some input has another value, where the trail does not say that it is true.
+fn force(
+    alloc: Global,
+    trail: &Trail,
+    inputs: &[Term],
+    lit: Lit,
+) -> Result<Option<Items<Lit>>, Memory>
+    requires inputs { All (IsTerm (length trail.now.declared)) inputs.now }
+    requires filled { NoneEmpty trail.now.sets }
+    requires fixed { All (IsFixed trail.now.sets) inputs.now }
+    requires variable { IsVariable (length trail.now.declared) lit.var }
+    requires writable { IsWritable lit }
+    ensures found { IfOk result (λ found. IfSome found (IsForcing trail.now inputs.now lit)) }
+    ensures none { IfOk result (λ found. IfNone found (IsTrueOn trail.now.sets lit)) }
+{
+    if trail.domain(lit.var).is_false(lit.negated()) {
+        return Ok(None);
+    }
+    let mut clause = denial(alloc, trail, inputs)?;
+    clause.push(lit)?;
+    Ok(Some(clause))
+}

@@ -1,0 +1,11 @@
+use Rattle.std.proofs.Common.{◌≡◌, length, map, drop}
+use Rattle.fzn_domain.specs.Narrow.{chain_outcome}
+use Rattle.fzn_learned.specs.Reasoned.{known_of, clause_of}
+use Rattle.fzn_learned.proofs.trial.ends_well.Given as goal
+
+abbrev pub invariant-loop-source : goal.invariant-loop-source
+invariant-loop-source l = record {
+  rest : chain_outcome l.state.sets (map (clause_of (known_of l.clauses l.inferences)) (drop l.source-index l.sources)) ≡ chain_outcome l.fn.state.sets (map (clause_of (known_of l.clauses l.inferences)) l.sources);
+  same_length : length l.state.sets ≡ length l.fn.state.sets;
+  declared : l.state.declared ≡ l.fn.state.declared;
+}

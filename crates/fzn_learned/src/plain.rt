@@ -1,0 +1,77 @@
+// The clause that the decisions are wrong together.
+ghost use Rattle.std.specs.Prelude.{◌≡◌, ◌++◌, ◌∷◌, [], IfOk};
+ghost use Rattle.std.specs.List.{All};
+ghost use Rattle.fzn_domain.specs.Limits.{IsLimited};
+ghost use Rattle.fzn_learned.specs.Learned.{reasons, IsConflicting, IsLearned, IsPlain};
+ghost use Rattle.fzn_learned.specs.Reasoned.{known_of, IsReasoned, negated_decisions};
+
+use crate::learned::Learned;
+use crate::source::Source;
+use fzn_clauses::Clauses;
+use fzn_domain::{Lit, Memory};
+use fzn_inferences::Inferences;
+use fzn_list::Items;
+use fzn_trail::{Reason, Trail};
+use std::alloc::Global;
+
+/// The clause that one of the decisions is wrong, learned from a known clause that is false on the trail.
+pub fn plain_learned(
+    alloc: Global,
+    trail: &Trail,
+    clauses: &Clauses,
+    inferences: &Inferences,
+    conflict: Source,
+) -> Result<Learned, Memory>
+    requires reasoned { IsReasoned (known_of clauses.now inferences.now) trail.now }
+    requires limited { All IsLimited trail.now.declared }
+    requires conflict { IsConflicting (known_of clauses.now inferences.now) trail.now.sets conflict }
+    ensures learned { IfOk result (IsLearned (known_of clauses.now inferences.now) trail.now) }
+    ensures plain { IfOk result (IsPlain trail.now conflict) }
+{
+    Ok(Learned {
+        clause: plain_clause(alloc, trail, clauses, inferences)?,
+        sources: plain_sources(alloc, trail, conflict)?,
+        level: trail.level().saturating_sub(1),
+        levels: trail.level(),
+        marked: Items::new(alloc),
+    })
+}
+
+/// The negated decisions.
+fn plain_clause(
+    alloc: Global,
+    trail: &Trail,
+    clauses: &Clauses,
+    inferences: &Inferences,
+) -> Result<Items<Lit>, Memory>
+    requires reasoned { IsReasoned (known_of clauses.now inferences.now) trail.now }
+    requires limited { All IsLimited trail.now.declared }
+    ensures { IfOk result (λ it. it ≡ negated_decisions trail.now.declared trail.now.entries) }
+{
+    let mut clause = Items::new(alloc);
+    for i in 0..trail.len() {
+        let entry = trail.entry(i);
+        match entry.reason {
+            Reason::Decision => clause.push(entry.lit.negated())?,
+            Reason::Clause(_) => {}
+            Reason::Inference(_) => {}
+        }
+    }
+    Ok(clause)
+}
+
+/// The reasons of all other entries, and then the conflict.
+fn plain_sources(alloc: Global, trail: &Trail, conflict: Source) -> Result<Items<Source>, Memory>
+    ensures { IfOk result (λ it. it ≡ reasons trail.now.entries ++ conflict ∷ []) }
+{
+    let mut sources = Items::new(alloc);
+    for place in 0..trail.len() {
+        match trail.entry(place).reason {
+            Reason::Decision => {}
+            Reason::Clause(id) => sources.push(Source::Held(id))?,
+            Reason::Inference(stacked) => sources.push(Source::Stacked(stacked))?,
+        }
+    }
+    sources.push(conflict)?;
+    Ok(sources)
+}

@@ -1,0 +1,2 @@
+pub mod LoadLemmas
+mod PushLemmas

@@ -1,0 +1,23 @@
+use Rattle.std.proofs.Common.{◌≡◌, ◌*◌, inr, arith, ap, subst, ◌∙◌, ℤ, pos, ◌-ℤ◌, ◌≤ℤ◌, w64, to_z, of_z}
+use Rattle.std.proofs.lemmas.Int.{ints}
+use Rattle.std.proofs.lemmas.Result.{IfOk-weaker}
+use Rattle.fzn_domain.specs.declared.literal.Op.TheVariants.{AtMost}
+use Rattle.fzn_terms.specs.Denied.{NoneIs}
+use Rattle.fzn_terms.proofs.CaseLemmas.{either}
+use Rattle.fzn_load.proofs.PushLemmas.{capacity_inferred}
+use Rattle.fzn_load.proofs.push_amount.push_capacity.Goals as goal
+
+limit_is : (load : ℤ) → pos 0 ≤ℤ load → load ≤ℤ pos (100000 * 1000000000) → to_z w64 (of_z w64 (to_z w64 (of_z w64 load) -ℤ pos 1)) ≡ load -ℤ pos 1
+limit_is load low high = omega (arith, ints)
+
+pub returns : goal.returns
+returns c =
+    IfOk-weaker c.force.result _ _
+    (λ found told.
+    let len = c.len.ensures in
+    let limit = limit_is c.load_at-load.result c.load_at-load.ensures.not_negative c.load_at-load.ensures.bounded in
+    either found
+    (λ forced. capacity_inferred c.args.trail.now c.args.tasks.now c.args.time.now c.load_at-load.result _ c.len.result c.clear.new.self c.explain_uses.new.clause c.force.new.clause c.requires.tasks (omega arith) c.in_ok-explain_uses.ensures forced c.load_at-load.ensures.value limit)
+    (λ none. inr (subst (λ (n : ℤ). NoneIs AtMost n c.args.tasks.now.capacity c.args.trail.now.sets) (limit ∙ ap (λ (n : ℤ). n -ℤ pos 1) c.load_at-load.ensures.value) none))
+    told)
+    c.force.ensures

@@ -1,0 +1,38 @@
+use Rattle.std.proofs.Common.{rules, ◌∙◌, inl, inr, arith, pos, get_or, w64, to_z, of_z, FitsSigned}
+use Rattle.std.proofs.lemmas.Int.{ints, to_z-of_z}
+use Rattle.std.proofs.lemmas.Result.{IfOk-weaker}
+use Rattle.fzn_meaning.specs.declared.term.Term.TheVariants.{Constant}
+use Rattle.fzn_terms.proofs.CaseLemmas.{if_false}
+use Rattle.fzn_load.specs.Loads.{least_amount, AreOver, HasRoom}
+use Rattle.fzn_load.proofs.PushLemmas.{pushed, room_for, starts_past, is_not_from}
+use Rattle.fzn_load.proofs.push_amount.push_shorter.Goals as goal
+
+pub returns-then-time-greatest_value : goal.returns-then-time-greatest_value
+returns-then-time-greatest_value c =
+    let fits : FitsSigned w64 c.greatest_value.result = search rules in
+    let fits_time : FitsSigned w64 c.args.time.now = search rules in
+    let latest = to_z-of_z w64 c.greatest_value.result fits in
+    let time = to_z-of_z w64 c.args.time.now fits_time in
+    inl (starts_past c.args.trail.now.sets c.args.time.now c.greatest_value.result c.args.k (Constant (pos 0)) c.as_slice.result.now c.args.tasks.now.starts c.as_slice.ensures c.greatest_value.ensures.value (omega (arith, ints)))
+
+pub returns-then-not-branch : goal.returns-then-not-branch
+returns-then-not-branch c =
+    let fits : FitsSigned w64 c.least_use-amount.result = search rules in
+    let sets = c.args.trail.now.sets in
+    let tasks = c.args.tasks.now in
+    let held = to_z w64 (of_z w64 c.least_use-amount.result) in
+    inr (inl (room_for sets tasks c.args.time.now (to_z w64 (of_z w64 c.least_use-amount.result)) c.args.k (Constant (pos 0)) c.as_slice-3.result.now c.as_slice-3.ensures (to_z-of_z w64 c.least_use-amount.result fits ∙ c.least_use-amount.ensures.value)
+    (if_false (AreOver c.args.trail.now c.args.time.now c.args.k (to_z w64 (of_z w64 c.least_use-amount.result)) tasks c.explain_over.new.clause) (HasRoom sets c.args.time.now c.args.k held tasks) c.in_ok-explain_over.field-0 c.if-not-branch.true c.in_ok-explain_over.ensures)))
+
+pub returns : goal.returns
+returns c =
+    IfOk-weaker c.force_shorter.result _ _
+    (λ found told.
+    let fits : FitsSigned w64 c.least_use-amount.result = search rules in
+    let sets = c.args.trail.now.sets in
+    pushed c.args.trail.now c.args.tasks.now c.args.time.now (to_z w64 (of_z w64 c.least_use-amount.result)) (least_amount c.args.trail.now.sets (get_or c.as_slice-3.result.now c.args.k (Constant (pos 0)))) c.args.k (Constant (pos 0)) c.as_slice.result.now c.as_slice-2.result.now c.as_slice-3.result.now c.explain_over.new.clause c.force_shorter.new.clause
+    c.in_ok-explain_over.field-0 found c.requires.tasks c.requires.place c.as_slice.ensures c.as_slice-2.ensures c.as_slice-3.ensures c.in_ok-explain_over.ensures c.if-not-branch.false
+    (to_z-of_z w64 c.least_use-amount.result fits ∙ c.least_use-amount.ensures.value)
+    (λ none. inr (inr (is_not_from sets c.args.time.now c.args.k (Constant (pos 0)) c.as_slice.result.now c.args.tasks.now.starts c.as_slice-2.result.now c.args.tasks.now.durations c.as_slice.ensures c.as_slice-2.ensures none)))
+    told)
+    c.force_shorter.ensures

@@ -1,0 +1,189 @@
+-- Where no clause is left and all variables are fixed, the tasks keep the capacity.
+use Rattle.std.proofs.Common.{◌≡◌, ℕ, ◌-◌, ◌<◌, Bool, true, false, cond, ◌&&◌, List, [], ◌∷◌, length, get_or, refl, sym, ap, ap₂, subst, ◌∙◌, inl, inr, arith, ℤ, pos, negsuc, ◌+ℤ◌, ◌≤ℤ◌, ◌<ℤ◌, All, int_le, int_lt}
+use Rattle.std.specs.Int.{int_max}
+use Rattle.std.specs.List.{Any}
+use Rattle.std.proofs.lemmas.Int.{ints}
+use Rattle.std.proofs.lemmas.Bool.{true≢false}
+use Rattle.std.proofs.lemmas.List.{get_or_default, length-map}
+use Rattle.std.proofs.lemmas.List.Elements.{All-head, All-tail, All-get_or, All-map}
+use Rattle.std.proofs.lemmas.Option.{none-some}
+use Rattle.fzn_domain.specs.declared.literal.Lit.{Lit}
+use Rattle.fzn_domain.specs.declared.literal.Op.TheVariants.{AtMost}
+use Rattle.fzn_domain.specs.IntSet.{IntSet, size, least, greatest, no_values}
+use Rattle.fzn_domain.specs.Limits.{IsInLimits}
+use Rattle.fzn_domain.specs.Narrow.{IsWithin, NoneEmpty, set_of, is_some_empty}
+use Rattle.fzn_domain.proofs.SetLemmas.{only_member, member_of_size, contains-least, contains-greatest}
+use Rattle.fzn_meaning.specs.declared.term.Term.{Term}
+use Rattle.fzn_meaning.specs.declared.term.Term.TheVariants.{Constant, Variable}
+use Rattle.fzn_meaning.specs.declared.constraint.Constraint.{Constraint}
+use Rattle.fzn_meaning.specs.declared.constraint.Constraint.TheVariants.{Cumulative}
+use Rattle.fzn_meaning.specs.Cumulative.{tasks, load_at, IsCumulative}
+use Rattle.fzn_meaning.specs.Term.{IsTerm, IsNotNegative, term_value, values_of}
+use Rattle.fzn_meaning.specs.Meaning.{Meets, IsWellFormed}
+use Rattle.fzn_meaning.proofs.CallerLemmas.{All-values_of}
+use Rattle.fzn_meaning.proofs.CumulativeLemmas.{cumulative_from}
+use Rattle.fzn_state.proofs.CallerLemmas.{MayBe-term_value}
+use Rattle.fzn_state.proofs.ValueLemmas.{MayBe-ends}
+use Rattle.fzn_state.specs.Terms.{MayBe, least_value, greatest_value}
+use Rattle.fzn_rules.specs.declared.rule.Rule.TheVariants.{Rows}
+use Rattle.fzn_rules.specs.Rules.{IsMet}
+use Rattle.fzn_global_rules.specs.GlobalRows.{IsBelowZero, IsGlobalRowsMet}
+use Rattle.fzn_builtin_rules.specs.Form.{form_of}
+use Rattle.fzn_trail.specs.Levels.{Levels}
+use Rattle.fzn_propagator.specs.Inference.{AllFixed, IsExhausted}
+use Rattle.fzn_terms.specs.Denied.{AllAre, NoneIs, IsInferred, IsForcing, Says}
+use Rattle.fzn_terms.proofs.LawLemmas.{fixed_to}
+use Rattle.fzn_load.specs.declared.tasks.Tasks.{Tasks}
+use Rattle.fzn_load.specs.Loads.{AreReady, cumulative_of, total_of}
+use Rattle.fzn_schedule.specs.Kept.{AreNotBelow, HasNoneBelow, IsSomeBelow, AreKept, IsSettled, least_terms, least_cumulative, MeetsWhereFixed}
+
+-- ---- amounts below 0
+
+below_of : (v : ℤ) → int_le v (negsuc 0) ≡ true → v <ℤ pos 0
+below_of v h = grind (arith, ints)
+
+-- each value of the term is below 0
+pub is_below : (sets : List IntSet) (term : Term) → is_some_empty sets ≡ false → IsTerm (length sets) term → AllAre AtMost (negsuc 0) term sets → IsBelowZero sets term
+is_below sets term filled fits all = below_of (greatest_value sets term) (all (greatest_value sets term) (MayBe-ends sets term filled fits).1)
+
+pub some_below : (sets : List IntSet) (terms : List Term) (k : ℕ) (d : Term) → k < length terms → is_some_empty sets ≡ false → All (IsTerm (length sets)) terms → AllAre AtMost (negsuc 0) (get_or terms k d) sets → Any (IsBelowZero sets) terms
+some_below sets terms k d inside filled fit all =
+    (k, get_or terms k d, inside, get_or_default terms k (get_or terms k d) d inside, is_below sets (get_or terms k d) filled (All-get_or (IsTerm (length sets)) terms k d inside fit) all)
+
+module _ (trail : Levels) (tasks : Tasks) (clause : List Lit) where
+  pub durations_inferred : IsSomeBelow trail tasks.durations clause → IsInferred trail (cumulative_of tasks) Rows clause
+  unfolding IsMet IsGlobalRowsMet
+  durations_inferred some = record { forcing = some.forcing; says = λ sets left. inr (inl (some.says sets left)) }
+
+  pub uses_inferred : IsSomeBelow trail tasks.uses clause → IsInferred trail (cumulative_of tasks) Rows clause
+  unfolding IsMet IsGlobalRowsMet
+  uses_inferred some = record { forcing = some.forcing; says = λ sets left. inr (inr (inl (some.says sets left))) }
+
+  pub capacity_inferred : IsForcing trail clause → Says trail.declared clause (λ sets. IsBelowZero sets tasks.capacity) → IsInferred trail (cumulative_of tasks) Rows clause
+  unfolding IsMet IsGlobalRowsMet
+  capacity_inferred forcing says = record { forcing = forcing; says = λ sets left. inr (inr (inr (says sets left))) }
+
+-- ---- fixed tasks
+
+not_below : (v : ℤ) → int_le v (negsuc 0) ≡ false → pos 0 ≤ℤ v
+not_below v h = grind (arith, ints)
+
+use_of : (t gs ls ld lr s d r : ℤ) → ls ≡ s → gs ≡ s → ld ≡ d → lr ≡ r → cond (int_le s t && int_lt t (s +ℤ d)) r (pos 0) ≤ℤ cond (int_le gs t && int_lt t (ls +ℤ ld)) (int_max (pos 0) lr) (pos 0)
+use_of t gs ls ld lr s d r a b e f = grind (arith, ints)
+
+plus_mono : (a b c d : ℤ) → a ≤ℤ b → c ≤ℤ d → (a +ℤ c) ≤ℤ (b +ℤ d)
+plus_mono a b c d p q = omega (arith, ints)
+
+same_le : (a : ℤ) → a ≤ℤ a
+same_le a = omega (arith, ints)
+
+up_to : (load total most capacity : ℤ) → load ≤ℤ total → total ≤ℤ most → most ≡ capacity → load ≤ℤ capacity
+up_to load total most capacity a b e = omega (arith, ints)
+
+module _ (sets : List IntSet) (values : List ℤ) (within : IsWithin sets values) (fixed : AllFixed sets) where
+  load_total : (t : ℤ) (ss ds rs : List Term) → All (IsTerm (length sets)) ss → All (IsTerm (length sets)) ds → All (IsTerm (length sets)) rs → load_at t (tasks (values_of values ss) (values_of values ds) (values_of values rs)) ≤ℤ total_of sets t ss ds rs
+  load_total t [] ds rs a b c = same_le (pos 0)
+  load_total t (s ∷ ss) [] rs a b c = same_le (pos 0)
+  load_total t (s ∷ ss) (d ∷ ds) [] a b c = same_le (pos 0)
+  load_total t (s ∷ ss) (d ∷ ds) (r ∷ rs) a b c =
+      let start = fixed_to sets values within fixed s (All-head (IsTerm (length sets)) s ss a) in
+      let duration = fixed_to sets values within fixed d (All-head (IsTerm (length sets)) d ds b) in
+      let used = fixed_to sets values within fixed r (All-head (IsTerm (length sets)) r rs c) in
+      plus_mono _ _ _ _
+      (use_of t (greatest_value sets s) (least_value sets s) (least_value sets d) (least_value sets r) (term_value values s) (term_value values d) (term_value values r) start.0 start.1 duration.0 used.0)
+      (load_total t ss ds rs (All-tail (IsTerm (length sets)) s ss a) (All-tail (IsTerm (length sets)) d ds b) (All-tail (IsTerm (length sets)) r rs c))
+
+  none_below : (terms : List Term) → All (IsTerm (length sets)) terms → AreNotBelow sets terms → All (λ x. pos 0 ≤ℤ x) (values_of values terms)
+  none_below terms fit none = All-values_of values terms (λ x. pos 0 ≤ℤ x) (λ k d below.
+      not_below (term_value values (get_or terms k d)) (none k d below (term_value values (get_or terms k d)) (MayBe-term_value sets values (get_or terms k d) within (All-get_or (IsTerm (length sets)) terms k d below fit))))
+
+  meets_cumulative : (group : Tasks) → AreReady (length sets) group → HasNoneBelow sets group → AreKept sets group → Meets (cumulative_of group) values
+  unfolding Meets
+  meets_cumulative group ready none kept = cumulative_from (values_of values group.starts) (values_of values group.durations) (values_of values group.uses) (term_value values group.capacity)
+      (none_below group.durations ready.durations.0 none.durations) (none_below group.uses ready.uses.0 none.uses)
+      (not_below (term_value values group.capacity) (none.capacity (term_value values group.capacity) (MayBe-term_value sets values group.capacity within ready.capacity)))
+      (All-values_of values group.starts (λ s. load_at s (tasks (values_of values group.starts) (values_of values group.durations) (values_of values group.uses)) ≤ℤ term_value values group.capacity) (λ k d below.
+      let start = fixed_to sets values within fixed (get_or group.starts k d) (All-get_or (IsTerm (length sets)) group.starts k d below ready.starts.0) in
+      let most = fixed_to sets values within fixed group.capacity ready.capacity in
+      up_to _ (total_of sets (term_value values (get_or group.starts k d)) group.starts group.durations group.uses) (greatest_value sets group.capacity) _
+      (load_total (term_value values (get_or group.starts k d)) group.starts group.durations group.uses ready.starts.0 ready.durations.0 ready.uses.0)
+      (subst (λ (t : ℤ). total_of sets t group.starts group.durations group.uses ≤ℤ greatest_value sets group.capacity) start.1 (kept k d below)) most.1))
+
+pub settled_where_fixed : (sets : List IntSet) → AllFixed sets → (term : Term) → IsTerm (length sets) term → IsSettled sets term
+settled_where_fixed sets fixed (Constant k) fits = refl
+settled_where_fixed sets fixed (Variable var) fits =
+    let s = set_of sets var in
+    let one : size (set_of sets var) ≡ 1 = fixed (var.0 - 1) no_values (omega arith) in
+    let some = member_of_size (set_of sets var) (omega arith) in
+    only_member s (least s) (greatest s) one (contains-least s some.0 some.1) (contains-greatest s some.0 some.1)
+
+-- a test that says that terms are not
+pub not_fixed : (sets : List IntSet) (count : ℕ) (terms held : List Term) (r : Bool) → length sets ≡ count → All (IsTerm count) terms → held ≡ terms → (All (IsSettled sets) held → r ≡ true) → r ≡ false → AllFixed sets → ⊥
+not_fixed sets count terms held r same fit is test told fixed =
+    true≢false (sym (test (subst (All (IsSettled sets)) (sym is) (λ k d below. settled_where_fixed sets fixed (get_or terms k d) (All-get_or (IsTerm (length sets)) terms k d below (subst (λ (n : ℕ). All (IsTerm n) terms) (sym same) fit))))) ∙ told)
+
+-- ---- tasks of constants
+
+least_may : (sets : List IntSet) (term : Term) → NoneEmpty sets → IsTerm (length sets) term → MayBe sets term (least_value sets term)
+least_may sets (Constant k) filled fits = refl
+least_may sets (Variable var) filled fits =
+    let some = member_of_size (set_of sets var) (All-get_or (λ (s : IntSet). 0 < size s) sets (var.0 - 1) no_values (omega arith) filled) in
+    contains-least (set_of sets var) some.0 some.1
+
+pub least_low : (sets : List IntSet) (count : ℕ) (term : Term) → NoneEmpty sets → length sets ≡ count → IsTerm count term → NoneIs AtMost (negsuc 0) term sets → pos 0 ≤ℤ least_value sets term
+least_low sets count term filled same fits none = not_below (least_value sets term) (none (least_value sets term) (least_may sets term filled (subst (λ (n : ℕ). IsTerm n term) (sym same) fits)))
+
+none_negative : (sets : List IntSet) (count : ℕ) (terms : List Term) → NoneEmpty sets → length sets ≡ count → All (IsTerm count) terms → AreNotBelow sets terms → All IsNotNegative (least_terms sets terms)
+none_negative sets count terms filled same fit none =
+    All-map IsNotNegative (λ term. Constant (least_value sets term)) terms (λ k d below. least_low sets count (get_or terms k d) filled same (All-get_or (IsTerm count) terms k d below fit) (none k d below))
+
+pub constants_formed : (sets : List IntSet) (count : ℕ) (group : Tasks) (ss ds rs : List Term) (most : ℤ) → AreReady count group → NoneEmpty sets → length sets ≡ count → HasNoneBelow sets group → ss ≡ least_terms sets group.starts → ds ≡ least_terms sets group.durations → rs ≡ least_terms sets group.uses → All (IsTerm 0) ss → All (IsTerm 0) ds → All (IsTerm 0) rs → IsInLimits most → most ≡ least_value sets group.capacity → IsWellFormed 0 (Cumulative ss ds rs (Constant most))
+unfolding IsWellFormed
+constants_formed sets count group ss ds rs most ready filled same none a b c fit_starts fit_durations fit_uses limits is =
+    let len_starts = ap length a ∙ length-map group.starts (λ term. Constant (least_value sets term)) in
+    let len_durations = ap length b ∙ length-map group.durations (λ term. Constant (least_value sets term)) in
+    let len_uses = ap length c ∙ length-map group.uses (λ term. Constant (least_value sets term)) in
+    let short_starts = ready.starts.1 in
+    let short_durations = ready.durations.1 in
+    let short_uses = ready.uses.1 in
+    let many_durations = ready.as_many_durations in
+    let many_uses = ready.as_many_uses in (
+      (fit_starts, omega arith),
+      (fit_durations, omega arith),
+      (fit_uses, omega arith),
+      limits,
+      len_durations ∙ many_durations ∙ sym len_starts,
+      len_uses ∙ many_uses ∙ sym len_starts,
+      subst (All IsNotNegative) (sym b) (none_negative sets count group.durations filled same ready.durations.0 none.durations),
+      subst (All IsNotNegative) (sym c) (none_negative sets count group.uses filled same ready.uses.0 none.uses),
+      subst (λ (x : ℤ). pos 0 ≤ℤ x) (sym is) (least_low sets count group.capacity filled same ready.capacity none.capacity),
+    )
+
+module _ (sets : List IntSet) (values : List ℤ) (within : IsWithin sets values) (fixed : AllFixed sets) where
+  values_same : (terms : List Term) → All (IsTerm (length sets)) terms → values_of [] (least_terms sets terms) ≡ values_of values terms
+  values_same [] fit = refl
+  values_same (t ∷ ts) fit =
+      ap₂ (λ (x : ℤ) (xs : List ℤ). x ∷ xs) ((fixed_to sets values within fixed t (All-head (IsTerm (length sets)) t ts fit)).0) (values_same ts (All-tail (IsTerm (length sets)) t ts fit))
+
+  least_meets : (group : Tasks) → AreReady (length sets) group → Meets (least_cumulative sets group) [] → Meets (cumulative_of group) values
+  unfolding Meets
+  least_meets group ready meets =
+      subst (λ (x : ℤ). IsCumulative (values_of values group.starts) (values_of values group.durations) (values_of values group.uses) x) (fixed_to sets values within fixed group.capacity ready.capacity).0
+      (subst (λ (xs : List ℤ). IsCumulative (values_of values group.starts) (values_of values group.durations) xs (least_value sets group.capacity)) (values_same group.uses ready.uses.0)
+      (subst (λ (xs : List ℤ). IsCumulative (values_of values group.starts) xs (values_of [] (least_terms sets group.uses)) (least_value sets group.capacity)) (values_same group.durations ready.durations.0)
+      (subst (λ (xs : List ℤ). IsCumulative xs (values_of [] (least_terms sets group.durations)) (values_of [] (least_terms sets group.uses)) (least_value sets group.capacity)) (values_same group.starts ready.starts.0) meets)))
+
+-- where the fixed tasks keep the capacity
+pub meets_least : (sets : List IntSet) (count : ℕ) (group : Tasks) → AreReady count group → length sets ≡ count → Meets (least_cumulative sets group) [] → MeetsWhereFixed sets group
+meets_least sets count group ready same meets fixed values within = least_meets sets values within fixed group (subst (λ (n : ℕ). AreReady n group) (sym same) ready) meets
+
+pub meets_kept : (sets : List IntSet) (count : ℕ) (group : Tasks) → AreReady count group → length sets ≡ count → HasNoneBelow sets group → AreKept sets group → MeetsWhereFixed sets group
+meets_kept sets count group ready same none kept fixed values within = meets_cumulative sets values within fixed group (subst (λ (n : ℕ). AreReady n group) (sym same) ready) none kept
+
+pub exhausted : (trail : Levels) (group : Tasks) → MeetsWhereFixed trail.sets group → (constraint : Constraint) → cumulative_of group ≡ constraint → IsExhausted constraint trail
+unfolding form_of
+exhausted trail group meets constraint same = subst (λ (c : Constraint). IsExhausted c trail) same (record {
+  holds = λ fixed values declared present. meets fixed values present;
+  strong = λ form is. absurd (none-some form is);
+  none_barred = λ form is. absurd (none-some form is);
+})

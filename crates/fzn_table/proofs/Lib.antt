@@ -1,0 +1,2 @@
+mod PropagatorLemmas
+mod TableLemmas

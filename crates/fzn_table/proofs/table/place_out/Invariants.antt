@@ -1,0 +1,10 @@
+use Rattle.std.proofs.Common.{IfSome, IfNone}
+use Rattle.fzn_meaning.specs.Term.{numbers_in}
+use Rattle.fzn_table.specs.Supports.{IsOutAt, IsOpenUpTo}
+use Rattle.fzn_table.proofs.table.place_out.Given as goal
+
+abbrev pub invariant-loop-k : goal.invariant-loop-k
+invariant-loop-k l = record {
+  out : IfSome l.found (IsOutAt l.trail.sets l.places (numbers_in l.rows) l.r);
+  open_so_far : IfNone l.found (IsOpenUpTo l.trail.sets l.places (numbers_in l.rows) l.r l.k);
+}

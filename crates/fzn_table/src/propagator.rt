@@ -1,0 +1,99 @@
+// The propagator of a table, and which constraint gets one.
+ghost use Rattle.std.specs.Prelude.{◌≡◌, ◌-◌, ◌≤◌, ℤ, List, length, IfOk, IfSome, IfNone, slice_index_or};
+ghost use Rattle.fzn_meaning.specs.declared.constraint.Constraint.{Constraint};
+ghost use Rattle.fzn_meaning.specs.declared.constraint.Constraint.TheVariants as constraint;
+ghost use Rattle.fzn_meaning.specs.declared.term.Term.{Term};
+ghost use Rattle.fzn_meaning.specs.Solutions.{declared_sets};
+ghost use Rattle.fzn_meaning.specs.WellFormed.{IsWellFormed};
+ghost use Rattle.fzn_table.specs.Propagator.{table_number, TableIsFor, TableFits};
+
+use crate::supports::Supports;
+use crate::table::first_unsupported;
+use fzn_domain::Memory;
+use fzn_list::{Items, Shared};
+use fzn_meaning::{Constraint, Model, Rows, Term};
+use fzn_propagator::{Inference, Propagator};
+use fzn_rules::Rule;
+use fzn_trail::Trail;
+use std::alloc::Global;
+
+/// What reasons for one table.
+#[derive(Drop)]
+pub struct TablePropagator {
+    pub number: u64,
+    pub places: Shared<Term>,
+    pub rows: Rows,
+    /// The rows that have each value at each place.
+    pub(crate) supports: Supports,
+}
+
+impl Propagator for TablePropagator {
+    ghost number = { table_number };
+
+    ghost is_for = { TableIsFor };
+
+    ghost fits = { TableFits };
+
+    #[tactic(auto, unfolding(fzn_meaning::specs::Meaning::IsWellFormed))]
+    fn propagate(&self, alloc: Global, trail: &Trail) -> Result<Option<Inference>, Memory> {
+        let places = self.places.as_slice();
+        let rows = self.rows.constants();
+        let mut clause = Items::new(alloc);
+        if !first_unsupported(alloc, trail, places, rows, &self.supports, &mut clause)? {
+            return Ok(None);
+        }
+        Ok(Some(Inference {
+            constraint: self.number,
+            rule: Rule::Rows,
+            clause,
+        }))
+    }
+}
+
+/// The propagator of the constraint of this number, where it is a table.
+pub fn propagator_of(
+    alloc: Global,
+    model: &Model,
+    c: usize,
+) -> Result<Option<TablePropagator>, Memory>
+    requires model { IsWellFormed model.now }
+    requires number { (1 ≤ c) × (c ≤ length model.now.constraints) }
+    ensures number { IfOk result (λ found. IfSome found (λ propagator. table_number propagator ≡ c)) }
+    ensures is_for { IfOk result (λ found. IfSome found (λ propagator. (default : Constraint) → TableIsFor propagator (slice_index_or model.now.constraints (c - 1) default))) }
+    ensures fits { IfOk result (λ found. IfSome found (λ propagator. TableFits propagator (declared_sets model.now.vars))) }
+    ensures none { IfOk result (λ found. IfNone found ((default : Constraint) (places : List Term) (rows : List ℤ) → slice_index_or model.now.constraints (c - 1) default ≡ constraint.Table places rows → ⊥)) }
+{
+    propagator_for(alloc, c as u64, &model.constraints.as_slice()[c - 1])
+}
+
+/// The propagator of a constraint, with this number.
+fn propagator_for(
+    alloc: Global,
+    number: u64,
+    given: &Constraint,
+) -> Result<Option<TablePropagator>, Memory>
+    ensures number { IfOk result (λ found. IfSome found (λ propagator. table_number propagator ≡ number)) }
+    ensures is_for { IfOk result (λ found. IfSome found (λ propagator. TableIsFor propagator given.now)) }
+    ensures none { IfOk result (λ found. IfNone found ((places : List Term) (rows : List ℤ) → given.now ≡ constraint.Table places rows → ⊥)) }
+{
+    match given {
+        Constraint::Table { places, rows } => Ok(Some(TablePropagator {
+            number,
+            places: places.share()?,
+            rows: copy_of_rows(alloc, rows)?,
+            supports: Supports::new(alloc, places.as_slice().len(), rows.constants())?,
+        })),
+        _ => Ok(None),
+    }
+}
+
+fn copy_of_rows(alloc: Global, rows: &Rows) -> Result<Rows, Memory>
+    ensures { IfOk result (λ copy. copy ≡ rows.now) }
+{
+    let mut terms = Items::new(alloc);
+    let constants = rows.constants();
+    for term in constants {
+        terms.push(*term)?;
+    }
+    Ok(Rows::new(Shared::new(alloc, terms)?))
+}

@@ -1,0 +1,190 @@
+-- A clause grows by one literal.
+use Rattle.std.proofs.Common.{◌≡◌, ℕ, ◌-◌, Bool, true, false, not, List, [], ◌∷◌, ◌++◌, length, refl, sym, ap, subst, ◌∙◌, inl, inr, arith, ℤ}
+use Rattle.std.proofs.lemmas.Int.{ints}
+use Rattle.std.proofs.lemmas.Bool.{cases_Bool, true≢false}
+use Rattle.std.proofs.lemmas.List.Elements.{All-nil, All-push}
+use Rattle.fzn_domain.specs.declared.literal.VarId.{VarId}
+use Rattle.fzn_domain.specs.declared.literal.Lit.{Lit}
+use Rattle.fzn_domain.specs.declared.literal.Op.{Op}
+use Rattle.fzn_domain.specs.declared.literal.Op.TheVariants.{AtMost, AtLeast, Equal, NotEqual}
+use Rattle.fzn_domain.specs.Limits.{IsInLimits, IsLimited}
+use Rattle.fzn_domain.specs.Literal.{compares, is_true_at, negated}
+use Rattle.fzn_domain.specs.IntSet.{IntSet, contains, is_possible}
+use Rattle.fzn_domain.specs.Narrow.{IsVariable, IsClauseOver, NoneEmpty, set_of, denied, is_some_empty}
+use Rattle.fzn_domain.proofs.SetLemmas.{is_true_at-negated, possible_when, impossible_when, witness, member_of_size}
+use Rattle.fzn_meaning.specs.declared.term.Term.{Term}
+use Rattle.fzn_meaning.specs.declared.term.Term.TheVariants.{Constant, Variable}
+use Rattle.fzn_state.specs.Terms.{MayBe}
+use Rattle.fzn_trail.specs.Levels.{Levels, IsNarrower}
+use Rattle.fzn_propagator.specs.Inference.{IsWritable, HasWritableHints, IsInference}
+use Rattle.fzn_domain.proofs.NarrowLemmas.{length-denied}
+use Rattle.fzn_meaning.specs.declared.constraint.Constraint.{Constraint}
+use Rattle.fzn_rules.specs.declared.rule.Rule.{Rule}
+use Rattle.fzn_propagator.proofs.CallerLemmas.{left_of_more, last_fails, none_left, some_value}
+use Rattle.fzn_terms.proofs.ClaimLemmas.{left_of_may}
+use Rattle.fzn_terms.specs.Denied.{AreLeft, AllAre, NoneIs, IsFalseClause, IsExplained, IsForced, IsInferred}
+
+pub was_true : (b : Bool) → not b ≡ true → b ≡ false
+was_true true h = sym h
+was_true false h = refl
+
+pub was_false : (b : Bool) → not b ≡ false → b ≡ true
+was_false true h = refl
+was_false false h = sym h
+
+writable_of : (op : Op) (var : VarId) (number v w : ℤ) → IsInLimits v → IsInLimits w → compares op v number ≡ true → compares op w number ≡ false → IsWritable (negated (record { var = var; op = op; value = number }))
+writable_of AtMost var number v w a b h k = (grind (arith, ints, a.0, a.1, b.0, b.1), grind (arith, ints, a.0, a.1, b.0, b.1))
+writable_of AtLeast var number v w a b h k = (grind (arith, ints, a.0, a.1, b.0, b.1), grind (arith, ints, a.0, a.1, b.0, b.1))
+writable_of Equal var number v w a b h k = (grind (arith, ints, a.0, a.1, b.0, b.1), grind (arith, ints, a.0, a.1, b.0, b.1))
+writable_of NotEqual var number v w a b h k = (grind (arith, ints, a.0, a.1, b.0, b.1), grind (arith, ints, a.0, a.1, b.0, b.1))
+
+-- no literal
+pub false_of_none : (trail : Levels) (clause : List Lit) → clause ≡ [] → IsFalseClause trail clause
+false_of_none trail clause none =
+    subst (IsFalseClause trail) (sym none) (record { over = All-nil (λ (l : Lit). IsVariable (length trail.declared) l.var); writable = All-nil IsWritable; impossible = refl })
+
+-- sets that the longer clause leaves
+pub left-more : (declared : List IntSet) (clause more : List Lit) (sets : List IntSet) → AreLeft declared (clause ++ more) sets → AreLeft declared clause sets
+left-more declared clause more sets all = record {
+  one_each = all.one_each;
+  filled = all.filled;
+  left = λ term v fits may. left_of_more declared clause more term v (all.left term v fits may);
+}
+
+module _ (trail : Levels) (op : Op) (number : ℤ) (term : Term) (old : List Lit) (still : IsFalseClause trail old) where
+  -- nothing is to be added for a constant
+  pub explained_constant : (k : ℤ) → term ≡ Constant k → AllAre op number term trail.sets → IsExplained trail op number term old old
+  explained_constant k of present = record {
+    still = still;
+    keeps = λ sets left. left;
+    says = λ sets left v may.
+        present v (subst (λ (t : Term). MayBe trail.sets t v) (sym of) (subst (λ (t : Term). MayBe sets t v) of may));
+  }
+
+  pub forced_constant : (k : ℤ) (r : Bool) → term ≡ Constant k → r ≡ compares op k number → r ≡ true → IsForced trail op number term old old
+  forced_constant k r of is told = record {
+    forcing = record { over = still.over; writable = still.writable; forces = inl still.impossible };
+    keeps = λ sets left. left;
+    says = λ sets left v may.
+        let same : k ≡ v = subst (λ (t : Term). MayBe sets t v) of may in
+        subst (λ (x : ℤ). compares op x number ≡ true) same (sym is ∙ told);
+  }
+
+  pub none_constant : (k : ℤ) (r : Bool) → term ≡ Constant k → r ≡ compares op k number → r ≡ false → NoneIs op number term trail.sets
+  none_constant k r of is told v may =
+      let same : k ≡ v = subst (λ (t : Term). MayBe trail.sets t v) of may in
+      subst (λ (x : ℤ). compares op x number ≡ false) same (sym is ∙ told)
+
+  module _ (var : VarId) (of : term ≡ Variable var) (variable : IsVariable (length trail.declared) var) where
+    -- a value at which the opposite literal is not true
+    holds_where_false : (v : ℤ) → is_true_at (negated (record { var = var; op = op; value = number })) v ≡ false → compares op v number ≡ true
+    holds_where_false v h = was_false (compares op v number) (sym (is_true_at-negated (record { var = var; op = op; value = number }) v) ∙ h)
+
+    fails_where_true : (v : ℤ) → is_true_at (negated (record { var = var; op = op; value = number })) v ≡ true → compares op v number ≡ false
+    fails_where_true v h = was_true (compares op v number) (sym (is_true_at-negated (record { var = var; op = op; value = number }) v) ∙ h)
+
+    false_where_holds : (v : ℤ) → compares op v number ≡ true → is_true_at (negated (record { var = var; op = op; value = number })) v ≡ false
+    false_where_holds v h = is_true_at-negated (record { var = var; op = op; value = number }) v ∙ ap not h
+
+    -- the declared set says it
+    says_declared : is_possible (set_of trail.declared var) (negated (record { var = var; op = op; value = number })) ≡ false → (sets : List IntSet) → AreLeft trail.declared old sets → AllAre op number term sets
+    says_declared impossible sets left v may =
+        let there = (left.left (Variable var) v variable (subst (λ (t : Term). MayBe sets t v) of may)).0 in
+        elim (cases_Bool (is_true_at (negated (record { var = var; op = op; value = number })) v)) [
+          | inl holds ↦ absurd (true≢false (sym (possible_when (set_of trail.declared var) (negated (record { var = var; op = op; value = number })) v there holds) ∙ impossible))
+          | inr fails ↦ holds_where_false v fails
+        ]
+
+    says_pushed : (sets : List IntSet) → AreLeft trail.declared (old ++ negated (record { var = var; op = op; value = number }) ∷ []) sets → AllAre op number term sets
+    says_pushed sets left v may =
+        holds_where_false v (last_fails trail.declared old (negated (record { var = var; op = op; value = number })) v (left.left (Variable var) v variable (subst (λ (t : Term). MayBe sets t v) of may)))
+
+    module _ (narrower : IsNarrower trail.sets trail.declared) (limited : IsLimited (set_of trail.declared var)) where
+      declared_of : (v : ℤ) → contains (set_of trail.sets var) v ≡ true → contains (set_of trail.declared var) v ≡ true
+      declared_of v h = narrower.within (var.0 - 1) v h
+
+      -- some value makes it so, and some not
+      pushed_writable : (v : ℤ) → contains (set_of trail.sets var) v ≡ true → compares op v number ≡ true → is_possible (set_of trail.declared var) (negated (record { var = var; op = op; value = number })) ≡ true → IsWritable (negated (record { var = var; op = op; value = number }))
+      pushed_writable v here holds possible =
+          let w = witness (set_of trail.declared var) (negated (record { var = var; op = op; value = number })) possible in
+          writable_of op var number v w.0 (limited v (declared_of v here)) (limited w.0 w.1) holds (fails_where_true w.0 w.2)
+
+      -- the present set says it: the opposite literal is not possible
+      pub explained_push : NoneEmpty trail.sets → AllAre op number term trail.sets → is_possible (set_of trail.declared var) (negated (record { var = var; op = op; value = number })) ≡ true → IsExplained trail op number term old (old ++ negated (record { var = var; op = op; value = number }) ∷ [])
+      explained_push filled present possible =
+          let all : (v : ℤ) → contains (set_of trail.sets var) v ≡ true → compares op v number ≡ true = λ v h. present v (subst (λ (t : Term). MayBe trail.sets t v) (sym of) h) in
+          let some = member_of_size (set_of trail.sets var) (some_value trail.sets trail.declared var variable narrower filled) in
+          record {
+            still = record {
+              over = All-push (λ (l : Lit). IsVariable (length trail.declared) l.var) old (negated (record { var = var; op = op; value = number })) still.over variable;
+              writable = All-push IsWritable old (negated (record { var = var; op = op; value = number })) still.writable (pushed_writable some.0 some.1 (all some.0 some.1) possible);
+              impossible = none_left trail.sets old (negated (record { var = var; op = op; value = number })) false still.impossible
+                  (impossible_when (set_of trail.sets var) (negated (record { var = var; op = op; value = number })) (λ v h. false_where_holds v (all v h)));
+            };
+            keeps = λ sets left. left-more trail.declared old (negated (record { var = var; op = op; value = number }) ∷ []) sets left;
+            says = says_pushed;
+          }
+
+      -- some present value makes it so
+      pub forced_push : is_possible (set_of trail.sets var) (record { var = var; op = op; value = number }) ≡ true → is_possible (set_of trail.declared var) (negated (record { var = var; op = op; value = number })) ≡ true → IsForced trail op number term old (old ++ negated (record { var = var; op = op; value = number }) ∷ [])
+      forced_push able possible =
+          let lit : Lit = negated (record { var = var; op = op; value = number }) in
+          let some = witness (set_of trail.sets var) (record { var = var; op = op; value = number }) able in
+          record {
+            forcing = record {
+              over = All-push (λ (l : Lit). IsVariable (length trail.declared) l.var) old lit still.over variable;
+              writable = All-push IsWritable old lit still.writable (pushed_writable some.0 some.1 some.2 possible);
+              forces = elim (cases_Bool (is_possible (set_of trail.sets var) (negated (record { var = var; op = op; value = number })))) [
+                | inl may ↦ inr (
+                  lit,
+                  record {
+                    only = none_left trail.sets old lit true still.impossible may;
+                    not_yet_true = possible_when (set_of trail.sets var) (negated lit) some.0 some.1 (is_true_at-negated lit some.0 ∙ ap not (false_where_holds some.0 some.2));
+                  },
+                )
+                | inr cannot ↦ inl (none_left trail.sets old lit false still.impossible cannot)
+              ];
+            };
+            keeps = λ sets left. left-more trail.declared old (lit ∷ []) sets left;
+            says = says_pushed;
+          }
+
+    pub explained_declared : is_possible (set_of trail.declared var) (negated (record { var = var; op = op; value = number })) ≡ false → IsExplained trail op number term old old
+    explained_declared impossible = record { still = still; keeps = λ sets left. left; says = says_declared impossible }
+
+    pub forced_declared : is_possible (set_of trail.declared var) (negated (record { var = var; op = op; value = number })) ≡ false → IsForced trail op number term old old
+    forced_declared impossible = record {
+      forcing = record { over = still.over; writable = still.writable; forces = inl still.impossible };
+      keeps = λ sets left. left;
+      says = says_declared impossible;
+    }
+
+    pub none_is : is_possible (set_of trail.sets var) (record { var = var; op = op; value = number }) ≡ false → NoneIs op number term trail.sets
+    none_is impossible v may = elim (cases_Bool (compares op v number)) [
+      | inl holds ↦ absurd (true≢false (sym (possible_when (set_of trail.sets var) (record { var = var; op = op; value = number }) v (subst (λ (t : Term). MayBe trail.sets t v) of may) holds) ∙ impossible))
+      | inr fails ↦ fails
+    ]
+
+-- ---- inferences
+
+-- the denied sets are so left
+pub left_denied : (declared : List IntSet) (clause : List Lit) → IsClauseOver (length declared) clause → is_some_empty (denied declared clause) ≡ false → AreLeft declared clause (denied declared clause)
+left_denied declared clause over filled = record {
+  one_each = length-denied clause declared;
+  filled = filled;
+  left = λ term v fits may. left_of_may declared clause term over v may;
+}
+
+pub inference_of : (trail : Levels) (number : ℕ) (C : Constraint) (rule : Rule) (clause : List Lit) → IsInferred trail C rule clause → HasWritableHints rule → (constraint : Constraint) → C ≡ constraint → IsInference number constraint trail (record { constraint = number; rule = rule; clause = clause })
+inference_of trail number C rule clause inferred hints constraint same =
+    subst (λ (x : Constraint). IsInference number x trail (record { constraint = number; rule = rule; clause = clause })) same (record {
+      of_constraint = refl;
+      over = inferred.forcing.over;
+      writable = inferred.forcing.writable;
+      hints = hints;
+      accepted = elim (cases_Bool (is_some_empty (denied trail.declared clause))) [
+        | inl empty ↦ inl empty
+        | inr filled ↦ inr (inferred.says (denied trail.declared clause) (left_denied trail.declared clause inferred.forcing.over filled))
+      ];
+      forces = inferred.forcing.forces;
+    })

@@ -1,0 +1,60 @@
+-- Values of terms, and clauses that are made of claims on terms.
+use Rattle.std.specs.Prelude.{◌≡◌, ◌≢◌, ℕ, false, ℤ, pos, ◌≤ℤ◌, ◌<ℤ◌, List, [], ◌∷◌, slice_index_or}
+use Rattle.fzn_domain.specs.declared.literal.Lit.{Lit}
+use Rattle.fzn_domain.specs.declared.literal.Op.{Op}
+use Rattle.fzn_domain.specs.Literal.{compares}
+use Rattle.fzn_domain.specs.IntSet.{IntSet}
+use Rattle.fzn_domain.specs.Narrow.{denied, is_some_empty}
+use Rattle.fzn_meaning.specs.declared.term.Term.{Term}
+use Rattle.fzn_meaning.specs.declared.term.Term.TheVariants.{Constant, Variable}
+use Rattle.fzn_state.specs.Terms.{MayBe}
+use Rattle.fzn_trail.specs.Levels.{Levels}
+use Rattle.fzn_propagator.specs.Left.{IsLeft}
+use Rattle.fzn_terms.specs.Denied.{IsForcing}
+
+-- ---- values of terms
+
+-- the term at an index
+abbrev pub place_at : List Term → ℕ → Term
+place_at places k = slice_index_or places k (Constant (pos 0))
+
+-- the least value of the term above another
+pub record IsNextValue (sets : List IntSet) (term : Term) (value next : ℤ) : Type 0 where
+  pub member : MayBe sets term next
+  pub greater : value <ℤ next
+  pub first : (v : ℤ) → MayBe sets term v → value <ℤ v → next ≤ℤ v
+
+-- the value is the only one of the term
+pub record IsOnly (sets : List IntSet) (term : Term) (value : ℤ) : Type 0 where
+  pub member : MayBe sets term value
+  pub only : (v : ℤ) → MayBe sets term v → v ≡ value
+
+-- the term has another value
+abbrev pub HasOther : List IntSet → Term → ℤ → Type 0
+HasOther sets term value = (v : ℤ) × MayBe sets term v × (v ≢ value)
+
+-- ---- claims
+
+-- the literal that a variable stands so to a bound; a constant has none
+abbrev pub claim : Term → Op → ℤ → List Lit
+claim (Constant k) op bound = []
+claim (Variable var) op bound = record { var = var; op = op; value = bound } ∷ []
+
+-- some value of the term does not stand so to the bound
+abbrev pub CanFail : List IntSet → Term → Op → ℤ → Type 0
+CanFail sets term op bound = (v : ℤ) × MayBe sets term v × (compares op v bound ≡ false)
+
+-- no value that the clause leaves the term stands so to it
+abbrev pub FailsWhereLeft : List IntSet → List Lit → Term → Op → ℤ → Type 0
+FailsWhereLeft declared clause term op bound = (v : ℤ) → IsLeft declared clause term v → compares op v bound ≡ false
+
+-- every value that the first clause leaves a term is one that the second leaves it
+abbrev pub LeavesNoMore : List IntSet → List Lit → List Lit → Type 0
+LeavesNoMore declared clause other = (term : Term) (v : ℤ) → IsLeft declared clause term v → IsLeft declared other term v
+
+-- ---- clauses
+
+-- a clause that is false or forces one literal on the trail, and on whose denied sets a rule is met
+pub record IsJustifiedBy (trail : Levels) (IsMetOn : List IntSet → Type 0) (clause : List Lit) : Type 0 where
+  pub forcing : IsForcing trail clause
+  pub met : is_some_empty (denied trail.declared clause) ≡ false → IsMetOn (denied trail.declared clause)

@@ -1,0 +1,102 @@
+// Clauses that grow by claims on terms.
+ghost use Rattle.std.specs.Prelude.{◌≡◌, ◌++◌, ◌≤ℤ◌, pos, negsuc, length, IfOk, OnOk, MatchBool};
+ghost use Rattle.fzn_domain.specs.Narrow.{NoneEmpty};
+ghost use Rattle.fzn_meaning.specs.Term.{IsTerm};
+ghost use Rattle.fzn_terms.specs.Claims.{claim};
+ghost use Rattle.fzn_terms.specs.Denied.{AllAre, NoneIs, IsFalseClause, IsExplained, IsForced};
+
+use fzn_domain::{Lit, Memory, Op, VarId};
+use fzn_list::Items;
+use fzn_meaning::Term;
+use fzn_trail::Trail;
+
+/// Adds the claim that the term stands so to the bound.
+pub fn push_claim(clause: &mut Items<Lit>, term: Term, op: Op, bound: &i64) -> Result<(), Memory>
+    ensures { OnOk result (clause.new ≡ clause.old ++ claim term op bound.now) }
+{
+    if let Term::Variable(var) = term {
+        clause.push(Lit {
+            var,
+            op,
+            value: *bound,
+        })?;
+    }
+    Ok(())
+}
+
+/// Adds to a false clause what it takes to say that each value of the term stands so to the number, as on the trail.
+pub fn explain(
+    trail: &Trail,
+    term: Term,
+    op: Op,
+    number: i64,
+    clause: &mut Items<Lit>,
+) -> Result<(), Memory>
+    requires term { IsTerm (length trail.now.declared) term }
+    requires filled { NoneEmpty trail.now.sets }
+    requires above { negsuc 3999999999 ≤ℤ number }
+    requires below { number ≤ℤ pos 4000000000 }
+    requires present { AllAre op number term trail.now.sets }
+    requires still { IsFalseClause trail.now clause.old }
+    ensures { OnOk result (IsExplained trail.now op number term clause.old clause.new) }
+{
+    let Term::Variable(var) = term else {
+        return Ok(());
+    };
+    let _domain = trail.domain(var); // Its values are declared ones.
+    let declared = trail.declared(var);
+    let _none = declared.is_empty(); // Its values lie within the limits.
+    let lit = Lit {
+        var,
+        op,
+        value: number,
+    }
+    .negated();
+    if !declared.is_false(lit) {
+        clause.push(lit)?;
+    }
+    Ok(())
+}
+
+/// Adds to a false clause the literal without which each value of the term stands so to the number. `false` where none does so on the
+/// trail, so that the literal is true.
+pub fn force(
+    trail: &Trail,
+    term: Term,
+    op: Op,
+    number: i64,
+    clause: &mut Items<Lit>,
+) -> Result<bool, Memory>
+    requires term { IsTerm (length trail.now.declared) term }
+    requires filled { NoneEmpty trail.now.sets }
+    requires above { negsuc 3999999999 ≤ℤ number }
+    requires below { number ≤ℤ pos 4000000000 }
+    requires still { IsFalseClause trail.now clause.old }
+    ensures { IfOk result (λ forces. MatchBool forces (IsForced trail.now op number term clause.old clause.new) (NoneIs op number term trail.now.sets)) }
+{
+    let var = match term {
+        Term::Constant(k) => return Ok(Lit {
+            var: VarId(1),
+            op,
+            value: number,
+        }
+        .is_true_at(k)),
+        Term::Variable(var) => var,
+    };
+    let claim = Lit {
+        var,
+        op,
+        value: number,
+    };
+    let domain = trail.domain(var);
+    if domain.is_false(claim) {
+        return Ok(false);
+    }
+    let declared = trail.declared(var);
+    let _none = declared.is_empty(); // Its values lie within the limits.
+    let lit = claim.negated();
+    if !declared.is_false(lit) {
+        clause.push(lit)?;
+    }
+    Ok(true)
+}

@@ -1,0 +1,75 @@
+// The values of terms on a trail.
+ghost use Rattle.std.specs.Prelude.{◌≡◌, ◌↔◌, ◌≤ℤ◌, ℤ, false, IsTrue, IfSome, IfNone, length};
+ghost use Rattle.fzn_domain.specs.Limits.{IsInLimits};
+ghost use Rattle.fzn_domain.specs.Narrow.{NoneEmpty};
+ghost use Rattle.fzn_meaning.specs.Term.{IsTerm};
+ghost use Rattle.fzn_state.specs.Terms.{MayBe, least_value, greatest_value};
+ghost use Rattle.fzn_terms.specs.Claims.{IsNextValue, HasOther, IsOnly};
+
+use fzn_meaning::Term;
+use fzn_sums::{greatest_value, least_value};
+use fzn_trail::Trail;
+
+/// Whether the value is in the present set of the term.
+pub fn may_be(trail: &Trail, term: Term, value: &i64) -> bool
+    requires term { IsTerm (length trail.now.declared) term }
+    ensures { IsTrue result ↔ MayBe trail.now.sets term value.now }
+{
+    match term {
+        Term::Constant(k) => k == *value,
+        Term::Variable(var) => trail.domain(var).contains(*value),
+    }
+}
+
+/// The least value of the term.
+pub fn least_of(trail: &Trail, term: Term) -> i64
+    requires term { IsTerm (length trail.now.declared) term }
+    requires filled { NoneEmpty trail.now.sets }
+    ensures value { result ≡ least_value trail.now.sets term }
+    ensures member { MayBe trail.now.sets term result }
+    ensures first { (v : ℤ) → MayBe trail.now.sets term v → result ≤ℤ v }
+    ensures in_limits { IsInLimits result }
+{
+    let _entries = trail.len(); // Each present set lies within its declared one.
+    least_value(trail, term)
+}
+
+/// The greatest value of the term.
+pub fn greatest_of(trail: &Trail, term: Term) -> i64
+    requires term { IsTerm (length trail.now.declared) term }
+    requires filled { NoneEmpty trail.now.sets }
+    ensures value { result ≡ greatest_value trail.now.sets term }
+    ensures member { MayBe trail.now.sets term result }
+    ensures last { (v : ℤ) → MayBe trail.now.sets term v → v ≤ℤ result }
+    ensures in_limits { IsInLimits result }
+{
+    let _entries = trail.len(); // Each present set lies within its declared one.
+    greatest_value(trail, term)
+}
+
+/// Whether the term has another value.
+pub fn has_other(trail: &Trail, term: Term, value: &i64) -> bool
+    requires term { IsTerm (length trail.now.declared) term }
+    requires filled { NoneEmpty trail.now.sets }
+    ensures other { IsTrue result → HasOther trail.now.sets term value.now }
+    ensures none { result ≡ false → IsOnly trail.now.sets term value.now }
+{
+    if least_of(trail, term) != *value {
+        return true;
+    }
+    greatest_of(trail, term) != *value
+}
+
+/// The least value of the term above this one.
+pub fn next_value(trail: &Trail, term: Term, value: &i64) -> Option<i64>
+    requires term { IsTerm (length trail.now.declared) term }
+    ensures found { IfSome result (IsNextValue trail.now.sets term value.now) }
+    ensures none { IfNone result ((v : ℤ) → MayBe trail.now.sets term v → v ≤ℤ value.now) }
+    ensures in_limits { IfSome result IsInLimits }
+{
+    match term {
+        Term::Constant(k) if *value < k => Some(k),
+        Term::Constant(_) => None,
+        Term::Variable(var) => trail.domain(var).above(*value),
+    }
+}
