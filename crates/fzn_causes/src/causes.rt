@@ -9,7 +9,8 @@ use fzn_domain::{Domain, Lit, Memory, Op};
 use fzn_trail::ClauseId;
 use std::alloc::Global;
 
-/// An entry, by its place, and the literal that is needed of it: its own, or one that follows from it.
+/// An entry, by its place, and the literal that is needed of it: its own, or one that is true since. A bound that is needed may say more
+/// than the entry's own literal, where it moved over values that were out before.
 #[derive(Clone, Copy, Debug)]
 pub struct Cause {
     pub place: usize,
@@ -23,8 +24,8 @@ struct Crossing {
     until: i64,
 }
 
-/// What made literals false. Of a bound that moved over values that were out before the entries that took these out are causes too;
-/// within one analysis they are given once.
+/// What made literals false. What stands behind a bound that moved over values that were out before, the entries that took these out, is
+/// given where it is asked for, and of level 0 at once; within one analysis it is given once.
 #[derive(Drop)]
 pub struct Causes {
     found: Vec<Cause>,
@@ -141,8 +142,7 @@ impl Causes {
         self.add_from(graph, declared, greatest, upper)
     }
 
-    /// Adds the entries that made a literal true that is no equation: the first one after which it is true, where there is one, and
-    /// those that it needs.
+    /// Adds the entry after which a literal that is no equation is true, where there is one; at level 0 also what stands behind it.
     fn add_from(
         &mut self,
         graph: Implications,
@@ -156,23 +156,42 @@ impl Causes {
             let Some(place) = first else {
                 return Ok(());
             };
-            if place >= graph.trail.len() {
+            let Some(entry) = graph.entry(place) else {
+                return Ok(());
+            };
+            self.found.push(Cause { place, need: truth })?;
+            let lit = canonical(entry.lit, declared);
+            if entry.level > 0 || implies(lit, truth) {
                 return Ok(());
             }
-            let lit = canonical(graph.trail.entry(place).lit, declared);
-            if implies(lit, truth) {
-                self.found.push(Cause { place, need: truth })?;
-                return Ok(());
-            }
-            // The bound moved over values that were out before, further than the entry's literal says.
-            self.found.push(Cause { place, need: lit })?;
             let Some(older) = self.add_crossed(graph, declared, place, lit, truth)? else {
                 return Ok(());
             };
             truth = older;
-            first = first_true(graph, declared, truth, graph.trail.before(place));
+            first = first_true(graph, declared, truth, graph.before(place));
         }
         Ok(())
+    }
+
+    /// Adds what stands behind an entry above level 0 of which a bound is needed that says more than its literal: the entries that took
+    /// out the values that the bound moved over, and behind an inequality the bound before it.
+    pub fn add_behind(&mut self, graph: Implications, cause: Cause) -> Result<(), Memory> {
+        let Cause { place, need } = cause;
+        let Some(entry) = graph.entry(place) else {
+            return Ok(());
+        };
+        let Some(declared) = graph.declared(entry.lit.var) else {
+            return Ok(());
+        };
+        let lit = canonical(entry.lit, declared);
+        if entry.level == 0 || implies(lit, need) {
+            return Ok(());
+        }
+        let Some(older) = self.add_crossed(graph, declared, place, lit, need)? else {
+            return Ok(());
+        };
+        let first = first_true(graph, declared, older, graph.before(place));
+        self.add_from(graph, declared, older, first)
     }
 
     /// Adds the entries before this one that took out the values that a bound moved over, and gives the bound before it where that

@@ -1,4 +1,5 @@
 mod CircuitLemmas
+mod ClosedLemmas
 mod ClosingLemmas
 mod PropagatorLemmas
 mod WayLemmas

@@ -206,7 +206,7 @@ way_step trail successors start last next places old new way room place leads ap
 
 -- ---- the rule
 
-hint_of : (n : ℕ) (p : ℤ) → n ≤ longest → IsIndex n p → IsHint p
+pub hint_of : (n : ℕ) (p : ℤ) → n ≤ longest → IsIndex n p → IsHint p
 hint_of n p short place = (omega (arith, ints, place.0), omega (arith, ints, place.1))
 
 module _ (trail : Levels) (successors : List Term) (start last : ℤ) (places sorted items : List ℤ) (old : List Lit) (way : IsWay trail successors start last places old) (order : IsPermutation places sorted) (same : All (Contains sorted) items) (all : All (Contains items) sorted) where

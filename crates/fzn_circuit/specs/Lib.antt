@@ -1,2 +1,3 @@
 pub mod Circuits
+pub mod Closed
 pub mod Propagator

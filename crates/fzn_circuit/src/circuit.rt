@@ -139,7 +139,7 @@ fn follow(
 }
 
 /// The same numbers, each once.
-fn rising(alloc: Global, values: &[i64]) -> Result<Items<i64>, Memory>
+pub(crate) fn rising(alloc: Global, values: &[i64]) -> Result<Items<i64>, Memory>
     requires { IsSorted int_cmp values.now }
     ensures ascending { IfOk result IsAscending }
     ensures same { IfOk result (λ items. All (Contains values.now) items) }

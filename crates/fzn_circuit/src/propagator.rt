@@ -17,6 +17,8 @@ ghost use Rattle.fzn_circuit.specs.Propagator.{circuit_number, CircuitIsFor, Cir
 ghost use Rattle.fzn_circuit.specs.Circuits.{AreInside, AreApart, HasNoShortWay};
 
 use crate::circuit::{explain_above, explain_below, explain_cut, explain_same};
+use crate::closed::explain_closed;
+use crate::walk::closed_places;
 use crate::ways::first_places;
 use fzn_domain::{Lit, Memory};
 use fzn_list::{Items, Shared};
@@ -62,6 +64,14 @@ impl Propagator for CircuitPropagator {
             }));
         }
         if let Some(places) = first_cut(alloc, trail, successors, &mut clause)? {
+            let rule = Rule::Cut(places);
+            return Ok(Some(Inference {
+                constraint,
+                rule,
+                clause,
+            }));
+        }
+        if let Some(places) = first_closed(alloc, trail, successors, &mut clause)? {
             let rule = Rule::Cut(places);
             return Ok(Some(Inference {
                 constraint,
@@ -189,6 +199,27 @@ fn first_cut(
                 return Ok(Some(places));
             }
         }
+    }
+    Ok(None)
+}
+
+/// The clause that places which lead only to one another do not, with these places.
+fn first_closed(
+    alloc: Global,
+    trail: &Trail,
+    successors: &[Term],
+    clause: &mut Items<Lit>,
+) -> Result<Option<Items<i64>>, Memory>
+    requires terms { AreTerms (length trail.now.declared) successors.now }
+    requires filled { NoneEmpty trail.now.sets }
+    ensures found { IfOk result (λ found. IfSome found (λ places. IsInferred trail.now (constraint.Circuit successors.now) (rule.Cut places) clause.new)) }
+    ensures hints { IfOk result (λ found. IfSome found (λ places. HasWritableHints (rule.Cut places))) }
+{
+    let Some(places) = closed_places(alloc, trail, successors)? else {
+        return Ok(None);
+    };
+    if explain_closed(trail, successors, places.as_slice(), clause)? {
+        return Ok(Some(places));
     }
     Ok(None)
 }

@@ -55,7 +55,7 @@ fn narrow_down(
             match source_of(entry.reason) {
                 Some(source) if marks.open() > 1 => {
                     replaced.push(place)?;
-                    marks.replace(graph, entry.lit, source)?;
+                    marks.replace(graph, place, entry.lit, source)?;
                 }
                 _ => return Ok(Some(place)),
             }
@@ -87,7 +87,7 @@ fn minimise(
             && entry.level < level
         {
             if let Some(source) = source_of(entry.reason)
-                && marks.is_redundant(graph, entry.lit, source)?
+                && marks.is_redundant(graph, place, entry.lit, source)?
             {
                 replaced.push(place)?;
             } else {

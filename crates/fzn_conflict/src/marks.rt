@@ -145,17 +145,33 @@ impl Marks {
     pub fn replace(
         &mut self,
         graph: Implications,
+        place: usize,
         forced: Lit,
         source: Source,
     ) -> Result<(), Memory> {
         self.note_equations(graph, source, Some(forced))?;
-        self.rest_on(graph, forced, source)
+        self.rest_on(graph, place, forced, source)
     }
 
-    fn rest_on(&mut self, graph: Implications, forced: Lit, source: Source) -> Result<(), Memory> {
+    fn rest_on(
+        &mut self,
+        graph: Implications,
+        place: usize,
+        forced: Lit,
+        source: Source,
+    ) -> Result<(), Memory> {
         self.open = self.open.saturating_sub(1);
         graph.find_causes(&mut self.causes, source, Some(forced))?;
+        self.add_behind(graph, place)?;
         self.mark_causes(graph)
+    }
+
+    /// Adds what stands behind a marked entry to the causes.
+    fn add_behind(&mut self, graph: Implications, place: usize) -> Result<(), Memory> {
+        match self.need(place) {
+            Some(need) => self.causes.add_behind(graph, Cause { place, need }),
+            None => Ok(()),
+        }
     }
 
     /// Notes the equations that make literals of the source's clause false, but for the one that it forced.
@@ -190,7 +206,7 @@ impl Marks {
         if let Some(id) = self.roots.unit(place) {
             return Ok(Some(id));
         }
-        self.rest_on(graph, forced, source)?;
+        self.rest_on(graph, place, forced, source)?;
         if self.causes.len() > 0 {
             self.roots.want(place)?;
         }
@@ -307,10 +323,12 @@ impl Marks {
         self.causes.are_marked()
     }
 
-    /// Whether an entry follows from what is needed of other marked entries, and from entries of level 0, which are marked then.
+    /// Whether what is needed of an entry follows from what is needed of other marked entries, and from entries of level 0, which are
+    /// marked then.
     pub fn is_redundant(
         &mut self,
         graph: Implications,
+        place: usize,
         forced: Lit,
         source: Source,
     ) -> Result<bool, Memory> {
@@ -320,6 +338,11 @@ impl Marks {
                 return Ok(false);
             }
         }
+        let count = self.causes.len();
+        self.add_behind(graph, place)?;
+        if !self.are_kept_from(graph, count) {
+            return Ok(false);
+        }
         self.mark_causes(graph)?;
         Ok(true)
     }
@@ -328,14 +351,19 @@ impl Marks {
     fn are_kept_for(&mut self, graph: Implications, lit: Lit) -> Result<bool, Memory> {
         let count = self.causes.len();
         self.causes.add(graph, lit)?;
+        Ok(self.are_kept_from(graph, count))
+    }
+
+    /// Whether the causes after the first so many are kept.
+    fn are_kept_from(&self, graph: Implications, count: usize) -> bool {
         for i in count..self.causes.len() {
             if let Some(cause) = self.causes.get(i)
                 && !self.is_kept(graph, cause)
             {
-                return Ok(false);
+                return false;
             }
         }
-        Ok(true)
+        true
     }
 
     /// Whether it stands at level 0, or follows from what is needed of its entry.

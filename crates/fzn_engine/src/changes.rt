@@ -193,7 +193,11 @@ impl Solver {
     {
         'changes: loop {
             let ending = self.change(alloc, model, limits, constraints, sink)?;
-            sink.tell(self.search.nodes(), self.notes.conflicts());
+            sink.tell(
+                self.search.nodes(),
+                self.notes.conflicts(),
+                self.inferences.pushed(),
+            );
             if let Some(ending) = ending {
                 return Ok(ending);
             }

@@ -90,12 +90,13 @@ impl Solver {
         self.inferences.truncate(len);
     }
 
-    /// Goes back to level 0.
+    /// Goes back to level 0, and notes it.
     pub fn restart(&mut self)
         requires { IsReasoned (known_in (stock_of self.old)) self.old.trail }
         ensures { IsBackAt 0 self.old self.new }
     {
         self.go_back(0);
+        self.notes.restart();
     }
 
     /// Whether each variable has one value.

@@ -1,7 +1,7 @@
 // What a search notes for its own speed. Nothing is promised of it: what comes of it is tested.
 use fzn_conflict::Marks;
 use fzn_domain::Memory;
-use fzn_learned::Source;
+use fzn_learned::{Ranks, Source};
 use fzn_trail::ClauseId;
 use std::alloc::Global;
 
@@ -24,9 +24,13 @@ pub struct Notes {
     /// How many inferences are stacked when it is next looked which of them entries rest on.
     pub next_cut: usize,
     /// The learned clauses that may be forgotten.
-    pub learned: Pool,
+    pub learned: Ranks,
     /// The clauses of inferences that are held.
-    pub inferred: Pool,
+    pub inferred: Ranks,
+    /// How many learned clauses a restart keeps.
+    keep: usize,
+    /// Whether the search restarted since clauses were forgotten last.
+    has_restarted: bool,
     /// With how many steps that are not deleted some are.
     next_deletion: usize,
     /// The places of the inferences on which the last learned clause rests.
@@ -38,12 +42,14 @@ pub struct Notes {
 }
 
 impl Notes {
-    pub fn new(alloc: Global) -> Notes {
+    pub fn new(alloc: Global, keep: u64) -> Notes {
         Notes {
             marks: Marks::new(alloc),
             next_cut: 0,
-            learned: Pool::new(alloc, LEARNED),
-            inferred: Pool::new(alloc, INFERRED),
+            learned: Ranks::new(alloc, LEARNED),
+            inferred: Ranks::new(alloc, INFERRED),
+            keep: keep as usize,
+            has_restarted: false,
             next_deletion: IDLE,
             cited: Vec::new(alloc),
             last_step: 0,
@@ -55,6 +61,11 @@ impl Notes {
     pub fn learn(&mut self, id: ClauseId, levels: usize) -> Result<(), Memory> {
         self.conflicts = self.conflicts.saturating_add(1);
         self.learned.push(id, levels)
+    }
+
+    /// The search restarts.
+    pub fn restart(&mut self) {
+        self.has_restarted = true;
     }
 
     /// How many conflicts there were.
@@ -106,7 +117,7 @@ impl Notes {
 
     /// Whether some clauses are to be forgotten.
     pub fn has_many(&self) -> bool {
-        self.learned.has_many() || self.inferred.has_many()
+        self.has_restarted || self.learned.has_many() || self.inferred.has_many()
     }
 
     /// The clauses to be forgotten.
@@ -118,65 +129,26 @@ impl Notes {
         let mut worst = Vec::new(alloc);
         self.learned.take_worst(alloc, are_reasons, &mut worst)?;
         self.inferred.take_worst(alloc, are_reasons, &mut worst)?;
+        if self.has_restarted {
+            self.has_restarted = false;
+            self.take_oldest(alloc, are_reasons, &mut worst)?;
+        }
         Ok(worst)
     }
-}
 
-/// Clauses that may be forgotten, each with a rank and how far its number is from the end: the least of these pairs are kept longest.
-#[derive(Drop)]
-pub struct Pool {
-    ranks: Vec<(usize, u64)>,
-    /// With how many of them some are forgotten.
-    most: usize,
-}
-
-impl Pool {
-    fn new(alloc: Global, most: usize) -> Pool {
-        Pool {
-            ranks: Vec::new(alloc),
-            most,
-        }
-    }
-
-    /// One more clause.
-    pub fn push(&mut self, id: ClauseId, rank: usize) -> Result<(), Memory> {
-        self.ranks.push((rank, u64::MAX - id.0))?;
-        Ok(())
-    }
-
-    fn has_many(&self) -> bool {
-        self.ranks.len() > self.most
-    }
-
-    /// Adds the worse half of the clauses to the others, without reasons and the newest clause, where there are many. More are kept from
-    /// now on.
-    fn take_worst(
+    /// Adds the oldest learned clauses beyond those that a restart keeps. Where there are some, steps are deleted.
+    fn take_oldest(
         &mut self,
         alloc: Global,
         are_reasons: &[bool],
-        worst: &mut Vec<ClauseId>,
+        oldest: &mut Vec<ClauseId>,
     ) -> Result<(), Memory> {
-        if !self.has_many() {
-            return Ok(());
+        let count = oldest.len();
+        self.learned
+            .take_oldest(alloc, self.keep, are_reasons, oldest)?;
+        if oldest.len() > count {
+            self.next_deletion = 0;
         }
-        self.most = self.most.saturating_add(self.most / 10);
-        let newest = self.ranks.pop();
-        self.ranks.sort_unstable();
-        let half = self.ranks.len() / 2;
-        let mut kept = Vec::new(alloc);
-        for i in 0..self.ranks.len() {
-            let (rank, from_end) = self.ranks[i];
-            let id = u64::MAX - from_end;
-            if i < half || are_reasons.get(id as usize).copied() == Some(true) {
-                kept.push((rank, from_end))?;
-            } else {
-                worst.push(ClauseId(id))?;
-            }
-        }
-        if let Some(last) = newest {
-            kept.push(last)?;
-        }
-        self.ranks = kept;
         Ok(())
     }
 }

@@ -1,115 +1,142 @@
--- One phrase behind another, and lists between commas, are read exactly.
-use Rattle.std.proofs.Common.{◌≡◌, ◌≢◌, ℕ, suc, Bool, true, false, List, [], ◌∷◌, ◌++◌, length, refl, ap, ◌∙◌, arith, inl, inr, ◌⊎◌}
+-- Lists between commas, up to a closing sign.
+use Rattle.std.proofs.Common.{◌≡◌, ℕ, suc, Bool, true, false, List, [], ◌∷◌, ◌++◌, length, Result, Ok, Err, refl, sym, ap, subst, ◌∙◌, append_assoc, arith, length-append}
+use Rattle.std.proofs.lemmas.List.{append-nil}
 use Rattle.std.specs.Prelude.{not}
+use Rattle.std.specs.Result.{IsErrAnd}
+use Rattle.fzn_lexer.specs.declared.halt.Halt.{Halt}
 use Rattle.fzn_lexer.specs.declared.token.Kind.{Kind}
 use Rattle.fzn_lexer.specs.declared.token.Symbol.{Symbol}
 use Rattle.fzn_lexer.specs.declared.token.Token.{Token}
 use Rattle.fzn_lexer.specs.Kinds.{is_symbol}
 use Rattle.fzn_lexer.specs.declared.token.Kind.TheVariants as k
 use Rattle.fzn_lexer.specs.declared.token.Symbol.TheVariants as s
-use Rattle.fzn_tree.specs.Piece.{Piece, AreSpelled, sign, sign_piece, each, ◌and◌}
+use Rattle.fzn_tree.specs.Piece.{Piece, AreSpelled, sign, sign_piece, each_by, one_more, ◌and◌}
 use Rattle.fzn_tree.specs.Grammar as G
-use Rattle.fzn_parser.specs.Reading.{Reader, ◌then◌, followed, next_is, many_all}
-use Rattle.fzn_parser.proofs.Exact.{IsExact, Stops}
-use Rattle.fzn_parser.proofs.SequenceLaws.{StopsBefore, both, followed_exact}
-use Rattle.fzn_parser.proofs.ChoiceLaws.{either_of, chosen_exact}
-use Rattle.fzn_parser.proofs.FormLaws.{made_exact, weaker}
-use Rattle.fzn_parser.proofs.ManyLaws.{many_exact}
-use Rattle.fzn_parser.proofs.NextLaws.{is_symbol-true, is_symbol-same, next_kind, never, stops_never, further, next_split}
-use Rattle.fzn_parser.proofs.TokenLaws.{symbol_exact}
-use Rattle.fzn_parser.specs.Readers as R
-
--- ---- one phrase behind another
-
--- a second phrase that does not go on the first
-pub seq : {A B : Type 0} (h : Token → Bool) (s : A → List Piece) (t : B → List Piece) (some : B) (first : Reader A) (second : Reader B) → StopsBefore further t h → ((ts : List Token) → IsExact s further ts (first ts)) → ((ts : List Token) → IsExact t h ts (second ts)) → (ts : List Token) → IsExact (both s t) h ts ((first then second) ts)
-seq h s t some first second stops p q ts = followed_exact s further t h stops some ts (first ts) second (p ts) (λ a mid r. q mid)
-
--- any phrase behind one that ends by itself
-pub after : {A B : Type 0} (h : Token → Bool) (s : A → List Piece) (t : B → List Piece) (some : B) (first : Reader A) (second : Reader B) → ((ts : List Token) → IsExact s never ts (first ts)) → ((ts : List Token) → IsExact t h ts (second ts)) → (ts : List Token) → IsExact (both s t) h ts ((first then second) ts)
-after h s t some first second p q ts = followed_exact s never t h (λ b u v spelled stops. stops_never (u ++ v)) some ts (first ts) second (p ts) (λ a mid r. q mid)
-
--- any phrase behind a sign
-pub behind : {B : Type 0} (x : Symbol) → x ≢ s.End → (h : Token → Bool) (t : B → List Piece) (some : B) (second : Reader B) → ((ts : List Token) → IsExact t h ts (second ts)) → (ts : List Token) → IsExact (both (λ u. sign x) t) h ts ((R.symbol x then second) ts)
-behind x apart h t some second q = after h (λ u. sign x) t some (R.symbol x) second (symbol_exact x apart never) q
-
--- what ends by itself may stand before anything
-pub closed : {A : Type 0} (h : Token → Bool) (s : A → List Piece) (read : Reader A) → ((ts : List Token) → IsExact s never ts (read ts)) → (ts : List Token) → IsExact s h ts (read ts)
-closed h s read p ts = weaker s never h (λ v stops. stops_never v) ts (read ts) (p ts)
-
--- ---- lists between commas
+use Rattle.fzn_parser.specs.declared.cursor.Refusal.{Refusal}
+use Rattle.fzn_parser.specs.Reads.{next_is, SameNext, Stops, Reads}
+use Rattle.fzn_parser.specs.GoesOn.{never}
+use Rattle.fzn_parser.specs.Taken.{is}
+use Rattle.fzn_parser.specs.Lists.{IsListed}
+use Rattle.fzn_parser.proofs.SpelledLaws.{next_is-same}
+use Rattle.fzn_parser.proofs.NextLaws.{is_symbol-true, is_symbol-same, next_kind, stops_never, next_split}
+use Rattle.fzn_parser.proofs.Onward.{Parts, last, part, loop, Values, Onward, IsForm, form, begin, ◌then◌, stop, stop_last, done}
+use Rattle.fzn_parser.proofs.SequenceLaws.{StopsBefore}
+use Rattle.fzn_parser.proofs.LoopLaws.{IsLoop, turn, turn_stop, turns_end, same_onward}
 
 -- a part that ends by itself may stand before anything
-pub before_all : {B : Type 0} (t : B → List Piece) (h : Token → Bool) → StopsBefore never t h
-before_all t h b u v spelled stops = stops_never (u ++ v)
+pub closed : {B : Type 0} (t : B → List Piece) (h : Token → Bool) → StopsBefore never t h
+closed t h b u v spelled stops = stops_never (u ++ v)
 
-module _ {A : Type 0} (part : ℕ → A → List Piece) (read : ℕ → Reader A) (g : Token → Bool) (close : Symbol) (not_end : close ≢ s.End) (not_comma : is_symbol s.Comma (k.Symbol close) ≡ false) (not_close : is_symbol close (k.Symbol s.Comma) ≡ false) (exact : (n : ℕ) (ts : List Token) → IsExact (part n) g ts (read n ts)) (ends_comma : (ts : List Token) → next_is (R.is s.Comma) ts ≡ true → Stops g ts) (ends_close : (ts : List Token) → next_is (R.is close) ts ≡ true → Stops g ts) (avoids : (a : A) (u v : List Token) → AreSpelled u (part 0 a) → next_is (R.is close) (u ++ v) ≡ false) (some : A) where
-  abbrev comma_part : ℕ → A → List Piece
-  comma_part n x = sign s.Comma and part n x
+pub closed_last : (h : Token → Bool) (v : List Token) → Stops h v → Stops never v
+closed_last h v stops = stops_never v
 
-  after_comma_exact : (n : ℕ) (ts : List Token) → IsExact (comma_part n) g ts (R.after_comma read n ts)
-  after_comma_exact n ts =
-      made_exact (both (λ u. sign s.Comma) (part n)) (comma_part n) g R.second (λ p. refl) (λ x. ((tt, x), refl)) ts _
-      (followed_exact (λ u. sign s.Comma) never (part n) g (before_all (part n) g) some ts _ (read n) (symbol_exact s.Comma (λ e. cc) never ts) (λ a mid p. exact n mid))
+module _ {A : Type 0} (part_of : ℕ → A → List Piece) (close : Symbol) where
+  abbrev pub comma_part : ℕ → A → List Piece
+  comma_part n x = sign s.Comma and part_of n x
 
   -- whatever is not the closing sign
-  abbrev open_kind : Kind → Bool
+  abbrev pub open_kind : Kind → Bool
   open_kind kind = not (is_symbol close kind)
 
-  abbrev is_open : Token → Bool
+  abbrev pub is_open : Token → Bool
   is_open t = open_kind t.kind
 
+  abbrev pub closing : Unit {0} → List Piece
+  closing u = sign close
+
+  -- the list from its first comma on, or its closing sign
+  abbrev pub rest_parts : ℕ → Parts
+  rest_parts n = loop one_more comma_part n is_open (last closing never tt)
+
+  -- these parts are read, up to here
+  pub record AreListed (ts : List Token) (parts : List A) (mid : List Token) : Type 0 where
+    pub on : Onward (G.listed part_of close) never ts (rest_parts (length parts)) (λ q. parts ++ q.0) mid
+
+module _ {A : Type 0} {part_of : ℕ → A → List Piece} {g : Token → Bool} {close : Symbol} (w : IsListed part_of g close) where
   not_false : (b : Bool) → not b ≡ false → b ≡ true
   not_false true e = refl
   not_false false e = absurd cc
 
-  open_ends : (v : List Token) → Stops is_open v → Stops g v
+  open_ends : (v : List Token) → Stops (is_open part_of close) v → Stops g v
   open_ends [] e = refl
-  open_ends (t ∷ v) e = ends_close (t ∷ v) (not_false (R.is close t) e)
+  open_ends (t ∷ v) e = w.ends (t ∷ v) (not_false (is close t) e)
 
-  open_no_comma : (v : List Token) → Stops is_open v → next_is (R.is s.Comma) v ≡ false
+  close_comma : is_symbol s.Comma (k.Symbol close) ≡ false
+  close_comma = at (is_symbol s.Comma (k.Symbol close)) refl
+    where
+      at : (b : Bool) → is_symbol s.Comma (k.Symbol close) ≡ b → is_symbol s.Comma (k.Symbol close) ≡ false
+      at true e = absurd (let same = is_symbol-true s.Comma (k.Symbol close) e in w.not_comma cc)
+      at false e = e
+
+  open_no_comma : (v : List Token) → Stops (is_open part_of close) v → next_is (is s.Comma) v ≡ false
   open_no_comma [] e = refl
-  open_no_comma (t ∷ v) e = ap (is_symbol s.Comma) (is_symbol-true close t.kind (not_false (R.is close t) e)) ∙ not_comma
+  open_no_comma (t ∷ v) e = ap (is_symbol s.Comma) (is_symbol-true close t.kind (not_false (is close t) e)) ∙ close_comma
 
-  abbrev closing : Unit {0} → List Piece
-  closing u = sign close
+  pub commas : IsLoop one_more (comma_part part_of close) (is s.Comma) g (is_open part_of close)
+  commas = record {
+    starts = λ n x u v spelled. next_kind (is_symbol s.Comma) (sign_piece s.Comma) (part_of n x) u v spelled ∙ is_symbol-same s.Comma;
+    apart = w.comma;
+    ends = open_ends;
+    ends_test = open_no_comma;
+  }
 
-  rest_next : StopsBefore g (both (each comma_part 1) closing) never
-  rest_next ([], u0) u v spelled stops = ends_close (u ++ v) (next_kind (is_symbol close) (sign_piece close) [] u v spelled ∙ is_symbol-same close)
-  rest_next (x ∷ more, u0) u v spelled stops = ends_comma (u ++ v) (next_kind (is_symbol s.Comma) (sign_piece s.Comma) _ u v spelled ∙ is_symbol-same s.Comma)
+  abbrev pub all_parts : Parts
+  all_parts = part (part_of 0) g w.some (rest_parts part_of close 1)
 
-  rest_exact : (ts : List Token) → IsExact (both (each comma_part 1) closing) never ts (followed (many_all (R.is s.Comma) (R.after_comma read) 1 ts) (R.symbol close))
-  rest_exact ts =
-      followed_exact (each comma_part 1) is_open closing never
-      (λ b u v spelled stops. next_kind open_kind (sign_piece close) [] u v spelled ∙ ap not (is_symbol-same close)) tt ts _ (R.symbol close)
-      (many_exact (R.is s.Comma) comma_part (R.after_comma read) g is_open
-      (λ n x u v spelled. next_kind (is_symbol s.Comma) (sign_piece s.Comma) (part n x) u v spelled ∙ is_symbol-same s.Comma)
-      after_comma_exact ends_comma open_ends open_no_comma (suc (length ts)) 1 ts (omega arith))
-      (λ a mid p. symbol_exact close not_end never mid)
+  close_stops : StopsBefore (is_open part_of close) (closing part_of close) never
+  close_stops b u v spelled stops = next_kind (open_kind part_of close) (sign_piece close) [] u v spelled ∙ ap not (is_symbol-same close)
 
-  abbrev listed_parts : Unit {0} ⊎ (A × (List A × Unit {0})) → List Piece
-  listed_parts = either_of closing (both (part 0) (both (each comma_part 1) closing))
+  rest_stops : StopsBefore g (λ (p : List A × Unit {0}). each_by one_more (comma_part part_of close) 1 p.0 ++ (closing part_of close) p.1) never
+  rest_stops ([], u0) u v spelled stops = w.ends (u ++ v) (next_kind (is_symbol close) (sign_piece close) [] u v spelled ∙ is_symbol-same close)
+  rest_stops (x ∷ more, u0) u v spelled stops = w.comma (u ++ v) (next_kind (is_symbol s.Comma) (sign_piece s.Comma) _ u v spelled ∙ is_symbol-same s.Comma)
 
-  listed_same : (p : Unit {0} ⊎ (A × (List A × Unit {0}))) → G.listed part close (R.listed_of p) ≡ listed_parts p
-  listed_same (inl u) = refl
-  listed_same (inr p) = refl
+  abbrev pub comma_parts : ℕ → Parts
+  comma_parts n = part (λ (u : Unit {0}). sign s.Comma) never tt (last (part_of n) g w.some)
 
-  listed_onto : (xs : List A) → (p : Unit {0} ⊎ (A × (List A × Unit {0}))) × (R.listed_of p ≡ xs)
-  listed_onto [] = (inl tt, refl)
-  listed_onto (x ∷ xs) = (inr (x, (xs, tt)), refl)
+  pub comma_item : (n : ℕ) (ts : List Token) → IsForm (comma_part part_of close n) g ts (comma_parts n) (λ p. p.1)
+  comma_item n ts = form (λ p. p.1) (λ p. refl) (λ b u v spelled stops same. ((tt, b), refl)) (closed _ _, λ v stops. stops)
 
-  pub listed_exact : (ts : List Token) → IsExact (G.listed part close) never ts (R.listed read close ts)
-  unfolding R.listed
-  listed_exact ts =
-      made_exact listed_parts (G.listed part close) never R.listed_of listed_same listed_onto ts _
-      (chosen_exact (R.is close) closing _ never
-      (λ a u v spelled. next_kind (is_symbol close) (sign_piece close) [] u v spelled ∙ is_symbol-same close)
-      (λ p u v spelled stops. next_split (R.is close) false (part 0 p.0) _ u v (avoids p.0) spelled) ts _ _
-      (λ there. symbol_exact close not_end never ts)
-      (λ there. followed_exact (part 0) g _ never rest_next ([], tt) ts (read 0 ts) _ (exact 0 ts) (λ a mid p. rest_exact mid)))
+  module _ (ts : List Token) where
+    pub listed_closed : next_is (is close) ts ≡ true → IsForm (G.listed part_of close) never ts (last (closing part_of close) never tt) (λ u. [])
+    listed_closed there = form (λ u. []) (λ u. refl) onto (closed_last never)
+      where
+        onto : (b : List A) (u v : List Token) → AreSpelled u (G.listed part_of close b) → Stops never v → SameNext (u ++ v) ts → (c : Unit {0}) × (◌≡◌ {A = List A} [] b)
+        onto [] u v spelled stops same = (tt, refl)
+        onto (x ∷ more) u v spelled stops same = absurd (let n = next_is-same (is close) (u ++ v) ts same in let f = next_split (is close) false (part_of 0 x) _ u v (w.first x) spelled in cc)
 
-abbrev pub semicolon : Unit {0} → List Piece
-semicolon u = sign s.Semicolon
+    pub listed_open : next_is (is close) ts ≡ false → IsForm (G.listed part_of close) never ts all_parts (λ p. p.0 ∷ p.1.0)
+    listed_open there = form (λ p. p.0 ∷ p.1.0) (λ p. refl) onto (rest_stops, (close_stops, closed_last never))
+      where
+        onto : (b : List A) (u v : List Token) → AreSpelled u (G.listed part_of close b) → Stops never v → SameNext (u ++ v) ts → (c : Values all_parts) × (c.0 ∷ c.1.0 ≡ b)
+        onto [] u v spelled stops same = absurd (let n = next_is-same (is close) (u ++ v) ts same in let f = next_kind (is_symbol close) (sign_piece close) [] u v spelled ∙ is_symbol-same close in cc)
+        onto (x ∷ more) u v spelled stops same = ((x, (more, tt)), refl)
 
-pub semicolon_exact : (ts : List Token) → IsExact semicolon never ts (R.symbol s.Semicolon ts)
-semicolon_exact = symbol_exact s.Semicolon (λ e. cc) never
+  module _ {ts : List Token} where
+    pub listed_begun : {a : A} {mid : List Token} → next_is (is close) ts ≡ false → Reads (part_of 0) g ts (Ok a) mid → AreListed part_of close ts (a ∷ []) mid
+    listed_begun there r = record { on = begin (listed_open ts there) then r }
+
+    module _ {parts : List A} {mid : List Token} (all : AreListed part_of close ts parts mid) where
+      in_item : Onward (comma_part part_of close (length parts)) g mid (comma_parts (length parts)) (λ p. p.1) mid
+      in_item = begin (comma_item (length parts) mid)
+
+      module _ {x : Halt Refusal} {r : Result (List A) (Halt Refusal)} {rest : List Token} (there : next_is (is s.Comma) mid ≡ true) where
+        pub listed_no_comma : {after : List Token} → Reads (λ (u : Unit {0}). sign s.Comma) never mid (Err x) after → IsErrAnd r (λ y. y ≡ x) → Reads (G.listed part_of close) never ts r rest
+        listed_no_comma {after} p is = turn_stop commas all.on there (stop in_item {r = Err x} {rest = after} p refl) is
+
+        pub listed_no_part : {next after : List Token} → Reads (λ (u : Unit {0}). sign s.Comma) never mid (Ok tt) next → Reads (part_of (length parts)) g next (Err x) after → IsErrAnd r (λ y. y ≡ x) → Reads (G.listed part_of close) never ts r rest
+        listed_no_part {next} {after} c p is = turn_stop commas all.on there (stop_last (in_item then c) {r = Err x} {rest = after} p refl) is
+
+      pub listed_turn : {a : A} {next after : List Token} → next_is (is s.Comma) mid ≡ true → Reads (λ (u : Unit {0}). sign s.Comma) never mid (Ok tt) next → Reads (part_of (length parts)) g next (Ok a) after → AreListed part_of close ts (parts ++ a ∷ []) after
+      listed_turn {a} {next} {after} there c p =
+          let len : suc (length parts) ≡ length (parts ++ a ∷ []) = omega (arith, length-append parts (a ∷ [])) in
+          record {
+            on = subst (λ (n : ℕ). Onward (G.listed part_of close) never ts (rest_parts part_of close n) (λ q. (parts ++ a ∷ []) ++ q.0) after) len
+                (same_onward (λ q. (parts ++ a ∷ []) ++ q.0) (λ q. sym (append_assoc parts (a ∷ []) q.0)) (turn commas all.on there (done (in_item then c) p)));
+          }
+
+      module _ (over : next_is (is s.Comma) mid ≡ false) where
+        pub listed_unended : {x : Halt Refusal} {r : Result (List A) (Halt Refusal)} {after rest : List Token} → Reads (closing part_of close) never mid (Err x) after → IsErrAnd r (λ y. y ≡ x) → Reads (G.listed part_of close) never ts r rest
+        listed_unended p is = stop_last (turns_end commas all.on over) p is
+
+        pub listed_read : {rest : List Token} → Reads (closing part_of close) never mid (Ok tt) rest → Reads (G.listed part_of close) never ts (Ok parts) rest
+        listed_read {rest} p = subst (λ (z : List A). Reads (G.listed part_of close) never ts (Ok z) rest) (append-nil parts) (done (turns_end commas all.on over) p)

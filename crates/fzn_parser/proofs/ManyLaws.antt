@@ -1,120 +1,58 @@
--- As many as there are, and as many as there may be, are read exactly.
-use Rattle.std.proofs.Common.{◌≡◌, ℕ, zero, suc, ◌<◌, Bool, true, false, List, [], ◌∷◌, ◌++◌, length, refl, sym, ap, subst, ◌∙◌, append_assoc, arith, inl, inr, ◌⊎◌, length-append}
+-- As many parts as there are, each of which begins with a sign.
+use Rattle.std.proofs.Common.{◌≡◌, ℕ, suc, Bool, true, false, List, [], ◌∷◌, ◌++◌, length, Result, Ok, Err, refl, sym, subst, append_assoc, arith, length-append}
+use Rattle.std.specs.Prelude.{◌||◌}
+use Rattle.std.proofs.lemmas.List.{append-nil}
+use Rattle.std.specs.Result.{IsErrAnd}
+use Rattle.fzn_lexer.specs.declared.halt.Halt.{Halt}
+use Rattle.fzn_lexer.specs.declared.token.Symbol.{Symbol}
 use Rattle.fzn_lexer.specs.declared.token.Token.{Token}
-use Rattle.fzn_lexer.specs.declared.fault.FaultKind.TheVariants.{Syntax, TooMany}
-use Rattle.fzn_tree.specs.Piece.{Piece, Fits, AreSpelled, each, each_by, one_more, marked}
-use Rattle.fzn_parser.specs.Reading.{Outcome, Reader, next_is, list_of, many, many_by, over_limit, limited}
-use Rattle.fzn_parser.proofs.Exact.{Stops, Reads, IsPast, Limited, Refuses, IsExact}
-use Rattle.fzn_parser.proofs.SpelledLaws.{AreSpelled-split}
-use Rattle.fzn_parser.proofs.SequenceLaws.{both_by, StopsBefore, followed_by_exact}
-use Rattle.fzn_parser.proofs.FormLaws.{made_exact}
-use Rattle.fzn_parser.proofs.ChoiceLaws.{either_of, StartsWith, clash', chosen_exact}
-use Rattle.fzn_parser.proofs.OneTokenLaws.{no_pieces, nothing_exact}
+use Rattle.fzn_tree.specs.Piece.{Piece, AreSpelled, each, one_more}
+use Rattle.fzn_parser.specs.declared.cursor.Refusal.{Refusal}
+use Rattle.fzn_parser.specs.Reads.{next_is, Stops, Reads}
+use Rattle.fzn_parser.specs.Taken.{is}
+use Rattle.fzn_parser.specs.Lists.{AreMany}
+use Rattle.fzn_parser.proofs.Onward.{last, loop, Onward, form, begin, done, is_read}
+use Rattle.fzn_parser.proofs.OneTokenLaws.{no_pieces, nothing_read}
+use Rattle.fzn_parser.proofs.LoopLaws.{IsLoop, turn, turn_stop, turns_end, same_onward}
 
--- ---- as many as there are, by the next token. A value's pieces may depend on its number.
+or_false : (a b : Bool) → (a || b) ≡ false → (a ≡ false) × (b ≡ false)
+or_false true b e = absurd cc
+or_false false b e = (refl, e)
 
-module _ {A : Type 0} (next : ℕ → A → ℕ) (test : Token → Bool) (s : ℕ → A → List Piece) (read : ℕ → Reader A) (g h : Token → Bool) (starts : (k : ℕ) → StartsWith test (s k)) (exact : (k : ℕ) (ts : List Token) → IsExact (s k) g ts (read k ts)) (apart : (ts : List Token) → next_is test ts ≡ true → Stops g ts) (ends : (v : List Token) → Stops h v → Stops g v) (ends_test : (v : List Token) → Stops h v → next_is test v ≡ false) where
-  each_after : (k : ℕ) → StopsBefore g (each_by next s k) h
-  each_after k [] [] v spelled stops = ends v stops
-  each_after k [] (y ∷ u) v spelled stops = absurd spelled
-  each_after k (a ∷ others) u v spelled stops =
-      let d = AreSpelled-split u (s k a) (each_by next s (next k a) others) spelled in
-      let first = starts k a d.left (d.right ++ v) d.on_left in
-      let same : d.left ++ (d.right ++ v) ≡ u ++ v = sym (append_assoc d.left d.right v) ∙ ap (λ (z : List Token). z ++ v) (sym d.parts) in
-      apart (u ++ v) (ap (next_is test) (sym same) ∙ first)
+module _ {A : Type 0} (spell : ℕ → A → List Piece) (g : Token → Bool) (begins : Symbol) where
+  abbrev pub one_goes_on : Token → Bool
+  one_goes_on t = is begins t || g t
 
-  pair_starts : (k : ℕ) → StartsWith test (both_by (s k) (λ a. each_by next s (next k a)))
-  pair_starts k p u v spelled =
-      let d = AreSpelled-split u (s k p.0) (each_by next s (next k p.0) p.1) spelled in
-      let first = starts k p.0 d.left (d.right ++ v) d.on_left in
-      let same : d.left ++ (d.right ++ v) ≡ u ++ v = sym (append_assoc d.left d.right v) ∙ ap (λ (z : List Token). z ++ v) (sym d.parts) in
-      ap (next_is test) (sym same) ∙ first
+  -- these parts are read, up to here
+  pub record AreRead (ts : List Token) (parts : List A) (mid : List Token) : Type 0 where
+    pub on : Onward (each spell 0) one_goes_on ts (loop one_more spell (length parts) one_goes_on (last no_pieces one_goes_on tt)) (λ p. parts ++ p.0) mid
 
-  nothing_avoids : (b : Unit {0}) (u v : List Token) → AreSpelled u [] → Stops h v → next_is test (u ++ v) ≡ false
-  nothing_avoids b [] v spelled stops = ends_test v stops
-  nothing_avoids b (y ∷ u) v spelled stops = absurd spelled
+  none_stops : (b : Unit {0}) (u v : List Token) → AreSpelled u (no_pieces b) → Stops one_goes_on v → Stops one_goes_on (u ++ v)
+  none_stops b [] v spelled stops = stops
+  none_stops b (y ∷ u) v spelled stops = absurd spelled
 
-  nonempty : (front : List Token) → next_is test (front ++ []) ≡ true → 0 < length front
-  nonempty [] e = absurd cc
-  nonempty (t ∷ front) e = omega arith
+  pub many_begun : (ts : List Token) → AreRead ts [] ts
+  many_begun ts = record { on = begin (form (λ p. p.0) (λ p. sym (append-nil (each spell 0 p.0))) (λ b u v spelled stops same. ((b, tt), refl)) (none_stops, λ v stops. stops)) }
 
-  shorter : (k : ℕ) (ts : List Token) (a : A) (mid : List Token) → Reads (s k) g ts a mid → length mid < length ts
-  shorter k ts a mid p =
-      let some = nonempty p.front (starts k a p.front [] p.spelled) in
-      omega (arith, length-append p.front mid, ap length p.parts)
+module _ {A : Type 0} {spell : ℕ → A → List Piece} {g : Token → Bool} {begins : Symbol} (w : AreMany spell g begins) where
+  stops_both : (v : List Token) → Stops (one_goes_on spell g begins) v → Stops g v × (next_is (is begins) v ≡ false)
+  stops_both [] e = (refl, refl)
+  stops_both (t ∷ v) e = let b = or_false (is begins t) (g t) e in (b.1, b.0)
 
-  list_same : (k : ℕ) (p : (A × List A) ⊎ Unit {0}) → each_by next s k (list_of p) ≡ either_of (both_by (s k) (λ a. each_by next s (next k a))) no_pieces p
-  list_same k (inl p) = refl
-  list_same k (inr u) = refl
+  pub begun : IsLoop one_more spell (is begins) g (one_goes_on spell g begins)
+  begun = record { starts = w.starts; apart = w.apart; ends = λ v stops. (stops_both v stops).0; ends_test = λ v stops. (stops_both v stops).1 }
 
-  list_onto : (others : List A) → (p : (A × List A) ⊎ Unit {0}) × (list_of p ≡ others)
-  list_onto [] = (inr tt, refl)
-  list_onto (a ∷ others) = (inl (a, others), refl)
+  module _ {ts mid : List Token} {parts : List A} (all : AreRead spell g begins ts parts mid) where
+    pub many_turn : {a : A} {after : List Token} → next_is (is begins) mid ≡ true → Reads (spell (length parts)) g mid (Ok a) after → AreRead spell g begins ts (parts ++ a ∷ []) after
+    many_turn {a} {after} there p =
+        let len : suc (length parts) ≡ length (parts ++ a ∷ []) = omega (arith, length-append parts (a ∷ [])) in
+        record {
+          on = subst (λ (n : ℕ). Onward (each spell 0) (one_goes_on spell g begins) ts (loop one_more spell n (one_goes_on spell g begins) (last no_pieces (one_goes_on spell g begins) tt)) (λ p. (parts ++ a ∷ []) ++ p.0) after) len
+              (same_onward (λ p. (parts ++ a ∷ []) ++ p.0) (λ p. sym (append_assoc parts (a ∷ []) p.0)) (turn begun all.on there p));
+        }
 
-  pub many_by_exact : (n k : ℕ) (ts : List Token) → length ts < n → IsExact (each_by next s k) h ts (many_by next test read n k ts)
-  unfolding many_by
-  many_by_exact zero k ts fits = absurd (omega arith)
-  many_by_exact (suc n) k ts fits =
-      made_exact (either_of (both_by (s k) (λ a. each_by next s (next k a))) no_pieces) (each_by next s k) h list_of (list_same k) list_onto ts _
-      (chosen_exact test (both_by (s k) (λ a. each_by next s (next k a))) no_pieces h (pair_starts k) nothing_avoids ts _ _
-      (λ there. followed_by_exact (s k) g (λ a. each_by next s (next k a)) h (λ a. each_after (next k a)) [] ts (read k ts) (λ a. many_by next test read n (next k a)) (exact k ts)
-      (λ a mid p. let lt = shorter k ts a mid p in many_by_exact n (next k a) mid (omega arith)))
-      (λ there. nothing_exact h ts))
+    pub many_stop : {x : Halt Refusal} {r : Result (List A) (Halt Refusal)} {after rest : List Token} → next_is (is begins) mid ≡ true → Reads (spell (length parts)) g mid (Err x) after → IsErrAnd r (λ y. y ≡ x) → Reads (each spell 0) (one_goes_on spell g begins) ts r rest
+    many_stop there p is = turn_stop begun all.on there p is
 
-module _ {A : Type 0} (test : Token → Bool) (s : ℕ → A → List Piece) (read : ℕ → Reader A) (g h : Token → Bool) (starts : (k : ℕ) → StartsWith test (s k)) (exact : (k : ℕ) (ts : List Token) → IsExact (s k) g ts (read k ts)) (apart : (ts : List Token) → next_is test ts ≡ true → Stops g ts) (ends : (v : List Token) → Stops h v → Stops g v) (ends_test : (v : List Token) → Stops h v → next_is test v ≡ false) where
-  pub many_exact : (n k : ℕ) (ts : List Token) → length ts < n → IsExact (each s k) h ts (many test read n k ts)
-  many_exact n k ts fits = many_by_exact one_more test s read g h starts exact apart ends ends_test n k ts fits
-
--- ---- a limit on the number of values
-
-module _ {A : Type 0} (test : Token → Bool) (s : A → List Piece) (g : Token → Bool) (starts : StartsWith test s) (first : (t : Token) → test t ≡ true → (a : A) × (p : Piece) × (ps : List Piece) × (s a ≡ p ∷ ps) × Fits t p) (some : A) where
-  marked_spelled : (b : Bool) (u : List Token) (ps : List Piece) → AreSpelled u (marked b ps) → AreSpelled u ps
-  marked_spelled true u ps spelled = spelled
-  marked_spelled false u [] spelled = spelled
-  marked_spelled false [] (p ∷ ps) spelled = absurd spelled
-  marked_spelled false (y ∷ u) (p ∷ ps) spelled = spelled
-
-  abbrev over : A → List Piece
-  over a = marked false (s a)
-
-  over_limited : (ps : List Piece) → (ps ≡ [] → ⊥) → Limited TooMany 0 (marked false ps)
-  over_limited [] some = some refl
-  over_limited (p ∷ ps) some = refl
-
-  over_some : (b : A) → s b ≡ [] → ⊥
-  over_some b none = let e = starts b [] [] (subst (λ (z : List Piece). AreSpelled [] z) (sym none) tt) in cc
-
-  over_refused : (ts : List Token) → next_is test ts ≡ true → Refuses over g ts TooMany (length ts)
-  over_refused [] there = absurd cc
-  over_refused (t ∷ ts) there =
-      let f = first t there in
-      record {
-        front = [];
-        rest = t ∷ ts;
-        parts = refl;
-        plain = tt;
-        size = refl;
-        more = over f.0;
-        begins = record { value = f.0; pieces = []; parts = refl; spelled = tt; within = tt };
-        why = inr (subst (λ (z : List Piece). IsPast TooMany (t ∷ ts) (marked false z)) (sym f.3) (f.4, refl), λ b u v x spelled stops same next. over_limited (s b) (over_some b));
-      }
-
-  other_refused : (ts : List Token) → next_is test ts ≡ false → Refuses over g ts Syntax (length ts)
-  other_refused ts there = record {
-    front = [];
-    rest = ts;
-    parts = refl;
-    plain = tt;
-    size = refl;
-    more = over some;
-    begins = record { value = some; pieces = []; parts = refl; spelled = tt; within = tt };
-    why = inl (refl, λ b u v x spelled stops same next. clash' test ts [] ts (u ++ v) x there refl (starts b u v (marked_spelled false u (s b) spelled)) same next);
-  }
-
-  over_by : (b : Bool) (ts : List Token) → next_is test ts ≡ b → IsExact over g ts (over_limit b ts)
-  over_by true ts there = over_refused ts there
-  over_by false ts there = other_refused ts there
-
-  pub limited_exact : (below : Bool) (ts : List Token) (o : Outcome A) → IsExact s g ts o → IsExact (λ a. marked below (s a)) g ts (limited test below ts o)
-  limited_exact true ts o p = p
-  limited_exact false ts o p = over_by (next_is test ts) ts refl
+    pub many_read : next_is (is begins) mid ≡ false → Reads (each spell 0) (one_goes_on spell g begins) ts (Ok parts) mid
+    many_read over = subst (λ (z : List A). Reads (each spell 0) (one_goes_on spell g begins) ts (Ok z) mid) (append-nil parts) (done (turns_end begun all.on over) (is_read (nothing_read (one_goes_on spell g begins) mid)))

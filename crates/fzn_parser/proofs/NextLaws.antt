@@ -10,10 +10,10 @@ use Rattle.fzn_lexer.specs.Kinds.{is_symbol}
 use Rattle.fzn_lexer.specs.declared.token.Kind.TheVariants as k
 use Rattle.fzn_lexer.specs.declared.token.Symbol.TheVariants as s
 use Rattle.fzn_tree.specs.Piece.{Piece, AreSpelled}
-use Rattle.fzn_parser.specs.Reading.{next_is}
-use Rattle.fzn_parser.proofs.Exact.{Stops}
+use Rattle.fzn_parser.specs.Reads.{next_is, Stops}
 use Rattle.fzn_parser.proofs.SpelledLaws.{AreSpelled-split}
-use Rattle.fzn_parser.specs.Readers as R
+use Rattle.fzn_parser.specs.GoesOn.{never, goes_on, further}
+use Rattle.fzn_parser.specs.Taken as R
 
 -- ---- tests of the next token
 
@@ -34,20 +34,11 @@ pub next_kind : (f : Kind → Bool) (p : Piece) (ps : List Piece) (u v : List To
 next_kind f p ps [] v spelled = absurd spelled
 next_kind f p ps (t ∷ u) v spelled = ap f spelled.0.0
 
-abbrev pub never : Token → Bool
-never t = false
-
 pub stops_never : (ts : List Token) → Stops never ts
 stops_never [] = refl
 stops_never (t ∷ ts) = refl
 
 -- ---- what may go on a phrase whose end does not show
-
-abbrev pub goes_on : Kind → Bool
-goes_on kind = is_symbol s.Dots kind || is_symbol s.OpenParen kind || is_symbol s.Colons kind
-
-abbrev pub further : Token → Bool
-further t = goes_on t.kind
 
 or_false : (a b : Bool) → (a || b) ≡ false → (a ≡ false) × (b ≡ false)
 or_false true b e = absurd cc

@@ -1,21 +1,30 @@
--- Nothing, and one token, are read exactly.
-use Rattle.std.proofs.Common.{◌≡◌, ◌≢◌, Bool, List, [], ◌∷◌, ◌++◌, length, Option, Some, None, Ok, refl, sym, ap, ◌∙◌, inl, inr}
+-- Nothing, and one token, are read.
+use Rattle.std.proofs.Common.{◌≡◌, ◌≢◌, Bool, true, List, [], ◌∷◌, ◌++◌, Result, Ok, Err, Some, None, refl, sym, ap, subst, ◌∙◌, inl, inr}
+use Rattle.std.specs.Result.{IsErrAnd}
+use Rattle.fzn_lexer.specs.declared.halt.Halt.{Halt}
+use Rattle.fzn_lexer.specs.declared.token.Kind.{Kind}
+use Rattle.fzn_lexer.specs.declared.token.Place.{Place}
 use Rattle.fzn_lexer.specs.declared.token.Symbol.TheVariants.{End}
 use Rattle.fzn_lexer.specs.declared.token.Token.{Token}
 use Rattle.fzn_lexer.specs.declared.fault.FaultKind.{FaultKind}
 use Rattle.fzn_lexer.specs.declared.fault.FaultKind.TheVariants.{Syntax}
 use Rattle.fzn_lexer.specs.declared.token.Kind.TheVariants as k
 use Rattle.fzn_tree.specs.Piece.{Piece, Fits, AreSpelled}
-use Rattle.fzn_parser.specs.Reading.{token_by, one_token}
-use Rattle.fzn_parser.proofs.Exact.{SameNext, Stops, Reads, NoneGoesOn, Refuses, IsExact}
+use Rattle.fzn_parser.specs.declared.cursor.Refusal.{Refusal}
+use Rattle.fzn_parser.specs.declared.cursor.Start.{Start}
+use Rattle.fzn_parser.specs.Begins.{begins}
+use Rattle.fzn_parser.specs.Reads.{SameNext, Stops, IsRead, IsRefused, Reads}
+use Rattle.fzn_parser.specs.Taken.{IsTaken, IsOther, Takes, refusal}
+use Rattle.fzn_parser.proofs.SpelledLaws.{next_is-same, pair_is}
+use Rattle.fzn_parser.proofs.Onward.{is_read, exit}
 
 -- ---- nothing
 
 abbrev pub no_pieces : Unit {0} → List Piece
 no_pieces u = []
 
-pub nothing_exact : (g : Token → Bool) (ts : List Token) → IsExact no_pieces g ts (Ok (tt, ts))
-nothing_exact g ts = record {
+pub nothing_read : (g : Token → Bool) (ts : List Token) → IsRead no_pieces g ts tt ts
+nothing_read g ts = record {
   front = [];
   parts = refl;
   plain = tt;
@@ -29,84 +38,92 @@ nothing_exact g ts = record {
 
 -- ---- one token
 
-module _ {A : Type 0} (take : Token → Option A) (piece : A → Piece) (some : A) (sound : (t : Token) (a : A) → take t ≡ Some a → Fits t (piece a) × (t.kind ≢ k.Symbol End)) (complete : (t : Token) (a : A) → Fits t (piece a) → take t ≡ Some a) where
-  abbrev pub single : A → List Piece
-  single a = piece a ∷ []
+-- what is made of a token, and its piece
+pub record IsToken {A : Type 0} (start : Start) (f : Kind × Place → A) (piece : A → Piece) : Type 0 where
+  pub some : A
+  pub sound : (t : Token) → begins start t ≡ true → Fits t (piece (f (t.kind, t.span.place))) × (t.kind ≢ k.Symbol End)
+  pub complete : (t : Token) (a : A) → Fits t (piece a) → (begins start t ≡ true) × (f (t.kind, t.span.place) ≡ a)
+  pub within : (a : A) → (piece a).past ≡ None
 
-  none_begins : (ts : List Token) (y : Token) (ys : List Token) (b : A) (x : List Token) → ((t : Token) (others : List Token) (a : A) → ts ≡ t ∷ others → take t ≡ Some a → ⊥) → take y ≡ Some b → y ∷ ys ≡ x → SameNext x ts → ⊥
-  none_begins ts y ys b [] none is there next = absurd cc
-  none_begins [] y ys b (z ∷ zs) none is there next = next
-  none_begins (t ∷ ts) y ys b (z ∷ zs) none is there next =
-      let same : y ≡ t = cc in
-      none t ts b refl (ap take (sym same) ∙ is)
+abbrev pub single : {A : Type 0} → (A → Piece) → A → List Piece
+single piece a = piece a ∷ []
 
-  none_here : (g : Token → Bool) (ts : List Token) → ((t : Token) (others : List Token) (a : A) → ts ≡ t ∷ others → take t ≡ Some a → ⊥) → NoneGoesOn single g [] ts
-  none_here g ts none b u v x = elim u as (λ u. AreSpelled u (single b) → Stops g v → u ++ v ≡ x → SameNext x ts → ⊥) [
-    | [] ↦ λ spelled. absurd spelled
-    | (y ∷ ys) ↦ λ spelled stops there next. none_begins ts y (ys ++ v) b x none (complete y b spelled.0) there next
-  ]
-
-  pub one_refused : (g : Token → Bool) (ts : List Token) → ((t : Token) (others : List Token) (a : A) → ts ≡ t ∷ others → take t ≡ Some a → ⊥) → Refuses single g ts Syntax (length ts)
-  one_refused g ts none = record {
-    front = [];
-    rest = ts;
-    parts = refl;
-    plain = tt;
-    size = refl;
-    more = single some;
-    begins = record { value = some; pieces = []; parts = refl; spelled = tt; within = tt };
-    why = inl (refl, none_here g ts none);
-  }
-
-  pub one_read : (g : Token → Bool) (t : Token) (ts : List Token) (a : A) → take t ≡ Some a → (piece a).past ≡ None → Reads single g (t ∷ ts) a ts
-  one_read g t ts a is within = record {
+module _ {A : Type 0} (piece : A → Piece) (g : Token → Bool) where
+  pub one_read : (t : Token) (rest : List Token) (a : A) → Fits t (piece a) × (t.kind ≢ k.Symbol End) → (piece a).past ≡ None → ((b : A) → Fits t (piece b) → b ≡ a) → IsRead (single piece) g (t ∷ rest) a rest
+  one_read t rest a fits within one = record {
     front = t ∷ [];
     parts = refl;
-    plain = ((sound t a is).1, tt);
-    spelled = ((sound t a is).0, tt);
+    plain = (fits.1, tt);
+    spelled = (fits.0, tt);
     within = (within, tt);
-    only = λ b u v x. elim u as (λ u. AreSpelled u (single b) → Stops g v → u ++ v ≡ t ∷ x → SameNext x ts → (b ≡ a) × (v ≡ x)) [
+    only = λ b u v x. elim u as (λ u. AreSpelled u (single piece b) → Stops g v → u ++ v ≡ t ∷ x → SameNext x rest → (b ≡ a) × (v ≡ x)) [
       | [] ↦ λ spelled. absurd spelled
-      | (y ∷ ys) ↦ elim ys as (λ ys. AreSpelled (y ∷ ys) (single b) → Stops g v → (y ∷ ys) ++ v ≡ t ∷ x → SameNext x ts → (b ≡ a) × (v ≡ x)) [
+      | (y ∷ ys) ↦ elim ys as (λ ys. AreSpelled (y ∷ ys) (single piece b) → Stops g v → (y ∷ ys) ++ v ≡ t ∷ x → SameNext x rest → (b ≡ a) × (v ≡ x)) [
         | [] ↦ λ spelled stops there next.
             let first : y ≡ t = cc in
-            let rest : v ≡ x = cc in
-            let e = complete y b spelled.0 in
-            let f = ap take first in
-            (cc, rest)
+            let behind : v ≡ x = cc in
+            (one b (subst (λ (z : Token). Fits z (piece b)) first spelled.0), behind)
         | (z ∷ zs) ↦ λ spelled. absurd spelled.1
       ]
     ];
   }
 
-  -- a value that is past a limit
-  pub one_over : (g : Token → Bool) (t : Token) (ts : List Token) (a : A) (kind : FaultKind) → take t ≡ Some a → (piece a).past ≡ Some kind → Refuses single g (t ∷ ts) kind (length (t ∷ ts))
-  one_over g t ts a kind is past = record {
+  -- no value begins with the next token
+  pub one_refused : (some : A) (ts : List Token) → ((b : A) (y : Token) (ys : List Token) → Fits y (piece b) → SameNext (y ∷ ys) ts → ⊥) → IsRefused (single piece) g ts (refusal Syntax ts)
+  one_refused some ts none = record {
+    front = [];
+    rest = ts;
+    parts = refl;
+    plain = tt;
+    size = refl;
+    more = single piece some;
+    begins = record { value = some; pieces = []; parts = refl; spelled = tt; within = tt };
+    why = inl (
+      refl,
+      λ b u v x. elim u as (λ u. AreSpelled u (single piece b) → Stops g v → u ++ v ≡ x → SameNext x ts → ⊥) [
+        | [] ↦ λ spelled. absurd spelled
+        | (y ∷ ys) ↦ λ spelled stops there next. none b y (ys ++ v) spelled.0 (subst (λ (z : List Token). SameNext z ts) (sym there) next)
+      ],
+    );
+  }
+
+  -- the next token passes a limit, whatever it begins
+  pub one_over : (kind : FaultKind) (some : A) (t : Token) (ts : List Token) → Fits t (piece some) → (piece some).past ≡ Some kind → ((b : A) → Fits t (piece b) → b ≡ some) → IsRefused (single piece) g (t ∷ ts) (refusal kind (t ∷ ts))
+  one_over kind some t ts fits past one = record {
     front = [];
     rest = t ∷ ts;
     parts = refl;
     plain = tt;
     size = refl;
-    more = single a;
-    begins = record { value = a; pieces = []; parts = refl; spelled = tt; within = tt };
-    why = inr (((sound t a is).0, past), λ b u v x spelled stops there next. same_past t ts a b kind is past u v x spelled there next);
+    more = single piece some;
+    begins = record { value = some; pieces = []; parts = refl; spelled = tt; within = tt };
+    why = inr (
+      (fits, past),
+      λ b u v x. elim u as (λ u. AreSpelled u (single piece b) → Stops g v → u ++ v ≡ x → SameNext x (t ∷ ts) → (piece b).past ≡ Some kind) [
+        | [] ↦ λ spelled. absurd spelled
+        | (y ∷ ys) ↦ λ spelled stops there next.
+            let first : y ≡ t = subst (λ (z : List Token). SameNext z (t ∷ ts)) (sym there) next in
+            ap (λ (z : A). (piece z).past) (one b (subst (λ (z : Token). Fits z (piece b)) first spelled.0)) ∙ past
+      ],
+    );
   }
-    where
-      same_past : (t : Token) (ts : List Token) (a b : A) (kind : FaultKind) → take t ≡ Some a → (piece a).past ≡ Some kind → (u v x : List Token) → AreSpelled u (single b) → u ++ v ≡ x → SameNext x (t ∷ ts) → (piece b).past ≡ Some kind
-      same_past t ts a b kind is past [] v x spelled there next = absurd spelled
-      same_past t ts a b kind is past (y ∷ ys) v [] spelled there next = absurd cc
-      same_past t ts a b kind is past (y ∷ ys) v (z ∷ zs) spelled there next =
-          let first : y ≡ z = cc in
-          let e = complete y b spelled.0 in
-          let f = ap take (first ∙ next) in
-          let same : a ≡ b = cc in
-          ap (λ (x : A). (piece x).past) (sym same) ∙ past
 
-  module _ (within : (a : A) → (piece a).past ≡ None) where
-    one_by : (g : Token → Bool) (t : Token) (ts : List Token) (o : Option A) → take t ≡ o → IsExact single g (t ∷ ts) (token_by o (t ∷ ts) ts)
-    one_by g t ts (Some a) is = one_read g t ts a is (within a)
-    one_by g t ts None is = one_refused g (t ∷ ts) (λ u others a e h. let same : t ≡ u = cc in let f = ap take same in absurd cc)
+module _ {A : Type 0} {start : Start} {f : Kind × Place → A} {piece : A → Piece} (w : IsToken start f piece) (g : Token → Bool) where
+  taken_is : (before : List Token) (taken : Kind × Place) (rest : List Token) → IsTaken start before taken rest → IsRead (single piece) g before (f taken) rest
+  taken_is before taken rest p =
+      let t = p.token in
+      let same = ap f (pair_is t.kind taken.0 t.span.place taken.1 (sym p.kind) (sym p.place)) in
+      subst (λ (z : List Token). IsRead (single piece) g z (f taken) rest) (sym p.parts)
+      (subst (λ (z : A). IsRead (single piece) g (t ∷ rest) z rest) same
+      (one_read piece g t rest (f (t.kind, t.span.place)) (w.sound t p.wanted) (w.within (f (t.kind, t.span.place))) (λ b fits. sym (w.complete t b fits).1)))
 
-    pub one_exact : (g : Token → Bool) (ts : List Token) → IsExact single g ts (one_token take ts)
-    one_exact g [] = one_refused g [] (λ u others a e h. absurd cc)
-    one_exact g (t ∷ ts) = one_by g t ts (take t) refl
+  pub token_read : {before : List Token} {taken : Kind × Place} {rest : List Token} → Takes start before (Ok taken) rest → Reads (single piece) g before (Ok (f taken)) rest
+  token_read {before} {taken} {rest} p = is_read (taken_is before taken rest (p.ok taken refl))
+
+  other_is : (before : List Token) (e : Refusal) → IsOther start before e → IsRefused (single piece) g before e
+  other_is before e p =
+      subst (λ (z : Refusal). IsRefused (single piece) g before z) (sym p.is)
+      (one_refused piece g w.some before (λ b y ys fits next. let c = (w.complete y b fits).0 in let same = next_is-same (begins start) (y ∷ ys) before next in let o = p.other in cc))
+
+  pub token_refused : {before : List Token} {x : Halt Refusal} {r : Result A (Halt Refusal)} {after rest : List Token} → Takes start before (Err x) after → IsErrAnd r (λ y. y ≡ x) → Reads (single piece) g before r rest
+  token_refused {before} {x} {r} {after} {rest} p is = exit x r rest is (λ e k. other_is before e (p.err e (ap Err k)))

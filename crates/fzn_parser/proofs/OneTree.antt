@@ -1,5 +1,5 @@
 -- A list of tokens has one tree, or one fault.
-use Rattle.std.proofs.Common.{◌≡◌, ℕ, List, [], ◌∷◌, ◌++◌, length, Option, Some, Ok, Err, refl, sym, ap, subst, ◌∙◌, append_assoc, inl, inr, ◌⊎◌}
+use Rattle.std.proofs.Common.{◌≡◌, List, [], ◌∷◌, ◌++◌, Option, Some, refl, sym, ap, subst, ◌∙◌, append_assoc, inl, inr, ◌⊎◌}
 use Rattle.fzn_lexer.specs.declared.fault.Fault.{Fault}
 use Rattle.fzn_lexer.specs.declared.fault.FaultKind.{FaultKind}
 use Rattle.fzn_lexer.specs.declared.fault.FaultKind.TheVariants.{Syntax}
@@ -9,36 +9,18 @@ use Rattle.fzn_lexer.specs.declared.token.Token.{Token}
 use Rattle.fzn_tree.specs.declared.tree.Tree.{Tree}
 use Rattle.fzn_tree.specs.Piece.{Piece, Fits, AreSpelled, AreWithin, sign}
 use Rattle.fzn_tree.specs.Grammar as G
-use Rattle.fzn_parser.specs.Reading.{Outcome}
-use Rattle.fzn_parser.proofs.Exact.{IsExact, Reads, Refuses}
-use Rattle.fzn_parser.proofs.SpelledLaws.{AreSpelled-append, AreSpelled-split, AreWithin-split, Limited-within, SameNext-refl}
-use Rattle.fzn_parser.proofs.NextLaws.{never, stops_never}
+use Rattle.fzn_parser.proofs.SpelledLaws.{AreSpelled-append, AreSpelled-split, AreWithin-split}
+use Rattle.fzn_parser.proofs.NextLaws.{stops_never}
 use Rattle.fzn_parser.specs.Parse.{IsTree, Begins, NoneBegins, IsPast, EachIsPast, IsFault, IsReading}
-use Rattle.fzn_parser.proofs.ItemLaws.{all_exact}
-use Rattle.fzn_parser.specs.Readers as R
+use Rattle.fzn_parser.proofs.UniqueTree.{items_unique}
 
 -- ---- one tree
 
-read_tree : (ts : List Token) (r : Tree) (rest : List Token) → Reads G.items never ts r rest → (t : Tree) → IsTree ts t → t ≡ r
-read_tree ts r rest p t is =
-    let d = AreSpelled-split ts (G.items t) (sign End) is.spelled in
-    (p.only t d.left d.right rest d.on_left (stops_never d.right) (sym d.parts ∙ p.parts) (SameNext-refl rest)).0
-
-no_tree : (ts : List Token) (kind : FaultKind) (left : ℕ) → Refuses G.items never ts kind left → (t : Tree) → IsTree ts t → ⊥
-no_tree ts kind left p t is =
-    let d = AreSpelled-split ts (G.items t) (sign End) is.spelled in
-    let within = (AreWithin-split (G.items t) (sign End) is.within).0 in
-    elim p.why [
-      | inl w ↦ w.1 t d.left d.right p.rest d.on_left (stops_never d.right) (sym d.parts ∙ p.parts) (SameNext-refl p.rest)
-      | inr w ↦ Limited-within kind (length p.front) (G.items t) (w.1 t d.left d.right p.rest d.on_left (stops_never d.right) (sym d.parts ∙ p.parts) (SameNext-refl p.rest)) within
-    ]
-
-tree_by : (ts : List Token) (o : Outcome Tree) → IsExact G.items never ts o → (t u : Tree) → IsTree ts t → IsTree ts u → t ≡ u
-tree_by ts (Ok r) p t u a b = read_tree ts r.0 r.1 p t a ∙ sym (read_tree ts r.0 r.1 p u b)
-tree_by ts (Err e) p t u a b = absurd (no_tree ts e.kind e.left p t a)
-
 one_tree : (ts : List Token) (t u : Tree) → IsTree ts t → IsTree ts u → t ≡ u
-one_tree ts t u a b = tree_by ts (R.items ts) (all_exact ts) t u a b
+one_tree ts t u a b =
+    let d = AreSpelled-split ts (G.items t) (sign End) a.spelled in
+    let e = AreSpelled-split ts (G.items u) (sign End) b.spelled in
+    (items_unique.one t u d.left d.right e.left e.right d.on_left e.on_left (AreWithin-split (G.items t) (sign End) a.within).0 (AreWithin-split (G.items u) (sign End) b.within).0 (stops_never d.right) (stops_never e.right) (sym d.parts ∙ e.parts)).0
 
 -- ---- no fault within what begins a tree
 

@@ -1,6 +1,5 @@
--- The reader of a parameter is exact.
-use Rattle.std.proofs.Common.{◌≡◌, Bool, false, List, [], ◌++◌, refl, ◌∙◌, inl, inr, ◌⊎◌}
-use Rattle.std.specs.Prelude.{nat_lt}
+-- Parameters.
+use Rattle.std.proofs.Common.{◌≡◌, Bool, true, false, List, [], ◌++◌, refl, ◌∙◌}
 use Rattle.fzn_lexer.specs.declared.token.Kind.{Kind}
 use Rattle.fzn_lexer.specs.declared.token.Place.{Place}
 use Rattle.fzn_lexer.specs.declared.token.Token.{Token}
@@ -10,105 +9,74 @@ use Rattle.fzn_lexer.specs.declared.token.Symbol.TheVariants as s
 use Rattle.fzn_tree.specs.declared.tree.Literal.{Literal}
 use Rattle.fzn_tree.specs.declared.tree.ParamBase.{ParamBase}
 use Rattle.fzn_tree.specs.declared.tree.ParamValue.{ParamValue}
-use Rattle.fzn_tree.specs.Piece.{Piece, AreSpelled, sign, sign_piece, placed, piece_at}
+use Rattle.fzn_tree.specs.Piece.{AreSpelled, sign_piece, piece_at}
 use Rattle.fzn_tree.specs.declared.tree.ParamBase.TheVariants as param_bases
 use Rattle.fzn_tree.specs.declared.tree.ParamValue.TheVariants as param_values
 use Rattle.fzn_tree.specs.Grammar as G
-use Rattle.fzn_parser.specs.Reading.{next_is, ◌then◌}
-use Rattle.fzn_parser.proofs.Exact.{IsExact}
-use Rattle.fzn_parser.proofs.SequenceLaws.{both}
-use Rattle.fzn_parser.proofs.ChoiceLaws.{either_of, chosen_exact}
-use Rattle.fzn_parser.proofs.FormLaws.{made_exact}
-use Rattle.fzn_parser.proofs.NextLaws.{next_kind, next_split, never, further, goes_on, ends_further}
-use Rattle.fzn_parser.proofs.TokenLaws.{symbol_exact, symbol_place_exact, name_exact}
-use Rattle.fzn_parser.proofs.ListLaws.{seq, after, behind, closed, listed_exact, semicolon, semicolon_exact}
-use Rattle.fzn_parser.proofs.LiteralLaws.{some_name, some_place, marked_next, literal_exact, literal_next}
-use Rattle.fzn_parser.proofs.ValueLaws.{some_literal, param_entry_exact}
-use Rattle.fzn_parser.specs.Readers as R
+use Rattle.fzn_parser.specs.declared.declarations.ParamRest.{ParamRest}
+use Rattle.fzn_parser.specs.Declarations.{param_rest}
+use Rattle.fzn_parser.specs.Reads.{next_is, SameNext, Stops}
+use Rattle.fzn_parser.specs.GoesOn.{never, further, goes_on}
+use Rattle.fzn_parser.specs.Taken.{is}
+use Rattle.fzn_parser.proofs.NextLaws.{next_kind, next_split}
+use Rattle.fzn_parser.proofs.TokenLaws.{some_place}
+use Rattle.fzn_parser.proofs.Onward.{last, part, IsForm, form}
+use Rattle.fzn_parser.proofs.ListLaws.{closed, closed_last}
+use Rattle.fzn_parser.proofs.FormLaws.{clash, clash', some_name, word, last_word, placed_word, last_placed, named}
+use Rattle.fzn_parser.proofs.LiteralLaws.{literal_next}
+use Rattle.fzn_parser.proofs.ValueLaws.{some_literal}
 
-abbrev set_of_int : Place × (Unit {0} × Unit {0}) → List Piece
-set_of_int = both (λ at. placed (k.Symbol s.Set) at) (both (λ u. sign s.Of) (λ u. sign s.Int))
+module _ (ts : List Token) where
+  pub base_is_bool : next_is (is s.Bool) ts ≡ true → IsForm G.param_base never ts (last_placed s.Bool) (λ at. param_bases.Bool at)
+  base_is_bool there = form (λ at. param_bases.Bool at) (λ at. refl) onto (closed_last never)
+    where
+      onto : (x : ParamBase) (u v : List Token) → AreSpelled u (G.param_base x) → Stops never v → SameNext (u ++ v) ts → (c : Place) × (param_bases.Bool c ≡ x)
+      onto (param_bases.Bool at) u v spelled stops same = (at, refl)
+      onto (param_bases.Int at) u v spelled stops same = absurd (clash (is s.Bool) ts (u ++ v) there same (next_kind (is_symbol s.Bool) (piece_at (k.Symbol s.Int) at) [] u v spelled))
+      onto (param_bases.Set at) u v spelled stops same = absurd (clash (is s.Bool) ts (u ++ v) there same (next_kind (is_symbol s.Bool) (piece_at (k.Symbol s.Set) at) _ u v spelled))
 
-abbrev ParamBaseParts : Type 0
-ParamBaseParts = Place ⊎ (Place ⊎ (Place × (Unit {0} × Unit {0})))
+  pub base_is_int : next_is (is s.Int) ts ≡ true → IsForm G.param_base never ts (last_placed s.Int) (λ at. param_bases.Int at)
+  base_is_int there = form (λ at. param_bases.Int at) (λ at. refl) onto (closed_last never)
+    where
+      onto : (x : ParamBase) (u v : List Token) → AreSpelled u (G.param_base x) → Stops never v → SameNext (u ++ v) ts → (c : Place) × (param_bases.Int c ≡ x)
+      onto (param_bases.Int at) u v spelled stops same = (at, refl)
+      onto (param_bases.Bool at) u v spelled stops same = absurd (clash (is s.Int) ts (u ++ v) there same (next_kind (is_symbol s.Int) (piece_at (k.Symbol s.Bool) at) [] u v spelled))
+      onto (param_bases.Set at) u v spelled stops same = absurd (clash (is s.Int) ts (u ++ v) there same (next_kind (is_symbol s.Int) (piece_at (k.Symbol s.Set) at) _ u v spelled))
 
-abbrev param_base_parts : ParamBaseParts → List Piece
-param_base_parts = either_of (λ at. placed (k.Symbol s.Bool) at) (either_of (λ at. placed (k.Symbol s.Int) at) set_of_int)
+  pub base_is_set : next_is (is s.Bool) ts ≡ false → next_is (is s.Int) ts ≡ false → IsForm G.param_base never ts (placed_word s.Set (word s.Of (last_word s.Int))) (λ p. param_bases.Set p.0)
+  base_is_set not_bool not_int = form (λ p. param_bases.Set p.0) (λ p. refl) onto (closed _ _, (closed _ _, closed_last never))
+    where
+      onto : (x : ParamBase) (u v : List Token) → AreSpelled u (G.param_base x) → Stops never v → SameNext (u ++ v) ts → (c : Place × (Unit {0} × Unit {0})) × (param_bases.Set c.0 ≡ x)
+      onto (param_bases.Set at) u v spelled stops same = ((at, (tt, tt)), refl)
+      onto (param_bases.Bool at) u v spelled stops same = absurd (clash' (is s.Bool) ts (u ++ v) not_bool same (next_kind (is_symbol s.Bool) (piece_at (k.Symbol s.Bool) at) [] u v spelled))
+      onto (param_bases.Int at) u v spelled stops same = absurd (clash' (is s.Int) ts (u ++ v) not_int same (next_kind (is_symbol s.Int) (piece_at (k.Symbol s.Int) at) [] u v spelled))
 
-param_base_same : (p : ParamBaseParts) → G.param_base (R.param_base_of p) ≡ param_base_parts p
-param_base_same (inl u) = refl
-param_base_same (inr (inl u)) = refl
-param_base_same (inr (inr p)) = refl
+  pub value_literal : next_is (is s.OpenBracket) ts ≡ false → IsForm G.param_value further ts (last G.literal further some_literal) (λ x. param_values.Literal x)
+  value_literal there = form (λ x. param_values.Literal x) (λ x. refl) onto (λ v stops. stops)
+    where
+      onto : (x : ParamValue) (u v : List Token) → AreSpelled u (G.param_value x) → Stops further v → SameNext (u ++ v) ts → (c : Literal) × (param_values.Literal c ≡ x)
+      onto (param_values.Literal x) u v spelled stops same = (x, refl)
+      onto (param_values.Array at all) u v spelled stops same = absurd (clash' (is s.OpenBracket) ts (u ++ v) there same (next_kind (is_symbol s.OpenBracket) (piece_at (k.Symbol s.OpenBracket) at) _ u v spelled))
 
-param_base_onto : (b : ParamBase) → (p : ParamBaseParts) × (R.param_base_of p ≡ b)
-param_base_onto (param_bases.Bool at) = (inl at, refl)
-param_base_onto (param_bases.Int at) = (inr (inl at), refl)
-param_base_onto (param_bases.Set at) = (inr (inr (at, (tt, tt))), refl)
+  pub value_array : next_is (is s.OpenBracket) ts ≡ true → IsForm G.param_value further ts (placed_word s.OpenBracket (last (G.listed G.param_entry s.CloseBracket) never [])) (λ p. param_values.Array p.0 p.1)
+  value_array there = form (λ p. param_values.Array p.0 p.1) (λ p. refl) onto (closed _ _, closed_last further)
+    where
+      onto : (x : ParamValue) (u v : List Token) → AreSpelled u (G.param_value x) → Stops further v → SameNext (u ++ v) ts → (c : Place × List Literal) × (param_values.Array c.0 c.1 ≡ x)
+      onto (param_values.Array at all) u v spelled stops same = ((at, all), refl)
+      onto (param_values.Literal x) u v spelled stops same = absurd (clash (is s.OpenBracket) ts (u ++ v) there same (literal_next (is_symbol s.OpenBracket) false refl refl refl (λ z. refl) x u v spelled))
 
-int_not_bool : (p : Place ⊎ (Place × (Unit {0} × Unit {0}))) (u v : List Token) → AreSpelled u (either_of (λ at. placed (k.Symbol s.Int) at) set_of_int p) → next_is (R.is s.Bool) (u ++ v) ≡ false
-int_not_bool (inl at) u v spelled = next_kind (is_symbol s.Bool) (piece_at (k.Symbol s.Int) at) [] u v spelled
-int_not_bool (inr p) u v spelled = next_kind (is_symbol s.Bool) (piece_at (k.Symbol s.Set) p.0) _ u v spelled
+pub some_param_rest : ParamRest
+some_param_rest = record { base = param_bases.Bool some_place; name = some_name; value = param_values.Literal some_literal }
 
-param_base_exact : (ts : List Token) → IsExact G.param_base never ts (R.param_base ts)
-unfolding R.param_base
-param_base_exact ts =
-    made_exact param_base_parts G.param_base never R.param_base_of param_base_same param_base_onto ts _
-    (chosen_exact (R.is s.Bool) (λ at. placed (k.Symbol s.Bool) at) _ never
-    (λ at u v spelled. next_kind (is_symbol s.Bool) (piece_at (k.Symbol s.Bool) at) [] u v spelled)
-    (λ p u v spelled stops. int_not_bool p u v spelled) ts _ _
-    (λ there. symbol_place_exact s.Bool (λ e. cc) never ts)
-    (λ there. chosen_exact (R.is s.Int) (λ at. placed (k.Symbol s.Int) at) set_of_int never
-    (λ at u v spelled. next_kind (is_symbol s.Int) (piece_at (k.Symbol s.Int) at) [] u v spelled)
-    (λ p u v spelled stops. next_kind (is_symbol s.Int) (piece_at (k.Symbol s.Set) p.0) _ u v spelled) ts _ _
-    (λ there. symbol_place_exact s.Int (λ e. cc) never ts)
-    (λ there. after never (λ at. placed (k.Symbol s.Set) at) (both (λ u. sign s.Of) (λ u. sign s.Int)) (tt, tt) (R.symbol_place s.Set) (R.symbol s.Of then R.symbol s.Int) (symbol_place_exact s.Set (λ e. cc) never) (behind s.Of (λ e. cc) never (λ u. sign s.Int) tt (R.symbol s.Int) (symbol_exact s.Int (λ e. cc) never)) ts)))
+pub param_rest_begun : (ts : List Token) → IsForm param_rest never ts (part G.param_base never (param_bases.Bool some_place) (word s.Colon (named (word s.Equals (part G.param_value further (param_values.Literal some_literal) (last_word s.Semicolon)))))) (λ p. record { base = p.0; name = p.1.1.0; value = p.1.1.1.1.0 })
+param_rest_begun ts =
+    form (λ p. record { base = p.0; name = p.1.1.0; value = p.1.1.1.1.0 }) (λ p. refl) (λ x u v spelled stops same. ((x.base, (tt, (x.name, (tt, (x.value, tt))))), refl))
+    (closed _ _, (closed _ _, (closed _ _, (closed _ _, (λ b u v spelled stops. next_kind goes_on (sign_piece s.Semicolon) [] u v spelled, closed_last never)))))
 
 param_base_next : (f : Kind → Bool) (b : Bool) → f (k.Symbol s.Bool) ≡ b → f (k.Symbol s.Int) ≡ b → f (k.Symbol s.Set) ≡ b → (x : ParamBase) (u v : List Token) → AreSpelled u (G.param_base x) → next_is (λ t. f t.kind) (u ++ v) ≡ b
 param_base_next f b p i q (param_bases.Bool at) u v spelled = next_kind f (piece_at (k.Symbol s.Bool) at) [] u v spelled ∙ p
 param_base_next f b p i q (param_bases.Int at) u v spelled = next_kind f (piece_at (k.Symbol s.Int) at) [] u v spelled ∙ i
 param_base_next f b p i q (param_bases.Set at) u v spelled = next_kind f (piece_at (k.Symbol s.Set) at) _ u v spelled ∙ q
 
-abbrev literal_list : Place × List Literal → List Piece
-literal_list = both (λ at. placed (k.Symbol s.OpenBracket) at) (G.listed G.param_entry s.CloseBracket)
-
-param_value_same : (p : (Place × List Literal) ⊎ Literal) → G.param_value (R.param_value_of p) ≡ either_of literal_list G.literal p
-param_value_same (inl p) = refl
-param_value_same (inr x) = refl
-
-param_value_onto : (x : ParamValue) → (p : (Place × List Literal) ⊎ Literal) × (R.param_value_of p ≡ x)
-param_value_onto (param_values.Array at all) = (inl (at, all), refl)
-param_value_onto (param_values.Literal x) = (inr x, refl)
-
-literal_list_exact : (ts : List Token) → IsExact literal_list never ts ((R.symbol_place s.OpenBracket then R.listed R.param_entry s.CloseBracket) ts)
-literal_list_exact =
-    after never (λ at. placed (k.Symbol s.OpenBracket) at) (G.listed G.param_entry s.CloseBracket) [] (R.symbol_place s.OpenBracket) (R.listed R.param_entry s.CloseBracket) (symbol_place_exact s.OpenBracket (λ e. cc) never)
-    (listed_exact G.param_entry R.param_entry further s.CloseBracket (λ e. cc) refl refl param_entry_exact (ends_further s.Comma refl) (ends_further s.CloseBracket refl)
-    (λ x u v spelled. marked_next (is_symbol s.CloseBracket) false (nat_lt 0 G.most) (G.literal x) u v (λ w z done. literal_next (is_symbol s.CloseBracket) false refl refl refl (λ z. refl) x w z done) spelled) some_literal)
-
-param_value_exact : (ts : List Token) → IsExact G.param_value further ts (R.param_value ts)
-unfolding R.param_value
-param_value_exact ts =
-    made_exact (either_of literal_list G.literal) G.param_value further R.param_value_of param_value_same param_value_onto ts _
-    (chosen_exact (R.is s.OpenBracket) literal_list G.literal further
-    (λ p u v spelled. next_kind (is_symbol s.OpenBracket) (piece_at (k.Symbol s.OpenBracket) p.0) _ u v spelled)
-    (λ x u v spelled stops. literal_next (is_symbol s.OpenBracket) false refl refl refl (λ z. refl) x u v spelled) ts _ _
-    (λ there. closed further literal_list (R.symbol_place s.OpenBracket then R.listed R.param_entry s.CloseBracket) literal_list_exact ts)
-    (λ there. literal_exact ts))
-
-abbrev pub param_pieces : R.ParamRest → List Piece
-param_pieces = both G.param_base (both (λ u. sign s.Colon) (both G.name (both (λ u. sign s.Equals) (both G.param_value semicolon))))
-
-pub some_param : R.ParamRest
-some_param = (param_bases.Bool some_place, (tt, (some_name, (tt, (param_values.Literal some_literal, tt)))))
-
-pub param_rest_exact : (ts : List Token) → IsExact param_pieces never ts (R.param_rest ts)
-unfolding R.param_rest
-param_rest_exact =
-    after never G.param_base _ (tt, (some_name, (tt, (param_values.Literal some_literal, tt)))) R.param_base _ param_base_exact
-    (behind s.Colon (λ e. cc) never _ (some_name, (tt, (param_values.Literal some_literal, tt))) _
-    (after never G.name _ (tt, (param_values.Literal some_literal, tt)) R.name _ (name_exact never)
-    (behind s.Equals (λ e. cc) never _ (param_values.Literal some_literal, tt) _
-    (seq never G.param_value semicolon tt R.param_value (R.symbol s.Semicolon) (λ b u v spelled stops. next_kind goes_on (sign_piece s.Semicolon) [] u v spelled) param_value_exact semicolon_exact))))
-
-pub param_next : (f : Kind → Bool) (b : Bool) → f (k.Symbol s.Bool) ≡ b → f (k.Symbol s.Int) ≡ b → f (k.Symbol s.Set) ≡ b → (p : R.ParamRest) (u v : List Token) → AreSpelled u (param_pieces p) → next_is (λ t. f t.kind) (u ++ v) ≡ b
-param_next f b p i q x u v spelled = next_split (λ t. f t.kind) b (G.param_base x.0) _ u v (λ w z done. param_base_next f b p i q x.0 w z done) spelled
+pub param_rest_next : (f : Kind → Bool) (b : Bool) → f (k.Symbol s.Bool) ≡ b → f (k.Symbol s.Int) ≡ b → f (k.Symbol s.Set) ≡ b → (p : ParamRest) (u v : List Token) → AreSpelled u (param_rest p) → next_is (λ t. f t.kind) (u ++ v) ≡ b
+param_rest_next f b p i q x u v spelled = next_split (λ t. f t.kind) b (G.param_base x.base) _ u v (λ w z done. param_base_next f b p i q x.base w z done) spelled

@@ -1,121 +1,121 @@
--- The reader of a predicate's parameters is exact.
-use Rattle.std.proofs.Common.{◌≡◌, ℕ, Bool, true, false, List, [], ◌∷◌, ◌++◌, Option, Some, None, refl, inl, inr, ◌⊎◌}
+-- Predicates and their parameters.
+use Rattle.std.proofs.Common.{◌≡◌, ℕ, Bool, true, false, List, [], ◌∷◌, ◌++◌, Option, Some, None, refl}
 use Rattle.std.specs.Prelude.{pos}
 use Rattle.fzn_lexer.specs.declared.token.Symbol.{Symbol}
 use Rattle.fzn_lexer.specs.declared.token.Token.{Token}
 use Rattle.fzn_lexer.specs.Kinds.{is_symbol}
+use Rattle.fzn_lexer.specs.declared.token.Kind.TheVariants as k
 use Rattle.fzn_lexer.specs.declared.token.Symbol.TheVariants as s
 use Rattle.fzn_tree.specs.declared.tree.Base.{Base}
 use Rattle.fzn_tree.specs.declared.tree.Indices.{Indices}
 use Rattle.fzn_tree.specs.declared.tree.Name.{Name}
 use Rattle.fzn_tree.specs.declared.tree.PredicateParam.{PredicateParam}
-use Rattle.fzn_tree.specs.Piece.{Piece, AreSpelled, sign, sign_piece}
+use Rattle.fzn_tree.specs.Piece.{AreSpelled, sign_piece, piece_at}
 use Rattle.fzn_tree.specs.declared.tree.Base.TheVariants as bases
 use Rattle.fzn_tree.specs.declared.tree.Indices.TheVariants as indices
 use Rattle.fzn_tree.specs.Grammar as G
-use Rattle.fzn_parser.specs.Reading.{next_is, ◌then◌}
-use Rattle.fzn_parser.proofs.Exact.{IsExact, Stops}
-use Rattle.fzn_parser.proofs.SequenceLaws.{both, followed_exact}
-use Rattle.fzn_parser.proofs.ChoiceLaws.{either_of, chosen_exact}
-use Rattle.fzn_parser.proofs.OneTokenLaws.{no_pieces, nothing_exact}
-use Rattle.fzn_parser.proofs.FormLaws.{made_exact}
-use Rattle.fzn_parser.proofs.NextLaws.{next_kind, next_split, never}
-use Rattle.fzn_parser.proofs.TokenLaws.{symbol_exact, name_exact, number_piece}
-use Rattle.fzn_parser.proofs.ListLaws.{after, behind, closed}
-use Rattle.fzn_parser.proofs.LiteralLaws.{some_name}
-use Rattle.fzn_parser.proofs.TypeLaws.{base_exact, base_next, index_exact, in_array, array_with_exact}
-use Rattle.fzn_parser.specs.Readers as R
+use Rattle.fzn_parser.specs.Reads.{next_is, SameNext, Stops}
+use Rattle.fzn_parser.specs.GoesOn.{never}
+use Rattle.fzn_parser.specs.Taken.{is}
+use Rattle.fzn_parser.specs.Lists.{IsListed, AreMany}
+use Rattle.fzn_parser.proofs.NextLaws.{next_kind, next_split, stops_never}
+use Rattle.fzn_parser.proofs.OneTokenLaws.{no_pieces}
+use Rattle.fzn_parser.proofs.TokenLaws.{number_piece}
+use Rattle.fzn_parser.proofs.Onward.{Parts, last, part, Values, spells, IsForm, form}
+use Rattle.fzn_parser.proofs.ListLaws.{closed, closed_last}
+use Rattle.fzn_parser.proofs.FormLaws.{clash, clash', some_name, word, last_word, placed_word, named}
+use Rattle.fzn_parser.proofs.TypeLaws.{base_next}
 
-index_set_same : (p : Unit {0} ⊎ ℕ) → G.index_set (R.indices_of p) ≡ either_of (λ u. sign s.Int) G.index p
-index_set_same (inl u) = refl
-index_set_same (inr n) = refl
+module _ (ts : List Token) where
+  pub indices_any : next_is (is s.Int) ts ≡ true → IsForm G.index_set never ts (last_word s.Int) (λ u. indices.Any)
+  indices_any there = form (λ u. indices.Any) (λ u. refl) onto (closed_last never)
+    where
+      onto : (x : Indices) (u v : List Token) → AreSpelled u (G.index_set x) → Stops never v → SameNext (u ++ v) ts → (c : Unit {0}) × (indices.Any ≡ x)
+      onto indices.Any u v spelled stops same = (tt, refl)
+      onto (indices.Size n) u v spelled stops same = absurd (clash (is s.Int) ts (u ++ v) there same (next_kind (is_symbol s.Int) (number_piece (pos 1)) _ u v spelled))
 
-index_set_onto : (x : Indices) → (p : Unit {0} ⊎ ℕ) × (R.indices_of p ≡ x)
-index_set_onto indices.Any = (inl tt, refl)
-index_set_onto (indices.Size n) = (inr n, refl)
+  pub indices_size : next_is (is s.Int) ts ≡ false → IsForm G.index_set never ts (last G.index never 0) (λ n. indices.Size n)
+  indices_size there = form (λ n. indices.Size n) (λ n. refl) onto (closed_last never)
+    where
+      onto : (x : Indices) (u v : List Token) → AreSpelled u (G.index_set x) → Stops never v → SameNext (u ++ v) ts → (c : ℕ) × (indices.Size c ≡ x)
+      onto (indices.Size n) u v spelled stops same = (n, refl)
+      onto indices.Any u v spelled stops same = absurd (clash' (is s.Int) ts (u ++ v) there same (next_kind (is_symbol s.Int) (sign_piece s.Int) [] u v spelled))
 
-index_set_exact : (ts : List Token) → IsExact G.index_set never ts (R.index_set ts)
-unfolding R.index_set
-index_set_exact ts =
-    made_exact (either_of (λ u. sign s.Int) G.index) G.index_set never R.indices_of index_set_same index_set_onto ts _
-    (chosen_exact (R.is s.Int) (λ u. sign s.Int) G.index never
-    (λ a u v spelled. next_kind (is_symbol s.Int) (sign_piece s.Int) [] u v spelled)
-    (λ n u v spelled stops. next_kind (is_symbol s.Int) (number_piece (pos 1)) _ u v spelled) ts _ _
-    (λ there. symbol_exact s.Int (λ e. cc) never ts)
-    (λ there. index_exact ts))
+  pub array_none : next_is (is s.Array) ts ≡ false → IsForm G.predicate_array (is s.Array) ts (last no_pieces (is s.Array) tt) (λ u. None)
+  array_none there = form (λ u. None) (λ u. refl) onto (λ v stops. stops)
+    where
+      onto : (x : Option Indices) (u v : List Token) → AreSpelled u (G.predicate_array x) → Stops (is s.Array) v → SameNext (u ++ v) ts → (c : Unit {0}) × (None ≡ x)
+      onto None u v spelled stops same = (tt, refl)
+      onto (Some i) u v spelled stops same = absurd (clash' (is s.Array) ts (u ++ v) there same (next_kind (is_symbol s.Array) (sign_piece s.Array) _ u v spelled))
 
--- nothing stands where the sign that would go on does not
-no_sign : (x : Symbol) (b : Unit {0}) (u v : List Token) → AreSpelled u [] → Stops (R.is x) v → next_is (R.is x) (u ++ v) ≡ false
-no_sign x b [] v spelled stops = stops
-no_sign x b (y ∷ u) v spelled stops = absurd spelled
+  pub array_some : next_is (is s.Array) ts ≡ true → IsForm G.predicate_array (is s.Array) ts (word s.Array (word s.OpenBracket (part G.index_set never indices.Any (word s.CloseBracket (last_word s.Of))))) (λ p. Some p.1.1.0)
+  array_some there = form (λ p. Some p.1.1.0) (λ p. refl) onto (closed _ _, (closed _ _, (closed _ _, (closed _ _, closed_last (is s.Array)))))
+    where
+      onto : (x : Option Indices) (u v : List Token) → AreSpelled u (G.predicate_array x) → Stops (is s.Array) v → SameNext (u ++ v) ts → (c : Unit {0} × (Unit {0} × (Indices × (Unit {0} × Unit {0})))) × (Some c.1.1.0 ≡ x)
+      onto (Some i) u v spelled stops same = ((tt, (tt, (i, (tt, tt)))), refl)
+      onto None [] v spelled stops same = absurd (clash (is s.Array) ts v there same stops)
+      onto None (y ∷ u) v spelled stops same = absurd spelled
 
-optional_same : (p : Indices ⊎ Unit {0}) → G.predicate_array (R.optional_of p) ≡ either_of (in_array G.index_set indices.Any R.index_set index_set_exact) no_pieces p
-optional_same (inl i) = refl
-optional_same (inr u) = refl
+  pub var_none : next_is (is s.Var) ts ≡ false → IsForm G.optional_var (is s.Var) ts (last no_pieces (is s.Var) tt) (λ u. false)
+  var_none there = form (λ u. false) (λ u. refl) onto (λ v stops. stops)
+    where
+      onto : (x : Bool) (u v : List Token) → AreSpelled u (G.optional_var x) → Stops (is s.Var) v → SameNext (u ++ v) ts → (c : Unit {0}) × (false ≡ x)
+      onto false u v spelled stops same = (tt, refl)
+      onto true u v spelled stops same = absurd (clash' (is s.Var) ts (u ++ v) there same (next_kind (is_symbol s.Var) (sign_piece s.Var) [] u v spelled))
 
-optional_onto : (x : Option Indices) → (p : Indices ⊎ Unit {0}) × (R.optional_of p ≡ x)
-optional_onto None = (inr tt, refl)
-optional_onto (Some i) = (inl i, refl)
+  pub var_some : next_is (is s.Var) ts ≡ true → IsForm G.optional_var (is s.Var) ts (last_word s.Var) (λ u. true)
+  var_some there = form (λ u. true) (λ u. refl) onto (closed_last (is s.Var))
+    where
+      onto : (x : Bool) (u v : List Token) → AreSpelled u (G.optional_var x) → Stops (is s.Var) v → SameNext (u ++ v) ts → (c : Unit {0}) × (true ≡ x)
+      onto true u v spelled stops same = (tt, refl)
+      onto false [] v spelled stops same = absurd (clash (is s.Var) ts v there same stops)
+      onto false (y ∷ u) v spelled stops same = absurd spelled
 
-predicate_array_exact : (ts : List Token) → IsExact G.predicate_array (R.is s.Array) ts (R.predicate_array ts)
-unfolding R.predicate_array
-predicate_array_exact ts =
-    made_exact (either_of (in_array G.index_set indices.Any R.index_set index_set_exact) no_pieces) G.predicate_array (R.is s.Array) R.optional_of optional_same optional_onto ts _
-    (chosen_exact (R.is s.Array) (in_array G.index_set indices.Any R.index_set index_set_exact) no_pieces (R.is s.Array)
-    (λ i u v spelled. next_kind (is_symbol s.Array) (sign_piece s.Array) _ u v spelled)
-    (no_sign s.Array) ts _ _
-    (λ there. closed (R.is s.Array) _ (R.array_with R.index_set) (array_with_exact G.index_set indices.Any R.index_set index_set_exact) ts)
-    (λ there. nothing_exact (R.is s.Array) ts))
+-- ---- parameters
 
-is_var_same : (p : Unit {0} ⊎ Unit {0}) → G.optional_var (R.is_var_of p) ≡ either_of (λ u. sign s.Var) no_pieces p
-is_var_same (inl u) = refl
-is_var_same (inr u) = refl
+abbrev typed : Parts
+typed = part G.base never bases.Bool (word s.Colon (last G.name never some_name))
 
-is_var_onto : (x : Bool) → (p : Unit {0} ⊎ Unit {0}) × (R.is_var_of p ≡ x)
-is_var_onto true = (inl tt, refl)
-is_var_onto false = (inr tt, refl)
+abbrev pub param_parts : Parts
+param_parts = part G.predicate_array (is s.Array) None (part G.optional_var (is s.Var) false typed)
 
-optional_var_exact : (ts : List Token) → IsExact G.optional_var (R.is s.Var) ts (R.optional_var ts)
-unfolding R.optional_var
-optional_var_exact ts =
-    made_exact (either_of (λ u. sign s.Var) no_pieces) G.optional_var (R.is s.Var) R.is_var_of is_var_same is_var_onto ts _
-    (chosen_exact (R.is s.Var) (λ u. sign s.Var) no_pieces (R.is s.Var)
-    (λ a u v spelled. next_kind (is_symbol s.Var) (sign_piece s.Var) [] u v spelled)
-    (no_sign s.Var) ts _ _
-    (λ there. symbol_exact s.Var (λ e. cc) (R.is s.Var) ts)
-    (λ there. nothing_exact (R.is s.Var) ts))
+typed_next : (x : Symbol) → is_symbol x (k.Symbol s.Bool) ≡ false → is_symbol x (k.Symbol s.Int) ≡ false → is_symbol x (k.Symbol s.Set) ≡ false → is_symbol x (k.Symbol s.OpenBrace) ≡ false → (p : Base × (Unit {0} × Name)) (u v : List Token) → AreSpelled u (spells typed p) → next_is (is x) (u ++ v) ≡ false
+typed_next x b i q o p u v spelled = next_split (is x) false (G.base p.0) _ u v (λ w z done. base_next (is_symbol x) false b i q o (λ n. refl) p.0 w z done) spelled
 
-abbrev named_type : Base × (Unit {0} × Name) → List Piece
-named_type = both G.base (both (λ u. sign s.Colon) G.name)
-
-named_type_exact : (ts : List Token) → IsExact named_type never ts ((R.base then R.symbol s.Colon then R.name) ts)
-named_type_exact = after never G.base _ (tt, some_name) R.base _ base_exact (behind s.Colon (λ e. cc) never G.name some_name R.name (name_exact never))
-
-abbrev var_and_type : Bool × (Base × (Unit {0} × Name)) → List Piece
-var_and_type = both G.optional_var named_type
-
-type_not_var : (p : Base × (Unit {0} × Name)) (u v : List Token) → AreSpelled u (named_type p) → next_is (R.is s.Var) (u ++ v) ≡ false
-type_not_var p u v spelled = next_split (R.is s.Var) false (G.base p.0) _ u v (λ w z done. base_next (is_symbol s.Var) false refl refl refl refl (λ n. refl) p.0 w z done) spelled
-
-not_array : (p : Bool × (Base × (Unit {0} × Name))) (u v : List Token) → AreSpelled u (var_and_type p) → next_is (R.is s.Array) (u ++ v) ≡ false
+not_array : (p : Bool × (Base × (Unit {0} × Name))) (u v : List Token) → AreSpelled u (G.optional_var p.0 ++ spells typed p.1) → next_is (is s.Array) (u ++ v) ≡ false
 not_array (true, p) u v spelled = next_kind (is_symbol s.Array) (sign_piece s.Var) _ u v spelled
-not_array (false, p) u v spelled = next_split (R.is s.Array) false (G.base p.0) _ u v (λ w z done. base_next (is_symbol s.Array) false refl refl refl refl (λ n. refl) p.0 w z done) spelled
+not_array (false, p) u v spelled = typed_next s.Array refl refl refl refl p u v spelled
 
-some_type : Base × (Unit {0} × Name)
-some_type = (bases.Bool, (tt, some_name))
+abbrev pub param_from : Values param_parts → PredicateParam
+param_from p = record { array = p.0; is_var = p.1.0; base = p.1.1.0; name = p.1.1.1.1 }
 
-pub predicate_param_exact : (n : ℕ) (ts : List Token) → IsExact G.predicate_param never ts (R.each_predicate_param n ts)
-unfolding R.predicate_param
-predicate_param_exact n ts =
-    made_exact (both G.predicate_array var_and_type) G.predicate_param never R.predicate_param_of (λ p. refl) (λ x. ((x.array, (x.is_var, (x.base, (tt, x.name)))), refl)) ts _
-    (followed_exact G.predicate_array (R.is s.Array) var_and_type never (λ p u v spelled stops. not_array p u v spelled) (false, some_type) ts _ _ (predicate_array_exact ts)
-    (λ a mid r. followed_exact G.optional_var (R.is s.Var) named_type never (λ p u v spelled stops. type_not_var p u v spelled) some_type mid _ _ (optional_var_exact mid)
-    (λ b last q. named_type_exact last)))
+pub param_begun : (ts : List Token) → IsForm G.predicate_param never ts param_parts param_from
+param_begun ts =
+    form param_from (λ p. refl) (λ x u v spelled stops same. ((x.array, (x.is_var, (x.base, (tt, x.name)))), refl))
+    (λ p u v spelled stops. not_array p u v spelled, (λ p u v spelled stops. typed_next s.Var refl refl refl refl p u v spelled, (closed _ _, (closed _ _, closed_last never))))
 
-pub some_predicate_param : PredicateParam
-some_predicate_param = record { array = None; is_var = false; base = bases.Bool; name = some_name }
+param_next : (a : Option Indices) (b : Bool) (p : Base × (Unit {0} × Name)) (u v : List Token) → AreSpelled u (G.predicate_array a ++ (G.optional_var b ++ spells typed p)) → next_is (is s.CloseParen) (u ++ v) ≡ false
+param_next (Some i) b p u v spelled = next_kind (is_symbol s.CloseParen) (sign_piece s.Array) _ u v spelled
+param_next None true p u v spelled = next_kind (is_symbol s.CloseParen) (sign_piece s.Var) _ u v spelled
+param_next None false p u v spelled = typed_next s.CloseParen refl refl refl refl p u v spelled
 
-pub predicate_param_next : (p : PredicateParam) (a : Option Indices) (b : Bool) (u v : List Token) → AreSpelled u (G.predicate_array a ++ (G.optional_var b ++ named_type (p.base, (tt, p.name)))) → next_is (R.is s.CloseParen) (u ++ v) ≡ false
-predicate_param_next p (Some i) b u v spelled = next_kind (is_symbol s.CloseParen) (sign_piece s.Array) _ u v spelled
-predicate_param_next p None true u v spelled = next_kind (is_symbol s.CloseParen) (sign_piece s.Var) _ u v spelled
-predicate_param_next p None false u v spelled = next_split (R.is s.CloseParen) false (G.base p.base) _ u v (λ w z done. base_next (is_symbol s.CloseParen) false refl refl refl refl (λ n. refl) p.base w z done) spelled
+pub params_listed : IsListed (λ n. G.predicate_param) never s.CloseParen
+params_listed = record {
+  some = record { array = None; is_var = false; base = bases.Bool; name = some_name };
+  not_end = λ e. cc;
+  not_comma = λ e. cc;
+  comma = λ v e. stops_never v;
+  ends = λ v e. stops_never v;
+  first = λ x u v spelled. param_next x.array x.is_var (x.base, (tt, x.name)) u v spelled;
+}
+
+-- ---- predicates
+
+pub predicate_begun : (ts : List Token) → IsForm G.predicate never ts (placed_word s.Predicate (named (word s.OpenParen (part (G.listed (λ n. G.predicate_param) s.CloseParen) never [] (last_word s.Semicolon))))) (λ p. record { place = p.0; name = p.1.0; params = p.1.1.1.0 })
+predicate_begun ts = form (λ p. record { place = p.0; name = p.1.0; params = p.1.1.1.0 }) (λ p. refl) (λ x u v spelled stops same. ((x.place, (x.name, (tt, (x.params, tt)))), refl)) (closed _ _, (closed _ _, (closed _ _, (closed _ _, closed_last never))))
+
+pub predicates_many : AreMany (λ n. G.predicate) never s.Predicate
+predicates_many = record {
+  starts = λ n p u v spelled. next_kind (is_symbol s.Predicate) (piece_at (k.Symbol s.Predicate) p.place) _ u v spelled;
+  apart = λ v there. stops_never v;
+}

@@ -4,8 +4,7 @@ use Rattle.fzn_lexer.specs.declared.token.Token.{Token}
 use Rattle.fzn_lexer.specs.declared.fault.FaultKind.{FaultKind}
 use Rattle.fzn_tree.specs.Piece.{Piece, AreSpelled, AreWithin}
 use Rattle.fzn_lexer.specs.Tokens.{NoEnd}
-use Rattle.fzn_parser.specs.Reading.{next_is}
-use Rattle.fzn_parser.proofs.Exact.{SameNext, IsPast, Limited}
+use Rattle.fzn_parser.specs.Reads.{next_is, SameNext, PassesLimit, Limited}
 
 pub AreSpelled-append : (a b : List Token) (ps qs : List Piece) → AreSpelled a ps → AreSpelled b qs → AreSpelled (a ++ b) (ps ++ qs)
 AreSpelled-append [] b [] qs p q = q
@@ -82,10 +81,10 @@ next_is-same test [] (t ∷ ts) s = absurd s
 next_is-same test (t ∷ ts) [] s = absurd s
 next_is-same test (t ∷ ts) (u ∷ us) s = ap test s
 
-pub IsPast-append : (kind : FaultKind) (rest : List Token) (more others : List Piece) → IsPast kind rest more → IsPast kind rest (more ++ others)
-IsPast-append kind [] more others p = absurd p
-IsPast-append kind (t ∷ ts) [] others p = absurd p
-IsPast-append kind (t ∷ ts) (x ∷ more) others p = p
+pub PassesLimit-append : (kind : FaultKind) (rest : List Token) (more others : List Piece) → PassesLimit kind rest more → PassesLimit kind rest (more ++ others)
+PassesLimit-append kind [] more others p = absurd p
+PassesLimit-append kind (t ∷ ts) [] others p = absurd p
+PassesLimit-append kind (t ∷ ts) (x ∷ more) others p = p
 
 pub pair_is : {A B : Type 0} (a c : A) (b d : B) → a ≡ c → b ≡ d → ◌≡◌ {A = A × B} (a, b) (c, d)
 pair_is a c b d p q = cc

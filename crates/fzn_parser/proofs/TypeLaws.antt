@@ -1,6 +1,6 @@
--- The readers of types are exact.
-use Rattle.std.proofs.Common.{◌≡◌, Bool, false, List, [], ◌++◌, Option, Some, None, refl, ◌∙◌, inl, inr, ◌⊎◌}
-use Rattle.std.specs.Prelude.{ℤ, pos}
+-- Types, and the sizes of arrays.
+use Rattle.std.proofs.Common.{◌≡◌, Bool, true, false, List, [], ◌++◌, Option, Some, None, refl, ◌∙◌}
+use Rattle.std.specs.Prelude.{ℤ}
 use Rattle.fzn_lexer.specs.declared.token.Kind.{Kind}
 use Rattle.fzn_lexer.specs.declared.token.Place.{Place}
 use Rattle.fzn_lexer.specs.declared.token.Token.{Token}
@@ -9,91 +9,75 @@ use Rattle.fzn_lexer.specs.declared.token.Kind.TheVariants as k
 use Rattle.fzn_lexer.specs.declared.token.Symbol.TheVariants as s
 use Rattle.fzn_tree.specs.declared.tree.Base.{Base}
 use Rattle.fzn_tree.specs.declared.tree.Values.{Values}
-use Rattle.fzn_tree.specs.Piece.{Piece, AreSpelled, sign, sign_piece, placed, piece_at}
+use Rattle.fzn_tree.specs.Piece.{AreSpelled, sign_piece, piece_at}
 use Rattle.fzn_tree.specs.declared.tree.Base.TheVariants as bases
+use Rattle.fzn_tree.specs.declared.tree.Values.TheVariants as values_are
 use Rattle.fzn_tree.specs.Grammar as G
-use Rattle.fzn_parser.specs.Reading.{Reader, next_is, ◌then◌}
-use Rattle.fzn_parser.proofs.Exact.{IsExact}
-use Rattle.fzn_parser.proofs.ChoiceLaws.{StartsWith, either_of, chosen_exact}
-use Rattle.fzn_parser.proofs.SequenceLaws.{both}
-use Rattle.fzn_parser.proofs.FormLaws.{made_exact}
-use Rattle.fzn_parser.proofs.NextLaws.{next_kind, never}
-use Rattle.fzn_parser.proofs.TokenLaws.{symbol_exact, symbol_place_exact, one_exact', size_exact}
-use Rattle.fzn_parser.proofs.ListLaws.{after, behind}
-use Rattle.fzn_parser.proofs.LiteralLaws.{values_exact, values_next}
-use Rattle.fzn_parser.specs.Readers as R
+use Rattle.fzn_parser.specs.Reads.{next_is, SameNext, Stops}
+use Rattle.fzn_parser.specs.GoesOn.{never}
+use Rattle.fzn_parser.specs.Taken.{is, one}
+use Rattle.fzn_parser.proofs.NextLaws.{next_kind}
+use Rattle.fzn_parser.proofs.Onward.{last, part, IsForm, form}
+use Rattle.fzn_parser.proofs.ListLaws.{closed, closed_last}
+use Rattle.fzn_parser.proofs.FormLaws.{clash, clash', word, last_word, placed_word, last_placed}
+use Rattle.fzn_parser.proofs.LiteralLaws.{values_next}
 
-abbrev elements_parts : Unit {0} ⊎ Values → List Piece
-elements_parts = either_of (λ u. sign s.Int) G.values
+pub some_values : Values
+some_values = values_are.Listed []
 
-elements_same : (p : Unit {0} ⊎ Values) → G.elements (R.elements_of p) ≡ elements_parts p
-elements_same (inl u) = refl
-elements_same (inr v) = refl
+abbrev of_values : Values → Option Values
+of_values x = Some x
 
-elements_onto : (x : Option Values) → (p : Unit {0} ⊎ Values) × (R.elements_of p ≡ x)
-elements_onto None = (inl tt, refl)
-elements_onto (Some v) = (inr v, refl)
+module _ (ts : List Token) where
+  pub elements_any : next_is (is s.Int) ts ≡ true → IsForm G.elements never ts (last_word s.Int) (λ u. None)
+  elements_any there = form (λ u. None) (λ u. refl) onto (closed_last never)
+    where
+      onto : (x : Option Values) (u v : List Token) → AreSpelled u (G.elements x) → Stops never v → SameNext (u ++ v) ts → (c : Unit {0}) × (None ≡ x)
+      onto None u v spelled stops same = (tt, refl)
+      onto (Some x) u v spelled stops same = absurd (clash (is s.Int) ts (u ++ v) there same (values_next (is_symbol s.Int) false refl (λ z. refl) x u v spelled))
 
-elements_exact : (ts : List Token) → IsExact G.elements never ts (R.elements ts)
-unfolding R.elements
-elements_exact ts =
-    made_exact elements_parts G.elements never R.elements_of elements_same elements_onto ts _
-    (chosen_exact (R.is s.Int) (λ u. sign s.Int) G.values never
-    (λ a u v spelled. next_kind (is_symbol s.Int) (sign_piece s.Int) [] u v spelled)
-    (λ x u v spelled stops. values_next (is_symbol s.Int) false refl (λ z. refl) x u v spelled) ts _ _
-    (λ there. symbol_exact s.Int (λ e. cc) never ts)
-    (λ there. values_exact ts))
+  pub elements_of : next_is (is s.Int) ts ≡ false → IsForm G.elements never ts (last G.values never some_values) of_values
+  elements_of there = form of_values (λ x. refl) onto (closed_last never)
+    where
+      onto : (x : Option Values) (u v : List Token) → AreSpelled u (G.elements x) → Stops never v → SameNext (u ++ v) ts → (c : Values) × (Some c ≡ x)
+      onto (Some x) u v spelled stops same = (x, refl)
+      onto None u v spelled stops same = absurd (clash' (is s.Int) ts (u ++ v) there same (next_kind (is_symbol s.Int) (sign_piece s.Int) [] u v spelled))
 
-abbrev set_parts : Place × (Unit {0} × Option Values) → List Piece
-set_parts = both (λ at. placed (k.Symbol s.Set) at) (both (λ u. sign s.Of) G.elements)
+  pub base_bool : next_is (is s.Bool) ts ≡ true → IsForm G.base never ts (last_word s.Bool) (λ u. bases.Bool)
+  base_bool there = form (λ u. bases.Bool) (λ u. refl) onto (closed_last never)
+    where
+      onto : (x : Base) (u v : List Token) → AreSpelled u (G.base x) → Stops never v → SameNext (u ++ v) ts → (c : Unit {0}) × (bases.Bool ≡ x)
+      onto bases.Bool u v spelled stops same = (tt, refl)
+      onto (bases.Int at) u v spelled stops same = absurd (clash (is s.Bool) ts (u ++ v) there same (next_kind (is_symbol s.Bool) (piece_at (k.Symbol s.Int) at) [] u v spelled))
+      onto (bases.Set at x) u v spelled stops same = absurd (clash (is s.Bool) ts (u ++ v) there same (next_kind (is_symbol s.Bool) (piece_at (k.Symbol s.Set) at) _ u v spelled))
+      onto (bases.Values x) u v spelled stops same = absurd (clash (is s.Bool) ts (u ++ v) there same (values_next (is_symbol s.Bool) false refl (λ z. refl) x u v spelled))
 
-abbrev BaseParts : Type 0
-BaseParts = Unit {0} ⊎ (Place ⊎ ((Place × (Unit {0} × Option Values)) ⊎ Values))
+  pub base_int : next_is (is s.Int) ts ≡ true → IsForm G.base never ts (last_placed s.Int) (λ at. bases.Int at)
+  base_int there = form (λ at. bases.Int at) (λ at. refl) onto (closed_last never)
+    where
+      onto : (x : Base) (u v : List Token) → AreSpelled u (G.base x) → Stops never v → SameNext (u ++ v) ts → (c : Place) × (bases.Int c ≡ x)
+      onto (bases.Int at) u v spelled stops same = (at, refl)
+      onto bases.Bool u v spelled stops same = absurd (clash (is s.Int) ts (u ++ v) there same (next_kind (is_symbol s.Int) (sign_piece s.Bool) [] u v spelled))
+      onto (bases.Set at x) u v spelled stops same = absurd (clash (is s.Int) ts (u ++ v) there same (next_kind (is_symbol s.Int) (piece_at (k.Symbol s.Set) at) _ u v spelled))
+      onto (bases.Values x) u v spelled stops same = absurd (clash (is s.Int) ts (u ++ v) there same (values_next (is_symbol s.Int) false refl (λ z. refl) x u v spelled))
 
-abbrev int_or_set : Place ⊎ ((Place × (Unit {0} × Option Values)) ⊎ Values) → List Piece
-int_or_set = either_of (λ at. placed (k.Symbol s.Int) at) (either_of set_parts G.values)
+  pub base_set : next_is (is s.Set) ts ≡ true → IsForm G.base never ts (placed_word s.Set (word s.Of (last G.elements never None))) (λ p. bases.Set p.0 p.1.1)
+  base_set there = form (λ p. bases.Set p.0 p.1.1) (λ p. refl) onto (closed _ _, (closed _ _, closed_last never))
+    where
+      onto : (x : Base) (u v : List Token) → AreSpelled u (G.base x) → Stops never v → SameNext (u ++ v) ts → (c : Place × (Unit {0} × Option Values)) × (bases.Set c.0 c.1.1 ≡ x)
+      onto (bases.Set at x) u v spelled stops same = ((at, (tt, x)), refl)
+      onto bases.Bool u v spelled stops same = absurd (clash (is s.Set) ts (u ++ v) there same (next_kind (is_symbol s.Set) (sign_piece s.Bool) [] u v spelled))
+      onto (bases.Int at) u v spelled stops same = absurd (clash (is s.Set) ts (u ++ v) there same (next_kind (is_symbol s.Set) (piece_at (k.Symbol s.Int) at) [] u v spelled))
+      onto (bases.Values x) u v spelled stops same = absurd (clash (is s.Set) ts (u ++ v) there same (values_next (is_symbol s.Set) false refl (λ z. refl) x u v spelled))
 
-abbrev base_parts : BaseParts → List Piece
-base_parts = either_of (λ u. sign s.Bool) int_or_set
-
-base_same : (p : BaseParts) → G.base (R.base_of p) ≡ base_parts p
-base_same (inl u) = refl
-base_same (inr (inl at)) = refl
-base_same (inr (inr (inl p))) = refl
-base_same (inr (inr (inr v))) = refl
-
-base_onto : (b : Base) → (p : BaseParts) × (R.base_of p ≡ b)
-base_onto bases.Bool = (inl tt, refl)
-base_onto (bases.Int at) = (inr (inl at), refl)
-base_onto (bases.Set at v) = (inr (inr (inl (at, (tt, v)))), refl)
-base_onto (bases.Values v) = (inr (inr (inr v)), refl)
-
-not_bool : (p : Place ⊎ ((Place × (Unit {0} × Option Values)) ⊎ Values)) (u v : List Token) → AreSpelled u (int_or_set p) → next_is (R.is s.Bool) (u ++ v) ≡ false
-not_bool (inl at) u v spelled = next_kind (is_symbol s.Bool) (piece_at (k.Symbol s.Int) at) [] u v spelled
-not_bool (inr (inl p)) u v spelled = next_kind (is_symbol s.Bool) (piece_at (k.Symbol s.Set) p.0) _ u v spelled
-not_bool (inr (inr x)) u v spelled = values_next (is_symbol s.Bool) false refl (λ z. refl) x u v spelled
-
-not_int : (p : (Place × (Unit {0} × Option Values)) ⊎ Values) (u v : List Token) → AreSpelled u (either_of set_parts G.values p) → next_is (R.is s.Int) (u ++ v) ≡ false
-not_int (inl p) u v spelled = next_kind (is_symbol s.Int) (piece_at (k.Symbol s.Set) p.0) _ u v spelled
-not_int (inr x) u v spelled = values_next (is_symbol s.Int) false refl (λ z. refl) x u v spelled
-
-pub base_exact : (ts : List Token) → IsExact G.base never ts (R.base ts)
-unfolding R.base
-base_exact ts =
-    made_exact base_parts G.base never R.base_of base_same base_onto ts _
-    (chosen_exact (R.is s.Bool) (λ u. sign s.Bool) int_or_set never
-    (λ a u v spelled. next_kind (is_symbol s.Bool) (sign_piece s.Bool) [] u v spelled)
-    (λ p u v spelled stops. not_bool p u v spelled) ts _ _
-    (λ there. symbol_exact s.Bool (λ e. cc) never ts)
-    (λ there. chosen_exact (R.is s.Int) (λ at. placed (k.Symbol s.Int) at) (either_of set_parts G.values) never
-    (λ at u v spelled. next_kind (is_symbol s.Int) (piece_at (k.Symbol s.Int) at) [] u v spelled)
-    (λ p u v spelled stops. not_int p u v spelled) ts _ _
-    (λ there. symbol_place_exact s.Int (λ e. cc) never ts)
-    (λ there. chosen_exact (R.is s.Set) set_parts G.values never
-    (λ p u v spelled. next_kind (is_symbol s.Set) (piece_at (k.Symbol s.Set) p.0) _ u v spelled)
-    (λ x u v spelled stops. values_next (is_symbol s.Set) false refl (λ z. refl) x u v spelled) ts _ _
-    (λ there. after never (λ at. placed (k.Symbol s.Set) at) (both (λ u. sign s.Of) G.elements) (tt, None) (R.symbol_place s.Set) (R.symbol s.Of then R.elements) (symbol_place_exact s.Set (λ e. cc) never) (behind s.Of (λ e. cc) never G.elements None R.elements elements_exact) ts)
-    (λ there. values_exact ts))))
+  pub base_values : next_is (is s.Bool) ts ≡ false → next_is (is s.Int) ts ≡ false → next_is (is s.Set) ts ≡ false → IsForm G.base never ts (last G.values never some_values) (λ x. bases.Values x)
+  base_values not_bool not_int not_set = form (λ x. bases.Values x) (λ x. refl) onto (closed_last never)
+    where
+      onto : (x : Base) (u v : List Token) → AreSpelled u (G.base x) → Stops never v → SameNext (u ++ v) ts → (c : Values) × (bases.Values c ≡ x)
+      onto (bases.Values x) u v spelled stops same = (x, refl)
+      onto bases.Bool u v spelled stops same = absurd (clash' (is s.Bool) ts (u ++ v) not_bool same (next_kind (is_symbol s.Bool) (sign_piece s.Bool) [] u v spelled))
+      onto (bases.Int at) u v spelled stops same = absurd (clash' (is s.Int) ts (u ++ v) not_int same (next_kind (is_symbol s.Int) (piece_at (k.Symbol s.Int) at) [] u v spelled))
+      onto (bases.Set at x) u v spelled stops same = absurd (clash' (is s.Set) ts (u ++ v) not_set same (next_kind (is_symbol s.Set) (piece_at (k.Symbol s.Set) at) _ u v spelled))
 
 pub base_next : (f : Kind → Bool) (b : Bool) → f (k.Symbol s.Bool) ≡ b → f (k.Symbol s.Int) ≡ b → f (k.Symbol s.Set) ≡ b → f (k.Symbol s.OpenBrace) ≡ b → ((z : ℤ) → f (k.Int z) ≡ b) → (x : Base) (u v : List Token) → AreSpelled u (G.base x) → next_is (λ t. f t.kind) (u ++ v) ≡ b
 base_next f b p i q o n bases.Bool u v spelled = next_kind f (sign_piece s.Bool) [] u v spelled ∙ p
@@ -101,32 +85,8 @@ base_next f b p i q o n (bases.Int at) u v spelled = next_kind f (piece_at (k.Sy
 base_next f b p i q o n (bases.Set at x) u v spelled = next_kind f (piece_at (k.Symbol s.Set) at) _ u v spelled ∙ q
 base_next f b p i q o n (bases.Values x) u v spelled = values_next f b o n x u v spelled
 
-pub index_exact : (ts : List Token) → IsExact G.index never ts (R.index ts)
-unfolding R.index
-index_exact ts =
-    made_exact (both (λ u. G.number (pos 1)) (both (λ u. sign s.Dots) G.size)) G.index never R.index_of (λ p. refl) (λ n. ((tt, (tt, n)), refl)) ts _
-    (after never (λ u. G.number (pos 1)) (both (λ u. sign s.Dots) G.size) (tt, 0) R.one (R.symbol s.Dots then R.size) (one_exact' never) (behind s.Dots (λ e. cc) never G.size 0 R.size (size_exact never)) ts)
+pub index_of : (ts : List Token) → IsForm G.index never ts (part one never tt (word s.Dots (last G.size never 0))) (λ p. p.1.1)
+index_of ts = form (λ p. p.1.1) (λ p. refl) (λ n u v spelled stops same. ((tt, (tt, n)), refl)) (closed _ _, (closed _ _, closed_last never))
 
-module _ {A : Type 0} (inside : A → List Piece) (some : A) (read : Reader A) (exact : (ts : List Token) → IsExact inside never ts (read ts)) where
-  abbrev pub in_array : A → List Piece
-  in_array a = sign s.Array ++ (sign s.OpenBracket ++ (inside a ++ (sign s.CloseBracket ++ sign s.Of)))
-
-  pub array_with_exact : (ts : List Token) → IsExact in_array never ts (R.array_with read ts)
-  array_with_exact ts =
-      made_exact (both (λ u. sign s.Array) (both (λ u. sign s.OpenBracket) (both inside (both (λ u. sign s.CloseBracket) (λ u. sign s.Of))))) in_array never R.bracketed_of (λ p. refl) (λ a. ((tt, (tt, (a, (tt, tt)))), refl)) ts _
-      (behind s.Array (λ e. cc) never _ (tt, (some, (tt, tt))) (R.symbol s.OpenBracket then read then R.symbol s.CloseBracket then R.symbol s.Of)
-      (behind s.OpenBracket (λ e. cc) never _ (some, (tt, tt)) (read then R.symbol s.CloseBracket then R.symbol s.Of)
-      (after never inside _ (tt, tt) read (R.symbol s.CloseBracket then R.symbol s.Of) exact
-      (behind s.CloseBracket (λ e. cc) never (λ u. sign s.Of) tt (R.symbol s.Of) (symbol_exact s.Of (λ e. cc) never)))) ts)
-
-pub array_of_exact : (ts : List Token) → IsExact G.array_of never ts (R.array_of ts)
-unfolding R.array_of
-array_of_exact ts =
-    made_exact (both (λ at. placed (k.Symbol s.Array) at) (both (λ u. sign s.OpenBracket) (both G.index (both (λ u. sign s.CloseBracket) (λ u. sign s.Of))))) G.array_of never R.size_made (λ p. refl) (λ size. ((size.place, (tt, (size.count, (tt, tt)))), refl)) ts _
-    (after never (λ at. placed (k.Symbol s.Array) at) (both (λ u. sign s.OpenBracket) (both G.index (both (λ u. sign s.CloseBracket) (λ u. sign s.Of)))) (tt, (0, (tt, tt))) (R.symbol_place s.Array) (R.symbol s.OpenBracket then R.index then R.symbol s.CloseBracket then R.symbol s.Of) (symbol_place_exact s.Array (λ e. cc) never)
-    (behind s.OpenBracket (λ e. cc) never _ (0, (tt, tt)) (R.index then R.symbol s.CloseBracket then R.symbol s.Of)
-    (after never G.index _ (tt, tt) R.index (R.symbol s.CloseBracket then R.symbol s.Of) index_exact
-    (behind s.CloseBracket (λ e. cc) never (λ u. sign s.Of) tt (R.symbol s.Of) (symbol_exact s.Of (λ e. cc) never)))) ts)
-
-pub array_of_starts : StartsWith (R.is s.Array) G.array_of
-array_of_starts size u v spelled = next_kind (is_symbol s.Array) (piece_at (k.Symbol s.Array) size.place) _ u v spelled
+pub array_size : (ts : List Token) → IsForm G.array_of never ts (placed_word s.Array (word s.OpenBracket (part G.index never 0 (word s.CloseBracket (last_word s.Of))))) (λ p. record { place = p.0; count = p.1.1.0 })
+array_size ts = form (λ p. record { place = p.0; count = p.1.1.0 }) (λ p. refl) (λ size u v spelled stops same. ((size.place, (tt, (size.count, (tt, tt)))), refl)) (closed _ _, (closed _ _, (closed _ _, (closed _ _, closed_last never))))

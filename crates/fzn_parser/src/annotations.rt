@@ -1,9 +1,12 @@
 //! Annotations. A number says how many more brackets may open.
 
-ghost use Rattle.std.specs.Prelude.{◌<◌, ◌≤◌, length, OnOk};
-ghost use Rattle.fzn_lexer.specs.declared.token.Symbol.TheVariants.{CloseBracket, CloseParen};
-ghost use Rattle.fzn_parser.specs.Reading.{Gives};
-ghost use Rattle.fzn_parser.specs.Readers as spec;
+ghost use Rattle.std.specs.Prelude.{◌<◌, ◌≤◌, ◌-◌, length, OnOk};
+ghost use Rattle.fzn_lexer.specs.declared.token.Symbol.TheVariants.{OpenParen};
+ghost use Rattle.fzn_tree.specs.Grammar as grammar;
+ghost use Rattle.fzn_parser.specs.Annotations as spec;
+ghost use Rattle.fzn_parser.specs.GoesOn.{never, further};
+ghost use Rattle.fzn_parser.specs.Reads.{Reads};
+ghost use Rattle.fzn_parser.specs.Taken.{is};
 
 use crate::cursor::Start::Sign;
 use crate::cursor::{Start, Stop, Tokens};
@@ -18,9 +21,9 @@ use std::alloc::Global;
 const DEEPEST: usize = 64;
 
 #[cycle(ann)]
-#[tactic(auto, unfolding(crate::specs::Readers::Annotations::ann, crate::specs::Readers::Annotations::levels))]
 fn ann(alloc: Global, tokens: &mut Tokens<'_>, levels: usize) -> Result<Ann, Stop>
-    ensures gives { Gives (spec.ann levels tokens.old) result tokens.new }
+    requires in_range { levels ≤ grammar.deepest }
+    ensures reads { Reads (grammar.ann (grammar.deepest - levels)) (is OpenParen) tokens.old result tokens.new }
     ensures shorter { OnOk result (length tokens.new < length tokens.old) }
 {
     let name = tokens.name(alloc)?;
@@ -45,7 +48,8 @@ fn ann_args(
     tokens: &mut Tokens<'_>,
     levels: usize,
 ) -> Result<Items<AnnArg<Ann>>, Stop>
-    ensures gives { Gives (spec.ann_args levels tokens.old) result tokens.new }
+    requires in_range { levels ≤ grammar.deepest }
+    ensures reads { Reads (spec.args_in (grammar.deepest - levels)) never tokens.old result tokens.new }
     ensures never_longer { OnOk result (length tokens.new ≤ length tokens.old) }
 {
     let mut args = Items::new(alloc);
@@ -65,9 +69,9 @@ fn ann_args(
 }
 
 #[cycle(ann)]
-#[tactic(auto, unfolding(crate::specs::Readers::Annotations::ann_arg, crate::specs::Readers::Annotations::levels, crate::specs::Readers::Annotations::ann_term, crate::specs::Readers::Annotations::ann))]
 fn ann_arg(alloc: Global, tokens: &mut Tokens<'_>, levels: usize) -> Result<AnnArg<Ann>, Stop>
-    ensures gives { Gives (spec.ann_arg levels tokens.old) result tokens.new }
+    requires in_range { levels ≤ grammar.deepest }
+    ensures reads { Reads (spec.arg (grammar.deepest - levels)) further tokens.old result tokens.new }
     ensures never_longer { OnOk result (length tokens.new ≤ length tokens.old) }
 {
     if !tokens.sees(Sign(Symbol::OpenBracket)) {
@@ -87,7 +91,8 @@ fn ann_terms(
     tokens: &mut Tokens<'_>,
     levels: usize,
 ) -> Result<Items<AnnTerm<Ann>>, Stop>
-    ensures gives { Gives (spec.ann_terms levels tokens.old) result tokens.new }
+    requires in_range { levels ≤ grammar.deepest }
+    ensures reads { Reads (spec.terms_in (grammar.deepest - levels)) never tokens.old result tokens.new }
     ensures never_longer { OnOk result (length tokens.new ≤ length tokens.old) }
 {
     let mut terms = Items::new(alloc);
@@ -108,14 +113,14 @@ fn ann_terms(
 
 /// The term that stands in brackets behind so many others.
 #[cycle(ann)]
-#[tactic(auto, unfolding(crate::specs::Readers::Annotations::ann_term))]
 fn ann_entry(
     alloc: Global,
     tokens: &mut Tokens<'_>,
     levels: usize,
     number: usize,
 ) -> Result<AnnTerm<Ann>, Stop>
-    ensures gives { Gives (spec.each_term (spec.ann levels) number tokens.old) result tokens.new }
+    requires in_range { levels ≤ grammar.deepest }
+    ensures reads { Reads (spec.entry (grammar.deepest - levels) number) further tokens.old result tokens.new }
     ensures never_longer { OnOk result (length tokens.new ≤ length tokens.old) }
 {
     if number < LONGEST {
@@ -126,9 +131,9 @@ fn ann_entry(
 }
 
 #[cycle(ann)]
-#[tactic(auto, unfolding(crate::specs::Readers::Annotations::ann_term))]
 fn ann_term(alloc: Global, tokens: &mut Tokens<'_>, levels: usize) -> Result<AnnTerm<Ann>, Stop>
-    ensures gives { Gives (spec.ann_term levels tokens.old) result tokens.new }
+    requires in_range { levels ≤ grammar.deepest }
+    ensures reads { Reads (spec.term (grammar.deepest - levels)) further tokens.old result tokens.new }
     ensures never_longer { OnOk result (length tokens.new ≤ length tokens.old) }
 {
     if tokens.sees(Start::Text) {
@@ -143,7 +148,9 @@ fn ann_term(alloc: Global, tokens: &mut Tokens<'_>, levels: usize) -> Result<Ann
 
 /// An annotation behind its two colons.
 impl Part for Ann {
-    ghost reader = { spec.colons_ann };
+    ghost spell = { spec.colons };
+
+    ghost goes_on = { is OpenParen };
 
     fn read(alloc: Global, tokens: &mut Tokens<'_>, _number: usize) -> Result<Ann, Stop> {
         tokens.symbol(Symbol::Colons)?;
@@ -152,9 +159,8 @@ impl Part for Ann {
 }
 
 /// As many annotations as there are, each behind two colons.
-#[tactic(auto, unfolding(crate::specs::Readers::Annotations::anns))]
 pub fn anns(alloc: Global, tokens: &mut Tokens<'_>) -> Result<Items<Ann>, Stop>
-    ensures gives { Gives (spec.anns tokens.old) result tokens.new }
+    ensures reads { Reads grammar.anns further tokens.old result tokens.new }
     ensures never_longer { OnOk result (length tokens.new ≤ length tokens.old) }
 {
     many(alloc, tokens, Symbol::Colons)

@@ -1,8 +1,9 @@
 //! The tokens that are left, and why the next one is refused.
 
-ghost use Rattle.std.specs.Prelude.{◌≡◌, ◌<◌, ℕ, List, length, OnOk};
+ghost use Rattle.std.specs.Prelude.{◌≡◌, ◌≢◌, ◌<◌, ℕ, Bool, true, false, List, Err, length, OnOk};
 ghost use Rattle.fzn_lexer.specs.Kept.{kind_in};
-ghost use Rattle.fzn_parser.specs.Readers.{literal_signs, starts, value_in, text_in};
+ghost use Rattle.fzn_parser.specs.Begins.{literal_signs, starts};
+ghost use Rattle.fzn_parser.specs.Taken.{value_in, text_in};
 
 use fzn_lexer::{FaultKind, Form, Halt, Kept, Place, Places, Symbol, TokenList, inside};
 use fzn_list::{LONGEST, Text};
@@ -142,8 +143,14 @@ impl<'a> Model for Tokens<'a> {
 impl<'a> Tokens<'a> {
     ghost use Rattle.fzn_lexer.specs.declared.fault.FaultKind.TheVariants.{Syntax};
     ghost use Rattle.fzn_lexer.specs.declared.halt.Halt.TheVariants.{Fault};
-    ghost use Rattle.fzn_parser.specs.Reading.{Gives, next_is, over_limit, refusal};
-    ghost use Rattle.fzn_parser.specs.Readers as read;
+    ghost use Rattle.fzn_lexer.specs.declared.token.Symbol.TheVariants.{End};
+    ghost use Rattle.fzn_lexer.specs.declared.token.Kind.TheVariants as kinds;
+    ghost use Rattle.fzn_tree.specs.Piece.{sign, placed};
+    ghost use Rattle.fzn_tree.specs.Grammar as grammar;
+    ghost use Rattle.fzn_parser.specs.Begins.{begins};
+    ghost use Rattle.fzn_parser.specs.GoesOn.{never};
+    ghost use Rattle.fzn_parser.specs.Reads.{Reads, next_is};
+    ghost use Rattle.fzn_parser.specs.Taken.{Takes, is, refusal, over, one, text};
 
     /// All of these tokens.
     pub fn new(tokens: &'a TokenList<'_>) -> Tokens<'a>
@@ -168,7 +175,7 @@ impl<'a> Tokens<'a> {
 
     /// Whether the next token is one of these.
     pub fn sees(&self, wanted: Start) -> bool
-        ensures { result ≡ next_is (read.begins wanted) self.now }
+        ensures { result ≡ next_is (begins wanted) self.now }
     {
         match self.rest {
             [] => false,
@@ -178,7 +185,7 @@ impl<'a> Tokens<'a> {
 
     /// Why one more, which begins with one of these, is refused where there are as many as there may be.
     pub fn refuse_more(&self, wanted: Start) -> Stop
-        ensures { Gives (over_limit {A = Unit {0}} (next_is (read.begins wanted) self.now) self.now) (Err result) self.now }
+        ensures { result ≡ Fault (over (next_is (begins wanted) self.now) self.now) }
     {
         if self.sees(wanted) {
             self.refuse(FaultKind::TooMany)
@@ -188,9 +195,8 @@ impl<'a> Tokens<'a> {
     }
 
     /// Past the next token, if it is one of these. A syntax fault where it is another, or none is left.
-    #[tactic(auto, unfolding(crate::specs::Readers::Tokens::taken))]
     fn take_if(&mut self, wanted: Start) -> Result<Taken<'a>, Stop>
-        ensures gives { Gives (read.taken wanted self.old) result self.new }
+        ensures takes { Takes wanted self.old result self.new }
         ensures shorter { OnOk result (length self.new < length self.old) }
     {
         let [token, rest @ ..] = self.rest else {
@@ -210,19 +216,28 @@ impl<'a> Tokens<'a> {
     }
 
     /// Past this symbol. A syntax fault where the next token is another.
-    #[tactic(auto, unfolding(crate::specs::Readers::Tokens::symbol))]
     pub fn symbol(&mut self, symbol: Symbol) -> Result<(), Stop>
-        ensures gives { Gives (read.symbol symbol self.old) result self.new }
+        requires not_end { symbol ≢ End }
+        ensures reads { Reads (λ u. sign symbol) never self.old result self.new }
         ensures shorter { OnOk result (length self.new < length self.old) }
     {
         self.take_if(Start::Sign(symbol))?;
         Ok(())
     }
 
+    /// Past the end. A syntax fault where the next token is another.
+    pub fn end(&mut self) -> Result<(), Stop>
+        ensures ok { OnOk result (next_is (is End) self.old ≡ true) }
+        ensures err { (found : Refusal) → result ≡ Err (Fault found) → (found ≡ refusal Syntax self.old) × (next_is (is End) self.old ≡ false) }
+    {
+        self.take_if(Start::Sign(Symbol::End))?;
+        Ok(())
+    }
+
     /// Past this symbol, with its place. A syntax fault where the next token is another.
-    #[tactic(auto, unfolding(crate::specs::Readers::Tokens::symbol_place))]
     pub fn symbol_place(&mut self, symbol: Symbol) -> Result<Place, Stop>
-        ensures gives { Gives (read.symbol_place symbol self.old) result self.new }
+        requires not_end { symbol ≢ End }
+        ensures reads { Reads (λ at. placed (kinds.Symbol symbol) at) never self.old result self.new }
         ensures shorter { OnOk result (length self.new < length self.old) }
     {
         let token = self.take_if(Start::Sign(symbol))?;
@@ -230,9 +245,8 @@ impl<'a> Tokens<'a> {
     }
 
     /// The name that is next, with its place. A syntax fault where the next token is none.
-    #[tactic(auto, unfolding(crate::specs::Readers::Tokens::name))]
     pub fn name(&mut self, alloc: Global) -> Result<Name, Stop>
-        ensures gives { Gives (read.name self.old) result self.new }
+        ensures reads { Reads grammar.name never self.old result self.new }
         ensures shorter { OnOk result (length self.new < length self.old) }
     {
         let token = self.take_if(Start::Name)?;
@@ -243,9 +257,8 @@ impl<'a> Tokens<'a> {
     }
 
     /// The text that is next, without its quotes, and its place. A syntax fault where the next token is none.
-    #[tactic(auto, unfolding(crate::specs::Readers::Tokens::text))]
     pub fn text(&mut self, alloc: Global) -> Result<(Text, Place), Stop>
-        ensures gives { Gives (read.text self.old) result self.new }
+        ensures reads { Reads text never self.old result self.new }
         ensures shorter { OnOk result (length self.new < length self.old) }
     {
         let token = self.take_if(Start::Text)?;
@@ -254,9 +267,8 @@ impl<'a> Tokens<'a> {
     }
 
     /// The number that is next, with its place. A syntax fault where the next token is none.
-    #[tactic(auto, unfolding(crate::specs::Readers::Numbers::int))]
     pub fn int(&mut self) -> Result<Int, Stop>
-        ensures gives { Gives (read.int self.old) result self.new }
+        ensures reads { Reads grammar.int never self.old result self.new }
         ensures shorter { OnOk result (length self.new < length self.old) }
     {
         let token = self.take_if(Start::Int)?;
@@ -267,9 +279,8 @@ impl<'a> Tokens<'a> {
     }
 
     /// A number, where its place is not wanted. A syntax fault where the next token is none.
-    #[tactic(auto, unfolding(crate::specs::Readers::Numbers::number))]
     pub fn number(&mut self) -> Result<i64, Stop>
-        ensures gives { Gives (read.number self.old) result self.new }
+        ensures reads { Reads grammar.number never self.old result self.new }
         ensures shorter { OnOk result (length self.new < length self.old) }
     {
         let token = self.take_if(Start::Int)?;
@@ -277,27 +288,27 @@ impl<'a> Tokens<'a> {
     }
 
     /// The number 1. A syntax fault where the next token is another.
-    #[tactic(auto, unfolding(crate::specs::Readers::Numbers::one))]
     pub fn one(&mut self) -> Result<(), Stop>
-        ensures gives { Gives (read.one self.old) result self.new }
+        ensures reads { Reads one never self.old result self.new }
         ensures shorter { OnOk result (length self.new < length self.old) }
     {
         let refused = self.refuse(FaultKind::Syntax);
-        if self.number()? != 1 {
+        let token = self.take_if(Start::Int)?;
+        if token.value() != 1 {
             return Err(refused);
         }
         Ok(())
     }
 
     /// The number of an array's entries. A syntax fault where the next token is no number or is below 0, too many above `LONGEST`.
-    #[tactic(auto, unfolding(crate::specs::Readers::Numbers::size))]
     pub fn size(&mut self) -> Result<usize, Stop>
-        ensures gives { Gives (read.size self.old) result self.new }
+        ensures reads { Reads grammar.size never self.old result self.new }
         ensures shorter { OnOk result (length self.new < length self.old) }
     {
         let refused = self.refuse(FaultKind::Syntax);
         let too_many = self.refuse(FaultKind::TooMany);
-        let value = self.number()?;
+        let token = self.take_if(Start::Int)?;
+        let value = token.value();
         if value < 0 {
             return Err(refused);
         }

@@ -1,24 +1,28 @@
 //! Parameters and variables.
 
-ghost use Rattle.std.specs.Prelude.{◌≡◌, ◌<◌, ◌≤◌, ◌++◌, ℕ, List, Option, length, OnOk, IfOk};
-ghost use Rattle.fzn_tree.specs.Grammar.{singles_with};
-ghost use Rattle.fzn_parser.specs.Reading.{Gives, made};
-ghost use Rattle.fzn_parser.specs.Readers as spec;
+ghost use Rattle.std.specs.Prelude.{◌≡◌, ◌<◌, ◌≤◌, Err, length, OnOk, IfOk};
+ghost use Rattle.fzn_lexer.specs.declared.halt.Halt.TheVariants.{Fault};
+ghost use Rattle.fzn_tree.specs.Grammar as grammar;
+ghost use Rattle.fzn_parser.specs.Declarations as spec;
+ghost use Rattle.fzn_parser.specs.GoesOn.{never, further, declares};
+ghost use Rattle.fzn_parser.specs.Reads.{Reads, IsRefused};
 
 use crate::annotations::anns;
 use crate::cursor::Start::Sign;
-use crate::cursor::{Start, Stop, Tokens};
+use crate::cursor::{Refusal, Start, Stop, Tokens};
 use crate::lists::listed;
 use crate::types::{array_of, base};
 use crate::values::{array, basic, literal};
 use fzn_lexer::Symbol;
 use fzn_list::{Items, LONGEST};
-use fzn_tree::{ArrayVar, Basic, Literal, Param, ParamBase, ParamValue, SingleVar, Size, Var};
+use fzn_tree::{
+    Ann, Array, ArrayVar, Base, Basic, Literal, Name, Param, ParamBase, ParamValue, SingleVar,
+    Size, Var,
+};
 use std::alloc::Global;
 
-#[tactic(auto, unfolding(crate::specs::Readers::Params::param_base))]
 fn param_base(tokens: &mut Tokens<'_>) -> Result<ParamBase, Stop>
-    ensures gives { Gives (spec.param_base tokens.old) result tokens.new }
+    ensures reads { Reads grammar.param_base never tokens.old result tokens.new }
     ensures shorter { OnOk result (length tokens.new < length tokens.old) }
 {
     if tokens.sees(Sign(Symbol::Bool)) {
@@ -33,9 +37,8 @@ fn param_base(tokens: &mut Tokens<'_>) -> Result<ParamBase, Stop>
     Ok(ParamBase::Set(place))
 }
 
-#[tactic(auto, unfolding(crate::specs::Readers::Params::param_value))]
 fn param_value(alloc: Global, tokens: &mut Tokens<'_>) -> Result<ParamValue, Stop>
-    ensures gives { Gives (spec.param_value tokens.old) result tokens.new }
+    ensures reads { Reads grammar.param_value further tokens.old result tokens.new }
     ensures never_longer { OnOk result (length tokens.new ≤ length tokens.old) }
 {
     if !tokens.sees(Sign(Symbol::OpenBracket)) {
@@ -46,10 +49,30 @@ fn param_value(alloc: Global, tokens: &mut Tokens<'_>) -> Result<ParamValue, Sto
     Ok(ParamValue::Array(place, entries))
 }
 
-/// The parameter of this size, from its type on.
-#[tactic(auto, unfolding(crate::specs::Readers::Params::param_rest))]
-fn param_rest(alloc: Global, tokens: &mut Tokens<'_>, size: Option<Size>) -> Result<Param, Stop>
-    ensures gives { Gives (made (spec.param_of size) (spec.param_rest tokens.old)) result tokens.new }
+/// A parameter from its type on.
+#[derive(Drop)]
+pub struct ParamRest {
+    pub base: ParamBase,
+    pub name: Name,
+    pub value: ParamValue,
+}
+
+impl ParamRest {
+    /// The parameter of this size.
+    fn of_size(self, size: Option<Size>) -> Param
+        ensures { result ≡ record { size = size; base = self.base; name = self.name; value = self.value } }
+    {
+        Param {
+            size,
+            base: self.base,
+            name: self.name,
+            value: self.value,
+        }
+    }
+}
+
+fn param_rest(alloc: Global, tokens: &mut Tokens<'_>) -> Result<ParamRest, Stop>
+    ensures reads { Reads spec.param_rest never tokens.old result tokens.new }
     ensures shorter { OnOk result (length tokens.new < length tokens.old) }
 {
     let base = param_base(tokens)?;
@@ -58,18 +81,12 @@ fn param_rest(alloc: Global, tokens: &mut Tokens<'_>, size: Option<Size>) -> Res
     tokens.symbol(Symbol::Equals)?;
     let value = param_value(alloc, tokens)?;
     tokens.symbol(Symbol::Semicolon)?;
-    Ok(Param {
-        size,
-        base,
-        name,
-        value,
-    })
+    Ok(ParamRest { base, name, value })
 }
 
 /// The value that a variable is declared with, up to the semicolon.
-#[tactic(auto, unfolding(crate::specs::Readers::Variables::given))]
 fn given(alloc: Global, tokens: &mut Tokens<'_>) -> Result<Option<Basic>, Stop>
-    ensures gives { Gives (spec.given tokens.old) result tokens.new }
+    ensures reads { Reads spec.given never tokens.old result tokens.new }
     ensures never_longer { OnOk result (length tokens.new ≤ length tokens.old) }
 {
     if !tokens.sees(Sign(Symbol::Equals)) {
@@ -82,9 +99,8 @@ fn given(alloc: Global, tokens: &mut Tokens<'_>) -> Result<Option<Basic>, Stop>
     Ok(Some(value))
 }
 
-#[tactic(auto, unfolding(crate::specs::Readers::Variables::single_var))]
 fn single_var(alloc: Global, tokens: &mut Tokens<'_>) -> Result<SingleVar, Stop>
-    ensures gives { Gives (spec.single_var tokens.old) result tokens.new }
+    ensures reads { Reads grammar.single_var never tokens.old result tokens.new }
     ensures shorter { OnOk result (length tokens.new < length tokens.old) }
 {
     let place = tokens.symbol_place(Symbol::Var)?;
@@ -102,10 +118,32 @@ fn single_var(alloc: Global, tokens: &mut Tokens<'_>) -> Result<SingleVar, Stop>
     })
 }
 
-/// The array of variables of this size, from `var` on.
-#[tactic(auto, unfolding(crate::specs::Readers::Variables::array_rest))]
-fn array_rest(alloc: Global, tokens: &mut Tokens<'_>, size: Size) -> Result<ArrayVar, Stop>
-    ensures gives { Gives (made (spec.array_var_of size) (spec.array_rest tokens.old)) result tokens.new }
+/// An array of variables from `var` on.
+#[derive(Drop)]
+pub struct ArrayRest {
+    pub base: Base,
+    pub name: Name,
+    pub anns: Items<Ann>,
+    pub array: Array,
+}
+
+impl ArrayRest {
+    /// The array of variables of this size.
+    fn of_size(self, size: Size) -> ArrayVar
+        ensures { result ≡ record { size = size; base = self.base; name = self.name; anns = self.anns; array = self.array } }
+    {
+        ArrayVar {
+            size,
+            base: self.base,
+            name: self.name,
+            anns: self.anns,
+            array: self.array,
+        }
+    }
+}
+
+fn array_rest(alloc: Global, tokens: &mut Tokens<'_>) -> Result<ArrayRest, Stop>
+    ensures reads { Reads spec.array_rest never tokens.old result tokens.new }
     ensures shorter { OnOk result (length tokens.new < length tokens.old) }
 {
     tokens.symbol(Symbol::Var)?;
@@ -116,8 +154,7 @@ fn array_rest(alloc: Global, tokens: &mut Tokens<'_>, size: Size) -> Result<Arra
     tokens.symbol(Symbol::Equals)?;
     let array = array(alloc, tokens)?;
     tokens.symbol(Symbol::Semicolon)?;
-    Ok(ArrayVar {
-        size,
+    Ok(ArrayRest {
         base,
         name,
         anns,
@@ -126,16 +163,16 @@ fn array_rest(alloc: Global, tokens: &mut Tokens<'_>, size: Size) -> Result<Arra
 }
 
 /// A variable or an array of them, behind so many single variables.
-#[tactic(auto, unfolding(crate::specs::Readers::Variables::var, crate::specs::Readers::Variables::counted_single))]
 fn var(alloc: Global, tokens: &mut Tokens<'_>, singles: usize) -> Result<Var, Stop>
     requires { singles ≤ LONGEST }
-    ensures gives { Gives (spec.var singles tokens.old) result tokens.new }
-    ensures few { IfOk result (λ found. singles_with singles found ≤ LONGEST) }
+    ensures reads { Reads (grammar.var singles) never tokens.old result tokens.new }
+    ensures few { IfOk result (λ found. grammar.singles_with singles found ≤ LONGEST) }
     ensures shorter { OnOk result (length tokens.new < length tokens.old) }
 {
     if tokens.sees(Sign(Symbol::Array)) {
         let size = array_of(tokens)?;
-        return Ok(Var::Array(array_rest(alloc, tokens, size)?));
+        let rest = array_rest(alloc, tokens)?;
+        return Ok(Var::Array(rest.of_size(size)));
     }
     if singles >= LONGEST {
         return Err(tokens.refuse_more(Sign(Symbol::Var)));
@@ -146,7 +183,7 @@ fn var(alloc: Global, tokens: &mut Tokens<'_>, singles: usize) -> Result<Var, St
 /// How many single variables there are with this one.
 fn count_single(singles: usize, var: &Var) -> usize
     requires { singles ≤ LONGEST }
-    ensures { result ≡ singles_with singles var.now }
+    ensures { result ≡ grammar.singles_with singles var.now }
 {
     match var {
         Var::Single(_) => singles + 1,
@@ -160,7 +197,8 @@ fn more_vars(
     tokens: &mut Tokens<'_>,
     mut vars: Items<Var>,
 ) -> Result<Items<Var>, Stop>
-    ensures gives { Gives (made (λ more. vars ++ more) (spec.vars 0 tokens.old)) result tokens.new }
+    ensures ok { IfOk result (λ all. spec.AreReadBehind vars tokens.old all tokens.new) }
+    ensures err { (found : Refusal) → result ≡ Err (Fault found) → IsRefused (spec.vars 0) declares tokens.old found }
 {
     let mut singles: usize = 0;
     'vars: while tokens.sees(Start::Var) {
@@ -178,19 +216,21 @@ pub enum Declared {
     Array(ArrayVar),
 }
 
-#[tactic(auto, unfolding(crate::specs::Readers::DeclarationList::declaration))]
 fn declaration(alloc: Global, tokens: &mut Tokens<'_>) -> Result<Declared, Stop>
-    ensures gives { Gives (spec.declaration tokens.old) result tokens.new }
+    ensures reads { Reads spec.declared never tokens.old result tokens.new }
     ensures shorter { OnOk result (length tokens.new < length tokens.old) }
 {
     if !tokens.sees(Sign(Symbol::Array)) {
-        return Ok(Declared::Param(param_rest(alloc, tokens, None)?));
+        let rest = param_rest(alloc, tokens)?;
+        return Ok(Declared::Param(rest.of_size(None)));
     }
     let size = array_of(tokens)?;
     if tokens.sees(Sign(Symbol::Var)) {
-        return Ok(Declared::Array(array_rest(alloc, tokens, size)?));
+        let rest = array_rest(alloc, tokens)?;
+        return Ok(Declared::Array(rest.of_size(size)));
     }
-    Ok(Declared::Param(param_rest(alloc, tokens, Some(size))?))
+    let rest = param_rest(alloc, tokens)?;
+    Ok(Declared::Param(rest.of_size(Some(size))))
 }
 
 /// The parameters, and then the variables.
@@ -198,7 +238,7 @@ pub fn declarations(
     alloc: Global,
     tokens: &mut Tokens<'_>,
 ) -> Result<(Items<Param>, Items<Var>), Stop>
-    ensures gives { Gives (spec.declarations tokens.old) result tokens.new }
+    ensures reads { Reads grammar.declarations declares tokens.old result tokens.new }
 {
     let mut params = Items::new(alloc);
     let mut vars = Items::new(alloc);

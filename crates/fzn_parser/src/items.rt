@@ -1,12 +1,17 @@
 //! Constraints, the goal and the whole file.
 
-ghost use Rattle.std.specs.Prelude.{◌<◌, length, OnOk};
-ghost use Rattle.fzn_parser.specs.Reading.{Gives};
-ghost use Rattle.fzn_parser.specs.Readers as spec;
+ghost use Rattle.std.specs.Prelude.{◌≡◌, ◌<◌, Err, length, nat_lt, OnOk, IfOk};
+ghost use Rattle.fzn_lexer.specs.declared.halt.Halt.TheVariants.{Fault};
+ghost use Rattle.fzn_lexer.specs.Tokens.{EndsInEnd};
+ghost use Rattle.fzn_tree.specs.Grammar as grammar;
+ghost use Rattle.fzn_tree.specs.Piece.{marked};
+ghost use Rattle.fzn_parser.specs.GoesOn.{never, further};
+ghost use Rattle.fzn_parser.specs.Reads.{Reads};
+ghost use Rattle.fzn_parser.specs.Whole.{IsOneTree, IsFirstFault};
 
 use crate::annotations::anns;
 use crate::cursor::Start::Sign;
-use crate::cursor::{Stop, Tokens};
+use crate::cursor::{Refusal, Stop, Tokens};
 use crate::declarations::declarations;
 use crate::lists::{Part, listed, many};
 use crate::values::basic;
@@ -15,9 +20,8 @@ use fzn_list::{Items, LONGEST};
 use fzn_tree::{Arg, Con, Goal, Predicate, Solve, Tree};
 use std::alloc::Global;
 
-#[tactic(auto, unfolding(crate::specs::Readers::Items::con))]
 fn con(alloc: Global, tokens: &mut Tokens<'_>) -> Result<Con, Stop>
-    ensures gives { Gives (spec.con tokens.old) result tokens.new }
+    ensures reads { Reads grammar.con never tokens.old result tokens.new }
     ensures shorter { OnOk result (length tokens.new < length tokens.old) }
 {
     tokens.symbol(Symbol::Constraint)?;
@@ -30,9 +34,10 @@ fn con(alloc: Global, tokens: &mut Tokens<'_>) -> Result<Con, Stop>
 }
 
 impl Part for Con {
-    ghost reader = { spec.each_con };
+    ghost spell = { λ n c. marked (nat_lt n grammar.most) (grammar.con c) };
 
-    #[tactic(auto, unfolding(crate::specs::Readers::Items::each_con))]
+    ghost goes_on = { never };
+
     fn read(alloc: Global, tokens: &mut Tokens<'_>, number: usize) -> Result<Con, Stop> {
         if number < LONGEST {
             con(alloc, tokens)
@@ -42,9 +47,8 @@ impl Part for Con {
     }
 }
 
-#[tactic(auto, unfolding(crate::specs::Readers::Items::goal))]
 fn goal(alloc: Global, tokens: &mut Tokens<'_>) -> Result<Goal, Stop>
-    ensures gives { Gives (spec.goal tokens.old) result tokens.new }
+    ensures reads { Reads grammar.goal further tokens.old result tokens.new }
 {
     if tokens.sees(Sign(Symbol::Satisfy)) {
         tokens.symbol(Symbol::Satisfy)?;
@@ -58,9 +62,8 @@ fn goal(alloc: Global, tokens: &mut Tokens<'_>) -> Result<Goal, Stop>
     Ok(Goal::Maximize(basic(alloc, tokens)?))
 }
 
-#[tactic(auto, unfolding(crate::specs::Readers::Items::solve))]
 fn solve(alloc: Global, tokens: &mut Tokens<'_>) -> Result<Solve, Stop>
-    ensures gives { Gives (spec.solve tokens.old) result tokens.new }
+    ensures reads { Reads grammar.solve never tokens.old result tokens.new }
 {
     tokens.symbol(Symbol::Solve)?;
     let anns = anns(alloc, tokens)?;
@@ -69,9 +72,8 @@ fn solve(alloc: Global, tokens: &mut Tokens<'_>) -> Result<Solve, Stop>
     Ok(Solve { anns, goal })
 }
 
-#[tactic(auto, unfolding(crate::specs::Readers::Items::items))]
 fn items(alloc: Global, tokens: &mut Tokens<'_>) -> Result<Tree, Stop>
-    ensures { Gives (spec.items tokens.old) result tokens.new }
+    ensures reads { Reads grammar.items never tokens.old result tokens.new }
 {
     let predicates: Items<Predicate> = many(alloc, tokens, Symbol::Predicate)?;
     let (params, vars) = declarations(alloc, tokens)?;
@@ -87,11 +89,12 @@ fn items(alloc: Global, tokens: &mut Tokens<'_>) -> Result<Tree, Stop>
 }
 
 /// The whole file, with its end.
-#[tactic(auto, unfolding(crate::specs::Readers::Items::tree))]
 pub fn tree(alloc: Global, tokens: &mut Tokens<'_>) -> Result<Tree, Stop>
-    ensures { Gives (spec.tree tokens.old) result tokens.new }
+    requires { EndsInEnd tokens.old }
+    ensures ok { IfOk result (λ t. IsOneTree tokens.old t) }
+    ensures err { (found : Refusal) → result ≡ Err (Fault found) → IsFirstFault tokens.old found }
 {
     let tree = items(alloc, tokens)?;
-    tokens.symbol(Symbol::End)?;
+    tokens.end()?;
     Ok(tree)
 }

@@ -1,9 +1,13 @@
 //! Lists: between commas up to a closing sign, and as many as are written.
 
-ghost use Rattle.std.specs.Prelude.{◌<◌, ◌≤◌, ◌++◌, suc, length, OnOk};
-ghost use Rattle.fzn_parser.specs.Reading.{Gives, made, many, many_all};
-ghost use Rattle.fzn_parser.specs.Readers as spec;
-ghost use Rattle.fzn_lexer.specs.declared.token.Symbol.TheVariants.{Comma};
+ghost use Rattle.std.specs.Prelude.{◌<◌, ◌≤◌, ◌≢◌, ◌||◌, length, OnOk};
+ghost use Rattle.fzn_lexer.specs.declared.token.Symbol.TheVariants.{End};
+ghost use Rattle.fzn_tree.specs.Grammar as grammar;
+ghost use Rattle.fzn_tree.specs.Piece.{each};
+ghost use Rattle.fzn_parser.specs.GoesOn.{never};
+ghost use Rattle.fzn_parser.specs.Lists.{IsListed, AreMany};
+ghost use Rattle.fzn_parser.specs.Reads.{Reads};
+ghost use Rattle.fzn_parser.specs.Taken.{is};
 
 use crate::cursor::Start::Sign;
 use crate::cursor::{Stop, Tokens};
@@ -13,42 +17,30 @@ use std::alloc::Global;
 
 /// What stands in a list, by its number from 0.
 pub trait Part: Sized + Drop {
-    ghost use Rattle.std.specs.Prelude.{ℕ};
-    ghost use Rattle.fzn_parser.specs.Reading.{Reader};
+    ghost use Rattle.std.specs.Prelude.{ℕ, Bool, List};
+    ghost use Rattle.fzn_lexer.specs.declared.token.Token.{Token};
+    ghost use Rattle.fzn_tree.specs.Piece.{Piece};
 
-    ghost reader: { ℕ → Reader Self };
+    /// What it spells behind so many others.
+    ghost spell: { ℕ → Self → List Piece };
+
+    /// The tokens that go on it.
+    ghost goes_on: { Token → Bool };
 
     /// The part that is next, behind so many others. The first fault where it is not written so, or where there are as many as there may be.
     fn read(alloc: Global, tokens: &mut Tokens<'_>, number: usize) -> Result<Self, Stop>
-        ensures gives { Gives (reader number tokens.old) result tokens.new }
+        ensures reads { Reads (spell number) goes_on tokens.old result tokens.new }
         ensures shorter { OnOk result (length tokens.new < length tokens.old) };
 }
 
-/// The parts behind commas, at the end of `parts`.
-fn after_commas<P: Part>(
-    alloc: Global,
-    tokens: &mut Tokens<'_>,
-    mut parts: Items<P>,
-) -> Result<Items<P>, Stop>
-    ensures gives { Gives (made (λ more. parts ++ more) (many (spec.is Comma) (spec.after_comma P.reader) (suc (length tokens.old)) (length parts) tokens.old)) result tokens.new }
-    ensures never_longer { OnOk result (length tokens.new ≤ length tokens.old) }
-{
-    'commas: while tokens.sees(Sign(Symbol::Comma)) {
-        tokens.symbol(Symbol::Comma)?;
-        let part = P::read(alloc, tokens, parts.len())?;
-        parts.push(part)?;
-    }
-    Ok(parts)
-}
-
 /// The parts up to the closing sign, which is read too. The first fault where a part, a comma or that sign is missing.
-#[tactic(auto, unfolding(crate::specs::Readers::Lists::listed))]
 pub fn listed<P: Part>(
     alloc: Global,
     tokens: &mut Tokens<'_>,
     close: Symbol,
 ) -> Result<Items<P>, Stop>
-    ensures gives { Gives (spec.listed P.reader close tokens.old) result tokens.new }
+    requires listed { IsListed P.spell P.goes_on close }
+    ensures reads { Reads (grammar.listed P.spell close) never tokens.old result tokens.new }
     ensures shorter { OnOk result (length tokens.new < length tokens.old) }
 {
     let mut parts = Items::new(alloc);
@@ -58,7 +50,11 @@ pub fn listed<P: Part>(
     }
     let first = P::read(alloc, tokens, 0)?;
     parts.push(first)?;
-    let parts = after_commas(alloc, tokens, parts)?;
+    'commas: while tokens.sees(Sign(Symbol::Comma)) {
+        tokens.symbol(Symbol::Comma)?;
+        let part = P::read(alloc, tokens, parts.len())?;
+        parts.push(part)?;
+    }
     tokens.symbol(close)?;
     Ok(parts)
 }
@@ -69,7 +65,8 @@ pub fn many<P: Part>(
     tokens: &mut Tokens<'_>,
     begins: Symbol,
 ) -> Result<Items<P>, Stop>
-    ensures gives { Gives (many_all (spec.is begins) P.reader 0 tokens.old) result tokens.new }
+    requires many { AreMany P.spell P.goes_on begins }
+    ensures reads { Reads (each P.spell 0) (λ t. is begins t || P.goes_on t) tokens.old result tokens.new }
     ensures never_longer { OnOk result (length tokens.new ≤ length tokens.old) }
 {
     let mut parts = Items::new(alloc);

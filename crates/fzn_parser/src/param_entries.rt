@@ -1,6 +1,7 @@
 //! The entries of a parameter that is an array.
 
-ghost use Rattle.fzn_parser.specs.Readers as spec;
+ghost use Rattle.fzn_tree.specs.Grammar as grammar;
+ghost use Rattle.fzn_parser.specs.GoesOn.{further};
 
 use crate::cursor::{Start, Stop, Tokens};
 use crate::lists::Part;
@@ -11,9 +12,10 @@ use std::alloc::Global;
 
 /// An entry of a parameter that is an array.
 impl Part for Literal {
-    ghost reader = { spec.param_entry };
+    ghost spell = { grammar.param_entry };
 
-    #[tactic(auto, unfolding(crate::specs::Readers::Values::param_entry))]
+    ghost goes_on = { further };
+
     fn read(alloc: Global, tokens: &mut Tokens<'_>, number: usize) -> Result<Literal, Stop> {
         if number < LONGEST {
             literal(alloc, tokens)

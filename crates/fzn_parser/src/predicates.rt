@@ -1,8 +1,11 @@
 //! Predicate items.
 
 ghost use Rattle.std.specs.Prelude.{◌<◌, ◌≤◌, length, OnOk};
-ghost use Rattle.fzn_parser.specs.Reading.{Gives};
-ghost use Rattle.fzn_parser.specs.Readers as spec;
+ghost use Rattle.fzn_lexer.specs.declared.token.Symbol.TheVariants.{Array, Var};
+ghost use Rattle.fzn_tree.specs.Grammar as grammar;
+ghost use Rattle.fzn_parser.specs.GoesOn.{never};
+ghost use Rattle.fzn_parser.specs.Reads.{Reads};
+ghost use Rattle.fzn_parser.specs.Taken.{is};
 
 use crate::cursor::Start::Sign;
 use crate::cursor::{Stop, Tokens};
@@ -13,9 +16,8 @@ use fzn_list::Items;
 use fzn_tree::{Indices, Predicate, PredicateParam};
 use std::alloc::Global;
 
-#[tactic(auto, unfolding(crate::specs::Readers::Predicates::index_set))]
 fn index_set(tokens: &mut Tokens<'_>) -> Result<Indices, Stop>
-    ensures gives { Gives (spec.index_set tokens.old) result tokens.new }
+    ensures reads { Reads grammar.index_set never tokens.old result tokens.new }
     ensures never_longer { OnOk result (length tokens.new ≤ length tokens.old) }
 {
     if tokens.sees(Sign(Symbol::Int)) {
@@ -26,9 +28,8 @@ fn index_set(tokens: &mut Tokens<'_>) -> Result<Indices, Stop>
 }
 
 /// The index set of an array in a predicate, if an array is written.
-#[tactic(auto, unfolding(crate::specs::Readers::Predicates::predicate_array))]
 fn predicate_array(tokens: &mut Tokens<'_>) -> Result<Option<Indices>, Stop>
-    ensures gives { Gives (spec.predicate_array tokens.old) result tokens.new }
+    ensures reads { Reads grammar.predicate_array (is Array) tokens.old result tokens.new }
     ensures never_longer { OnOk result (length tokens.new ≤ length tokens.old) }
 {
     if !tokens.sees(Sign(Symbol::Array)) {
@@ -43,9 +44,8 @@ fn predicate_array(tokens: &mut Tokens<'_>) -> Result<Option<Indices>, Stop>
 }
 
 /// Whether `var` is written.
-#[tactic(auto, unfolding(crate::specs::Readers::Predicates::optional_var))]
 fn optional_var(tokens: &mut Tokens<'_>) -> Result<bool, Stop>
-    ensures gives { Gives (spec.optional_var tokens.old) result tokens.new }
+    ensures reads { Reads grammar.optional_var (is Var) tokens.old result tokens.new }
     ensures never_longer { OnOk result (length tokens.new ≤ length tokens.old) }
 {
     if !tokens.sees(Sign(Symbol::Var)) {
@@ -56,9 +56,10 @@ fn optional_var(tokens: &mut Tokens<'_>) -> Result<bool, Stop>
 }
 
 impl Part for PredicateParam {
-    ghost reader = { spec.each_predicate_param };
+    ghost spell = { λ n. grammar.predicate_param };
 
-    #[tactic(auto, unfolding(crate::specs::Readers::Predicates::predicate_param))]
+    ghost goes_on = { never };
+
     fn read(
         alloc: Global,
         tokens: &mut Tokens<'_>,
@@ -79,9 +80,10 @@ impl Part for PredicateParam {
 }
 
 impl Part for Predicate {
-    ghost reader = { spec.each_predicate };
+    ghost spell = { λ n. grammar.predicate };
 
-    #[tactic(auto, unfolding(crate::specs::Readers::Items::predicate))]
+    ghost goes_on = { never };
+
     fn read(alloc: Global, tokens: &mut Tokens<'_>, _number: usize) -> Result<Predicate, Stop> {
         let place = tokens.symbol_place(Symbol::Predicate)?;
         let name = tokens.name(alloc)?;

@@ -1,8 +1,10 @@
 //! Literals and names, and the arguments of constraints.
 
 ghost use Rattle.std.specs.Prelude.{ℕ, ◌<◌, ◌≤◌, length, OnOk};
-ghost use Rattle.fzn_parser.specs.Reading.{Gives};
-ghost use Rattle.fzn_parser.specs.Readers as spec;
+ghost use Rattle.fzn_lexer.specs.declared.token.Symbol.TheVariants.{CloseBrace};
+ghost use Rattle.fzn_tree.specs.Grammar as grammar;
+ghost use Rattle.fzn_parser.specs.GoesOn.{never, further};
+ghost use Rattle.fzn_parser.specs.Reads.{Reads};
 
 use crate::cursor::Start::Sign;
 use crate::cursor::{Start, Stop, Tokens};
@@ -17,9 +19,10 @@ const MOST_LISTED: usize = 65_536;
 
 /// A listed value of a set.
 impl Part for i64 {
-    ghost reader = { spec.listed_value };
+    ghost spell = { grammar.listed_value };
 
-    #[tactic(auto, unfolding(crate::specs::Readers::Values::listed_value))]
+    ghost goes_on = { never };
+
     fn read(_alloc: Global, tokens: &mut Tokens<'_>, number: usize) -> Result<i64, Stop> {
         if number < MOST_LISTED {
             tokens.number()
@@ -30,18 +33,16 @@ impl Part for i64 {
 }
 
 /// The values up to the closing brace.
-#[tactic(auto, unfolding(crate::specs::Readers::Values::listed_values))]
 fn listed_values(alloc: Global, tokens: &mut Tokens<'_>) -> Result<Items<i64>, Stop>
-    ensures gives { Gives (spec.listed_values tokens.old) result tokens.new }
+    ensures reads { Reads (grammar.listed grammar.listed_value CloseBrace) never tokens.old result tokens.new }
     ensures never_longer { OnOk result (length tokens.new ≤ length tokens.old) }
 {
     listed(alloc, tokens, Symbol::CloseBrace)
 }
 
 /// Values in braces, or a range.
-#[tactic(auto, unfolding(crate::specs::Readers::Values::values))]
 pub fn values(alloc: Global, tokens: &mut Tokens<'_>) -> Result<Values, Stop>
-    ensures gives { Gives (spec.values tokens.old) result tokens.new }
+    ensures reads { Reads grammar.values never tokens.old result tokens.new }
     ensures never_longer { OnOk result (length tokens.new ≤ length tokens.old) }
 {
     if tokens.sees(Sign(Symbol::OpenBrace)) {
@@ -54,25 +55,9 @@ pub fn values(alloc: Global, tokens: &mut Tokens<'_>) -> Result<Values, Stop>
     Ok(Values::Range(Range { low, high }))
 }
 
-/// A number, or the range that it begins.
-#[tactic(auto, unfolding(crate::specs::Readers::Values::numeric))]
-fn numeric(tokens: &mut Tokens<'_>) -> Result<Literal, Stop>
-    ensures gives { Gives (spec.numeric tokens.old) result tokens.new }
-    ensures shorter { OnOk result (length tokens.new < length tokens.old) }
-{
-    let low = tokens.int()?;
-    if tokens.sees(Sign(Symbol::Dots)) {
-        tokens.symbol(Symbol::Dots)?;
-        let high = tokens.number()?;
-        return Ok(Literal::Range(Range { low, high }));
-    }
-    Ok(Literal::Int(low))
-}
-
 /// A literal. A syntax fault where none is next, and too many at a listed value past 65,536.
-#[tactic(auto, unfolding(crate::specs::Readers::Values::literal))]
 pub fn literal(alloc: Global, tokens: &mut Tokens<'_>) -> Result<Literal, Stop>
-    ensures gives { Gives (spec.literal tokens.old) result tokens.new }
+    ensures reads { Reads grammar.literal further tokens.old result tokens.new }
     ensures shorter { OnOk result (length tokens.new < length tokens.old) }
 {
     if tokens.sees(Sign(Symbol::True)) {
@@ -86,13 +71,18 @@ pub fn literal(alloc: Global, tokens: &mut Tokens<'_>) -> Result<Literal, Stop>
         let values = listed_values(alloc, tokens)?;
         return Ok(Literal::Set(place, Listed::new(alloc, values)?));
     }
-    numeric(tokens)
+    let low = tokens.int()?;
+    if tokens.sees(Sign(Symbol::Dots)) {
+        tokens.symbol(Symbol::Dots)?;
+        let high = tokens.number()?;
+        return Ok(Literal::Range(Range { low, high }));
+    }
+    Ok(Literal::Int(low))
 }
 
 /// A literal or a name. The faults of a literal where no name is next.
-#[tactic(auto, unfolding(crate::specs::Readers::Values::basic))]
 pub fn basic(alloc: Global, tokens: &mut Tokens<'_>) -> Result<Basic, Stop>
-    ensures gives { Gives (spec.basic tokens.old) result tokens.new }
+    ensures reads { Reads grammar.basic further tokens.old result tokens.new }
     ensures shorter { OnOk result (length tokens.new < length tokens.old) }
 {
     if tokens.sees(Start::Name) {
@@ -104,9 +94,10 @@ pub fn basic(alloc: Global, tokens: &mut Tokens<'_>) -> Result<Basic, Stop>
 
 /// An entry of an array.
 impl Part for Basic {
-    ghost reader = { spec.entry };
+    ghost spell = { grammar.entry };
 
-    #[tactic(auto, unfolding(crate::specs::Readers::Values::entry))]
+    ghost goes_on = { further };
+
     fn read(alloc: Global, tokens: &mut Tokens<'_>, number: usize) -> Result<Basic, Stop> {
         if number < LONGEST {
             basic(alloc, tokens)
@@ -117,9 +108,8 @@ impl Part for Basic {
 }
 
 /// Entries in brackets. The faults of an entry, and too many at an entry past `LONGEST`.
-#[tactic(auto, unfolding(crate::specs::Readers::Values::array))]
 pub fn array(alloc: Global, tokens: &mut Tokens<'_>) -> Result<Array, Stop>
-    ensures gives { Gives (spec.array tokens.old) result tokens.new }
+    ensures reads { Reads grammar.array never tokens.old result tokens.new }
     ensures shorter { OnOk result (length tokens.new < length tokens.old) }
 {
     let place = tokens.symbol_place(Symbol::OpenBracket)?;
@@ -127,9 +117,8 @@ pub fn array(alloc: Global, tokens: &mut Tokens<'_>) -> Result<Array, Stop>
     Ok(Array { place, entries })
 }
 
-#[tactic(auto, unfolding(crate::specs::Readers::Values::arg))]
 fn arg(alloc: Global, tokens: &mut Tokens<'_>) -> Result<Arg, Stop>
-    ensures gives { Gives (spec.arg tokens.old) result tokens.new }
+    ensures reads { Reads grammar.arg further tokens.old result tokens.new }
     ensures shorter { OnOk result (length tokens.new < length tokens.old) }
 {
     if tokens.sees(Sign(Symbol::OpenBracket)) {
@@ -140,7 +129,9 @@ fn arg(alloc: Global, tokens: &mut Tokens<'_>) -> Result<Arg, Stop>
 }
 
 impl Part for Arg {
-    ghost reader = { spec.each_arg };
+    ghost spell = { λ n. grammar.arg };
+
+    ghost goes_on = { further };
 
     fn read(alloc: Global, tokens: &mut Tokens<'_>, _number: usize) -> Result<Arg, Stop> {
         arg(alloc, tokens)

@@ -1,5 +1,5 @@
 // Which propagators are to be asked next: those that watch what was narrowed.
-ghost use Rattle.std.specs.Prelude.{◌≡◌, ◌≢◌, ◌<◌, ◌≤◌, length, slice_index_or, IfSome, IsFalse};
+ghost use Rattle.std.specs.Prelude.{◌≡◌, ◌≢◌, ◌<◌, ◌≤◌, length, slice_index_or, IfOk, IfSome, IsFalse};
 ghost use Rattle.fzn_domain.specs.IntSet.{no_values, size};
 ghost use Rattle.fzn_search.specs.Fixed.{AllFixed};
 
@@ -18,8 +18,9 @@ pub struct Agenda {
     queue: Queue,
     /// How many entries of the trail were looked at.
     seen: usize,
-    /// Before the number of a variable that had several values.
-    open: usize,
+    /// How many entries stood when a variable had several values, and all before it one, with its number less one. Newest last, as
+    /// the trail grows and goes back.
+    opens: Vec<(usize, usize)>,
 }
 
 impl Agenda {
@@ -29,7 +30,7 @@ impl Agenda {
             watchers: Watchers::new(alloc, model)?,
             queue: Queue::new(alloc, model)?,
             seen: 0,
-            open: 0,
+            opens: Vec::new(alloc),
         })
     }
 
@@ -88,25 +89,33 @@ impl Agenda {
             self.seen = entries;
             self.queue.clear();
         }
+        for _ in 0..self.opens.len() {
+            match self.opens.last() {
+                Some((stood, _)) if entries < *stood => {}
+                _ => return,
+            }
+            let _ = self.opens.pop();
+        }
     }
 
-    /// Whether each variable has one value. It begins at a variable that had several at the last call.
-    pub fn is_all_fixed(&mut self, trail: &Trail, variables: usize) -> bool
+    /// Whether each variable has one value. It begins at the variable that was the first with several when the trail was last as it is,
+    /// or a part of that.
+    pub fn is_all_fixed(&mut self, trail: &Trail, variables: usize) -> Result<bool, Memory>
         requires { variables ≡ length trail.now.declared }
-        ensures { IsFalse result → ¬ (AllFixed trail.now.sets) }
+        ensures { IfOk result (λ all. IsFalse all → ¬ (AllFixed trail.now.sets)) }
     {
-        let from = self.open.min(variables);
-        let behind = first_open(trail, from, variables);
-        let found = match behind {
-            Some(index) => Some(index),
-            None => first_open(trail, 0, from),
+        let from = match self.opens.last() {
+            Some((_, index)) => *index,
+            None => 0,
         };
-        match found {
+        match first_open(trail, from, variables) {
             Some(index) => {
-                self.open = index;
-                false
+                if self.opens.is_empty() || from < index {
+                    self.opens.push((trail.len(), index))?;
+                }
+                Ok(false)
             }
-            None => true,
+            None => Ok(true),
         }
     }
 }

@@ -83,7 +83,7 @@ impl Constraints for Propagators {
         if let Some(found) = self.ask_queued(alloc, model, trail)? {
             return Ok(Some(found));
         }
-        if self.agenda.is_all_fixed(trail, variables) {
+        if self.agenda.is_all_fixed(trail, variables)? {
             let found = ask_all(alloc, model, trail, &self.items)?;
             return Ok(found);
         }

@@ -198,12 +198,6 @@ fn watch_constraint(
             watch_term(list, place, *total, Change::Bound)
         }
         Constraint::AllDifferent { places } => watch_lists(list, place, &[places], Change::Bound),
-        Constraint::Circuit { successors } => watch_lists(
-            list,
-            place,
-            &[successors],
-            Change::Fixed,
-        ),
         Constraint::Cumulative {
             starts,
             durations,
@@ -278,6 +272,7 @@ fn watch_others(
             watch_lists(list, place, &[positive, negative], least)
         }
         Constraint::Table { places, rows: _ } => watch_lists(list, place, &[places], least),
+        Constraint::Circuit { successors } => watch_lists(list, place, &[successors], least),
         Constraint::Inverse { forward, backward } => {
             watch_lists(list, place, &[forward, backward], least)
         }

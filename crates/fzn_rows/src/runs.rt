@@ -7,6 +7,7 @@ use std::test::Fail;
 
 mod answers;
 mod faults;
+mod learning;
 mod progress;
 mod writes;
 

@@ -14,6 +14,8 @@ pub struct Choice {
     pub seed: Option<u64>,
     /// After how many conflicts the first restart comes, at least 1; none where the search never restarts.
     pub restart_after: Option<u64>,
+    /// How many learned clauses are kept at a restart, the newest: one at least.
+    pub keep: u64,
 }
 
 /// Which variable of an annotation is next, among those that are not fixed.

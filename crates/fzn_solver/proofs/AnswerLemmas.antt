@@ -1,5 +1,5 @@
 -- The whole answer with its certificate.
-use Rattle.std.proofs.Common.{◌≡◌, ◌≢◌, ℕ, zero, suc, ◌-◌, ◌≤◌, ◌==◌, not, Bool, true, false, ℤ, List, [], ◌∷◌, ◌++◌, length, Option, Some, None, refl, sym, ap, ◌∙◌, subst, arith, append_assoc, append-nil, cond, inr, slice_index_or}
+use Rattle.std.proofs.Common.{◌≡◌, ◌≢◌, ℕ, zero, suc, ◌-◌, ◌≤◌, ◌==◌, not, Bool, true, false, ℤ, List, [], ◌∷◌, ◌++◌, length, Option, Some, None, refl, sym, ap, ◌∙◌, subst, arith, append_assoc, append-nil, cond, inr}
 use Rattle.std.specs.Borrow.{GName}
 use Rattle.std.specs.Io.KnownBytes.{Appends}
 use Rattle.std.proofs.Math.Nat.{le-max_right}
@@ -30,7 +30,7 @@ use Rattle.fzn_solver.specs.Endings.{ending_for}
 use Rattle.fzn_solver.specs.Learning.{learn_for}
 use Rattle.fzn_solver.specs.Standing.{found_by, is_alone, early, late, certificate, shown_all}
 use Rattle.fzn_solver.specs.Answer.{wanted, EndsTruly, IsAnswer}
-use Rattle.fzn_solver.specs.Writers.{taken, origin, IsFresh, IsClosed}
+use Rattle.fzn_solver.specs.Writers.{taken, at_first, origin, IsFresh, IsClosed}
 use Rattle.fzn_words.specs.declared.solve.Options.{Options}
 
 -- ---- the verdict on the certificate
@@ -110,10 +110,6 @@ node-limit-is engine.SolutionLimit n e = cc
 
 -- ---- all of it
 
-pub first-pair : {A B : Type 0} (p q : A × B) → p ∷ [] ≡ q ∷ [] → (p.0 ≡ q.0) × (p.1 ≡ q.1)
-first-pair {A = A} {B = B} p q e =
-    (ap (λ (l : List (A × B)). (slice_index_or l 0 p).0) e, ap (λ (l : List (A × B)). (slice_index_or l 0 p).1) e)
-
 module _ {W C : Type 0} (outs : W → Option (List ℕ)) (certs : C → Option (List ℕ)) (model : Model) (options : Options) where
   pub answer-of : IsWellFormed model → (before searched after : Writers W C) (limits : Limits) (nodes n : ℕ) (ending : EngineEnding) → IsFresh outs certs before → before.alone ≡ is_alone model.goal options.all → origin searched ≡ origin before → limits.nodes ≡ options.nodes → limits.solutions ≡ wanted options.all options.limit
       → AllAccepted model (taken searched) → IsOutcome model (learn_for options.learn) limits (taken searched) nodes ending → n ≡ length (found_by model (taken searched)) → IsClosed outs certs model (is_closed (ending_for ending n)) searched after
@@ -121,16 +117,12 @@ module _ {W C : Type 0} (outs : W → Option (List ℕ)) (certs : C → Option (
   answer-of formed before searched after limits nodes n ending fresh alone same limit_is most all_accepted outcome count closed =
       let steps = taken searched in
       let found = found_by model steps in
-      let p : W × C = (closed.out_first, closed.cert_first) in
-      let q : W × C = (fresh.out_first, fresh.cert_first) in
-      let firsts : p ∷ [] ≡ q ∷ [] = sym closed.begun ∙ ap (λ (o : List (W × C) × Bool × GName × GName). o.0) same ∙ fresh.begun in
-      let at = first-pair p q firsts in
-      let is : searched.alone ≡ is_alone model.goal options.all = ap (λ (o : List (W × C) × Bool × GName × GName). o.1) same ∙ alone in
+      let is : searched.alone ≡ is_alone model.goal options.all = ap (λ (o : (W × C) × Bool × GName × GName). o.1) same ∙ alone in
       let K : Option (List ℕ) → Type 0 = λ w. Appends w (cert_contents certs after.cert) (certificate model steps (is_closed (ending_for ending n))) in
       let O : Option (List ℕ) → Type 0 = λ w. Appends w (out_contents outs after.out) (shown_all model (early searched.alone found ++ late searched.alone found) ++ ending_text (is_closed (ending_for ending n)) (not (length found == 0))) in
       let A : Bool → Type 0 = λ b. Appends (out_contents outs before.out) (out_contents outs after.out) (shown_all model (early b found ++ late b found) ++ ending_text (is_closed (ending_for ending n)) (not (length found == 0))) in
-      let cert : certs closed.cert_first ≡ cert_contents certs before.cert = ap certs at.1 ∙ sym fresh.same_cert in
-      let out : outs closed.out_first ≡ out_contents outs before.out = ap outs at.0 ∙ sym fresh.same_out in
+      let cert : certs (at_first searched).1 ≡ cert_contents certs before.cert = ap (λ (o : (W × C) × Bool × GName × GName). certs o.0.1) same ∙ sym fresh.same_cert in
+      let out : outs (at_first searched).0 ≡ out_contents outs before.out = ap (λ (o : (W × C) × Bool × GName × GName). outs o.0.0) same ∙ sym fresh.same_out in
       let B : ℕ → Type 0 = λ limit. nodes ≤ limit in
       let V : ℕ → Type 0 = λ limit. volume (declared_sets model.vars) - 1 ≤ limit in
       let T : List ℕ → Type 0 = λ t. Appends (out_contents outs before.out) (out_contents outs after.out) t in

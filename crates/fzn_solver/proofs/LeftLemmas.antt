@@ -1,5 +1,5 @@
 -- What a fault leaves.
-use Rattle.std.proofs.Common.{◌≡◌, ℕ, ◌==◌, not, Bool, List, [], ◌∷◌, ◌++◌, length, Option, Result, Ok, Err, IfSome, IfErr, refl, sym, ap, ◌∙◌, subst, inl, inr}
+use Rattle.std.proofs.Common.{◌≡◌, ℕ, ◌==◌, not, Bool, List, [], ◌++◌, length, Option, Result, Ok, Err, IfSome, IfErr, refl, sym, ap, ◌∙◌, subst, inl, inr}
 use Rattle.std.specs.Result.{IsErrAnd}
 use Rattle.std.specs.Borrow.{GName}
 use Rattle.std.specs.Io.KnownBytes.{Appends}
@@ -32,11 +32,11 @@ use Rattle.fzn_solver.specs.declared.fault.RunFault.{RunFault}
 use Rattle.fzn_solver.specs.declared.fault.RunFault.TheVariants as run
 use Rattle.fzn_solver.specs.Run.{States, IsRunFault}
 use Rattle.fzn_solver.specs.Left.{IsStopped, IsLater, IsLeft}
-use Rattle.fzn_solver.specs.Writers.{taken, origin, IsFresh, IsKept, IsUnbegun, IsUnclosed}
+use Rattle.fzn_solver.specs.Writers.{taken, at_first, origin, IsFresh, IsKept, IsUnbegun, IsUnclosed}
 use Rattle.fzn_solver.proofs.StandingLemmas.{standing-refused}
 use Rattle.fzn_solver.proofs.WritersLemmas.{Keeps-same}
 use Rattle.fzn_solver.proofs.ClosedLemmas.{answer-front}
-use Rattle.fzn_solver.proofs.AnswerLemmas.{certificate-verdict, closed-refuted, closed-exhausted, answer-is, first-pair}
+use Rattle.fzn_solver.proofs.AnswerLemmas.{certificate-verdict, closed-refuted, closed-exhausted, answer-is}
 
 -- an error that is this fault
 pub error-is : {A : Type 0} (result : Result A RunFault) (fault : RunFault) (P : RunFault → Type 0) → IsErrAnd result (λ e. e ≡ fault) → P fault → IfErr result P
@@ -97,37 +97,31 @@ module _ {W C : Type 0} (outs : W → Option (List ℕ)) (certs : C → Option (
         }),
       )
 
-  certs-first : (before now : Writers W C) (fresh : IsFresh outs certs before) → origin now ≡ origin before → (kept : IsKept outs certs model now) → certs kept.cert_first ≡ cert_contents certs before.cert
-  certs-first before now fresh same kept =
-      let p : W × C = (kept.out_first, kept.cert_first) in
-      let q : W × C = (fresh.out_first, fresh.cert_first) in
-      let firsts : p ∷ [] ≡ q ∷ [] = sym kept.begun ∙ ap (λ (o : List (W × C) × Bool × GName × GName). o.0) same ∙ fresh.begun in
-      ap certs (first-pair p q firsts).1 ∙ sym fresh.same_cert
+  certs-first : (before now : Writers W C) (fresh : IsFresh outs certs before) → origin now ≡ origin before → certs (at_first now).1 ≡ cert_contents certs before.cert
+  certs-first before now fresh same =
+      ap (λ (o : (W × C) × Bool × GName × GName). certs o.0.1) same ∙ sym fresh.same_cert
 
-  outs-first : (before now : Writers W C) (fresh : IsFresh outs certs before) → origin now ≡ origin before → (kept : IsKept outs certs model now) → outs kept.out_first ≡ out_contents outs before.out
-  outs-first before now fresh same kept =
-      let p : W × C = (kept.out_first, kept.cert_first) in
-      let q : W × C = (fresh.out_first, fresh.cert_first) in
-      let firsts : p ∷ [] ≡ q ∷ [] = sym kept.begun ∙ ap (λ (o : List (W × C) × Bool × GName × GName). o.0) same ∙ fresh.begun in
-      ap outs (first-pair p q firsts).0 ∙ sym fresh.same_out
+  outs-first : (before now : Writers W C) (fresh : IsFresh outs certs before) → origin now ≡ origin before → outs (at_first now).0 ≡ out_contents outs before.out
+  outs-first before now fresh same =
+      ap (λ (o : (W × C) × Bool × GName × GName). outs o.0.0) same ∙ sym fresh.same_out
 
   -- on the way
   pub left-on_way : (before now : Writers W C) (fault : Fault) → IsWellFormed model → IsFresh outs certs before → before.alone ≡ is_alone model.goal all → origin now ≡ origin before → AllAccepted model (taken now) → IsKept outs certs model now → Left before now fault
   left-on_way before now fault formed fresh alone same all_accepted kept = (
     later fault,
-    inl (stopped-by model all now.alone (taken now) (certs kept.cert_first) (cert_contents certs before.cert) (cert_contents certs now.cert) (outs kept.out_first) (out_contents outs before.out) (out_contents outs now.out) formed all_accepted
-        (ap (λ (o : List (W × C) × Bool × GName × GName). o.1) same ∙ alone) (certs-first before now fresh same kept) (outs-first before now fresh same kept) kept.standing),
+    inl (stopped-by model all now.alone (taken now) (certs (at_first now).1) (cert_contents certs before.cert) (cert_contents certs now.cert) (outs (at_first now).0) (out_contents outs before.out) (out_contents outs now.out) formed all_accepted
+        (ap (λ (o : (W × C) × Bool × GName × GName). o.1) same ∙ alone) (certs-first before now fresh same) (outs-first before now fresh same) kept.standing),
   )
 
   -- at the end
   pub left-at_end : (before now after : Writers W C) (fault : Fault) (learn : Learn) (limits : Limits) (nodes n : ℕ) (ending : EngineEnding) → IsWellFormed model → IsFresh outs certs before → before.alone ≡ is_alone model.goal all → origin now ≡ origin before → AllAccepted model (taken now)
       → IsOutcome model learn limits (taken now) nodes ending → IsKept outs certs model now → IsUnclosed outs certs model (is_closed (ending_for ending n)) now after fault → Left before after fault
   left-at_end before now after fault learn limits nodes n ending formed fresh alone same all_accepted outcome kept (inl unfinished) =
-      let O : Printer W → Type 0 = λ p. IsStanding model now.alone (taken now) (certs kept.cert_first) (cert_contents certs after.cert) (outs kept.out_first) (out_contents outs p) in (
+      let O : Printer W → Type 0 = λ p. IsStanding model now.alone (taken now) (certs (at_first now).1) (cert_contents certs after.cert) (outs (at_first now).0) (out_contents outs p) in (
         later fault,
-        inl (stopped-by model all now.alone (taken now) (certs kept.cert_first) (cert_contents certs before.cert) (cert_contents certs after.cert) (outs kept.out_first) (out_contents outs before.out) (out_contents outs after.out) formed all_accepted
-            (ap (λ (o : List (W × C) × Bool × GName × GName). o.1) same ∙ alone) (certs-first before now fresh same kept) (outs-first before now fresh same kept)
-            (subst O (sym unfinished.out) (standing-refused model now.alone (taken now) (certs kept.cert_first) (cert_contents certs now.cert) (cert_contents certs after.cert) (outs kept.out_first) (out_contents outs now.out) (end_line (is_closed (ending_for ending n))) kept.standing unfinished.front))),
+        inl (stopped-by model all now.alone (taken now) (certs (at_first now).1) (cert_contents certs before.cert) (cert_contents certs after.cert) (outs (at_first now).0) (out_contents outs before.out) (out_contents outs after.out) formed all_accepted
+            (ap (λ (o : (W × C) × Bool × GName × GName). o.1) same ∙ alone) (certs-first before now fresh same) (outs-first before now fresh same)
+            (subst O (sym unfinished.out) (standing-refused model now.alone (taken now) (certs (at_first now).1) (cert_contents certs now.cert) (cert_contents certs after.cert) (outs (at_first now).0) (out_contents outs now.out) (end_line (is_closed (ending_for ending n))) kept.standing unfinished.front))),
       )
   left-at_end before now after fault learn limits nodes n ending formed fresh alone same all_accepted outcome kept (inr (is_output, cut)) =
       let steps = taken now in
@@ -138,18 +132,18 @@ module _ {W C : Type 0} (outs : W → Option (List ℕ)) (certs : C → Option (
       let O : Option (List ℕ) → Type 0 = λ o. AppendsFront o (out_contents outs after.out) (shown_all model (early now.alone found ++ late now.alone found) ++ ending_text closed (not (length found == 0))) in
       let A : Bool → Type 0 = λ b. AppendsFront (out_contents outs before.out) (out_contents outs after.out) (shown_all model (early b found ++ late b found) ++ ending_text closed (not (length found == 0))) in
       let T : List ℕ → Type 0 = λ t. AppendsFront (out_contents outs before.out) (out_contents outs after.out) t in
-      let front = answer-front model now.alone closed found (outs kept.out_first) (out_contents outs now.out) (out_contents outs after.out) (is_open now.out) (has_printed now.out) now.last.now (kept.out_in_step cut.was_open) kept.standing.shown cut.out.nothing cut.out.front in (
+      let front = answer-front model now.alone closed found (outs (at_first now).0) (out_contents outs now.out) (out_contents outs after.out) (is_open now.out) (has_printed now.out) now.last.now (kept.out_in_step cut.was_open) kept.standing.shown cut.out.nothing cut.out.front in (
         later fault,
         inr (
           ap fault_of_engine is_output,
           record {
             steps = steps;
             closed = closed;
-            written = subst K (certs-first before now fresh same kept) (Appends-then (certs kept.cert_first) (cert_contents certs now.cert) (cert_contents certs after.cert) (begun_certificate model steps) (end_line closed) in_step.lines cut.end);
+            written = subst K (certs-first before now fresh same) (Appends-then (certs (at_first now).1) (cert_contents certs now.cert) (cert_contents certs after.cert) (begun_certificate model steps) (end_line closed) in_step.lines cut.end);
             verdict = certificate-verdict model steps closed formed all_accepted in_step.have_lines (closed-refuted model learn limits steps nodes n ending outcome.ended.truly);
             proper = outcome.proper;
             exhausted = closed-exhausted model steps n ending outcome.exhausted;
-            shown = subst T (answer-is model all closed found) (subst A (ap (λ (o : List (W × C) × Bool × GName × GName). o.1) same ∙ alone) (subst O (outs-first before now fresh same kept) front));
+            shown = subst T (answer-is model all closed found) (subst A (ap (λ (o : (W × C) × Bool × GName × GName). o.1) same ∙ alone) (subst O (outs-first before now fresh same) front));
           },
         ),
       )

@@ -1,3 +1,4 @@
+mod Made
 mod StandingLemmas
 mod WritersLemmas
 mod ClosedLemmas

@@ -1,6 +1,6 @@
 -- What the writers of a run keep from one call to the next.
 use Rattle.std.specs.Prelude.{⊤}
-use Rattle.std.proofs.Common.{◌≡◌, ◌≢◌, ℕ, ◌+◌, ◌<◌, ◌^◌, Bool, true, false, ℤ, List, [], ◌∷◌, ◌++◌, length, map, Option, Some, None, IfSome, Result, Ok, Err, OnOk, OnErr, refl, sym, ap, ◌∙◌, subst, arith, inl, inr}
+use Rattle.std.proofs.Common.{◌≡◌, ◌≢◌, ℕ, ◌+◌, ◌<◌, ◌^◌, Bool, true, false, ℤ, List, [], ◌∷◌, ◌++◌, length, Option, Some, None, IfSome, Result, Ok, Err, OnOk, OnErr, refl, sym, ap, ◌∙◌, subst, arith, inl, inr}
 use Rattle.std.specs.Borrow.{MutBor}
 use Rattle.std.specs.Io.KnownBytes.{Appends, Keeps}
 use Rattle.std.proofs.lemmas.Bool.{cases_Bool}
@@ -24,9 +24,9 @@ use Rattle.fzn_printer.specs.declared.printer.Printer.{Printer}
 use Rattle.fzn_printer.specs.Printer.{contents_of as out_contents, is_open, has_printed}
 use Rattle.fzn_printer.specs.Shown.{shown}
 use Rattle.fzn_solver.specs.Standing.{found_by, early, shown_all, IsCertInStep, IsOutInStep}
-use Rattle.http_server.specs.declared.log.Log.{Log}
+use Rattle.fzn_solver.specs.declared.history.History.{History}
 use Rattle.fzn_solver.specs.declared.writers.Writers.{Writers}
-use Rattle.fzn_solver.specs.Writers.{taken, origin, IsLogged, IsKeptBy, IsKept, IsFresh, IsLineTaken, IsLineRefused, IsRestSame, IsAllSame, IsPrinted}
+use Rattle.fzn_solver.specs.Writers.{taken, at_first, origin, IsLogged, IsKeptBy, IsKept, IsFresh, IsLineTaken, IsLineRefused, IsRestSame, IsAllSame, IsPrinted}
 use Rattle.fzn_solver.proofs.StandingLemmas.{cert-push, found-solution, found-infer, last-accepted, out-held, out-printed, standing-in_step, standing-refused, front-kept, front-found, front-printed, Appends-kept}
 
 shut_open : Shut ≡ Open → ⊥
@@ -46,22 +46,19 @@ Keeps-same (Some xs) = refl
 
 module _ {W C : Type 0} (outs : W → Option (List ℕ)) (certs : C → Option (List ℕ)) (model : Model) where
   -- the first two lines
-  pub kept-begun : (old new : StepWriter C) (out : Printer W) (alone : Bool) (first : List (W × C)) (cert_first : C) (out_first : W) → first ≡ (out_first, cert_first) ∷ [] → cert_contents certs old ≡ certs cert_first → out_contents outs out ≡ outs out_first
+  pub kept-begun : (old new : StepWriter C) (out : Printer W) (alone : Bool) (first : W × C) → cert_contents certs old ≡ certs first.1 → out_contents outs out ≡ outs first.0
       → has_printed out ≡ false → version_of new ≡ Two → step_count new ≡ 0
       → Appends (cert_contents certs old) (cert_contents certs new) (header_text Two (length model.vars) (length model.constraints)) → IsKeptBy outs certs model new out alone None [] first
-  kept-begun old new out alone first cert_first out_first begun cert_is out_is none_shown version none header =
+  kept-begun old new out alone first cert_is out_is none_shown version none header =
       let H : Option (List ℕ) → Type 0 = λ o. Appends o (cert_contents certs new) (header_text Two (length model.vars) (length model.constraints)) in
       let F : Option (List ℕ) → Type 0 = λ o. AppendsFront o (out_contents outs out) (shown_all model (early alone [])) in
       let O : Option (List ℕ) → Type 0 = λ o. IsOutInStep model alone [] o (out_contents outs out) (has_printed out) None in
-      let in_step : IsCertInStep model [] (certs cert_first) (cert_contents certs new) (step_count new) =
+      let in_step : IsCertInStep model [] (certs first.1) (cert_contents certs new) (step_count new) =
       record { lines = rw (append-nil (header_lines (header_of model Two))) (subst H cert_is header); have_lines = tt; counted = none } in
       record {
-        cert_first = cert_first;
-        out_first = out_first;
-        begun = begun;
         version = version;
         assignment = tt;
-        standing = standing-in_step model alone [] (certs cert_first) (cert_contents certs new) (outs out_first) (out_contents outs out) (step_count new) in_step
+        standing = standing-in_step model alone [] (certs first.1) (cert_contents certs new) (outs first.0) (out_contents outs out) (step_count new) in_step
             (subst F out_is (front-none (out_contents outs out) (out_contents outs out) (shown_all model (early alone [])) (Keeps-same (out_contents outs out))));
         cert_in_step = λ _. in_step;
         out_in_step = λ _ _. subst O out_is (nothing alone);
@@ -76,89 +73,80 @@ module _ {W C : Type 0} (outs : W → Option (List ℕ)) (certs : C → Option (
       nothing false = record { text = no_text (out_contents outs out); has_shown = none_shown; waits = refl }
 
   -- a line that was not taken
-  pub kept-refused : (old new : StepWriter C) (out : Printer W) (alone : Bool) (last : Option (List ℤ)) (steps : List Step) (first : List (W × C)) (text : List ℕ) → IsKeptBy outs certs model old out alone last steps first → version_of new ≡ version_of old → stage_of new ≡ Shut
+  pub kept-refused : (old new : StepWriter C) (out : Printer W) (alone : Bool) (last : Option (List ℤ)) (steps : List Step) (first : W × C) (text : List ℕ) → IsKeptBy outs certs model old out alone last steps first → version_of new ≡ version_of old → stage_of new ≡ Shut
       → AppendsFront (cert_contents certs old) (cert_contents certs new) text → IsKeptBy outs certs model new out alone last steps first
   kept-refused old new out alone last steps first text kept version shut front = record {
-    cert_first = kept.cert_first;
-    out_first = kept.out_first;
-    begun = kept.begun;
     version = version ∙ kept.version;
     assignment = kept.assignment;
-    standing = standing-refused model alone steps (certs kept.cert_first) (cert_contents certs old) (cert_contents certs new) (outs kept.out_first) (out_contents outs out) text kept.standing front;
+    standing = standing-refused model alone steps (certs first.1) (cert_contents certs old) (cert_contents certs new) (outs first.0) (out_contents outs out) text kept.standing front;
     cert_in_step = λ is_so. absurd (shut_open (sym shut ∙ is_so));
     out_in_step = λ is_so _. absurd (shut_open (sym shut ∙ is_so));
   }
 
   -- the line of a step that is no solution
-  pub kept-line : (old new : StepWriter C) (out : Printer W) (alone : Bool) (last : Option (List ℤ)) (steps : List Step) (first : List (W × C)) (step : Step) → IsKeptBy outs certs model old out alone last steps first → ((values : List ℤ) → step ≢ Solution values) → IsSpelled Two step
+  pub kept-line : (old new : StepWriter C) (out : Printer W) (alone : Bool) (last : Option (List ℤ)) (steps : List Step) (first : W × C) (step : Step) → IsKeptBy outs certs model old out alone last steps first → ((values : List ℤ) → step ≢ Solution values) → IsSpelled Two step
       → version_of new ≡ version_of old → stage_of old ≡ Open → step_count new ≡ step_count old + 1 → HasRoom (step_count old) step → Appends (cert_contents certs old) (cert_contents certs new) (step_line step)
       → IsKeptBy outs certs model new out alone last (steps ++ step ∷ []) first
   kept-line old new out alone last steps first step kept other spelled version was_open counted room line =
-      let N : ℕ → Type 0 = λ n. IsCertInStep model (steps ++ step ∷ []) (certs kept.cert_first) (cert_contents certs new) n in
-      let in_step = subst N (sym counted) (cert-push model steps step (certs kept.cert_first) (cert_contents certs old) (cert_contents certs new) (step_count old) (kept.cert_in_step was_open) spelled room line) in
+      let N : ℕ → Type 0 = λ n. IsCertInStep model (steps ++ step ∷ []) (certs first.1) (cert_contents certs new) n in
+      let in_step = subst N (sym counted) (cert-push model steps step (certs first.1) (cert_contents certs old) (cert_contents certs new) (step_count old) (kept.cert_in_step was_open) spelled room line) in
       let found : found_by model (steps ++ step ∷ []) ≡ found_by model steps = found-infer model steps step other in
-      let T : List (List ℤ) → Type 0 = λ f. AppendsFront (outs kept.out_first) (out_contents outs out) (shown_all model (early alone f)) in
-      let O : List (List ℤ) → Type 0 = λ f. IsOutInStep model alone f (outs kept.out_first) (out_contents outs out) (has_printed out) last in
+      let T : List (List ℤ) → Type 0 = λ f. AppendsFront (outs first.0) (out_contents outs out) (shown_all model (early alone f)) in
+      let O : List (List ℤ) → Type 0 = λ f. IsOutInStep model alone f (outs first.0) (out_contents outs out) (has_printed out) last in
       record {
-        cert_first = kept.cert_first;
-        out_first = kept.out_first;
-        begun = kept.begun;
         version = version ∙ kept.version;
         assignment = kept.assignment;
-        standing = standing-in_step model alone (steps ++ step ∷ []) (certs kept.cert_first) (cert_contents certs new) (outs kept.out_first) (out_contents outs out) (step_count new) in_step (subst T (sym found) kept.standing.shown);
+        standing = standing-in_step model alone (steps ++ step ∷ []) (certs first.1) (cert_contents certs new) (outs first.0) (out_contents outs out) (step_count new) in_step (subst T (sym found) kept.standing.shown);
         cert_in_step = λ _. in_step;
         out_in_step = λ _ opened. subst O (sym found) (kept.out_in_step was_open opened);
       }
 
   -- The line of a solution, flushed. The output follows behind it: `front` and `goes` say what is known of it then.
-  pub kept-solution : (old new : StepWriter C) (out after : Printer W) (alone : Bool) (last waiting : Option (List ℤ)) (steps : List Step) (first : List (W × C)) (values : List ℤ) → IsKeptBy outs certs model old out alone last steps first → IsSpelled Two (Solution values)
+  pub kept-solution : (old new : StepWriter C) (out after : Printer W) (alone : Bool) (last waiting : Option (List ℤ)) (steps : List Step) (first : W × C) (values : List ℤ) → IsKeptBy outs certs model old out alone last steps first → IsSpelled Two (Solution values)
       → version_of new ≡ version_of old → stage_of old ≡ Open → (stage_of new ≡ Open → step_count new ≡ step_count old + 1) → HasRoom (step_count old) (Solution values) → Appends (cert_contents certs old) (cert_contents certs new) (step_line (Solution values))
       → IfSome waiting (IsAssignment model)
       → ((o : Option (List ℕ)) → AppendsFront o (out_contents outs out) (shown_all model (early alone (found_by model steps))) → (is_open out ≡ true → Appends o (out_contents outs out) (shown_all model (early alone (found_by model steps)))) → AppendsFront o (out_contents outs after) (shown_all model (early alone (found_by model steps ++ values ∷ []))))
       → ((o : Option (List ℕ)) → stage_of new ≡ Open → is_open after ≡ true → (is_open out ≡ true → IsOutInStep model alone (found_by model steps) o (out_contents outs out) (has_printed out) last) → IsOutInStep model alone (found_by model steps ++ values ∷ []) o (out_contents outs after) (has_printed after) waiting)
       → IsKeptBy outs certs model new after alone waiting (steps ++ Solution values ∷ []) first
   kept-solution old new out after alone last waiting steps first values kept spelled version was_open counted room line assignment front goes =
-      let N : ℕ → Type 0 = λ n. IsCertInStep model (steps ++ Solution values ∷ []) (certs kept.cert_first) (cert_contents certs new) n in
-      let in_step = cert-push model steps (Solution values) (certs kept.cert_first) (cert_contents certs old) (cert_contents certs new) (step_count old) (kept.cert_in_step was_open) spelled room line in
+      let N : ℕ → Type 0 = λ n. IsCertInStep model (steps ++ Solution values ∷ []) (certs first.1) (cert_contents certs new) n in
+      let in_step = cert-push model steps (Solution values) (certs first.1) (cert_contents certs old) (cert_contents certs new) (step_count old) (kept.cert_in_step was_open) spelled room line in
       let found : found_by model (steps ++ Solution values ∷ []) ≡ found_by model steps ++ values ∷ [] = found-solution model steps values in
-      let T : List (List ℤ) → Type 0 = λ f. AppendsFront (outs kept.out_first) (out_contents outs after) (shown_all model (early alone f)) in
-      let O : List (List ℤ) → Type 0 = λ f. IsOutInStep model alone f (outs kept.out_first) (out_contents outs after) (has_printed after) waiting in
+      let T : List (List ℤ) → Type 0 = λ f. AppendsFront (outs first.0) (out_contents outs after) (shown_all model (early alone f)) in
+      let O : List (List ℤ) → Type 0 = λ f. IsOutInStep model alone f (outs first.0) (out_contents outs after) (has_printed after) waiting in
       record {
-        cert_first = kept.cert_first;
-        out_first = kept.out_first;
-        begun = kept.begun;
         version = version ∙ kept.version;
         assignment = assignment;
-        standing = standing-in_step model alone (steps ++ Solution values ∷ []) (certs kept.cert_first) (cert_contents certs new) (outs kept.out_first) (out_contents outs after) (step_count old + 1) in_step
-            (subst T (sym found) (front (outs kept.out_first) kept.standing.shown (λ opened. (kept.out_in_step was_open opened).text)));
+        standing = standing-in_step model alone (steps ++ Solution values ∷ []) (certs first.1) (cert_contents certs new) (outs first.0) (out_contents outs after) (step_count old + 1) in_step
+            (subst T (sym found) (front (outs first.0) kept.standing.shown (λ opened. (kept.out_in_step was_open opened).text)));
         cert_in_step = λ stays. subst N (sym (counted stays)) in_step;
-        out_in_step = λ stays opened. subst O (sym found) (goes (outs kept.out_first) stays opened (kept.out_in_step was_open));
+        out_in_step = λ stays opened. subst O (sym found) (goes (outs first.0) stays opened (kept.out_in_step was_open));
       }
 
-  moved : (cert : StepWriter C) (out out' : Printer W) (alone alone' : Bool) (last last' : Option (List ℤ)) (steps steps' : List Step) (first first' : List (W × C)) → out' ≡ out → alone' ≡ alone → last' ≡ last → steps' ≡ steps → first' ≡ first
+  moved : (cert : StepWriter C) (out out' : Printer W) (alone alone' : Bool) (last last' : Option (List ℤ)) (steps steps' : List Step) (first first' : W × C) → out' ≡ out → alone' ≡ alone → last' ≡ last → steps' ≡ steps → first' ≡ first
       → IsKeptBy outs certs model cert out alone last steps first → IsKeptBy outs certs model cert out' alone' last' steps' first'
   moved cert out out' alone alone' last last' steps steps' first first' e f g h i kept =
       let O : Printer W → Type 0 = λ x. IsKeptBy outs certs model cert x alone last steps first in
       let A : Bool → Type 0 = λ x. IsKeptBy outs certs model cert out' x last steps first in
       let L : Option (List ℤ) → Type 0 = λ x. IsKeptBy outs certs model cert out' alone' x steps first in
       let S : List Step → Type 0 = λ x. IsKeptBy outs certs model cert out' alone' last' x first in
-      let F : List (W × C) → Type 0 = λ x. IsKeptBy outs certs model cert out' alone' last' steps' x in
+      let F : W × C → Type 0 = λ x. IsKeptBy outs certs model cert out' alone' last' steps' x in
       subst F (sym i) (subst S (sym h) (subst L (sym g) (subst A (sym f) (subst O (sym e) kept))))
 
-  abbrev taken_by : Log Step Unit → List Step
-  taken_by log = map (λ pair. pair.0) log.items
+  abbrev taken_by : History Step → List Step
+  taken_by history = history.items
 
   pub refused-kept : (step : Step) (old new : Writers W C) → IsKept outs certs model old → IsLineRefused certs step old new → IsKept outs certs model new
   refused-kept step old new kept refused =
-      moved new.cert old.out new.out old.alone new.alone old.last.now new.last.now (taken old) (taken new) old.first.items new.first.items
-      refused.same_rest.out refused.same_rest.alone (ap (λ (l : MutBor (Option (List ℤ))). l.now) refused.same_rest.last) (ap taken_by refused.taken) (ap (λ (l : Log W C). l.items) refused.same_rest.first)
-      (kept-refused old.cert new.cert old.out old.alone old.last.now (taken old) old.first.items (step_line step) kept refused.same_version refused.shut refused.front)
+      moved new.cert old.out new.out old.alone new.alone old.last.now new.last.now (taken old) (taken new) (at_first old) (at_first new)
+      refused.same_rest.out refused.same_rest.alone (ap (λ (l : MutBor (Option (List ℤ))). l.now) refused.same_rest.last) (ap taken_by refused.taken) refused.same_rest.first
+      (kept-refused old.cert new.cert old.out old.alone old.last.now (taken old) (at_first old) (step_line step) kept refused.same_version refused.shut refused.front)
 
   pub line-kept : (step : Step) (old new : Writers W C) → ((values : List ℤ) → step ≢ Solution values) → IsSpelled Two step → IsKept outs certs model old → IsLineTaken certs step old new → IsKept outs certs model new
   line-kept step old new other spelled kept line =
-      moved new.cert old.out new.out old.alone new.alone old.last.now new.last.now (taken old ++ step ∷ []) (taken new) old.first.items new.first.items
-      line.same_rest.out line.same_rest.alone (ap (λ (l : MutBor (Option (List ℤ))). l.now) line.same_rest.last) line.taken (ap (λ (l : Log W C). l.items) line.same_rest.first)
-      (kept-line old.cert new.cert old.out old.alone old.last.now (taken old) old.first.items step kept other spelled line.same_version line.was_open line.counted line.room line.line)
+      moved new.cert old.out new.out old.alone new.alone old.last.now new.last.now (taken old ++ step ∷ []) (taken new) (at_first old) (at_first new)
+      line.same_rest.out line.same_rest.alone (ap (λ (l : MutBor (Option (List ℤ))). l.now) line.same_rest.last) line.taken line.same_rest.first
+      (kept-line old.cert new.cert old.out old.alone old.last.now (taken old) (at_first old) step kept other spelled line.same_version line.was_open line.counted line.room line.line)
 
   -- the steps that were taken are few
   pub line-few : (step : Step) (old new : Writers W C) → IsKept outs certs model old → IsLineTaken certs step old new → length (taken new) < 10 ^ 18
@@ -173,26 +161,26 @@ module _ {W C : Type 0} (outs : W → Option (List ℕ)) (certs : C → Option (
   -- a solution that waits for the end, its line flushed
   pub held-kept : (values : List ℤ) (old mid new : Writers W C) → old.alone ≡ true → IsAssignment model values → IsSpelled Two (Solution values) → IsKept outs certs model old → IsLineTaken certs (Solution values) old mid
       → Keeps (cert_contents certs mid.cert) (cert_contents certs new.cert) → (stage_of new.cert ≡ Open → step_count new.cert ≡ step_count mid.cert) → version_of new.cert ≡ version_of mid.cert
-      → new.out ≡ mid.out → new.alone ≡ mid.alone → new.last.now ≡ Some values → new.first ≡ mid.first → new.taken ≡ mid.taken → IsKept outs certs model new
+      → new.out ≡ mid.out → new.alone ≡ mid.alone → new.last.now ≡ Some values → at_first new ≡ at_first mid → new.taken ≡ mid.taken → IsKept outs certs model new
   held-kept values old mid new alone assignment spelled kept line nothing counted version out_is alone_is last_is first_is taken_is =
-      let A : Bool → Type 0 = λ b. IsKeptBy outs certs model old.cert old.out b old.last.now (taken old) old.first.items in
-      moved new.cert old.out new.out true new.alone (Some values) new.last.now (taken old ++ Solution values ∷ []) (taken new) old.first.items new.first.items
-      (out_is ∙ line.same_rest.out) (alone_is ∙ line.same_rest.alone ∙ alone) last_is (ap taken_by taken_is ∙ line.taken) (ap (λ (l : Log W C). l.items) (first_is ∙ line.same_rest.first))
-      (kept-solution old.cert new.cert old.out old.out true old.last.now (Some values) (taken old) old.first.items values (subst A alone kept) spelled (version ∙ line.same_version) line.was_open
+      let A : Bool → Type 0 = λ b. IsKeptBy outs certs model old.cert old.out b old.last.now (taken old) (at_first old) in
+      moved new.cert old.out new.out true new.alone (Some values) new.last.now (taken old ++ Solution values ∷ []) (taken new) (at_first old) (at_first new)
+      (out_is ∙ line.same_rest.out) (alone_is ∙ line.same_rest.alone ∙ alone) last_is (ap taken_by taken_is ∙ line.taken) (first_is ∙ line.same_rest.first)
+      (kept-solution old.cert new.cert old.out old.out true old.last.now (Some values) (taken old) (at_first old) values (subst A alone kept) spelled (version ∙ line.same_version) line.was_open
       (λ stays. counted stays ∙ line.counted) line.room (Appends-kept (cert_contents certs old.cert) (cert_contents certs mid.cert) (cert_contents certs new.cert) (step_line (Solution values)) line.line nothing) assignment
       (λ o front _. front) (λ o _ opened step. out-held model (found_by model (taken old)) values o (out_contents outs old.out) (has_printed old.out) old.last.now (step opened)))
 
   -- a solution that is printed, its line flushed
   pub printed-kept : (values : List ℤ) (old mid new : Writers W C) → old.alone ≡ false → IsSpelled Two (Solution values) → IsKept outs certs model old → IsLineTaken certs (Solution values) old mid
       → Keeps (cert_contents certs mid.cert) (cert_contents certs new.cert) → (stage_of new.cert ≡ Open → step_count new.cert ≡ step_count mid.cert) → version_of new.cert ≡ version_of mid.cert
-      → IsPrinted outs model values (stage_of new.cert ≡ Open) mid.out new.out → new.alone ≡ mid.alone → new.last ≡ mid.last → new.first ≡ mid.first → new.taken ≡ mid.taken → IsKept outs certs model new
+      → IsPrinted outs model values (stage_of new.cert ≡ Open) mid.out new.out → new.alone ≡ mid.alone → new.last ≡ mid.last → at_first new ≡ at_first mid → new.taken ≡ mid.taken → IsKept outs certs model new
   printed-kept values old mid new alone spelled kept line nothing counted version printed alone_is last_is first_is taken_is =
-      let A : Bool → Type 0 = λ b. IsKeptBy outs certs model old.cert old.out b old.last.now (taken old) old.first.items in
+      let A : Bool → Type 0 = λ b. IsKeptBy outs certs model old.cert old.out b old.last.now (taken old) (at_first old) in
       let P : Printer W → Type 0 = λ p. IsPrinted outs model values (stage_of new.cert ≡ Open) p new.out in
       let behind : IsPrinted outs model values (stage_of new.cert ≡ Open) old.out new.out = subst P line.same_rest.out printed in
-      moved new.cert new.out new.out false new.alone old.last.now new.last.now (taken old ++ Solution values ∷ []) (taken new) old.first.items new.first.items
-      refl (alone_is ∙ line.same_rest.alone ∙ alone) (ap (λ (l : MutBor (Option (List ℤ))). l.now) last_is ∙ (ap (λ (l : MutBor (Option (List ℤ))). l.now) line.same_rest.last)) (ap taken_by taken_is ∙ line.taken) (ap (λ (l : Log W C). l.items) (first_is ∙ line.same_rest.first))
-      (kept-solution old.cert new.cert old.out new.out false old.last.now old.last.now (taken old) old.first.items values (subst A alone kept) spelled (version ∙ line.same_version) line.was_open
+      moved new.cert new.out new.out false new.alone old.last.now new.last.now (taken old ++ Solution values ∷ []) (taken new) (at_first old) (at_first new)
+      refl (alone_is ∙ line.same_rest.alone ∙ alone) (ap (λ (l : MutBor (Option (List ℤ))). l.now) last_is ∙ (ap (λ (l : MutBor (Option (List ℤ))). l.now) line.same_rest.last)) (ap taken_by taken_is ∙ line.taken) (first_is ∙ line.same_rest.first)
+      (kept-solution old.cert new.cert old.out new.out false old.last.now old.last.now (taken old) (at_first old) values (subst A alone kept) spelled (version ∙ line.same_version) line.was_open
       (λ is_so. counted is_so ∙ line.counted) line.room (Appends-kept (cert_contents certs old.cert) (cert_contents certs mid.cert) (cert_contents certs new.cert) (step_line (Solution values)) line.line nothing) kept.assignment
       (λ o front whole. elim (cases_Bool (is_open old.out)) [
         | inl opened ↦ front-printed model (found_by model (taken old)) values o (out_contents outs old.out) (out_contents outs new.out) (whole opened) behind.front
@@ -218,9 +206,9 @@ module _ {W C : Type 0} (outs : W → Option (List ℕ)) (certs : C → Option (
   pub begun-kept : (cert : StepWriter C) (old : Writers W C) → IsFresh outs certs old → version_of cert ≡ Two → step_count cert ≡ 0
       → Appends (cert_contents certs old.cert) (cert_contents certs cert) (header_text Two (length model.vars) (length model.constraints)) → IsKept outs certs model (record old { cert = cert })
   begun-kept cert old fresh version none header =
-      moved cert old.out old.out old.alone old.alone None old.last.now [] (taken old) old.first.items old.first.items
-      refl refl fresh.none_waits (ap (λ (items : List (Step × Unit)). map (λ pair. pair.0) items) fresh.none_taken) refl
-      (kept-begun old.cert cert old.out old.alone old.first.items fresh.cert_first fresh.out_first fresh.begun fresh.same_cert fresh.same_out fresh.none_shown version none header)
+      moved cert old.out old.out old.alone old.alone None old.last.now [] (taken old) (at_first old) (at_first old)
+      refl refl fresh.none_waits fresh.none_taken refl
+      (kept-begun old.cert cert old.out old.alone (at_first old) fresh.same_cert fresh.same_out fresh.none_shown version none header)
 
   -- a solution that waits for the end, whether or not its line was flushed
   pub flushed-held : (step : Step) (values : List ℤ) (old mid waiting new : Writers W C) → step ≡ Solution values → old.alone ≡ true → AllAccepted model (taken old ++ step ∷ []) → IsSpelled Two step → IsKept outs certs model old → IsLineTaken certs step old mid
@@ -235,7 +223,7 @@ module _ {W C : Type 0} (outs : W → Option (List ℕ)) (certs : C → Option (
       held-kept values old mid new alone (assignment-of (taken old) values (subst A is accepted)) (subst S is spelled) kept (subst L is line)
       (subst K cert nothing) (λ stays. counted stays ∙ ap step_count cert) (same.1 ∙ ap version_of cert)
       (rest.0.out ∙ ap (λ (w : Writers W C). w.out) waits.0) (rest.0.alone ∙ ap (λ (w : Writers W C). w.alone) waits.0) (ap (λ (l : MutBor (Option (List ℤ))). l.now) rest.0.last ∙ waits.1)
-      (rest.0.first ∙ ap (λ (w : Writers W C). w.first) waits.0) (rest.1 ∙ ap (λ (w : Writers W C). w.taken) waits.0)
+      (rest.0.first ∙ ap (λ (w : Writers W C). at_first w) waits.0) (rest.1 ∙ ap (λ (w : Writers W C). w.taken) waits.0)
 
   -- a solution whose line could not be flushed
   pub unflushed-kept : (step : Step) (values : List ℤ) (old mid new : Writers W C) → step ≡ Solution values → old.alone ≡ false → IsSpelled Two step → IsKept outs certs model old → IsLineTaken certs step old mid

@@ -1,5 +1,5 @@
 -- What a contract sees of the writers of a run.
-use Rattle.std.specs.Prelude.{◌≡◌, ◌⊎◌, ◌||◌, ◌==◌, not, ℕ, ◌+◌, Bool, true, false, ℤ, List, [], ◌∷◌, ◌++◌, Option, None, IfSome, is_some, length, map}
+use Rattle.std.specs.Prelude.{◌≡◌, ◌⊎◌, ◌||◌, ◌==◌, not, ℕ, ◌+◌, Bool, true, false, ℤ, List, [], ◌∷◌, ◌++◌, Option, None, IfSome, is_some, length}
 use Rattle.std.specs.Option.{option_to_list}
 use Rattle.std.specs.Borrow.{GName}
 use Rattle.std.specs.Io.KnownBytes.{Appends, Keeps}
@@ -23,46 +23,43 @@ use Rattle.fzn_solver.specs.Standing.{certificate, shown_all, early, late, found
 
 -- the steps that were taken
 abbrev pub taken : {W C : Type 0} → Writers W C → List Step
-taken writers = map (λ pair. pair.0) writers.taken.items
+taken writers = writers.taken.items
 
--- what stood on both at first, whether the last solution alone is printed, and the names by which a caller knows the writers
-abbrev pub origin : {W C : Type 0} → Writers W C → List (W × C) × Bool × GName × GName
-origin writers = (writers.first.items, writers.alone, cert_name writers.cert, out_name writers.out)
+-- the output and the certificate as they were at first
+abbrev pub at_first : {W C : Type 0} → Writers W C → W × C
+at_first writers = (writers.first_out.value, writers.first_cert.value)
+
+-- both as they were at first, whether the last solution alone is printed, and the names by which a caller knows the writers
+abbrev pub origin : {W C : Type 0} → Writers W C → (W × C) × Bool × GName × GName
+origin writers = (at_first writers, writers.alone, cert_name writers.cert, out_name writers.out)
 
 -- nothing was written
 pub record IsFresh {W C : Type 0} (outs : W → Option (List ℕ)) (certs : C → Option (List ℕ)) (now : Writers W C) : Type 0 where
-  pub cert_first : C
-  pub out_first : W
-  pub begun : now.first.items ≡ (out_first, cert_first) ∷ []
-  pub same_cert : cert_contents certs now.cert ≡ certs cert_first
-  pub same_out : out_contents outs now.out ≡ outs out_first
+  pub same_cert : cert_contents certs now.cert ≡ certs now.first_cert.value
+  pub same_out : out_contents outs now.out ≡ outs now.first_out.value
   pub stage : stage_of now.cert ≡ Fresh
   pub begins_open : is_open now.out ≡ true
   pub none_shown : has_printed now.out ≡ false
-  pub none_taken : now.taken.items ≡ []
+  pub none_taken : taken now ≡ []
   pub none_waits : now.last.now ≡ None
 
 -- What stands, after a fault too; and while the writers can go on, just what these steps ask for.
-pub record IsKeptBy {W C : Type 0} (outs : W → Option (List ℕ)) (certs : C → Option (List ℕ)) (model : Model) (cert : StepWriter C) (out : Printer W) (alone : Bool) (last : Option (List ℤ)) (steps : List Step) (first : List (W × C)) : Type 0 where
-  -- the writers as they were at first
-  pub cert_first : C
-  pub out_first : W
-  pub begun : first ≡ (out_first, cert_first) ∷ []
+pub record IsKeptBy {W C : Type 0} (outs : W → Option (List ℕ)) (certs : C → Option (List ℕ)) (model : Model) (cert : StepWriter C) (out : Printer W) (alone : Bool) (last : Option (List ℤ)) (steps : List Step) (first : W × C) : Type 0 where
   pub version : version_of cert ≡ Two
-  pub standing : IsStanding model alone steps (certs cert_first) (cert_contents certs cert) (outs out_first) (out_contents outs out)
+  pub standing : IsStanding model alone steps (certs first.1) (cert_contents certs cert) (outs first.0) (out_contents outs out)
   pub assignment : IfSome last (IsAssignment model)
-  pub cert_in_step : stage_of cert ≡ Open → IsCertInStep model steps (certs cert_first) (cert_contents certs cert) (step_count cert)
-  pub out_in_step : stage_of cert ≡ Open → is_open out ≡ true → IsOutInStep model alone (found_by model steps) (outs out_first) (out_contents outs out) (has_printed out) last
+  pub cert_in_step : stage_of cert ≡ Open → IsCertInStep model steps (certs first.1) (cert_contents certs cert) (step_count cert)
+  pub out_in_step : stage_of cert ≡ Open → is_open out ≡ true → IsOutInStep model alone (found_by model steps) (outs first.0) (out_contents outs out) (has_printed out) last
 
 abbrev pub IsKept : {W C : Type 0} → (W → Option (List ℕ)) → (C → Option (List ℕ)) → Model → Writers W C → Type 0
-IsKept outs certs model now = IsKeptBy outs certs model now.cert now.out now.alone now.last.now (taken now) now.first.items
+IsKept outs certs model now = IsKeptBy outs certs model now.cert now.out now.alone now.last.now (taken now) (at_first now)
 
 -- all but the certificate and the steps
 pub record IsRestSame {W C : Type 0} (old new : Writers W C) : Type 0 where
   pub out : new.out ≡ old.out
   pub alone : new.alone ≡ old.alone
   pub last : new.last ≡ old.last
-  pub first : new.first ≡ old.first
+  pub first : at_first new ≡ at_first old
 
 -- the line of one more step stands
 pub record IsLineTaken {W C : Type 0} (certs : C → Option (List ℕ)) (step : Step) (old new : Writers W C) : Type 0 where
@@ -101,7 +98,7 @@ pub record IsAllSame {W C : Type 0} (old new : Writers W C) : Type 0 where
   pub alone : new.alone ≡ old.alone
   pub last : new.last ≡ old.last
   pub taken : new.taken ≡ old.taken
-  pub first : new.first ≡ old.first
+  pub first : at_first new ≡ at_first old
 
 -- the first two lines do not stand, perhaps a beginning of them
 pub record IsUnbegun {W C : Type 0} (certs : C → Option (List ℕ)) (model : Model) (old new : Writers W C) : Type 0 where
@@ -123,13 +120,10 @@ pub record IsLastShown {W : Type 0} (outs : W → Option (List ℕ)) (model : Mo
 
 -- the end of the certificate stands, and the whole answer
 pub record IsClosed {W C : Type 0} (outs : W → Option (List ℕ)) (certs : C → Option (List ℕ)) (model : Model) (closed : Bool) (old new : Writers W C) : Type 0 where
-  pub cert_first : C
-  pub out_first : W
-  pub begun : old.first.items ≡ (out_first, cert_first) ∷ []
   pub have_lines : AllHaveLines Two 0 (taken old)
-  pub cert : Appends (certs cert_first) (cert_contents certs new.cert) (certificate model (taken old) closed)
+  pub cert : Appends (certs (at_first old).1) (cert_contents certs new.cert) (certificate model (taken old) closed)
   pub out :
-      Appends (outs out_first) (out_contents outs new.out)
+      Appends (outs (at_first old).0) (out_contents outs new.out)
       (shown_all model (early old.alone (found_by model (taken old)) ++ late old.alone (found_by model (taken old))) ++ ending_text closed (not (length (found_by model (taken old)) == 0)))
 
 -- the end of the certificate does not stand, perhaps a beginning of it, and the output is as it was

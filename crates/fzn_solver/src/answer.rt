@@ -12,6 +12,7 @@ ghost use Rattle.fzn_solver.specs.Run.{IsRun, IsRunFault};
 
 use crate::choice::{choice_for, for_search};
 use crate::fault::RunFault;
+use crate::history::{History, Initial};
 use crate::learning::learn_for;
 use crate::progress::{Watch, solve_watched};
 use crate::report::{Report, ending_for};
@@ -24,7 +25,6 @@ use fzn_propagators::Propagators;
 use fzn_reading::read_annotated;
 use fzn_search::Annotation;
 use fzn_words::Options;
-use http_server::Log;
 use std::alloc::Global;
 use std::io::{Read, Write};
 
@@ -76,14 +76,16 @@ fn answer<W: Write, C: Write, P: Watch>(
     ensures left { IfErr result (IsLeft model.now options.now.all (W.contents out.old) (W.contents out.new) (C.contents cert.old) (C.contents cert.new)) }
 {
     let mut last = None;
-    let first = Log::new().and(&*out, &*cert);
+    let first_out = Initial::of(&*out);
+    let first_cert = Initial::of(&*cert);
     let mut writers = Writers {
         cert: StepWriter::over(cert),
         out: Printer::new(out),
         alone: is_alone(model.goal, options.all),
         last: &mut last,
-        taken: Log::new(),
-        first,
+        taken: History::new(),
+        first_out,
+        first_cert,
     };
     search(
         alloc,

@@ -5,9 +5,6 @@ use fzn_search::Choice;
 use fzn_words::Options;
 use std::alloc::{AllocError, Global};
 
-/// After how many conflicts the first restart comes.
-const RESTART_AFTER: u64 = 100;
-
 /// What the options ask for. Only a search that learns the first unique implication point restarts.
 pub fn choice_for(options: &Options, learn: Learn) -> Choice {
     Choice {
@@ -15,8 +12,9 @@ pub fn choice_for(options: &Options, learn: Learn) -> Choice {
         seed: options.seed,
         restart_after: match learn {
             Learn::Plain => None,
-            Learn::First => Some(RESTART_AFTER),
+            Learn::First => Some(options.restart_after),
         },
+        keep: options.keep,
     }
 }
 

@@ -14,6 +14,7 @@ pub use report::Report;
 mod answer;
 mod choice;
 mod fault;
+mod history;
 mod learning;
 mod progress;
 mod report;

@@ -18,6 +18,8 @@ use std::alloc::Global;
 pub struct Progress {
     pub nodes: u64,
     pub conflicts: u64,
+    /// How often a constraint's propagator forced a literal, or refuted.
+    pub inferences: u64,
     pub solutions: u64,
     /// The objective's value in the last solution; none in satisfaction, and before the first solution.
     pub best: Option<i64>,
@@ -62,7 +64,7 @@ impl<'s, 'p, S: Sink, P: Watch> Sink for Watched<'s, 'p, S, P> {
         Ok(())
     }
 
-    fn tell(&mut self, nodes: u64, conflicts: u64) {
+    fn tell(&mut self, nodes: u64, conflicts: u64, inferences: u64) {
         let told = self.progress;
         if nodes == told.nodes && conflicts == told.conflicts {
             return;
@@ -70,6 +72,7 @@ impl<'s, 'p, S: Sink, P: Watch> Sink for Watched<'s, 'p, S, P> {
         self.progress = Progress {
             nodes,
             conflicts,
+            inferences,
             ..told
         };
         self.watch.tell(self.progress);
@@ -123,6 +126,7 @@ pub fn solve_watched<S: Sink, C: Constraints, P: Watch>(
         progress: Progress {
             nodes: 0,
             conflicts: 0,
+            inferences: 0,
             solutions: 0,
             best: None,
         },

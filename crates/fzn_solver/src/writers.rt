@@ -17,13 +17,13 @@ ghost use Rattle.fzn_printer.specs.Shown.{is_closed};
 ghost use Rattle.fzn_solver.specs.Standing.{is_alone, shown_all};
 ghost use Rattle.fzn_solver.specs.Writers.{taken, origin, IsFresh, IsKept, IsLineTaken, IsLineRefused, IsLogged, IsRestSame, IsAllSame, IsPrinted, IsLastShown, IsClosed, IsUnbegun, IsUnprinted, IsUnclosed};
 
+use crate::history::{History, Initial};
 use fzn_cert::{FaultKind, Step, StepWriter, Version};
 use fzn_domain::Memory;
 use fzn_engine::{Fault, Sink};
 use fzn_list::Items;
 use fzn_meaning::{Goal, Model};
 use fzn_printer::{Ending, Printer};
-use http_server::Log;
 use std::alloc::Global;
 use std::io::Write;
 
@@ -35,8 +35,11 @@ pub struct Writers<'o, 'c, 'l, W: Write, C: Write> {
     pub out: Printer<'o, W>,
     pub alone: bool,
     pub last: &'l mut Option<Items<i64>>,
-    pub taken: Log<Step, ()>,
-    pub first: Log<W, C>,
+    /// The steps whose lines stand.
+    pub taken: History<Step>,
+    /// Both writers as they were at first.
+    pub first_out: Initial<W>,
+    pub first_cert: Initial<C>,
 }
 
 impl<'o, 'c, 'l, W: Write, C: Write> Writers<'o, 'c, 'l, W, C> {
@@ -67,7 +70,7 @@ impl<'o, 'c, 'l, W: Write, C: Write> Writers<'o, 'c, 'l, W, C> {
     {
         match self.cert.write(alloc, step) {
             Ok(()) => {
-                self.taken = self.taken.and(step, &());
+                self.taken = self.taken.and(step);
                 Ok(())
             }
             Err(fault) => Err(fault_of(fault)),
@@ -194,7 +197,7 @@ impl<'o, 'c, 'l, W: Write, C: Write> Writers<'o, 'c, 'l, W, C> {
 impl<'o, 'c, 'l, W: Write, C: Write> Sink for Writers<'o, 'c, 'l, W, C> {
     ghost written = { λ writers. taken writers };
 
-    ghost Origin = { List (W × C) × Bool × GName × GName };
+    ghost Origin = { (W × C) × Bool × GName × GName };
 
     ghost origin = { λ writers. origin writers };
 

@@ -124,6 +124,7 @@ fn outcome_of(
         free: false,
         seed: None,
         restart_after,
+        keep: 0,
     };
     let annotations = Items::new(alloc);
     solve(

@@ -12,6 +12,8 @@ mod clauses;
 #[cfg(test)]
 mod engine;
 #[cfg(test)]
+mod fixpoints;
+#[cfg(test)]
 mod propagators;
 #[cfg(test)]
 mod search;
@@ -21,3 +23,5 @@ mod sums;
 mod trail;
 #[cfg(test)]
 mod two_variables;
+#[cfg(test)]
+mod words;

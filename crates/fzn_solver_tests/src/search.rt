@@ -54,6 +54,7 @@ fn search_of(
         free,
         seed: None,
         restart_after: Some(2),
+        keep: 0,
     };
     Search::new(alloc, vars.as_slice(), annotations, choice)
 }

@@ -1,5 +1,5 @@
 -- Rows of a table, on the sets of a trail.
-use Rattle.std.specs.Prelude.{◌≡◌, ℕ, ◌+◌, ◌*◌, ◌<◌, ◌≤◌, ℤ, pos, List, length, slice_index_or}
+use Rattle.std.specs.Prelude.{◌≡◌, Bool, true, false, ℕ, ◌+◌, ◌*◌, ◌<◌, ◌≤◌, ℤ, pos, List, length, slice_index_or}
 use Rattle.fzn_domain.specs.declared.literal.Lit.{Lit}
 use Rattle.fzn_domain.specs.IntSet.{IntSet}
 use Rattle.fzn_meaning.specs.declared.term.Term.{Term}
@@ -27,6 +27,10 @@ IsOutAt sets places rows r k = (k < length places) × (MayBe sets (place_at plac
 -- each of the first values of the row is in its place's set
 abbrev pub IsOpenUpTo : List IntSet → List Term → List ℤ → ℕ → ℕ → Type 0
 IsOpenUpTo sets places rows r count = (k : ℕ) → k < count → MayBe sets (place_at places k) (number_at places rows r k)
+
+-- each value of each row that is marked is in its place's set
+abbrev pub AreOpen : List IntSet → List Term → List ℤ → List Bool → Type 0
+AreOpen sets places rows marks = (r : ℕ) → slice_index_or marks r false ≡ true → IsOpenUpTo sets places rows r (length places)
 
 -- some row has the value at the place, and each of its values in its place's set
 pub record IsSupport (sets : List IntSet) (places : List Term) (rows : List ℤ) (p : ℕ) (value : ℤ) (r : ℕ) : Type 0 where

@@ -58,6 +58,11 @@ impl Supports {
         Ok(supports)
     }
 
+    /// No fewer than there are rows.
+    pub fn rows(&self) -> usize {
+        self.width.saturating_mul(64)
+    }
+
     /// Notes that the row has the value at the place.
     fn mark(&mut self, place: usize, value: i64, row: usize) {
         if let Some(entry) = self.entry_of(place, value) {

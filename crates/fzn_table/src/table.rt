@@ -8,7 +8,7 @@ ghost use Rattle.fzn_state.specs.Terms.{MayBe};
 ghost use Rattle.fzn_propagator.specs.Left.{IsLeft};
 ghost use Rattle.fzn_terms.specs.Claims.{IsJustifiedBy, LeavesNoMore, place_at};
 ghost use Rattle.fzn_terms.specs.Denied.{IsFalseClause};
-ghost use Rattle.fzn_table.specs.Supports.{AreRowsOutOn, number_at, IsWhole, IsOutAt, IsOpenUpTo, IsSupported, AreSupported, IsRowRefuted, AreRowsRefuted};
+ghost use Rattle.fzn_table.specs.Supports.{AreRowsOutOn, number_at, IsWhole, IsOutAt, IsOpenUpTo, AreOpen, IsSupported, AreSupported, IsRowRefuted, AreRowsRefuted};
 
 use crate::supports::Supports;
 use fzn_domain::{Lit, Memory, Op};
@@ -78,7 +78,7 @@ fn is_said(trail: &Trail, term: Term, value: &i64, clause: &Items<Lit>) -> bool
     )
 }
 
-/// A place that the row's value there is out of: one of which the clause says so, where there is one.
+/// A place that the row's value there is out of: one of which the clause says so, where there is one, else the first.
 fn place_out(
     trail: &Trail,
     places: &[Term],
@@ -98,7 +98,9 @@ fn place_out(
             if is_said(trail, places[k], &value, clause) {
                 return Some(k);
             }
-            found = Some(k);
+            if found.is_none() {
+                found = Some(k);
+            }
         }
     }
     found
@@ -200,6 +202,32 @@ pub fn explain_value(
     Ok(true)
 }
 
+/// Whether each value of the row is in its place's set. A row that is marked is not looked at again.
+fn is_open_row(
+    trail: &Trail,
+    places: &[Term],
+    rows: &[Term],
+    r: usize,
+    marks: &mut Vec<bool>,
+) -> bool
+    requires places { All (IsTerm (length trail.now.declared)) places.now }
+    requires whole { IsWhole places.now (numbers_in rows.now) r }
+    requires marks { AreOpen trail.now.sets places.now (numbers_in rows.now) marks.old.items }
+    ensures open { IsTrue result → IsOpenUpTo trail.now.sets places.now (numbers_in rows.now) r (length places.now) }
+    ensures marks { AreOpen trail.now.sets places.now (numbers_in rows.now) marks.new.items }
+{
+    if r < marks.len() && marks[r] {
+        return true;
+    }
+    if !is_open(trail, places, rows, r) {
+        return false;
+    }
+    if r < marks.len() {
+        marks[r] = true;
+    }
+    true
+}
+
 /// Whether this row has the value at the place, and each of its values in its place's set.
 fn is_support(
     trail: &Trail,
@@ -208,14 +236,17 @@ fn is_support(
     p: usize,
     value: &i64,
     r: usize,
+    marks: &mut Vec<bool>,
 ) -> bool
     requires places { All (IsTerm (length trail.now.declared)) places.now }
     requires in_range { p < length places.now }
-    ensures { IsTrue result → IsSupported trail.now.sets places.now (numbers_in rows.now) p value.now }
+    requires marks { AreOpen trail.now.sets places.now (numbers_in rows.now) marks.old.items }
+    ensures support { IsTrue result → IsSupported trail.now.sets places.now (numbers_in rows.now) p value.now }
+    ensures marks { AreOpen trail.now.sets places.now (numbers_in rows.now) marks.new.items }
 {
     if r < rows.len() / places.len() {
         if has_value(places, rows, r, p, value) {
-            return is_open(trail, places, rows, r);
+            return is_open_row(trail, places, rows, r, marks);
         }
     }
     false
@@ -229,6 +260,7 @@ fn explain_unless(
     p: usize,
     value: &i64,
     row: Option<usize>,
+    marks: &mut Vec<bool>,
     clause: &mut Items<Lit>,
 ) -> Result<bool, Memory>
     requires places { All (IsTerm (length trail.now.declared)) places.now }
@@ -236,11 +268,13 @@ fn explain_unless(
     requires in_range { p < length places.now }
     requires limits { IsInLimits value.now }
     requires may { MayBe trail.now.sets (place_at places.now p) value.now }
+    requires marks { AreOpen trail.now.sets places.now (numbers_in rows.now) marks.old.items }
     ensures found { IfOk result (λ found. IsTrue found → IsJustifiedBy trail.now (AreRowsOutOn places.now (numbers_in rows.now)) clause.new) }
     ensures none { IfOk result (λ found. found ≡ false → IsSupported trail.now.sets places.now (numbers_in rows.now) p value.now) }
+    ensures marks { AreOpen trail.now.sets places.now (numbers_in rows.now) marks.new.items }
 {
     if let Some(r) = row {
-        if is_support(trail, places, rows, p, value, r) {
+        if is_support(trail, places, rows, p, value, r, marks) {
             return Ok(false);
         }
     }
@@ -255,19 +289,22 @@ fn first_value(
     supports: &Supports,
     possible: &[u64],
     p: usize,
+    marks: &mut Vec<bool>,
     clause: &mut Items<Lit>,
 ) -> Result<bool, Memory>
     requires places { All (IsTerm (length trail.now.declared)) places.now }
     requires numbers { All IsInLimits (numbers_in rows.now) }
     requires filled { NoneEmpty trail.now.sets }
     requires in_range { p < length places.now }
+    requires marks { AreOpen trail.now.sets places.now (numbers_in rows.now) marks.old.items }
     ensures found { IfOk result (λ found. IsTrue found → IsJustifiedBy trail.now (AreRowsOutOn places.now (numbers_in rows.now)) clause.new) }
     ensures none { IfOk result (λ found. found ≡ false → (v : ℤ) → MayBe trail.now.sets (place_at places.now p) v → IsSupported trail.now.sets places.now (numbers_in rows.now) p v) }
+    ensures marks { AreOpen trail.now.sets places.now (numbers_in rows.now) marks.new.items }
 {
     let mut value = least_of(trail, places[p]);
     loop {
         let row = supports.row_of(possible, p, value);
-        if explain_unless(trail, places, rows, p, &value, row, clause)? {
+        if explain_unless(trail, places, rows, p, &value, row, marks, clause)? {
             return Ok(true);
         }
         match next_value(trail, places[p], &value) {
@@ -293,6 +330,7 @@ pub(crate) fn first_unsupported(
     ensures none { IfOk result (λ found. found ≡ false → AreSupported trail.now.sets places.now (numbers_in rows.now) (length places.now)) }
 {
     let possible = supports.possible(alloc, trail, places)?;
+    let mut marks = Vec::from_elem(alloc, false, supports.rows())?;
     for p in 0..places.len() {
         if first_value(
             trail,
@@ -301,6 +339,7 @@ pub(crate) fn first_unsupported(
             supports,
             possible.as_slice(),
             p,
+            &mut marks,
             clause,
         )? {
             return Ok(true);

@@ -37,6 +37,8 @@ pub record AreSaid (rows : List Row) (options : Options) : Type 0 where
   pub seed : SaysNumber 0 (2 ^ 64 - 1) (first_of (codes "seed") rows) options.seed
   pub nodes : SaysNumberOr (10 ^ 7) 0 (10 ^ 12) (first_of (codes "nodes") rows) options.nodes
   pub learn : SaysLearning (first_of (codes "learn") rows) options.learn
+  pub restart_after : options.restart_after ≡ 100
+  pub keep : options.keep ≡ 2000
   pub progress : options.progress ≡ is_set (first_of (codes "progress") rows)
   pub model : first_of (codes "model") rows ≡ Some (string_bytes options.model)
   pub cert : first_of (codes "cert") rows ≡ option_map string_bytes options.cert
@@ -45,6 +47,8 @@ pub record AreSaid (rows : List Row) (options : Options) : Type 0 where
 pub record AreFit (options : Options) : Type 0 where
   pub limit : IfSome options.limit (λ limit. (1 ≤ limit) × (limit ≤ 10 ^ 9))
   pub nodes : options.nodes ≤ 10 ^ 12
+  pub restart_after : (1 ≤ options.restart_after) × (options.restart_after ≤ 10 ^ 9)
+  pub keep : options.keep ≤ 10 ^ 9
   pub paths : IfSome options.cert (λ cert. string_bytes cert ≢ string_bytes options.model)
 
 -- the form is the one that the flag asks for, and its paths are those that the command line says

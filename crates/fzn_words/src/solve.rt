@@ -21,6 +21,10 @@ const MAX_NODES: u64 = 1_000_000_000_000;
 
 const DEFAULT_NODES: u64 = 10_000_000;
 
+const RESTART_AFTER: u64 = 100;
+
+const KEEP: u64 = 2_000;
+
 const ABOUT: &str = "Solve a FlatZinc file, and write a certificate for the answer on the way";
 
 const LIMIT: &str =
@@ -68,6 +72,11 @@ pub struct Options {
     pub nodes: u64,
     /// Which clause is learned from a conflict.
     pub learn: Learning,
+    /// After how many conflicts the search first restarts where it learns the clause of the first unique implication point, 1 to 10^9. No
+    /// word says it.
+    pub restart_after: u64,
+    /// How many learned clauses a restart keeps, at most 10^9. No word says it.
+    pub keep: u64,
     /// Whether standard error tells how far the search has come.
     pub progress: bool,
     pub model: String,
@@ -117,6 +126,8 @@ fn options_in(alloc: Global, matches: &ArgMatches<'_>) -> Result<Options, Option
         seed: number(matches, "seed", 0, u64::MAX)?,
         nodes: number(matches, "nodes", 0, MAX_NODES)?.unwrap_or(DEFAULT_NODES),
         learn: learning(matches)?,
+        restart_after: RESTART_AFTER,
+        keep: KEEP,
         progress: is_set(matches, "progress"),
         cert: certificate(alloc, matches, model.as_str())?,
         model,

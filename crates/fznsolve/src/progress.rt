@@ -35,6 +35,7 @@ impl<'r> Teller<'r> {
             last: Progress {
                 nodes: 0,
                 conflicts: 0,
+                inferences: 0,
                 solutions: 0,
                 best: None,
             },
@@ -61,6 +62,7 @@ impl<'r> Teller<'r> {
         let Progress {
             nodes,
             conflicts,
+            inferences,
             solutions,
             best,
         } = self.last;
@@ -69,10 +71,10 @@ impl<'r> Teller<'r> {
         let bytes = self.bytes.get();
         let _ = match best {
             Some(best) => eprintln!(self.rt;
-                "{first}{seconds}.{tenths} s, {nodes} nodes, {conflicts} conflicts, {solutions} solutions, best {best}, {bytes} bytes of certificate"
+                "{first}{seconds}.{tenths} s, {nodes} nodes, {conflicts} conflicts, {inferences} inferences, {solutions} solutions, best {best}, {bytes} bytes of certificate"
             ),
             None => eprintln!(self.rt;
-                "{first}{seconds}.{tenths} s, {nodes} nodes, {conflicts} conflicts, {solutions} solutions, {bytes} bytes of certificate"
+                "{first}{seconds}.{tenths} s, {nodes} nodes, {conflicts} conflicts, {inferences} inferences, {solutions} solutions, {bytes} bytes of certificate"
             ),
         };
     }

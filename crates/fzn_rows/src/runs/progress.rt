@@ -58,6 +58,7 @@ fn progress(rt: HostRuntime) -> Result<(), Fail> {
             progress: Progress {
                 nodes: 0,
                 conflicts: 0,
+                inferences: 0,
                 solutions: 0,
                 best: None,
             },

@@ -16,6 +16,7 @@ loop-value-preserved c =
       member = c.in-Some.ensures.found.member;
       in_limits = c.in-Some.ensures.in_limits;
       done = next_done (IsSupported trail.sets places rows c.args.p) trail.sets (place_at places c.args.p) value (c.in_ok-explain_unless.ensures.none c.if-branch.false) c.loop-value.invariant.done c.in-Some.next c.in-Some.ensures.found;
+      marks = c.explain_unless.ensures.marks;
     })
 
 pub returns-in-None-clause-none : goal.returns-in-None-clause-none

@@ -4,7 +4,7 @@ use Rattle.fzn_domain.specs.Limits.{IsInLimits}
 use Rattle.fzn_meaning.specs.Term.{numbers_in}
 use Rattle.fzn_state.specs.Terms.{MayBe}
 use Rattle.fzn_terms.specs.Claims.{place_at}
-use Rattle.fzn_table.specs.Supports.{IsSupported}
+use Rattle.fzn_table.specs.Supports.{AreOpen, IsSupported}
 use Rattle.fzn_table.proofs.table.first_value.Given as goal
 
 -- the number is a value of the place, and those below it are supported
@@ -13,6 +13,7 @@ invariant-loop-value l = record {
   member : MayBe l.trail.sets (place_at l.places l.p) l.value;
   in_limits : IsInLimits l.value;
   done : (v : ℤ) → MayBe l.trail.sets (place_at l.places l.p) v → v <ℤ l.value → IsSupported l.trail.sets l.places (numbers_in l.rows) l.p v;
+  marks : AreOpen l.trail.sets l.places (numbers_in l.rows) l.marks.items;
 }
 
 abbrev pub decreases-loop-value : goal.decreases-loop-value

@@ -47,6 +47,14 @@ returns-in-Some-2-clause-found c =
     let hints = subst (λ (o : Option (List ℤ)). IfSome o (λ places. HasWritableHints (Cut places))) c.in-Some-2.is c.in_ok-places.ensures.hints in
     λ constraint same. inference_of trail c.args.self.now.number (Circuit xs) (Cut c.in-Some-2.places) c.first_cut.new.clause inferred hints constraint (ap Circuit c.as_slice-successors.ensures ∙ same)
 
+pub returns-in-Some-3-clause-found : goal.returns-in-Some-3-clause-found
+returns-in-Some-3-clause-found c =
+    let trail = c.args.trail.now in
+    let xs = c.as_slice-successors.result.now in
+    let inferred = subst (λ (o : Option (List ℤ)). IfSome o (λ places. IsInferred trail (Circuit xs) (Cut places) c.first_closed.new.clause)) c.in-Some-3.is c.in_ok-places-2.ensures.found in
+    let hints = subst (λ (o : Option (List ℤ)). IfSome o (λ places. HasWritableHints (Cut places))) c.in-Some-3.is c.in_ok-places-2.ensures.hints in
+    λ constraint same. inference_of trail c.args.self.now.number (Circuit xs) (Cut c.in-Some-3.places) c.first_closed.new.clause inferred hints constraint (ap Circuit c.as_slice-successors.ensures ∙ same)
+
 pub returns-clause-none : goal.returns-clause-none
 returns-clause-none c =
     let trail = c.args.trail.now in

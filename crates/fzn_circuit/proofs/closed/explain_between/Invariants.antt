@@ -1,0 +1,11 @@
+use Rattle.fzn_domain.specs.Limits.{IsInLimits}
+use Rattle.fzn_circuit.specs.Closed.{IsGrown}
+use Rattle.fzn_circuit.proofs.ClosedLemmas.{LeadsIntoBelow}
+use Rattle.fzn_circuit.proofs.closed.explain_between.Given as goal
+
+-- the values below this one are among the places
+abbrev pub invariant-loop : goal.invariant-loop
+invariant-loop l = record {
+  limits : IsInLimits l.value;
+  below : IsGrown l.trail (LeadsIntoBelow l.places l.var l.low l.value) l.fn.clause l.clause;
+}

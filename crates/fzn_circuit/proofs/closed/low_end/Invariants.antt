@@ -1,0 +1,6 @@
+use Rattle.std.proofs.Common.{◌≤ℤ◌}
+use Rattle.fzn_domain.specs.Limits.{IsInLimits}
+use Rattle.fzn_circuit.proofs.closed.low_end.Given as goal
+
+abbrev pub invariant-loop : goal.invariant-loop
+invariant-loop l = record { limits : IsInLimits l.low; order : l.low ≤ℤ l.least }

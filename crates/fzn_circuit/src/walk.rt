@@ -1,0 +1,208 @@
+// Places that lead only to one another, by a walk along possible successors that looks at each once: R. Tarjan, Depth-first search and
+// linear graph algorithms, 1972. No contract rests on which places these are.
+ghost use Rattle.std.specs.Prelude.{IfOk, IfSome, length};
+ghost use Rattle.fzn_domain.specs.Ascending.{IsAscending};
+ghost use Rattle.fzn_meaning.specs.Meaning.{AreTerms};
+
+use crate::circuit::rising;
+use fzn_domain::Memory;
+use fzn_list::Items;
+use fzn_meaning::Term;
+use fzn_state::is_index;
+use fzn_terms::{may_be, next_value};
+use fzn_trail::Trail;
+use std::alloc::Global;
+
+/// A place on the way from the first one. Places are counted from 0, and by the order in which they were seen from 1.
+#[derive(Clone, Copy, Debug)]
+struct Stop {
+    place: usize,
+    /// Its successors up to this one have been seen.
+    upto: i64,
+    /// The first seen of the places to which what was seen behind this one leads.
+    back: usize,
+}
+
+/// A walk from the first place.
+#[derive(Debug, Drop)]
+struct Walk {
+    seen: Vec<usize>,
+    /// The number of each place among those seen; 0 where it was not.
+    numbers: Vec<usize>,
+    /// From each place that was seen on to one that was not; to itself where it was not.
+    onward: Vec<usize>,
+    way: Vec<Stop>,
+}
+
+fn at(list: &[usize], k: usize, default: usize) -> usize {
+    list.get(k).copied().unwrap_or(default)
+}
+
+fn put(list: &mut [usize], k: usize, number: usize) {
+    if k < list.len() {
+        list[k] = number;
+    }
+}
+
+/// The place that a successor is, counted from 0.
+fn place_of(count: usize, value: i64) -> Option<usize> {
+    if !is_index(count, &value) {
+        return None;
+    }
+    Some(value as usize - 1)
+}
+
+impl Walk {
+    fn new(alloc: Global, count: usize) -> Result<Walk, Memory> {
+        let mut onward = Vec::with_capacity(alloc, count)?;
+        for place in 0..count {
+            onward.push(place)?;
+        }
+        Ok(Walk {
+            seen: Vec::new(alloc),
+            numbers: Vec::from_elem(alloc, 0, count)?,
+            onward,
+            way: Vec::new(alloc),
+        })
+    }
+
+    fn enter(&mut self, place: usize) -> Result<(), Memory> {
+        self.seen.push(place)?;
+        let back = self.seen.len();
+        put(&mut self.numbers, place, back);
+        put(&mut self.onward, place, place.saturating_add(1));
+        self.way.push(Stop {
+            place,
+            upto: 0,
+            back,
+        })?;
+        Ok(())
+    }
+
+    /// The first place from this one on that was not seen.
+    fn unseen_from(&mut self, from: usize) -> usize {
+        let mut place = from;
+        for _ in 0..self.onward.len() {
+            let next = at(&self.onward, place, place);
+            if next <= place {
+                return place;
+            }
+            let after = at(&self.onward, next, next);
+            put(&mut self.onward, place, after);
+            place = after;
+        }
+        place
+    }
+
+    /// The next successor of the place that was not seen.
+    fn next_of(&mut self, trail: &Trail, successors: &[Term], stop: &mut Stop) -> Option<usize>
+        requires terms { AreTerms (length trail.now.declared) successors.now }
+    {
+        if stop.place >= successors.len() {
+            return None;
+        }
+        let term = successors[stop.place];
+        for _ in 0..successors.len() {
+            let value = next_value(trail, term, &stop.upto)?;
+            let place = place_of(successors.len(), value)?;
+            let unseen = self.unseen_from(place).min(successors.len());
+            if unseen == place {
+                stop.upto = value;
+                return Some(place);
+            }
+            stop.upto = unseen as i64;
+        }
+        None
+    }
+
+    /// The first seen of the successors of a place, where all of them were seen, by its number; that of the place where none was seen
+    /// before it. It looks at the places that were seen and at the successors by turns, until it has looked at all of either.
+    fn back_from(&self, trail: &Trail, successors: &[Term], place: usize) -> usize
+        requires terms { AreTerms (length trail.now.declared) successors.now }
+    {
+        let mut back = at(&self.numbers, place, 0);
+        if place >= successors.len() {
+            return back;
+        }
+        let term = successors[place];
+        let mut upto = 0;
+        for k in 0..back.min(self.seen.len()) {
+            let seen = self.seen[k].min(successors.len()) as i64 + 1;
+            if may_be(trail, term, &seen) {
+                return back.min(k + 1);
+            }
+            let Some(value) = next_value(trail, term, &upto) else {
+                return back;
+            };
+            if let Some(next) = place_of(successors.len(), value) {
+                back = back.min(at(&self.numbers, next, back));
+            }
+            upto = value;
+        }
+        back
+    }
+
+    /// Goes on to a place that was not seen, or back. Gives the number of a place where all that is reached from there was seen since.
+    fn go_on(&mut self, trail: &Trail, successors: &[Term]) -> Result<Option<usize>, Memory>
+        requires terms { AreTerms (length trail.now.declared) successors.now }
+    {
+        let Some(mut stop) = self.way.pop() else {
+            return Ok(None);
+        };
+        if let Some(place) = self.next_of(trail, successors, &mut stop) {
+            self.way.push(stop)?;
+            self.enter(place)?;
+            return Ok(None);
+        }
+        let number = at(&self.numbers, stop.place, 0);
+        let back = stop.back.min(self.back_from(trail, successors, stop.place));
+        if number <= back {
+            return Ok(Some(number));
+        }
+        self.hand_back(back);
+        Ok(None)
+    }
+
+    /// Notes at the last place of the way which one the place behind it leads back to.
+    fn hand_back(&mut self, back: usize) {
+        if let Some(stop) = self.way.last_mut() {
+            stop.back = stop.back.min(back);
+        }
+    }
+
+    /// The places seen from this number on, in rising order.
+    fn places_from(&self, alloc: Global, number: usize) -> Result<Items<i64>, Memory>
+        ensures { IfOk result IsAscending }
+    {
+        let mut places = Vec::new(alloc);
+        for k in number.saturating_sub(1)..self.seen.len() {
+            let place = i64::try_from(self.seen[k]).unwrap_or(0);
+            places.push(place.saturating_add(1))?;
+        }
+        places.sort_unstable();
+        rising(alloc, &places)
+    }
+}
+
+/// Some places, but not all, that lead only to one another, in rising order, where the walk finds any.
+pub(crate) fn closed_places(
+    alloc: Global,
+    trail: &Trail,
+    successors: &[Term],
+) -> Result<Option<Items<i64>>, Memory>
+    requires terms { AreTerms (length trail.now.declared) successors.now }
+    ensures { IfOk result (λ found. IfSome found IsAscending) }
+{
+    let mut walk = Walk::new(alloc, successors.len())?;
+    walk.enter(0)?;
+    for _ in 0..successors.len().saturating_mul(2) {
+        if let Some(number) = walk.go_on(trail, successors)? {
+            if number <= 1 && successors.len() <= walk.seen.len() {
+                return Ok(None);
+            }
+            let places = walk.places_from(alloc, number)?;
+            return Ok(Some(places));
+        }
+    }
+    Ok(None)
+}

@@ -1,0 +1,13 @@
+use Rattle.std.proofs.Common.{ℕ, ℤ}
+use borrow.Author.Count.{below_more}
+use Rattle.fzn_meaning.specs.Term.{numbers_in}
+use Rattle.fzn_state.specs.Terms.{MayBe}
+use Rattle.fzn_terms.specs.Claims.{place_at}
+use Rattle.fzn_table.specs.Supports.{IsSupported}
+use Rattle.fzn_table.proofs.table.first_unsupported.Goals as goal
+
+pub loop-p-preserved : goal.loop-p-preserved
+loop-p-preserved c = record {
+  supported = below_more (λ (p : ℕ). (v : ℤ) → MayBe c.args.trail.now.sets (place_at c.args.places.now p) v → IsSupported c.args.trail.now.sets c.args.places.now (numbers_in c.args.rows.now) p v) c.loop-p.p c.loop-p.invariant.supported (c.in_ok-first_value.ensures.none c.if-branch.false);
+  marks = c.first_value.ensures.marks;
+}
