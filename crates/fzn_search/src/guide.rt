@@ -107,13 +107,24 @@ impl Guide {
         }
     }
 
+    /// Whether conflicts and values count for activity: while it decides, and before the first restart. What is met in the order of
+    /// the annotations would only lead it astray.
+    fn is_told(&self) -> bool {
+        self.by_activity
+            || match &self.restarts {
+                Some(restarts) => restarts.is_first(),
+                None => false,
+            }
+    }
+
     /// The entries from this place on will be dropped.
     pub fn undo(&mut self, trail: &Trail, from: usize) {
         self.order.undo(from);
+        let is_told = self.is_told();
         for place in from..trail.len() {
             let lit = trail.entry(place).lit;
             let number = lit.var.0.saturating_sub(1);
-            if number < self.last_values.len() {
+            if is_told && number < self.last_values.len() {
                 if let Some(value) = value_left(trail.domain_before(place), lit) {
                     self.last_values[number] = Some(value);
                 }
@@ -126,8 +137,8 @@ impl Guide {
 
     /// The present conflict rests on these literals.
     pub fn bump(&mut self, lits: &[Lit]) -> Result<(), Memory> {
-        if !self.free && self.restarts.is_none() {
-            return Ok(()); // Activity never decides.
+        if !self.is_told() {
+            return Ok(());
         }
         for lit in lits {
             let number = lit.var.0.saturating_sub(1);
@@ -140,15 +151,17 @@ impl Guide {
         Ok(())
     }
 
-    /// The present conflict is over. Answers whether a restart is due, after which activity and the annotations take turns.
+    /// The present conflict is over. Answers whether a restart is due, after which activity and the annotations may take turns.
     pub fn conflict(&mut self) -> bool {
-        self.comparisons.decay();
-        self.activity.decay();
+        if self.is_told() {
+            self.comparisons.decay();
+            self.activity.decay();
+        }
         match &mut self.restarts {
             Some(restarts) => {
                 let is_due = restarts.is_due();
                 if is_due {
-                    self.by_activity = self.free || !self.by_activity;
+                    self.by_activity = self.free || !restarts.is_by_order();
                 }
                 is_due
             }
