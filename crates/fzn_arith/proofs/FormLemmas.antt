@@ -1,5 +1,5 @@
 -- What a found clause and its absence say of a constraint.
-use Rattle.std.proofs.Common.{◌≡◌, ℕ, ◌-◌, Bool, true, false, cond, List, [], ◌∷◌, length, get_or, refl, sym, ap, subst, ◌∙◌, inl, inr, arith, ℤ, pos, ◌-ℤ◌, ◌*ℤ◌, ◌≤ℤ◌, int_lt, All, Option, Some, None, IfSome, IsSomeAnd, MatchOption}
+use Rattle.std.proofs.Common.{◌≡◌, ◌≢◌, ℕ, ◌-◌, Bool, true, false, cond, List, [], ◌∷◌, length, get_or, refl, sym, ap, subst, ◌∙◌, inl, inr, arith, ℤ, pos, ◌-ℤ◌, ◌*ℤ◌, ◌≤ℤ◌, int_lt, All, Option, Some, None, IfSome, IsSomeAnd, MatchOption}
 use Rattle.std.proofs.lemmas.Int.{ints}
 use Rattle.std.proofs.lemmas.Bool.{cases_Bool}
 use Rattle.std.proofs.lemmas.List.Elements.{All-nil, recursion_from_All}
@@ -149,6 +149,18 @@ tight_of : (sets : List IntSet) (found other : Form) → IsLeftAlone sets found 
 tight_of sets found other alone comparison switch =
     subst (λ (c : Comparison). LeavesEach sets c found.places found.bound) comparison
     (subst (λ (s : Option Term). MatchOption s (LeavesEach sets found.comparison found.places found.bound) (λ (term : Term). (IsFixedTo sets term (pos 1) → LeavesEach sets found.comparison found.places found.bound) × (IsFixedTo sets term (pos 0) → LeavesEach sets other.comparison other.places other.bound))) switch alone)
+
+-- ---- a switch of several values
+
+both_ends : (a b v : ℤ) → a ≢ b → a ≡ v → b ≡ v → ⊥
+both_ends a b v apart low high = apart (low ∙ sym high)
+
+pub undecided_alone : (sets : List IntSet) (found other : Form) (switch : Term) → found.switch ≡ Some switch → least_value sets switch ≢ greatest_value sets switch → IsLeftAlone sets found other
+undecided_alone sets found other switch is several =
+    subst (λ (s : Option Term). MatchOption s (LeavesEach sets found.comparison found.places found.bound) (λ (term : Term). (IsFixedTo sets term (pos 1) → LeavesEach sets found.comparison found.places found.bound) × (IsFixedTo sets term (pos 0) → LeavesEach sets other.comparison other.places other.bound))) (sym is) (
+      λ on. absurd (both_ends (least_value sets switch) (greatest_value sets switch) (pos 1) several on.0 on.1),
+      λ off. absurd (both_ends (least_value sets switch) (greatest_value sets switch) (pos 0) several off.0 off.1),
+    )
 
 -- ---- no value that is barred
 

@@ -68,13 +68,6 @@ module _ (trail : Levels) (lit : Lit) (comparison : Comparison) (places : List P
 -- ---- the opposite sum, in the words of the calls
 
 module _ {E : Type 0} (trail : Levels) (places named : List Place) (bound stored : ℤ) (r : Result (Option (List Lit)) E) where
-  pub refutes_below : IfOk r (λ found. IfSome found (IsRefutation trail compared.AtMost named stored)) → named ≡ opposites places → stored ≡ pos 0 -ℤ bound → IfOk r (λ found. IfSome found (IsRefutation trail compared.Equal places bound))
-  refutes_below h named_is stored_is =
-      IfOk-weaker r (λ found. IfSome found (IsRefutation trail compared.AtMost named stored)) (λ found. IfSome found (IsRefutation trail compared.Equal places bound))
-      (λ found some. IfSome_then found some (λ clause refutes.
-      let there = subst (λ (b : ℤ). IsRefutation trail compared.AtMost (opposites places) b clause) stored_is (subst (λ (ps : List Place). IsRefutation trail compared.AtMost ps stored clause) named_is refutes) in
-      record { over = there.over; writable = there.writable; forces = there.forces; rules_out = inr there.rules_out })) h
-
   pub conflict_below : IfOk r (λ found. IfSome found (IsConflict trail compared.AtMost named stored)) → named ≡ opposites places → stored ≡ pos 0 -ℤ bound → IfOk r (λ found. IfSome found (IsConflict trail compared.Equal places bound))
   conflict_below h named_is stored_is =
       IfOk-weaker r (λ found. IfSome found (IsConflict trail compared.AtMost named stored)) (λ found. IfSome found (IsConflict trail compared.Equal places bound))

@@ -9,7 +9,9 @@ use crate::form::SumForm;
 use fzn_domain::{Lit, Memory};
 use fzn_list::Items;
 use fzn_meaning::{Comparison, Place};
-use fzn_sums::{conflict_at_most, conflict_not_equal, refute_at_most, refute_not_equal};
+use fzn_sums::{
+    conflict_at_most, conflict_not_equal, refute_at_most, refute_equal, refute_not_equal,
+};
 use fzn_trail::Trail;
 use std::alloc::Global;
 
@@ -44,10 +46,11 @@ pub fn refute(
     ensures found { IfOk result (λ found. IfSome found (IsRefutation trail.now sum.now.comparison sum.now.places sum.now.bound)) }
     ensures none { IfOk result (λ found. IfNone found (LeavesEach trail.now.sets sum.now.comparison sum.now.places sum.now.bound)) }
 {
+    let places = sum.places.as_slice();
     match sum.comparison {
-        Comparison::AtMost => refute_at_most(alloc, trail, sum.places.as_slice(), sum.bound),
-        Comparison::Equal => refute_equal(alloc, trail, sum, opposite),
-        Comparison::NotEqual => refute_not_equal(alloc, trail, sum.places.as_slice(), sum.bound),
+        Comparison::AtMost => refute_at_most(alloc, trail, places, sum.bound),
+        Comparison::Equal => refute_equal(alloc, trail, places, opposite, sum.bound),
+        Comparison::NotEqual => refute_not_equal(alloc, trail, places, sum.bound),
     }
 }
 
@@ -67,22 +70,4 @@ fn conflict_equal(
         return Ok(Some(clause));
     }
     conflict_at_most(alloc, trail, opposite, -sum.bound)
-}
-
-fn refute_equal(
-    alloc: Global,
-    trail: &Trail,
-    sum: &SumForm,
-    opposite: &[Place],
-) -> Result<Option<Items<Lit>>, Memory>
-    requires sum { IsSum (length trail.now.declared) sum.now opposite.now }
-    requires filled { NoneEmpty trail.now.sets }
-    ensures found { IfOk result (λ found. IfSome found (IsRefutation trail.now compares.Equal sum.now.places sum.now.bound)) }
-    ensures none { IfOk result (λ found. IfNone found (LeavesSome trail.now.sets compares.Equal sum.now.places sum.now.bound)) }
-{
-    let places = sum.places.as_slice();
-    if let Some(clause) = refute_at_most(alloc, trail, places, sum.bound)? {
-        return Ok(Some(clause));
-    }
-    refute_at_most(alloc, trail, opposite, -sum.bound)
 }

@@ -1,9 +1,11 @@
 pub mod BarredLemmas
 pub mod CallerLemmas
 mod ClauseLemmas
+mod EndLemmas
 pub mod OppositeLemmas
 mod PinLemmas
 mod PlaceLemmas
 pub mod ProductLemmas
 pub mod RefutedLemmas
 pub mod SumLemmas
+mod WithinLemmas

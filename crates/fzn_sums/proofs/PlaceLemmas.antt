@@ -1,7 +1,6 @@
 -- What a place gives, and the literals that explain and force it.
-use Rattle.std.proofs.Common.{◌≡◌, ℕ, ◌/◌, ◌<◌, ◌≤◌, Bool, true, false, cond, List, [], sym, ap, subst, ◌∙◌, arith, ℤ, pos, negsuc, ◌+ℤ◌, ◌-ℤ◌, ◌*ℤ◌, ◌≤ℤ◌, ◌<ℤ◌, unsigned_abs, int_lt, int_le}
+use Rattle.std.proofs.Common.{◌≡◌, ℕ, ◌*◌, ◌/◌, ◌<◌, ◌≤◌, Bool, true, false, cond, List, [], sym, ap, subst, ◌∙◌, arith, ℤ, pos, negsuc, ◌+ℤ◌, ◌-ℤ◌, ◌*ℤ◌, ◌≤ℤ◌, ◌<ℤ◌, unsigned_abs, int_lt, int_le}
 use Rattle.std.proofs.lemmas.Int.{ints}
-use Rattle.std.proofs.Math.IntN.{zero-*ℤ}
 use Rattle.fzn_domain.specs.declared.literal.VarId.{VarId}
 use Rattle.fzn_domain.specs.declared.literal.Op.TheVariants.{AtMost, AtLeast}
 use Rattle.fzn_domain.specs.IntSet.{IntSet, contains, size, least, greatest}
@@ -12,7 +11,7 @@ use Rattle.fzn_meaning.specs.declared.term.Term.{Term}
 use Rattle.fzn_meaning.specs.declared.term.Term.TheVariants.{Constant, Variable}
 use Rattle.fzn_meaning.specs.declared.term.Place.{Place}
 use Rattle.fzn_state.specs.Terms.{least_value, greatest_value}
-use Rattle.fzn_builtin_rules.specs.Linear.{low_end, high_end, low_product, high_product}
+use Rattle.fzn_builtin_rules.specs.Linear.{low_product, high_product}
 use Rattle.fzn_trail.specs.Levels.{Levels}
 use Rattle.fzn_propagator.specs.Inference.{spread}
 use Rattle.fzn_propagator.specs.Left.{IsLeft}
@@ -195,12 +194,12 @@ forced_down trail place slack var low high value n step sign of ends size some s
 
 -- ---- nothing is forced
 
-pub spread_near : (sets : List IntSet) (place : Place) (slack : ℕ) (var : VarId) (low high : ℤ) (n step : ℕ) → place.term ≡ Variable var → HasEnds (set_of sets var) low high → n ≡ unsigned_abs place.coefficient → 0 < n → step ≡ slack / n → unsigned_abs (high -ℤ low) ≤ step → spread sets place ≤ℤ pos slack
-spread_near sets place slack var low high n step of ends size some step_is near =
+pub spread_near : (sets : List IntSet) (place : Place) (slack : ℕ) (var : VarId) (low high : ℤ) → place.term ≡ Variable var → HasEnds (set_of sets var) low high → unsigned_abs place.coefficient * unsigned_abs (high -ℤ low) ≤ slack → spread sets place ≤ℤ pos slack
+spread_near sets place slack var low high of ends near =
     let ordered = ends_ordered (set_of sets var) low high ends in
     both_signs place.coefficient
-    (λ sign. spread_as _ _ _ _ _ (top_up sets place var high sign of ends.high_is) (product_up sets place var low sign of ends.low_is) (near_up place.coefficient low high n slack step size some sign ordered step_is near))
-    (λ sign. spread_as _ _ _ _ _ (top_down sets place var low sign of ends.low_is) (product_down sets place var high sign of ends.high_is) (near_down place.coefficient low high n slack step size some sign ordered step_is near))
+    (λ sign. spread_as _ _ _ _ _ (top_up sets place var high sign of ends.high_is) (product_up sets place var low sign of ends.low_is) (near_up place.coefficient low high slack sign ordered near))
+    (λ sign. spread_as _ _ _ _ _ (top_down sets place var low sign of ends.low_is) (product_down sets place var high sign of ends.high_is) (near_down place.coefficient low high slack sign ordered near))
   where
     spread_as : (a b c d s : ℤ) → a ≡ b → c ≡ d → (b -ℤ d) ≤ℤ s → (a -ℤ c) ≤ℤ s
     spread_as a b c d s e f h = omega (arith, ints)
@@ -213,20 +212,6 @@ spread_constant sets place k slack of =
   where
     flat : (a b p : ℤ) (s : ℕ) → a ≡ p → b ≡ p → (a -ℤ b) ≤ℤ pos s
     flat a b p s e f = omega (arith, ints)
-
--- a coefficient of 0
-pub spread_zero : (sets : List IntSet) (place : Place) (slack : ℕ) → unsigned_abs place.coefficient ≡ 0 → spread sets place ≤ℤ pos slack
-unfolding low_product high_product
-spread_zero sets place slack size = flat_zero _ _ slack (at_zero (zero_is place.coefficient size) (high_end sets place)) (at_zero (zero_is place.coefficient size) (low_end sets place))
-  where
-    zero_is : (c : ℤ) → unsigned_abs c ≡ 0 → c ≡ pos 0
-    zero_is c e = grind (arith, ints)
-
-    at_zero : {c : ℤ} → c ≡ pos 0 → (x : ℤ) → c *ℤ x ≡ pos 0
-    at_zero e x = ap (λ (c : ℤ). c *ℤ x) e ∙ zero-*ℤ x
-
-    flat_zero : (a b : ℤ) (s : ℕ) → a ≡ pos 0 → b ≡ pos 0 → (a -ℤ b) ≤ℤ pos s
-    flat_zero a b s e f = omega (arith, ints)
 
 -- ---- in the words of the calls
 

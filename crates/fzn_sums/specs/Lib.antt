@@ -1,3 +1,4 @@
+pub mod Ends
 pub mod Explained
 pub mod Opposite
 pub mod Pinned

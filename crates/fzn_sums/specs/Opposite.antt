@@ -1,6 +1,8 @@
 -- The places whose sum is the negative of another's.
-use Rattle.std.specs.Prelude.{pos, ◌-ℤ◌, List, map}
+use Rattle.std.specs.Prelude.{◌≡◌, ℕ, ◌≤◌, pos, ◌-ℤ◌, List, map, length}
+use Rattle.std.specs.List.{All}
 use Rattle.fzn_meaning.specs.declared.term.Place.{Place}
+use Rattle.fzn_meaning.specs.Term.{IsPlace}
 
 -- the place gives the negative of what it gave
 abbrev pub opposite : Place → Place
@@ -8,3 +10,10 @@ opposite place = record { coefficient = pos 0 -ℤ place.coefficient; term = pla
 
 abbrev pub opposites : List Place → List Place
 opposites places = map opposite places
+
+-- at most 200,000 places over so many variables, and their opposites
+pub record AreOpposite (count : ℕ) (places opposite : List Place) : Type 0 where
+  pub places_fit : All (IsPlace count) places
+  pub opposite_fit : All (IsPlace count) opposite
+  pub short : length places ≤ 200000
+  pub opposite_is : opposite ≡ opposites places

@@ -9,7 +9,7 @@ ghost use Rattle.fzn_sums.specs.Explained.{IsExplained, IsFloor, IsForced, IsFor
 ghost use Rattle.fzn_sums.specs.Refuted.{IsConflict, IsRefutation};
 ghost use Rattle.fzn_meaning.specs.declared.relation.Comparison.TheVariants as sum;
 
-use crate::ends::least_sum;
+use crate::ends::{ends_of, least_sum};
 use fzn_domain::{Lit, Memory, Op};
 use fzn_list::Items;
 use fzn_meaning::{Place, Term};
@@ -61,18 +61,15 @@ fn force(trail: &Trail, place: Place, slack: u128) -> Option<Lit>
     let Term::Variable(var) = place.term else {
         return None;
     };
-    let magnitude = u128::from(place.coefficient.unsigned_abs());
-    if magnitude == 0 {
-        return None;
-    }
     let domain = trail.domain(var);
     let low = domain.min();
     let high = domain.max();
-    let step = slack / magnitude;
-    if step >= u128::from((high - low) as u64) {
+    let magnitude = u128::from(place.coefficient.unsigned_abs());
+    let width = u128::from((high - low) as u64);
+    if magnitude * width <= slack {
         return None;
     }
-    let step = step as i64;
+    let step = (slack / magnitude) as i64;
     if place.coefficient < 0 {
         Some(Lit {
             var,
@@ -153,6 +150,30 @@ pub fn conflict_at_most(
     Ok(Some(clause))
 }
 
+/// A clause that refutes that the sum is at most its least and this slack.
+pub(crate) fn refute_within(
+    alloc: Global,
+    trail: &Trail,
+    places: &[Place],
+    slack: i128,
+) -> Result<Option<Items<Lit>>, Memory>
+    requires places { All (IsPlace (length trail.now.declared)) places.now }
+    requires filled { NoneEmpty trail.now.sets }
+    ensures found { IfOk result (λ found. IfSome found (IsRefutation trail.now sum.AtMost places.now (least_sum trail.now.sets places.now +ℤ slack))) }
+    ensures none { IfOk result (λ found. IfNone found (IsTight trail.now.sets places.now (least_sum trail.now.sets places.now +ℤ slack))) }
+{
+    if slack < 0 {
+        let clause = explain(alloc, trail, places, places.len())?;
+        return Ok(Some(clause));
+    }
+    let Some(forced) = first_forced(trail, places, slack as u128) else {
+        return Ok(None);
+    };
+    let mut clause = explain(alloc, trail, places, forced.place)?;
+    clause.push(forced.lit)?;
+    Ok(Some(clause))
+}
+
 /// A clause that refutes that the sum is at most the bound, and is false or forces one literal on the trail: none where the sum stays within
 /// the bound with any one place at its other end. `Err` where memory runs out.
 pub fn refute_at_most(
@@ -167,17 +188,10 @@ pub fn refute_at_most(
     ensures found { IfOk result (λ found. IfSome found (IsRefutation trail.now sum.AtMost places.now bound)) }
     ensures none { IfOk result (λ found. IfNone found (IsTight trail.now.sets places.now bound)) }
 {
-    let least = least_sum(trail, places);
-    let bound = i128::from(bound);
-    if least > bound {
-        let clause = explain(alloc, trail, places, places.len())?;
-        return Ok(Some(clause));
-    }
-    let slack = (bound - least) as u128;
-    let Some(forced) = first_forced(trail, places, slack) else {
+    let ends = ends_of(trail, places);
+    let slack = ends.rise_to(bound);
+    if ends.is_within(slack) {
         return Ok(None);
-    };
-    let mut clause = explain(alloc, trail, places, forced.place)?;
-    clause.push(forced.lit)?;
-    Ok(Some(clause))
+    }
+    refute_within(alloc, trail, places, slack)
 }

@@ -9,6 +9,7 @@ use Rattle.fzn_sums.specs.Refuted.{IsRefutation}
 use Rattle.fzn_arith.specs.Kinds.{form_in}
 use Rattle.fzn_arith.specs.Sum.{IsFound}
 use Rattle.fzn_arith.specs.Guard.{IsGuarded}
+use Rattle.fzn_arith.proofs.FormLemmas.{undecided_alone}
 use Rattle.fzn_arith.proofs.RefuteLemmas.{found_plain, found_on, found_off}
 use Rattle.fzn_arith.proofs.sum.SumPropagator.find.Goals as goal
 
@@ -18,6 +19,9 @@ returns-in_default-clause-found c =
     let form = form_in c.args.self.now.form in
     IfOk-weaker c.refute.result (λ (found : Option (List Lit)). IfSome found (IsRefutation trail form.comparison form.places form.bound)) (λ (found : Option (List Lit)). IfSome found (IsFound trail form))
     (λ found some. IfSome_then found some (λ clause refutes. found_plain trail form clause c.in_default.is c.requires.ready.on.places_fit refutes)) c.refute.ensures.found
+
+pub returns-then-is_undecided-clause-none : goal.returns-then-is_undecided-clause-none
+returns-then-is_undecided-clause-none c = undecided_alone c.args.trail.now.sets (form_in c.args.self.now.form) (form_in c.args.self.now.opposite) c.in-Some.switch c.in-Some.is (c.is_undecided.ensures c.if-is_undecided.true)
 
 pub returns-in-Some-2-clause-found : goal.returns-in-Some-2-clause-found
 returns-in-Some-2-clause-found c =
