@@ -88,6 +88,20 @@ impl Clauses {
         Ok(ClauseId(k as u64))
     }
 
+    /// Holds a clause under the number of one that was taken out.
+    pub fn put(&mut self, id: ClauseId, clause: &[Lit]) -> Result<(), Memory>
+        requires in_range { id.0 < length (held_by self.old) }
+        requires free { IsHeld (held_by self.old) id → ⊥ }
+        ensures ok { OnOk result (held_by self.new ≡ slice_set (held_by self.old) id.0 (Some clause.now)) }
+        ensures err { OnErr result (held_by self.new ≡ held_by self.old) }
+        ensures watching { KeepsWatching self.old self.new }
+    {
+        let k = id.0 as usize;
+        self.pending.push(k)?;
+        self.arena.put(k, clause)?;
+        Ok(())
+    }
+
     /// Takes out the clause of this number alone. No other number changes.
     pub fn remove(&mut self, id: ClauseId)
         requires { IsHeld (held_by self.old) id }

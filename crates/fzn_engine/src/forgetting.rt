@@ -32,6 +32,7 @@ impl Solver {
         for id in &worst {
             self.drop_clause(model, *id, are_reasons);
         }
+        self.notes.forget(worst.as_slice())?;
         Ok(())
     }
 
