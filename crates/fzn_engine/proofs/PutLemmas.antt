@@ -165,3 +165,25 @@ module _ (model : Model) (old : Solver) (steps : List Step) (h : IsAfter model o
         found = refl;
         learn = refl;
       }
+
+-- ---- the same clauses, watched as they were
+
+pub swept-tended : (model : Model) (old : Solver) (steps : List Step) (h : IsAfter model old steps) (clauses : Clauses) (held_is : held_by clauses ≡ held_by old.clauses) (keeps : KeepsWatching old.clauses clauses) (notes : Notes) → IsTended model old (record old { clauses = clauses; notes = notes }) steps
+swept-tended model old steps h clauses held_is keeps notes =
+    let H : Held → Type 0 = λ held. StateOf model old.learn (record { held = held; numbers = old.numbers; stack = old.inferences; alive = old.alive }) steps old.trail old.search.nodes in
+    record {
+      state = record {
+        state = subst H (sym held_is) h.state;
+        watching = keeps.watching old.trail h.watching;
+        scratch = h.scratch;
+        vars = h.vars;
+        found_is = h.found_is;
+        found_few = h.found_few;
+        steps_are = h.steps_are;
+        few_steps = h.few_steps;
+      };
+      trail = refl;
+      nodes = refl;
+      found = refl;
+      learn = refl;
+    }

@@ -33,6 +33,9 @@ pub struct Notes {
     inferred: Recent,
     /// Numbers under which clauses were forgotten.
     free: Vec<ClauseId>,
+    /// How many clauses that may be forgotten are held, and how many were forgotten since the lists of watchers were swept.
+    held: usize,
+    forgotten: usize,
     /// How many learned clauses a restart keeps.
     keep: usize,
     /// Whether the search restarted since clauses were forgotten last.
@@ -55,6 +58,8 @@ impl Notes {
             learned: Ranks::new(alloc, LEARNED),
             inferred: Recent::new(alloc),
             free: Vec::new(alloc),
+            held: 0,
+            forgotten: 0,
             keep: keep as usize,
             has_restarted: false,
             next_deletion: IDLE,
@@ -67,18 +72,31 @@ impl Notes {
     /// A clause was learned from a conflict, and its literals stand on so many levels.
     pub fn learn(&mut self, id: ClauseId, levels: usize) -> Result<(), Memory> {
         self.conflicts = self.conflicts.saturating_add(1);
+        self.held = self.held.saturating_add(1);
         self.learned.push(id, levels)
     }
 
     /// The clause of an inference is held.
     pub fn infer(&mut self, id: ClauseId) -> Result<(), Memory> {
+        self.held = self.held.saturating_add(1);
         self.inferred.push(id)
     }
 
     /// The clauses of these numbers are forgotten, where they may be.
     pub fn forget(&mut self, ids: &[ClauseId]) -> Result<(), Memory> {
+        self.held = self.held.saturating_sub(ids.len());
+        self.forgotten = self.forgotten.saturating_add(ids.len());
         self.free.extend_from_slice(ids)?;
         Ok(())
+    }
+
+    /// Whether the lists of watchers, of so many variables, are to be swept: they hold no more than some times what was forgotten.
+    pub fn is_sweep_due(&mut self, variables: usize) -> bool {
+        if self.forgotten < (self.held / 2).saturating_add(variables) {
+            return false;
+        }
+        self.forgotten = 0;
+        true
     }
 
     /// A number under which a clause was held and none is now, if there is one at hand.
