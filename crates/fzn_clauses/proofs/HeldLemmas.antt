@@ -7,7 +7,7 @@ use Rattle.std.proofs.lemmas.List.{length-map, map-set, get_or-map, get_or_appen
 use Rattle.fzn_domain.specs.declared.literal.Lit.{Lit}
 use Rattle.fzn_trail.specs.declared.trail.ClauseId.{ClauseId}
 use Rattle.fzn_clauses.specs.Held.{Held, IsHeld, clause_of, at_number, AllHeld, held_at, held_in}
-use Rattle.fzn_clauses.specs.Watched.{Watched, nothing, watched_at, removed}
+use Rattle.fzn_clauses.specs.Watched.{Watched, nothing, watched_at, added, removed}
 
 at_number-in : (arena : List Watched) (id : ClauseId) → id.0 < length arena → at_number (held_in arena) id ≡ held_at (watched_at arena id.0)
 at_number-in arena id within = get_or-map held_at arena id.0 nothing None within
@@ -49,6 +49,9 @@ live_clause arena id within live =
 
 pub held_in-removed : (arena : List Watched) (k : ℕ) → held_in (set arena k (removed (watched_at arena k))) ≡ set (held_in arena) k None
 held_in-removed arena k = map-set held_at arena k (removed (watched_at arena k))
+
+pub held_in-put : (arena : List Watched) (k : ℕ) (lits : List Lit) → held_in (set arena k (added lits)) ≡ set (held_in arena) k (Some lits)
+held_in-put arena k lits = map-set held_at arena k (added lits)
 
 -- ---- more clauses
 

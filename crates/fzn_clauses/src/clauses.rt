@@ -6,7 +6,7 @@ ghost use Rattle.fzn_domain.specs.Narrow.{IsVariable, IsClauseOver};
 ghost use Rattle.fzn_trail.specs.Levels.{NoneEmpty, fresh};
 ghost use Rattle.fzn_clauses.specs.Guard.{literal_at, IsPair, IsPossibleAt, IsSatisfied};
 ghost use Rattle.fzn_clauses.specs.Held.{IsHeld, clause_of, AllHeld, held_in};
-ghost use Rattle.fzn_clauses.specs.Kept.{AreSpared, IsLast, KeepsRuns, KeepsRunning, KeepsWatching, LooksAt, Unwinds, Visits, VisitsAll, VisitsEntry};
+ghost use Rattle.fzn_clauses.specs.Kept.{AreSpared, IsLast, KeepsRuns, KeepsRunning, KeepsWatching, LooksAt, Sweeps, Unwinds, Visits, VisitsAll, VisitsEntry};
 ghost use Rattle.fzn_clauses.specs.Propagation.{IsPropagated, IsConflict, AllSettled};
 ghost use Rattle.fzn_clauses.specs.Watched.{watched_at, removed, added};
 ghost use Rattle.fzn_clauses.specs.Watching.{held_by, IsAt, IsOn, IsTidy, Enlists, IsRewatched, IsReady, IsWatching, AreVariables, Ran, Settles};
@@ -88,6 +88,20 @@ impl Clauses {
         Ok(ClauseId(k as u64))
     }
 
+    /// Holds a clause under the number of one that was taken out.
+    pub fn put(&mut self, id: ClauseId, clause: &[Lit]) -> Result<(), Memory>
+        requires in_range { id.0 < length (held_by self.old) }
+        requires free { IsHeld (held_by self.old) id → ⊥ }
+        ensures ok { OnOk result (held_by self.new ≡ slice_set (held_by self.old) id.0 (Some clause.now)) }
+        ensures err { OnErr result (held_by self.new ≡ held_by self.old) }
+        ensures watching { KeepsWatching self.old self.new }
+    {
+        let k = id.0 as usize;
+        self.pending.push(k)?;
+        self.arena.put(k, clause)?;
+        Ok(())
+    }
+
     /// Takes out the clause of this number alone. No other number changes.
     pub fn remove(&mut self, id: ClauseId)
         requires { IsHeld (held_by self.old) id }
@@ -95,6 +109,16 @@ impl Clauses {
         ensures watching { KeepsWatching self.old self.new }
     {
         self.arena.remove(id.0 as usize);
+    }
+
+    /// Takes what is left of clauses that were taken out from the lists, all of which it goes over.
+    pub fn sweep(&mut self)
+        ensures held { held_by self.new ≡ held_by self.old }
+        ensures watching { KeepsWatching self.old self.new }
+    {
+        for key in 0..self.lists.count() {
+            self.sweep_list(key);
+        }
     }
 
     /// The clause of this number.
@@ -352,9 +376,31 @@ impl Clauses {
         }
     }
 
+    fn sweep_list(&mut self, key: usize)
+        ensures { Sweeps self.old self.new }
+    {
+        let mut j = self.lists.len(key);
+        while j > 0 {
+            j -= 1;
+            self.sweep_place(key, j);
+        }
+    }
+
+    /// Takes the watcher at this place out of the list of the key, if its clause is not held or watches another literal.
+    fn sweep_place(&mut self, key: usize, j: usize)
+        requires { j < length (list_at self.old.lists key) }
+        ensures sweeps { Sweeps self.old self.new }
+        ensures left { j ≤ length (list_at self.new.lists key) }
+    {
+        let found = self.lists.at(key, j);
+        if self.is_watching(found, key) {
+            return;
+        }
+        self.lists.take_out(key, j);
+    }
+
     /// Whether the clause is held and watches the literal of this key and this value.
     fn is_watching(&self, watcher: Watcher, key: usize) -> bool
-        requires { IsTidy self.now.arena self.now.lists }
         ensures { IsTrue result ↔ IsOn self.now.arena watcher key }
     {
         let k = watcher.k;

@@ -32,7 +32,19 @@ impl Solver {
         for id in &worst {
             self.drop_clause(model, *id, are_reasons);
         }
+        self.notes.forget(worst.as_slice())?;
+        self.sweep(model.vars.len());
         Ok(())
+    }
+
+    /// Takes what is left of forgotten clauses from the lists of watchers of so many variables, where it may be much.
+    fn sweep(&mut self, variables: usize)
+        ensures tended { (model : Model) (steps : List Step) → IsAfter model self.old steps → IsTended model self.old self.new steps }
+    {
+        if !self.notes.is_sweep_due(variables) {
+            return;
+        }
+        self.clauses.sweep();
     }
 
     /// Forgets a clause, if it may be forgotten.

@@ -70,9 +70,15 @@ impl Solver {
         if clause.len() < 2 || SHORT < clause.len() || !self.notes.is_new(number) {
             return Ok(());
         }
-        let id = self.clauses.add(clause)?;
-        self.numbers.push(number)?;
-        self.notes.inferred.push(id, 0)?;
+        let Some(free) = self.notes.next_free(&self.clauses, &self.numbers) else {
+            let id = self.clauses.add(clause)?;
+            self.numbers.push(number)?;
+            self.notes.infer(id)?;
+            return Ok(());
+        };
+        self.clauses.put(free, clause)?;
+        self.numbers.set(free.0 as usize, number);
+        self.notes.infer(free)?;
         Ok(())
     }
 }

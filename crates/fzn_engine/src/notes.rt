@@ -1,4 +1,11 @@
 // What a search notes for its own speed. Nothing is promised of it: what comes of it is tested.
+ghost use Rattle.std.specs.Prelude.{◌<◌, length, IfSome};
+ghost use Rattle.fzn_clauses.specs.Held.{IsHeld};
+ghost use Rattle.fzn_clauses.specs.Watching.{held_by};
+
+use crate::numbers::Numbers;
+use crate::recent::Recent;
+use fzn_clauses::Clauses;
 use fzn_conflict::Marks;
 use fzn_domain::Memory;
 use fzn_learned::{Ranks, Source};
@@ -7,9 +14,6 @@ use std::alloc::Global;
 
 /// How many learned clauses are kept at first.
 const LEARNED: usize = 800;
-
-/// How many clauses of inferences are kept at first.
-const INFERRED: usize = 20_000;
 
 /// How many steps beyond those in use are written before some are deleted: as many as these, and so many more, but no more of the
 /// first than the last of the numbers.
@@ -26,7 +30,12 @@ pub struct Notes {
     /// The learned clauses that may be forgotten.
     pub learned: Ranks,
     /// The clauses of inferences that are held.
-    pub inferred: Ranks,
+    inferred: Recent,
+    /// Numbers under which clauses were forgotten.
+    free: Vec<ClauseId>,
+    /// How many clauses that may be forgotten are held, and how many were forgotten since the lists of watchers were swept.
+    held: usize,
+    forgotten: usize,
     /// How many learned clauses a restart keeps.
     keep: usize,
     /// Whether the search restarted since clauses were forgotten last.
@@ -47,7 +56,10 @@ impl Notes {
             marks: Marks::new(alloc),
             next_cut: 0,
             learned: Ranks::new(alloc, LEARNED),
-            inferred: Ranks::new(alloc, INFERRED),
+            inferred: Recent::new(alloc),
+            free: Vec::new(alloc),
+            held: 0,
+            forgotten: 0,
             keep: keep as usize,
             has_restarted: false,
             next_deletion: IDLE,
@@ -60,7 +72,45 @@ impl Notes {
     /// A clause was learned from a conflict, and its literals stand on so many levels.
     pub fn learn(&mut self, id: ClauseId, levels: usize) -> Result<(), Memory> {
         self.conflicts = self.conflicts.saturating_add(1);
+        self.held = self.held.saturating_add(1);
         self.learned.push(id, levels)
+    }
+
+    /// The clause of an inference is held.
+    pub fn infer(&mut self, id: ClauseId) -> Result<(), Memory> {
+        self.held = self.held.saturating_add(1);
+        self.inferred.push(id)
+    }
+
+    /// The clauses of these numbers are forgotten, where they may be.
+    pub fn forget(&mut self, ids: &[ClauseId]) -> Result<(), Memory> {
+        self.held = self.held.saturating_sub(ids.len());
+        self.forgotten = self.forgotten.saturating_add(ids.len());
+        self.free.extend_from_slice(ids)?;
+        Ok(())
+    }
+
+    /// Whether the lists of watchers, of so many variables, are to be swept: they hold no more than some times what was forgotten.
+    pub fn is_sweep_due(&mut self, variables: usize) -> bool {
+        if self.forgotten < (self.held / 2).saturating_add(variables) {
+            return false;
+        }
+        self.forgotten = 0;
+        true
+    }
+
+    /// A number under which a clause was held and none is now, if there is one at hand.
+    pub fn next_free(&mut self, clauses: &Clauses, numbers: &Numbers) -> Option<ClauseId>
+        ensures in_range { IfSome result (λ id. id.0 < length (held_by clauses.now)) }
+        ensures numbered { IfSome result (λ id. id.0 < length numbers.now) }
+        ensures free { IfSome result (λ id. IsHeld (held_by clauses.now) id → ⊥) }
+    {
+        let id = self.free.pop()?;
+        let k = id.0 as usize;
+        if clauses.is_held(id) || k >= clauses.len() || k >= numbers.as_slice().len() {
+            return None;
+        }
+        Some(id)
     }
 
     /// The search restarts.
@@ -128,7 +178,7 @@ impl Notes {
     ) -> Result<Vec<ClauseId>, Memory> {
         let mut worst = Vec::new(alloc);
         self.learned.take_worst(alloc, are_reasons, &mut worst)?;
-        self.inferred.take_worst(alloc, are_reasons, &mut worst)?;
+        self.inferred.take_older(alloc, are_reasons, &mut worst)?;
         if self.has_restarted {
             self.has_restarted = false;
             self.take_oldest(alloc, are_reasons, &mut worst)?;

@@ -6,6 +6,7 @@ ghost use Rattle.fzn_meaning.specs.Solutions.{declared_sets};
 ghost use Rattle.fzn_engine.specs.Search.{IsAfter};
 
 use crate::notes::Notes;
+use crate::numbers::Numbers;
 use fzn_clauses::Clauses;
 use fzn_conflict::Learn;
 use fzn_domain::{Domain, Memory};
@@ -23,7 +24,7 @@ use std::alloc::Global;
 pub struct Solver {
     pub trail: Trail,
     pub clauses: Clauses,
-    pub numbers: Items<u64>,
+    pub numbers: Numbers,
     pub inferences: Inferences,
     pub alive: Items<u64>,
     pub search: Search,
@@ -56,7 +57,7 @@ impl Solver {
         Ok(Solver {
             trail,
             clauses: Clauses::new(alloc),
-            numbers: Items::new(alloc),
+            numbers: Numbers::new(alloc),
             inferences: Inferences::new(alloc),
             alive: Items::new(alloc),
             search,

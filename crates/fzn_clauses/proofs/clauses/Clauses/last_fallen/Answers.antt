@@ -1,4 +1,4 @@
-use Rattle.std.proofs.Common.{arith, List, ◌≡◌, ◌<◌, ◌≤◌, ◌-◌, ◌^◌, ℕ, ℤ, FitsSigned, w64, rules, to_z-of_z, length, get_or, sym, ap, ◌∙◌, subst}
+use Rattle.std.proofs.Common.{arith, List, ◌≡◌, ◌<◌, ◌-◌, ◌^◌, ℕ, ℤ, FitsSigned, w64, rules, to_z-of_z, get_or, ap, ◌∙◌, subst}
 use Rattle.fzn_domain.specs.IntSet.{IntSet}
 use Rattle.fzn_domain.specs.Narrow.{set_of}
 use Rattle.fzn_clauses.specs.declared.lists.Watcher.{Watcher}

@@ -24,4 +24,9 @@ loop-id-preserved c =
     )
 
 pub returns : goal.returns
-returns c = record { tended = λ steps h. c.loop-id.invariant.0 steps h }
+returns c = record {
+  tended = λ steps h.
+      let t = c.loop-id.invariant.0 steps h in
+      let u = tended-through c.args.model.now c.args.self.now c.loop-id.self _ steps steps t (nothing-tended c.args.model.now c.loop-id.self steps t.state c.forget.new.self) in
+      tended-through c.args.model.now c.args.self.now _ c.sweep.new.self steps steps u (c.sweep.ensures.tended c.args.model.now steps u.state);
+}

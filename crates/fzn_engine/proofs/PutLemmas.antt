@@ -1,0 +1,189 @@
+-- The clause of a written inference is held under a number that no held clause has.
+use Rattle.std.proofs.Common.{◌≡◌, ◌≢◌, ◌⊎◌, ℕ, zero, suc, ◌<◌, List, [], ◌∷◌, length, get_or, set, All, Contains, Option, Some, None, refl, sym, ap, ◌∙◌, subst, inl, inr, arith, get_or-set_same, get_or-set_other}
+use Rattle.std.specs.Prelude.{IsSome, IfSome}
+use Rattle.std.specs.Option.{unwrap_or}
+use Rattle.std.proofs.lemmas.Bool.{cases_eq}
+use Rattle.std.proofs.lemmas.List.{length-map, length-set}
+use Rattle.std.proofs.lemmas.List.Elements.{All-get_or, All-weaker}
+use Rattle.fzn_domain.specs.declared.literal.Lit.{Lit}
+use Rattle.fzn_domain.specs.IntSet.{IntSet}
+use Rattle.fzn_domain.specs.Narrow.{IsClauseOver, narrowed}
+use Rattle.fzn_meaning.specs.declared.model.Model.{Model}
+use Rattle.fzn_meaning.specs.Solutions.{cut_of}
+use Rattle.fzn_cert.specs.declared.step.Step.{Step}
+use Rattle.fzn_cert.specs.Past.{Past, clause_held}
+use Rattle.fzn_cert.specs.Accepted.{past_of}
+use Rattle.fzn_inferences.specs.Inferences.{inference_at}
+use Rattle.fzn_trail.specs.declared.trail.ClauseId.{ClauseId}
+use Rattle.fzn_trail.specs.declared.trail.Entry.{Entry}
+use Rattle.fzn_trail.specs.declared.trail.Reason.{Reason}
+use Rattle.fzn_trail.specs.declared.trail.Reason.TheVariants.{Decision, Clause, Inference}
+use Rattle.fzn_trail.specs.Levels.{Levels}
+use Rattle.fzn_clauses.specs.declared.clauses.Clauses.{Clauses}
+use Rattle.fzn_clauses.specs.Held.{Held, IsHeld, AllHeld, at_number, clause_of}
+use Rattle.fzn_clauses.specs.Kept.{KeepsWatching}
+use Rattle.fzn_clauses.specs.Watching.{held_by}
+use Rattle.fzn_learned.specs.Reasoned.{IsForced, IsReason, IsReasoned, Known, Leads}
+use Rattle.fzn_engine.specs.declared.notes.Notes.{Notes}
+use Rattle.fzn_engine.specs.declared.solver.Solver.{Solver}
+use Rattle.fzn_engine.specs.Search.{IsAfter, IsTended, stock_of}
+use Rattle.fzn_engine.specs.State.{known_in, AreNumbered, IsJustified, CoreOf, StateOf}
+
+some_at : (held : Held) (k : ℕ) (clause : List Lit) → k < length held → get_or held k (Some clause) ≡ Some clause → get_or held k None ≡ Some clause
+some_at [] k clause below e = absurd (omega arith)
+some_at (x ∷ held) zero clause below e = e
+some_at (x ∷ held) (suc k) clause below e = some_at held k clause (omega arith) e
+
+-- ---- one more clause, under a free number
+
+module _ (held : Held) (id : ClauseId) (clause : List Lit) (free : IsHeld held id → ⊥) where
+  abbrev now : Held
+  now = set held id.0 (Some clause)
+
+  other_id : (other : ClauseId) → IsHeld held other → other.0 ≢ id.0
+  other_id other is same = free (subst (λ (n : ℕ). IsSome (get_or held n None)) same is)
+
+  at_other : (other : ClauseId) → other.0 ≢ id.0 → at_number now other ≡ at_number held other
+  at_other other apart = get_or-set_other held id.0 other.0 (Some clause) None apart
+
+  held_still : (other : ClauseId) → IsHeld held other → IsHeld now other
+  held_still other is = subst IsSome (sym (at_other other (other_id other is))) is
+
+  clause_still : (other : ClauseId) → other.0 ≢ id.0 → clause_of now other ≡ clause_of held other
+  clause_still other apart = ap (λ (o : Option (List Lit)). unwrap_or o []) (at_other other apart)
+
+  module _ (within : id.0 < length held) where
+    clause_here : (other : ClauseId) → other.0 ≡ id.0 → clause_of now other ≡ clause
+    clause_here other same =
+        ap (λ (n : ℕ). unwrap_or (get_or now n None) []) same
+        ∙ ap (λ (o : Option (List Lit)). unwrap_or o []) (get_or-set_same held id.0 (Some clause) None within)
+
+    AllHeld-put : (P : List Lit → Type 0) → AllHeld P held → P clause → AllHeld P now
+    AllHeld-put P all one other is = elim (cases_eq other.0 id.0) [
+      | inl same ↦ subst P (sym (clause_here other same)) one
+      | inr apart ↦ subst P (sym (clause_still other apart)) (all other (subst IsSome (at_other other apart) is))
+    ]
+
+    AreNumbered-put : (past : Past) (numbers : List ℕ) (number : ℕ) → AreNumbered past numbers held → clause_held past number ≡ Some clause → AreNumbered past (set numbers id.0 number) now
+    AreNumbered-put past numbers number h one = record {
+      one_each = length-set numbers id.0 number ∙ h.one_each ∙ sym (length-set held id.0 (Some clause));
+      gives = λ other is. elim (cases_eq other.0 id.0) [
+        | inl same ↦
+            ap (λ (n : ℕ). clause_held past (get_or (set numbers id.0 number) n 0)) same
+            ∙ ap (clause_held past) (get_or-set_same numbers id.0 number 0 (omega (arith, within, h.one_each)))
+            ∙ one ∙ ap Some (sym (clause_here other same))
+        | inr apart ↦
+            ap (clause_held past) (get_or-set_other numbers id.0 other.0 number 0 apart)
+            ∙ h.gives other (subst IsSome (at_other other apart) is) ∙ ap Some (sym (clause_still other apart))
+      ];
+    }
+
+  Contains-put : (one : List Lit) → Contains held (Some one) → Contains now (Some one)
+  Contains-put one there =
+      let here : ClauseId = record { 0 = there.0 } in
+      let apart : there.0 ≢ id.0 = other_id here (subst IsSome (sym (some_at held there.0 one there.1 there.2)) refl) in
+      (there.0, omega (arith, length-set held id.0 (Some clause), there.1), get_or-set_other held id.0 there.0 (Some clause) (Some one) apart ∙ there.2)
+
+  -- ---- what the entries rest on is still held
+
+  module _ (stacked : List (List Lit)) where
+    abbrev before : Known
+    before = record { held = held; stacked = stacked }
+
+    abbrev after : Known
+    after = record { held = now; stacked = stacked }
+
+    IsReason-put : (from : List IntSet) (lit : Lit) (reason : Reason) → IsReason before from lit reason → IsReason after from lit reason
+    IsReason-put from lit Decision is = is
+    IsReason-put from lit (Clause other) (known, forced) =
+        (held_still other known, subst (λ (c : List Lit). IsForced from c lit) (sym (clause_still other (other_id other known))) forced)
+    IsReason-put from lit (Inference place) is = is
+
+    Leads-put : (entries : List Entry) (from to : List IntSet) → Leads before from entries to → Leads after from entries to
+    Leads-put [] from to leads = leads
+    Leads-put (entry ∷ later) from to leads =
+        (leads.0, IsReason-put from entry.lit entry.reason leads.1, Leads-put later (narrowed from entry.lit) to leads.2)
+
+    IsReasoned-put : (trail : Levels) → IsReasoned before trail → IsReasoned after trail
+    IsReasoned-put trail reasoned = record {
+      leads = Leads-put trail.entries trail.declared trail.sets reasoned.leads;
+      one_each = reasoned.one_each;
+      standing = λ k below. let stands = reasoned.standing k below in record {
+        stood = stands.stood;
+        here = stands.here;
+        lit = stands.lit;
+        level = stands.level;
+        later = stands.later;
+        parts = stands.parts;
+        leads = Leads-put stands.stood.entries trail.declared stands.stood.sets stands.leads;
+        below = stands.below;
+      };
+    }
+
+-- ---- the search that has it
+
+module _ (model : Model) (old : Solver) (steps : List Step) (h : IsAfter model old steps) (clauses : Clauses) (place : ℕ) (stacked : place < length old.inferences) (number : ℕ) (written : (inference_at old.inferences place).number ≡ Some number) (id : ClauseId) (within : id.0 < length (held_by old.clauses)) (free : IsHeld (held_by old.clauses) id → ⊥) (held_is : held_by clauses ≡ set (held_by old.clauses) id.0 (Some (inference_at old.inferences place).clause)) (keeps : KeepsWatching old.clauses clauses) where
+  put-core : CoreOf model (record { held = set (held_by old.clauses) id.0 (Some (inference_at old.inferences place).clause); numbers = set old.numbers id.0 number; stack = old.inferences; alive = old.alive }) steps old.trail old.search.nodes
+  put-core =
+      let core = h.state.core in
+      let held = held_by old.clauses in
+      let it = inference_at old.inferences place in
+      let just = All-get_or (IsJustified model (past_of model steps)) old.inferences place _ stacked core.justified in
+      let W : Option ℕ → Type 0 = λ o. IfSome o (λ n. clause_held (past_of model steps) n ≡ Some it.clause) in
+      let sizes : length old.trail.declared ≡ length model.vars = ap length core.declared ∙ length-map model.vars (λ var. var.domain) in
+      let O : ℕ → Type 0 = λ n. IsClauseOver n it.clause in
+      record {
+        declared = core.declared;
+        filled = core.filled;
+        accepted = core.accepted;
+        numbered = AreNumbered-put held id it.clause free within (past_of model steps) old.numbers number core.numbered (subst W written just.written);
+        justified = core.justified;
+        alive = core.alive;
+        cuts_held = All-weaker (λ values. Contains held (Some (cut_of model values))) (λ values. Contains (set held id.0 (Some it.clause)) (Some (cut_of model values)))
+            (λ values there. Contains-put held id it.clause free (cut_of model values) there) (past_of model steps).solutions core.cuts_held;
+        held_over = AllHeld-put held id it.clause free within (IsClauseOver (length old.trail.declared)) core.held_over (subst O (sym sizes) just.over);
+        reasoned = IsReasoned-put held id it.clause free (known_in (stock_of old)).stacked old.trail core.reasoned;
+        nodes_by_conflicts = core.nodes_by_conflicts;
+      }
+
+  pub put-tended : (notes : Notes) → IsTended model old (record old { clauses = clauses; numbers = set old.numbers id.0 number; notes = notes }) steps
+  put-tended notes =
+      let H : Held → Type 0 = λ held. StateOf model old.learn (record { held = held; numbers = set old.numbers id.0 number; stack = old.inferences; alive = old.alive }) steps old.trail old.search.nodes in
+      record {
+        state = record {
+          state = subst H (sym held_is) (record { core = put-core; plain = h.state.plain });
+          watching = keeps.watching old.trail h.watching;
+          scratch = h.scratch;
+          vars = h.vars;
+          found_is = h.found_is;
+          found_few = h.found_few;
+          steps_are = h.steps_are;
+          few_steps = h.few_steps;
+        };
+        trail = refl;
+        nodes = refl;
+        found = refl;
+        learn = refl;
+      }
+
+-- ---- the same clauses, watched as they were
+
+pub swept-tended : (model : Model) (old : Solver) (steps : List Step) (h : IsAfter model old steps) (clauses : Clauses) (held_is : held_by clauses ≡ held_by old.clauses) (keeps : KeepsWatching old.clauses clauses) (notes : Notes) → IsTended model old (record old { clauses = clauses; notes = notes }) steps
+swept-tended model old steps h clauses held_is keeps notes =
+    let H : Held → Type 0 = λ held. StateOf model old.learn (record { held = held; numbers = old.numbers; stack = old.inferences; alive = old.alive }) steps old.trail old.search.nodes in
+    record {
+      state = record {
+        state = subst H (sym held_is) h.state;
+        watching = keeps.watching old.trail h.watching;
+        scratch = h.scratch;
+        vars = h.vars;
+        found_is = h.found_is;
+        found_few = h.found_few;
+        steps_are = h.steps_are;
+        few_steps = h.few_steps;
+      };
+      trail = refl;
+      nodes = refl;
+      found = refl;
+      learn = refl;
+    }
