@@ -21,7 +21,7 @@ use Rattle.fzn_global_rules.specs.Cut.{LeadsInto, IsCutMet}
 use Rattle.fzn_trail.specs.Levels.{Levels}
 use Rattle.fzn_propagator.specs.Inference.{IsHint, HasWritableHints}
 use Rattle.fzn_terms.specs.Denied.{Says, IsFalseClause, IsExplained, IsInferred}
-use Rattle.fzn_circuit.specs.Closed.{IsGrown, IsPlaceIf, LeadsIntoBetween}
+use Rattle.fzn_circuit.specs.Closed.{IsGrown, IsFromTo, IsPlaceIf, LeadsIntoBetween}
 use Rattle.fzn_circuit.proofs.WayLemmas.{hint_of}
 
 -- ---- numbers
@@ -92,12 +92,20 @@ last_before value next high v over first to = elim (more_or_not value v) [
 
 -- ---- one term
 
-pub leads_into : (trail : Levels) (places : List ℤ) (var : VarId) (low high : ℤ) (old one two new : List Lit) → IsExplained trail AtLeast low (Variable var) old one → IsExplained trail AtMost high (Variable var) one two → IsGrown trail (LeadsIntoBetween places var low high) two new → IsGrown trail (λ sets. LeadsInto sets places (Variable var)) old new
-leads_into trail places var low high old one two new from to between = record {
+pub ends_grown : (trail : Levels) (low high : ℤ) (term : Term) (old one two : List Lit) → IsExplained trail AtLeast low term old one → IsExplained trail AtMost high term one two → IsGrown trail (IsFromTo low high term) old two
+ends_grown trail low high term old one two from to = record {
+  still = to.still;
+  keeps = λ sets left. from.keeps sets (to.keeps sets left);
+  says = λ sets left. (from.says sets (to.keeps sets left), to.says sets left);
+}
+
+pub leads_into : (trail : Levels) (places : List ℤ) (var : VarId) (low high : ℤ) (old ends new : List Lit) → IsGrown trail (IsFromTo low high (Variable var)) old ends → IsGrown trail (LeadsIntoBetween places var low high) ends new → IsGrown trail (λ sets. LeadsInto sets places (Variable var)) old new
+leads_into trail places var low high old ends new from_to between = record {
   still = between.still;
-  keeps = λ sets left. from.keeps sets (to.keeps sets (between.keeps sets left));
+  keeps = λ sets left. from_to.keeps sets (between.keeps sets left);
   says = λ sets left v may.
-      between.says sets left v (le_of low v (from.says sets (to.keeps sets (between.keeps sets left)) v may)) (le_of v high (to.says sets (between.keeps sets left) v may)) may;
+      let said = from_to.says sets (between.keeps sets left) in
+      between.says sets left v (le_of low v (said.0 v may)) (le_of v high (said.1 v may)) may;
 }
 
 -- ---- all places

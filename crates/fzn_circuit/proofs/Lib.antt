@@ -2,4 +2,5 @@ mod CircuitLemmas
 mod ClosedLemmas
 mod ClosingLemmas
 mod PropagatorLemmas
+mod SameLemmas
 mod WayLemmas

@@ -1,6 +1,5 @@
 -- Where no clause is left and all variables are fixed, the successors are a circuit.
-use Rattle.std.proofs.Common.{◌≡◌, ◌≢◌, ℕ, ◌+◌, ◌<◌, false, List, length, get_or, sym, subst, ◌∙◌, arith, ℤ, pos, All, int_le}
-use Rattle.std.specs.Ordering.{int_eq}
+use Rattle.std.proofs.Common.{◌≡◌, ℕ, ◌+◌, ◌<◌, false, List, length, get_or, sym, subst, ◌∙◌, arith, ℤ, pos, All, int_le}
 use Rattle.std.proofs.lemmas.Int.{ints}
 use Rattle.std.proofs.lemmas.List.Elements.{All-get_or, All-from_get_or}
 use Rattle.std.proofs.lemmas.Option.{none-some}
@@ -10,7 +9,6 @@ use Rattle.fzn_meaning.specs.declared.term.Term.{Term}
 use Rattle.fzn_meaning.specs.declared.term.Term.TheVariants.{Constant}
 use Rattle.fzn_meaning.specs.declared.constraint.Constraint.{Constraint}
 use Rattle.fzn_meaning.specs.declared.constraint.Constraint.TheVariants.{Circuit}
-use Rattle.fzn_meaning.specs.AllDifferent.{IsAllDifferent}
 use Rattle.fzn_meaning.specs.Entries.{IsIndex}
 use Rattle.fzn_meaning.specs.Term.{IsTerm, term_value, values_of}
 use Rattle.fzn_meaning.specs.Meaning.{Meets, AreTerms}
@@ -21,16 +19,13 @@ use Rattle.fzn_builtin_rules.specs.Form.{form_of}
 use Rattle.fzn_trail.specs.Levels.{Levels}
 use Rattle.fzn_propagator.specs.Inference.{AllFixed, IsExhausted}
 use Rattle.fzn_terms.proofs.LawLemmas.{fixed_to}
-use Rattle.fzn_circuit.specs.Circuits.{AreFixedPlaces, AreInside, AreApart, HasNoShortWay}
+use Rattle.fzn_circuit.specs.Circuits.{AreFixedPlaces, AreInside, AreDifferent, HasNoShortWay}
 use Rattle.fzn_circuit.proofs.ClosingLemmas.{circuit_of}
 
 index_of : (x : ℤ) (n : ℕ) → int_le x (pos 0) ≡ false → int_le (pos (n + 1)) x ≡ false → IsIndex n x
 index_of x n h k = (grind (arith, ints), grind (arith, ints))
 
-int_eq_of : (x y : ℤ) → y ≡ x → int_eq y x ≡ false → ⊥
-int_eq_of x y e h = grind (arith, ints)
-
-module _ (sets : List IntSet) (successors : List Term) (fit : All (IsTerm (length sets)) successors) (inside : AreInside sets successors) (apart : AreApart sets successors) (values : List ℤ) (within : IsWithin sets values) (fixed : AllFixed sets) where
+module _ (sets : List IntSet) (successors : List Term) (fit : All (IsTerm (length sets)) successors) (inside : AreInside sets successors) (different : AreDifferent sets successors) (values : List ℤ) (within : IsWithin sets values) (fixed : AllFixed sets) where
   value_at : (k : ℕ) → k < length successors → get_or (values_of values successors) k (pos 0) ≡ term_value values (get_or successors k (Constant (pos 0)))
   value_at k below = get_or-values_of values successors k (pos 0) (Constant (pos 0)) below
 
@@ -56,28 +51,16 @@ module _ (sets : List IntSet) (successors : List Term) (fit : All (IsTerm (lengt
         (fixed_to sets values within fixed (get_or successors k d) (fits_at k d below));
   }
 
-  different : IsAllDifferent (values_of values successors)
-  different i j d before below same =
-      let len = length-values_of values successors in
-      let lt_i : i < length successors = omega arith in
-      let lt_j : j < length successors = omega arith in
-      let x = term_value values (get_or successors i (Constant (pos 0))) in
-      let y = term_value values (get_or successors j (Constant (pos 0))) in
-      let is : y ≡ x = sym (get_or-values_of values successors j d (Constant (pos 0)) lt_j) ∙ sym same ∙ get_or-values_of values successors i d (Constant (pos 0)) lt_i in
-      let may = MayBe-term_value sets values (get_or successors j (Constant (pos 0))) within (fits_at j (Constant (pos 0)) lt_j) in
-      let other : i ≢ j = omega arith in
-      int_eq_of x y is (apart i j (Constant (pos 0)) x other lt_i lt_j (fixed_to sets values within fixed (get_or successors i (Constant (pos 0))) (fits_at i (Constant (pos 0)) lt_i)) y may)
-
   pub meets_circuit : (0 < length successors → HasNoShortWay sets successors (pos 1)) → Meets (Circuit successors) values
   unfolding Meets
-  meets_circuit none = circuit_of (values_of values successors) places different (λ some. none (subst (λ (n : ℕ). 0 < n) (length-values_of values successors) some) (values_of values successors) fixed_places)
+  meets_circuit none = circuit_of (values_of values successors) places (different fit values within fixed) (λ some. none (subst (λ (n : ℕ). 0 < n) (length-values_of values successors) some) (values_of values successors) fixed_places)
 
-pub exhausted : (trail : Levels) (successors : List Term) → AreTerms (length trail.declared) successors → AreInside trail.sets successors → AreApart trail.sets successors → (0 < length successors → HasNoShortWay trail.sets successors (pos 1)) → (constraint : Constraint) → Circuit successors ≡ constraint → IsExhausted constraint trail
+pub exhausted : (trail : Levels) (successors : List Term) → AreTerms (length trail.declared) successors → AreInside trail.sets successors → AreDifferent trail.sets successors → (0 < length successors → HasNoShortWay trail.sets successors (pos 1)) → (constraint : Constraint) → Circuit successors ≡ constraint → IsExhausted constraint trail
 unfolding form_of
-exhausted trail successors fit inside apart none constraint same = subst (λ (c : Constraint). IsExhausted c trail) same (record {
+exhausted trail successors fit inside different none constraint same = subst (λ (c : Constraint). IsExhausted c trail) same (record {
   holds = λ fixed values declared present.
       let count : length trail.declared ≡ length trail.sets = sym declared.one_each ∙ present.one_each in
-      meets_circuit trail.sets successors (subst (λ (n : ℕ). All (IsTerm n) successors) count fit.0) inside apart values present fixed none;
+      meets_circuit trail.sets successors (subst (λ (n : ℕ). All (IsTerm n) successors) count fit.0) inside different values present fixed none;
   strong = λ form is. absurd (none-some form is);
   none_barred = λ form is. absurd (none-some form is);
 })

@@ -1,11 +1,15 @@
 -- Where the fixed successors of places lead.
-use Rattle.std.specs.Prelude.{◌≡◌, ◌≢◌, ◌⊎◌, ℕ, ◌+◌, ◌-◌, ◌<◌, ◌≤◌, ℤ, pos, List, length, slice_index_or}
+use Rattle.std.specs.Prelude.{◌≡◌, ◌≢◌, ◌⊎◌, ℕ, ◌+◌, ◌-◌, ◌<◌, ◌≤◌, ℤ, pos, negsuc, List, length, slice_index_or}
 use Rattle.std.specs.List.{All}
 use Rattle.fzn_domain.specs.declared.literal.Lit.{Lit}
 use Rattle.fzn_domain.specs.IntSet.{IntSet}
+use Rattle.fzn_domain.specs.Narrow.{AllFixed, IsWithin}
 use Rattle.fzn_meaning.specs.declared.term.Term.{Term}
+use Rattle.fzn_meaning.specs.declared.term.Term.TheVariants.{Constant}
+use Rattle.fzn_meaning.specs.AllDifferent.{IsAllDifferent}
 use Rattle.fzn_meaning.specs.Circuit.{reached_from}
 use Rattle.fzn_meaning.specs.Entries.{IsIndex}
+use Rattle.fzn_meaning.specs.Term.{IsTerm, values_of}
 use Rattle.fzn_state.specs.Terms.{IsFixedTo, term_at}
 use Rattle.fzn_global_rules.specs.Cut.{LeadsInto}
 use Rattle.fzn_trail.specs.Levels.{Levels}
@@ -50,3 +54,16 @@ abbrev pub AreApart : List IntSet → List Term → Type 0
 AreApart sets successors =
     (i j : ℕ) (default : Term) (value : ℤ) → i ≢ j → i < length successors → j < length successors → IsFixedTo sets (slice_index_or successors i default) value
     → NoneIs Equal value (slice_index_or successors j default) sets
+
+-- where each variable has one value, no two successors are the same
+abbrev pub AreDifferent : List IntSet → List Term → Type 0
+AreDifferent sets successors = All (IsTerm (length sets)) successors → (values : List ℤ) → IsWithin sets values → AllFixed sets → IsAllDifferent (values_of values successors)
+
+-- some successor has several values
+abbrev pub HasOpen : List IntSet → List Term → Type 0
+HasOpen sets successors = (k : ℕ) × (k < length successors) × ((value : ℤ) → IsFixedTo sets (slice_index_or successors k (Constant (pos 0))) value → ⊥)
+
+-- the place that is listed for a number
+abbrev pub owner_of : List ℕ → ℤ → ℕ
+owner_of owners (pos number) = slice_index_or owners number 0
+owner_of owners (negsuc number) = 0

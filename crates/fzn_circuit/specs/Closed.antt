@@ -2,19 +2,24 @@
 use Rattle.std.specs.Prelude.{◌≤ℤ◌, ℤ, List}
 use Rattle.std.specs.List.{Contains}
 use Rattle.fzn_domain.specs.declared.literal.Lit.{Lit}
+use Rattle.fzn_domain.specs.declared.literal.Op.TheVariants.{AtLeast, AtMost}
 use Rattle.fzn_domain.specs.declared.literal.VarId.{VarId}
 use Rattle.fzn_domain.specs.IntSet.{IntSet}
 use Rattle.fzn_meaning.specs.declared.term.Term.{Term}
 use Rattle.fzn_meaning.specs.declared.term.Term.TheVariants.{Variable}
 use Rattle.fzn_state.specs.Terms.{MayBe}
 use Rattle.fzn_trail.specs.Levels.{Levels}
-use Rattle.fzn_terms.specs.Denied.{Says, Keeps, IsFalseClause}
+use Rattle.fzn_terms.specs.Denied.{AllAre, Says, Keeps, IsFalseClause}
 
 -- the clause, grown from a false one, is false, and says besides that so it is of the sets
 pub record IsGrown (trail : Levels) (P : List IntSet → Type 0) (old new : List Lit) : Type 0 where
   pub still : IsFalseClause trail new
   pub keeps : Keeps trail.declared old new
   pub says : Says trail.declared new P
+
+-- each value of the term is one from low to high
+abbrev pub IsFromTo : ℤ → ℤ → Term → List IntSet → Type 0
+IsFromTo low high term sets = AllAre AtLeast low term sets × AllAre AtMost high term sets
 
 -- the value, where the term may have it, is one of the places
 abbrev pub IsPlaceIf : List ℤ → Term → ℤ → List IntSet → Type 0

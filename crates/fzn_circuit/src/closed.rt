@@ -1,17 +1,18 @@
 // The clause of `fzn_circuit` that some places do not lead only to one another: by the rule `cut`.
-ghost use Rattle.std.specs.Prelude.{◌≤ℤ◌, IsTrue, IfOk, length};
+ghost use Rattle.std.specs.Prelude.{◌≤ℤ◌, IsTrue, IfOk, OnOk, length};
 ghost use Rattle.std.specs.List.{Contains};
 ghost use Rattle.fzn_domain.specs.Ascending.{IsAscending};
 ghost use Rattle.fzn_domain.specs.Limits.{IsInLimits};
 ghost use Rattle.fzn_domain.specs.Narrow.{IsVariable, NoneEmpty};
+ghost use Rattle.fzn_domain.specs.declared.literal.Op.TheVariants as op;
 ghost use Rattle.fzn_meaning.specs.declared.constraint.Constraint.TheVariants as constraint;
 ghost use Rattle.fzn_meaning.specs.Meaning.{AreTerms};
 ghost use Rattle.fzn_meaning.specs.Term.{IsTerm};
 ghost use Rattle.fzn_global_rules.specs.Cut.{LeadsInto};
 ghost use Rattle.fzn_propagator.specs.Inference.{HasWritableHints};
 ghost use Rattle.fzn_rules.specs.declared.rule.Rule.TheVariants as rule;
-ghost use Rattle.fzn_terms.specs.Denied.{IsFalseClause, IsInferred};
-ghost use Rattle.fzn_circuit.specs.Closed.{IsGrown, IsPlaceIf, LeadsIntoBetween};
+ghost use Rattle.fzn_terms.specs.Denied.{AllAre, IsFalseClause, IsInferred};
+ghost use Rattle.fzn_circuit.specs.Closed.{IsGrown, IsFromTo, IsPlaceIf, LeadsIntoBetween};
 
 use fzn_domain::{Domain, Lit, Memory, Op, VarId, place_of};
 use fzn_list::Items;
@@ -123,6 +124,28 @@ fn explain_between(
     Ok(false)
 }
 
+/// Adds to a false clause what it takes to say that each value of the term is one from low to high.
+fn explain_ends(
+    trail: &Trail,
+    term: Term,
+    low: &i64,
+    high: &i64,
+    clause: &mut Items<Lit>,
+) -> Result<(), Memory>
+    requires term { IsTerm (length trail.now.declared) term }
+    requires filled { NoneEmpty trail.now.sets }
+    requires low { IsInLimits low.now }
+    requires high { IsInLimits high.now }
+    requires from { AllAre op.AtLeast low.now term trail.now.sets }
+    requires to { AllAre op.AtMost high.now term trail.now.sets }
+    requires still { IsFalseClause trail.now clause.old }
+    ensures { OnOk result (IsGrown trail.now (IsFromTo low.now high.now term) clause.old clause.new) }
+{
+    explain(trail, term, Op::AtLeast, *low, clause)?;
+    explain(trail, term, Op::AtMost, *high, clause)?;
+    Ok(())
+}
+
 /// Adds to a false clause what it takes to say that each value of the term is one of the places. `false` where one is not.
 fn explain_within(
     trail: &Trail,
@@ -143,8 +166,7 @@ fn explain_within(
     let declared = trail.declared(var);
     let low = low_end(declared, places, &least_of(trail, term));
     let high = high_end(declared, places, &greatest_of(trail, term));
-    explain(trail, term, Op::AtLeast, low, clause)?;
-    explain(trail, term, Op::AtMost, high, clause)?;
+    explain_ends(trail, term, &low, &high, clause)?;
     explain_between(trail, var, places, &low, &high, clause)
 }
 

@@ -13,5 +13,6 @@ pub use propagator::{CircuitPropagator, propagator_of};
 mod circuit;
 mod closed;
 mod propagator;
+mod same;
 mod walk;
 mod ways;

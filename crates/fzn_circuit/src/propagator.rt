@@ -1,8 +1,6 @@
 // The propagator of a circuit: the first of its clauses; and which constraint gets one.
-ghost use Rattle.std.specs.Prelude.{◌≡◌, ◌≢◌, ◌-◌, ◌<◌, ◌≤◌, ℕ, ℤ, pos, List, length, IfOk, IfSome, IfNone, MatchBool, slice_index_or};
-ghost use Rattle.fzn_domain.specs.Limits.{IsInLimits};
+ghost use Rattle.std.specs.Prelude.{◌≡◌, ◌-◌, ◌<◌, ◌≤◌, pos, List, length, IfOk, IfSome, IfNone, MatchBool, slice_index_or};
 ghost use Rattle.fzn_domain.specs.Narrow.{NoneEmpty};
-ghost use Rattle.fzn_domain.specs.declared.literal.Op.TheVariants as op;
 ghost use Rattle.fzn_meaning.specs.declared.constraint.Constraint.{Constraint};
 ghost use Rattle.fzn_meaning.specs.declared.constraint.Constraint.TheVariants as constraint;
 ghost use Rattle.fzn_meaning.specs.declared.term.Term.{Term};
@@ -11,21 +9,20 @@ ghost use Rattle.fzn_meaning.specs.Solutions.{declared_sets};
 ghost use Rattle.fzn_meaning.specs.WellFormed.{IsWellFormed};
 ghost use Rattle.fzn_propagator.specs.Inference.{HasWritableHints};
 ghost use Rattle.fzn_rules.specs.declared.rule.Rule.TheVariants as rule;
-ghost use Rattle.fzn_state.specs.Terms.{IsFixedTo};
-ghost use Rattle.fzn_terms.specs.Denied.{NoneIs, IsInferred};
+ghost use Rattle.fzn_terms.specs.Denied.{IsInferred};
 ghost use Rattle.fzn_circuit.specs.Propagator.{circuit_number, CircuitIsFor, CircuitFits};
-ghost use Rattle.fzn_circuit.specs.Circuits.{AreInside, AreApart, HasNoShortWay};
+ghost use Rattle.fzn_circuit.specs.Circuits.{AreInside, HasNoShortWay};
 
-use crate::circuit::{explain_above, explain_below, explain_cut, explain_same};
+use crate::circuit::{explain_above, explain_below, explain_cut};
 use crate::closed::explain_closed;
+use crate::same::{first_same, has_open};
 use crate::walk::closed_places;
-use crate::ways::first_places;
+use crate::ways::first_start;
 use fzn_domain::{Lit, Memory};
 use fzn_list::{Items, Shared};
 use fzn_meaning::{Constraint, Model, Term};
 use fzn_propagator::{Inference, Propagator};
 use fzn_rules::Rule;
-use fzn_sums::{greatest_value, least_value};
 use fzn_trail::Trail;
 use std::alloc::Global;
 
@@ -55,7 +52,7 @@ impl Propagator for CircuitPropagator {
                 clause,
             }));
         }
-        if let Some(value) = first_same(trail, successors, &mut clause)? {
+        if let Some(value) = first_same(alloc, trail, successors, &mut clause)? {
             let rule = Rule::Hall(value, value);
             return Ok(Some(Inference {
                 constraint,
@@ -131,54 +128,6 @@ fn first_outside(
     Ok(false)
 }
 
-/// The first clause that two successors are not the same, with their value.
-fn first_same(
-    trail: &Trail,
-    successors: &[Term],
-    clause: &mut Items<Lit>,
-) -> Result<Option<i64>, Memory>
-    requires terms { AreTerms (length trail.now.declared) successors.now }
-    requires filled { NoneEmpty trail.now.sets }
-    ensures found { IfOk result (λ found. IfSome found (λ value. IsInferred trail.now (constraint.Circuit successors.now) (rule.Hall value value) clause.new)) }
-    ensures limits { IfOk result (λ found. IfSome found IsInLimits) }
-    ensures none { IfOk result (λ found. IfNone found (AreApart trail.now.sets successors.now)) }
-{
-    for i in 0..successors.len() {
-        let value = least_value(trail, successors[i]);
-        if greatest_value(trail, successors[i]) == value {
-            if first_with(trail, successors, i, value, clause)? {
-                return Ok(Some(value));
-            }
-        }
-    }
-    Ok(None)
-}
-
-/// The first clause that a successor is not the same as the one at place i, which has this one value.
-fn first_with(
-    trail: &Trail,
-    successors: &[Term],
-    i: usize,
-    value: i64,
-    clause: &mut Items<Lit>,
-) -> Result<bool, Memory>
-    requires terms { AreTerms (length trail.now.declared) successors.now }
-    requires filled { NoneEmpty trail.now.sets }
-    requires one { i < length successors.now }
-    requires value { IsInLimits value }
-    requires fixed { (default : Term) → IsFixedTo trail.now.sets (slice_index_or successors.now i default) value }
-    ensures { IfOk result (λ found. MatchBool found (IsInferred trail.now (constraint.Circuit successors.now) (rule.Hall value value) clause.new) ((j : ℕ) (default : Term) → i ≢ j → j < length successors.now → NoneIs op.Equal value (slice_index_or successors.now j default) trail.now.sets)) }
-{
-    for j in 0..successors.len() {
-        if j != i {
-            if explain_same(trail, successors, i, j, value, clause)? {
-                return Ok(true);
-            }
-        }
-    }
-    Ok(false)
-}
-
 /// The first clause that a way does not come back too soon, with its places.
 fn first_cut(
     alloc: Global,
@@ -192,15 +141,15 @@ fn first_cut(
     ensures hints { IfOk result (λ found. IfSome found (λ places. HasWritableHints (rule.Cut places))) }
     ensures none { IfOk result (λ found. IfNone found (0 < length successors.now → HasNoShortWay trail.now.sets successors.now (pos 1))) }
 {
-    let firsts = first_places(alloc, trail, successors)?;
-    for k in 0..successors.len() {
-        if k == 0 || firsts[k] {
-            if let Some(places) = explain_cut(alloc, trail, successors, k as i64 + 1, clause)? {
-                return Ok(Some(places));
-            }
+    if let Some(start) = first_start(alloc, trail, successors)? {
+        if let Some(places) = explain_cut(alloc, trail, successors, start, clause)? {
+            return Ok(Some(places));
         }
     }
-    Ok(None)
+    if successors.is_empty() || has_open(trail, successors) {
+        return Ok(None);
+    }
+    explain_cut(alloc, trail, successors, 1, clause)
 }
 
 /// The clause that places which lead only to one another do not, with these places.

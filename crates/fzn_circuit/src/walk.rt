@@ -59,10 +59,10 @@ impl Walk {
             onward.push(place)?;
         }
         Ok(Walk {
-            seen: Vec::new(alloc),
+            seen: Vec::with_capacity(alloc, count)?,
             numbers: Vec::from_elem(alloc, 0, count)?,
             onward,
-            way: Vec::new(alloc),
+            way: Vec::with_capacity(alloc, count)?,
         })
     }
 

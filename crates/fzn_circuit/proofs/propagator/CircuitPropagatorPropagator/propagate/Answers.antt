@@ -9,7 +9,7 @@ use Rattle.fzn_propagator.specs.Inference.{IsHint, HasWritableHints, IsInference
 use Rattle.fzn_terms.specs.Denied.{IsInferred}
 use Rattle.fzn_terms.proofs.CaseLemmas.{if_true, if_false}
 use Rattle.fzn_terms.proofs.DeniedLemmas.{inference_of}
-use Rattle.fzn_circuit.specs.Circuits.{AreInside, AreApart, HasNoShortWay}
+use Rattle.fzn_circuit.specs.Circuits.{AreInside, AreDifferent, HasNoShortWay}
 use Rattle.fzn_circuit.proofs.PropagatorLemmas.{exhausted}
 use Rattle.fzn_circuit.proofs.propagator.CircuitPropagatorPropagator.propagate.Goals as goal
 
@@ -60,7 +60,7 @@ returns-clause-none c =
     let trail = c.args.trail.now in
     let xs = c.as_slice-successors.result.now in
     let inside = if_false (IsInferred trail (Circuit xs) Rows c.first_outside.new.clause) (AreInside trail.sets xs) c.in_ok-first_outside.field-0 c.if-branch.false c.in_ok-first_outside.ensures in
-    let apart = subst (λ (o : Option ℤ). IfNone o (AreApart trail.sets xs)) c.in_default.is c.in_ok-value.ensures.none in
+    let different = subst (λ (o : Option ℤ). IfNone o (AreDifferent trail.sets xs)) c.in_default.is c.in_ok-value.ensures.none in
     let none = subst (λ (o : Option (List ℤ)). IfNone o (0 < length xs → HasNoShortWay trail.sets xs (pos 1))) c.in_default-2.is c.in_ok-places.ensures.none in
     let terms = subst (AreTerms (length trail.declared)) (sym c.as_slice-successors.ensures) c.requires.fits in
-    λ constraint same booleans. exhausted trail xs terms inside apart none constraint (ap Circuit c.as_slice-successors.ensures ∙ same)
+    λ constraint same booleans. exhausted trail xs terms inside different none constraint (ap Circuit c.as_slice-successors.ensures ∙ same)

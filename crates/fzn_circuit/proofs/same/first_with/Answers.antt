@@ -6,8 +6,8 @@ use Rattle.fzn_meaning.specs.declared.constraint.Constraint.TheVariants.{Circuit
 use Rattle.fzn_rules.specs.declared.rule.Rule.TheVariants.{Hall}
 use Rattle.fzn_terms.specs.Denied.{NoneIs, IsInferred}
 use Rattle.fzn_terms.proofs.CaseLemmas.{if_false}
-use Rattle.fzn_circuit.proofs.propagator.first_with.Goals as goal
-use Rattle.fzn_circuit.proofs.propagator.first_with.Goals.{then-j-i+in_ok-explain_same+else-branch, else-j-i}
+use Rattle.fzn_circuit.proofs.same.first_with.Goals as goal
+use Rattle.fzn_circuit.proofs.same.first_with.Goals.{then-j-i+in_ok-explain_same+else-branch, else-j-i}
 
 pub loop-j-preserved : goal.loop-j-preserved
 loop-j-preserved c =

@@ -10,8 +10,8 @@ use Rattle.fzn_rules.specs.declared.rule.Rule.TheVariants.{Hall}
 use Rattle.fzn_state.specs.Terms.{IsFixedTo}
 use Rattle.fzn_terms.specs.Denied.{NoneIs, IsInferred}
 use Rattle.fzn_terms.proofs.CaseLemmas.{if_false}
-use Rattle.fzn_circuit.proofs.propagator.first_same.Goals as goal
-use Rattle.fzn_circuit.proofs.propagator.first_same.Goals.{then-greatest_value-value+in_ok-first_with+else-branch, else-greatest_value-value}
+use Rattle.fzn_circuit.proofs.same.first_compared.Goals as goal
+use Rattle.fzn_circuit.proofs.same.first_compared.Goals.{then-greatest_value-value+in_ok-first_with+else-branch, else-greatest_value-value}
 
 pub loop-i-preserved : goal.loop-i-preserved
 loop-i-preserved c =

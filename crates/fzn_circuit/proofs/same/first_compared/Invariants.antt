@@ -3,7 +3,7 @@ use Rattle.fzn_domain.specs.declared.literal.Op.TheVariants.{Equal}
 use Rattle.fzn_meaning.specs.declared.term.Term.{Term}
 use Rattle.fzn_state.specs.Terms.{IsFixedTo}
 use Rattle.fzn_terms.specs.Denied.{NoneIs}
-use Rattle.fzn_circuit.proofs.propagator.first_same.Given as goal
+use Rattle.fzn_circuit.proofs.same.first_compared.Given as goal
 
 abbrev pub invariant-loop-i : goal.invariant-loop-i
 invariant-loop-i l = (i j : ℕ) (d : Term) (v : ℤ) → i < l.i → i ≢ j → j < length l.successors → IsFixedTo l.trail.sets (get_or l.successors i d) v → NoneIs Equal v (get_or l.successors j d) l.trail.sets

@@ -1,0 +1,8 @@
+use Rattle.std.proofs.Common.{◌≡◌, ℕ, ◌<◌, get_or, pos}
+use Rattle.fzn_meaning.specs.declared.term.Term.TheVariants.{Constant}
+use Rattle.fzn_state.specs.Terms.{least_value}
+use Rattle.fzn_circuit.specs.Circuits.{owner_of}
+use Rattle.fzn_circuit.proofs.same.are_owned.Given as goal
+
+abbrev pub invariant-loop-k : goal.invariant-loop-k
+invariant-loop-k l = (i : ℕ) → i < l.k → owner_of l.owners (least_value l.trail.sets (get_or l.successors i (Constant (pos 0)))) ≡ i

@@ -1,0 +1,6 @@
+use Rattle.std.proofs.Common.{length}
+use Rattle.fzn_meaning.specs.Entries.{IsIndex}
+use Rattle.fzn_circuit.proofs.ways.comes_back.Given as goal
+
+abbrev pub invariant-loop-count : goal.invariant-loop-count
+invariant-loop-count l = IsIndex (length l.successors) l.last

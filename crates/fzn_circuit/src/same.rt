@@ -1,0 +1,310 @@
+// Two successors that are the same: by the rule `hall`.
+ghost use Rattle.std.specs.Prelude.{◌≡◌, ◌≢◌, ◌<◌, ℕ, length, IsTrue, IfOk, IfSome, IfNone, MatchBool, slice_index_or};
+ghost use Rattle.fzn_domain.specs.Limits.{IsInLimits};
+ghost use Rattle.fzn_domain.specs.Narrow.{NoneEmpty};
+ghost use Rattle.fzn_domain.specs.declared.literal.Op.TheVariants as op;
+ghost use Rattle.fzn_meaning.specs.declared.constraint.Constraint.TheVariants as constraint;
+ghost use Rattle.fzn_meaning.specs.declared.term.Term.{Term};
+ghost use Rattle.fzn_meaning.specs.Meaning.{AreTerms};
+ghost use Rattle.fzn_meaning.specs.Term.{IsTerm};
+ghost use Rattle.fzn_rules.specs.declared.rule.Rule.TheVariants as rule;
+ghost use Rattle.fzn_state.specs.Terms.{IsFixedTo};
+ghost use Rattle.fzn_terms.specs.Denied.{NoneIs, IsInferred};
+ghost use Rattle.fzn_circuit.specs.Circuits.{AreApart, AreDifferent, HasOpen, owner_of};
+
+use crate::circuit::explain_same;
+use fzn_domain::{Lit, Memory};
+use fzn_list::Items;
+use fzn_meaning::Term;
+use fzn_sums::{greatest_value, least_value};
+use fzn_terms::{may_be, next_value};
+use fzn_trail::Trail;
+use std::alloc::Global;
+
+/// The first clause that two successors are not the same, with their value.
+pub(crate) fn first_same(
+    alloc: Global,
+    trail: &Trail,
+    successors: &[Term],
+    clause: &mut Items<Lit>,
+) -> Result<Option<i64>, Memory>
+    requires terms { AreTerms (length trail.now.declared) successors.now }
+    requires filled { NoneEmpty trail.now.sets }
+    ensures found { IfOk result (λ found. IfSome found (λ value. IsInferred trail.now (constraint.Circuit successors.now) (rule.Hall value value) clause.new)) }
+    ensures limits { IfOk result (λ found. IfSome found IsInLimits) }
+    ensures none { IfOk result (λ found. IfNone found (AreDifferent trail.now.sets successors.now)) }
+{
+    if let Some(value) = some_same(alloc, trail, successors, clause)? {
+        return Ok(Some(value));
+    }
+    if has_open(trail, successors) {
+        return Ok(None);
+    }
+    let owners = owners_of(alloc, trail, successors)?;
+    if are_owned(trail, successors, &owners) {
+        return Ok(None);
+    }
+    first_compared(trail, successors, clause) // Not reached: two places with one successor were found.
+}
+
+/// How many entries of the trail stood when its last level began: what these say has been told, since a level begins only where no
+/// propagator finds anything.
+fn told(trail: &Trail) -> usize {
+    match trail.level().checked_sub(1) {
+        Some(before) => trail.count_at(before),
+        None => 0,
+    }
+}
+
+/// Whether the term was narrowed behind so many entries.
+fn is_new(trail: &Trail, term: Term, told: usize) -> bool
+    requires term { IsTerm (length trail.now.declared) term }
+{
+    let last = match term {
+        Term::Constant(_) => None,
+        Term::Variable(var) => trail.last_of(var),
+    };
+    match last {
+        Some(at) => told <= at,
+        None => told == 0,
+    }
+}
+
+/// The places, counted from 0, whose successors have one value each since the last level began.
+fn fixed_of(alloc: Global, trail: &Trail, successors: &[Term]) -> Result<Vec<usize>, Memory>
+    requires terms { AreTerms (length trail.now.declared) successors.now }
+    requires filled { NoneEmpty trail.now.sets }
+{
+    let told = told(trail);
+    let mut fixed = Vec::new(alloc);
+    for k in 0..successors.len() {
+        let term = successors[k];
+        if least_value(trail, term) == greatest_value(trail, term) && is_new(trail, term, told) {
+            fixed.push(k)?;
+        }
+    }
+    Ok(fixed)
+}
+
+/// Up to how many places the successor of each is compared with all others.
+const FEW: usize = 8;
+
+/// A clause that two successors are not the same, with their value. Only successors that have one value since the last level began are
+/// compared with others.
+fn some_same(
+    alloc: Global,
+    trail: &Trail,
+    successors: &[Term],
+    clause: &mut Items<Lit>,
+) -> Result<Option<i64>, Memory>
+    requires terms { AreTerms (length trail.now.declared) successors.now }
+    requires filled { NoneEmpty trail.now.sets }
+    ensures found { IfOk result (λ found. IfSome found (λ value. IsInferred trail.now (constraint.Circuit successors.now) (rule.Hall value value) clause.new)) }
+    ensures limits { IfOk result (λ found. IfSome found IsInLimits) }
+{
+    let fixed = fixed_of(alloc, trail, successors)?;
+    if FEW < fixed.len() {
+        let owners = owners_of(alloc, trail, successors)?;
+        return first_owned(trail, successors, &owners, clause);
+    }
+    for k in 0..fixed.len() {
+        if let Some(value) = first_like(trail, successors, fixed[k], clause)? {
+            return Ok(Some(value));
+        }
+    }
+    Ok(None)
+}
+
+/// The first clause that a successor is not the same as the one at place i, where there is one, with their value.
+fn first_like(
+    trail: &Trail,
+    successors: &[Term],
+    i: usize,
+    clause: &mut Items<Lit>,
+) -> Result<Option<i64>, Memory>
+    requires terms { AreTerms (length trail.now.declared) successors.now }
+    requires filled { NoneEmpty trail.now.sets }
+    ensures found { IfOk result (λ found. IfSome found (λ value. IsInferred trail.now (constraint.Circuit successors.now) (rule.Hall value value) clause.new)) }
+    ensures limits { IfOk result (λ found. IfSome found IsInLimits) }
+{
+    if i >= successors.len() {
+        return Ok(None);
+    }
+    let value = least_value(trail, successors[i]);
+    for j in 0..successors.len() {
+        if j != i && may_be(trail, successors[j], &value) {
+            if let Some(value) = from_pair(trail, successors, i, j, clause)? {
+                return Ok(Some(value));
+            }
+        }
+    }
+    Ok(None)
+}
+
+/// The clause that the successor at place j is not the one value of that at place i, where it is an inference, with this value.
+fn from_pair(
+    trail: &Trail,
+    successors: &[Term],
+    i: usize,
+    j: usize,
+    clause: &mut Items<Lit>,
+) -> Result<Option<i64>, Memory>
+    requires terms { AreTerms (length trail.now.declared) successors.now }
+    requires filled { NoneEmpty trail.now.sets }
+    ensures found { IfOk result (λ found. IfSome found (λ value. IsInferred trail.now (constraint.Circuit successors.now) (rule.Hall value value) clause.new)) }
+    ensures limits { IfOk result (λ found. IfSome found IsInLimits) }
+{
+    if i >= successors.len() || j >= successors.len() || j == i {
+        return Ok(None);
+    }
+    let value = least_value(trail, successors[i]);
+    if greatest_value(trail, successors[i]) == value {
+        if explain_same(trail, successors, i, j, value, clause)? {
+            return Ok(Some(value));
+        }
+    }
+    Ok(None)
+}
+
+/// The first clause that a successor is not the one value of another, with this value, by places that have the values. About as many
+/// steps as all successors have values.
+fn first_owned(
+    trail: &Trail,
+    successors: &[Term],
+    owners: &[usize],
+    clause: &mut Items<Lit>,
+) -> Result<Option<i64>, Memory>
+    requires terms { AreTerms (length trail.now.declared) successors.now }
+    requires filled { NoneEmpty trail.now.sets }
+    ensures found { IfOk result (λ found. IfSome found (λ value. IsInferred trail.now (constraint.Circuit successors.now) (rule.Hall value value) clause.new)) }
+    ensures limits { IfOk result (λ found. IfSome found IsInLimits) }
+{
+    for j in 0..successors.len() {
+        if let Some(i) = owner_among(trail, successors[j], owners, j) {
+            if let Some(value) = from_pair(trail, successors, i, j, clause)? {
+                return Ok(Some(value));
+            }
+        }
+    }
+    Ok(None)
+}
+
+/// A place, other than this one, that has one of the values of the term.
+fn owner_among(trail: &Trail, term: Term, owners: &[usize], except: usize) -> Option<usize>
+    requires { IsTerm (length trail.now.declared) term }
+{
+    let mut upto = 0;
+    for _ in 0..owners.len() {
+        let value = next_value(trail, term, &upto)?;
+        let owner = owner_of(owners, &value);
+        if owner != except && owner < owners.len() {
+            return Some(owner);
+        }
+        upto = value;
+    }
+    None
+}
+
+/// A place, counted from 0, whose successor has each number, from 0, as its one value; `usize::MAX` where there is none.
+fn owners_of(alloc: Global, trail: &Trail, successors: &[Term]) -> Result<Vec<usize>, Memory>
+    requires terms { AreTerms (length trail.now.declared) successors.now }
+    requires filled { NoneEmpty trail.now.sets }
+{
+    let mut owners = Vec::from_elem(alloc, usize::MAX, successors.len().saturating_add(1))?;
+    for k in 0..successors.len() {
+        let value = least_value(trail, successors[k]);
+        if greatest_value(trail, successors[k]) == value {
+            let at = usize::try_from(value).unwrap_or(0);
+            if at < owners.len() {
+                owners[at] = k;
+            }
+        }
+    }
+    Ok(owners)
+}
+
+fn owner_of(owners: &[usize], value: &i64) -> usize
+    ensures { result ≡ owner_of owners.now value.now }
+{
+    if *value < 0 {
+        return 0;
+    }
+    owners.get(*value as usize).copied().unwrap_or(0)
+}
+
+/// Whether each place is the one that has the least value of its successor.
+fn are_owned(trail: &Trail, successors: &[Term], owners: &[usize]) -> bool
+    requires terms { AreTerms (length trail.now.declared) successors.now }
+    requires filled { NoneEmpty trail.now.sets }
+    ensures { IsTrue result → AreDifferent trail.now.sets successors.now }
+{
+    for k in 0..successors.len() {
+        let value = least_value(trail, successors[k]);
+        if owner_of(owners, &value) != k {
+            return false;
+        }
+    }
+    true
+}
+
+/// Whether some successor has several values.
+pub(crate) fn has_open(trail: &Trail, successors: &[Term]) -> bool
+    requires terms { AreTerms (length trail.now.declared) successors.now }
+    requires filled { NoneEmpty trail.now.sets }
+    ensures { IsTrue result → HasOpen trail.now.sets successors.now }
+{
+    for k in 0..successors.len() {
+        if least_value(trail, successors[k]) != greatest_value(trail, successors[k]) {
+            return true;
+        }
+    }
+    false
+}
+
+/// The first clause that two successors are not the same, each compared with all others, with their value.
+fn first_compared(
+    trail: &Trail,
+    successors: &[Term],
+    clause: &mut Items<Lit>,
+) -> Result<Option<i64>, Memory>
+    requires terms { AreTerms (length trail.now.declared) successors.now }
+    requires filled { NoneEmpty trail.now.sets }
+    ensures found { IfOk result (λ found. IfSome found (λ value. IsInferred trail.now (constraint.Circuit successors.now) (rule.Hall value value) clause.new)) }
+    ensures limits { IfOk result (λ found. IfSome found IsInLimits) }
+    ensures none { IfOk result (λ found. IfNone found (AreApart trail.now.sets successors.now)) }
+{
+    for i in 0..successors.len() {
+        let value = least_value(trail, successors[i]);
+        if greatest_value(trail, successors[i]) == value {
+            if first_with(trail, successors, i, value, clause)? {
+                return Ok(Some(value));
+            }
+        }
+    }
+    Ok(None)
+}
+
+/// The first clause that a successor is not the same as the one at place i, which has this one value.
+fn first_with(
+    trail: &Trail,
+    successors: &[Term],
+    i: usize,
+    value: i64,
+    clause: &mut Items<Lit>,
+) -> Result<bool, Memory>
+    requires terms { AreTerms (length trail.now.declared) successors.now }
+    requires filled { NoneEmpty trail.now.sets }
+    requires one { i < length successors.now }
+    requires value { IsInLimits value }
+    requires fixed { (default : Term) → IsFixedTo trail.now.sets (slice_index_or successors.now i default) value }
+    ensures { IfOk result (λ found. MatchBool found (IsInferred trail.now (constraint.Circuit successors.now) (rule.Hall value value) clause.new) ((j : ℕ) (default : Term) → i ≢ j → j < length successors.now → NoneIs op.Equal value (slice_index_or successors.now j default) trail.now.sets)) }
+{
+    for j in 0..successors.len() {
+        if j != i {
+            if explain_same(trail, successors, i, j, value, clause)? {
+                return Ok(true);
+            }
+        }
+    }
+    Ok(false)
+}
