@@ -1,7 +1,8 @@
-// Examples worked out by hand.
+// Domains and literals worked out by hand.
 ghost use Rattle.std.specs.Prelude.{◌≡◌};
 
 use fzn_domain::{Domain, GREATEST_VALUE, LEAST_VALUE, Lit, Memory, Op, VarId, place_of};
+use std::alloc::Global;
 use std::test::Fail;
 
 fn lit(op: Op, value: i64) -> Lit
@@ -14,71 +15,64 @@ fn lit(op: Op, value: i64) -> Lit
     }
 }
 
-#[test]
-fn a_range(rt: HostRuntime) -> Result<(), Fail> {
-    let domain = Domain::range(rt.alloc(), 3, 7)?;
-    assert_eq!(rt; domain.len(), 5);
-    assert!(rt; !domain.is_empty() && domain.contains(3) && !domain.contains(8));
-    assert_eq!(rt; domain.above(i64::MIN), Some(3));
-    assert_eq!(rt; domain.above(4), Some(5));
-    assert_eq!(rt; domain.above(7), None);
-    assert_eq!(rt; (domain.below(i64::MAX), domain.below(3)), (Some(7), None));
-    assert!(rt; Domain::range(rt.alloc(), 5, 3)?.is_empty());
-    Ok(())
-}
-
-#[test]
-fn a_listed_set(rt: HostRuntime) -> Result<(), Fail> {
-    let domain = Domain::listed(rt.alloc(), &[5, 1, 3, 3])?;
-    assert_eq!(rt; domain.len(), 3);
-    assert_eq!(rt; domain.above(0), Some(1));
-    assert_eq!(rt; domain.above(1), Some(3));
-    assert!(rt; domain.is_false(lit(Op::Equal, 2)));
-    assert!(rt; domain.is_false(lit(Op::AtLeast, 6)));
-    assert!(rt; domain.is_false(lit(Op::AtMost, 0)));
-    assert!(rt; !domain.is_false(lit(Op::NotEqual, 3)));
-    assert_eq!(rt; Domain::listed(rt.alloc(), &[])?.len(), 0);
-    Ok(())
-}
-
 /// Keeps the values at which the literal is true, and says whether any is left.
 fn keep(domain: &mut Domain, op: Op, value: i64) -> Result<bool, Memory> {
     domain.restrict(lit(op, value))
 }
 
-#[test]
-fn holes_at_the_ends(rt: HostRuntime) -> Result<(), Fail> {
-    let mut domain = Domain::range(rt.alloc(), 1, 5)?;
-    assert!(rt; keep(&mut domain, Op::NotEqual, 3)? && keep(&mut domain, Op::NotEqual, 4)?);
+fn is_range(alloc: Global) -> Result<bool, Memory> {
+    let domain = Domain::range(alloc, 3, 7)?;
+    let none = Domain::range(alloc, 5, 3)?;
+    Ok(
+        domain.len() == 5
+            && !domain.is_empty()
+            && domain.min() == 3
+            && domain.max() == 7
+            && domain.contains(3)
+            && !domain.contains(8)
+            && domain.above(4) == Some(5)
+            && domain.below(3).is_none()
+            && none.is_empty(),
+    )
+}
+
+fn is_listed(alloc: Global) -> Result<bool, Memory> {
+    let domain = Domain::listed(alloc, &[5, 1, 3, 3])?;
+    Ok(
+        domain.len() == 3
+            && domain.above(1) == Some(3)
+            && domain.is_false(lit(Op::Equal, 2))
+            && domain.is_false(lit(Op::AtLeast, 6))
+            && domain.is_false(lit(Op::AtMost, 0))
+            && !domain.is_false(lit(Op::NotEqual, 3)),
+    )
+}
+
+/// Whether holes move the ends, and a copy stays as it was.
+fn is_narrowed(alloc: Global) -> Result<bool, Memory> {
+    let mut domain = Domain::range(alloc, 1, 5)?;
+    let is_left = keep(&mut domain, Op::NotEqual, 4)?;
     let kept = domain.copy()?;
-    assert!(rt; keep(&mut domain, Op::NotEqual, 5)?);
-    assert_eq!(rt; (domain.len(), domain.above(2)), (2, None));
-    assert!(rt; keep(&mut domain, Op::AtLeast, 2)?);
-    assert!(rt; domain.is_false(lit(Op::NotEqual, 2)));
-    assert!(rt; !keep(&mut domain, Op::AtMost, 1)?);
-    assert_eq!(rt; (domain.len(), kept.len(), kept.above(2)), (0, 3, Some(5)));
-    Ok(())
+    let is_narrow = keep(&mut domain, Op::NotEqual, 5)? && domain.above(2) == Some(3);
+    let is_none = !keep(&mut domain, Op::AtLeast, 4)?;
+    Ok(is_left && is_narrow && is_none && domain.is_empty() && kept.len() == 4)
+}
+
+/// Whether a range of all values is narrowed to one.
+fn is_wide(alloc: Global) -> Result<bool, Memory> {
+    let mut domain = Domain::range(alloc, LEAST_VALUE, GREATEST_VALUE)?;
+    let is_whole = domain.len() == 2_000_000_001;
+    let has_hole = keep(&mut domain, Op::NotEqual, 0)? && domain.above(-1) == Some(1);
+    let is_one = keep(&mut domain, Op::Equal, 5)? && domain.len() == 1;
+    Ok(is_whole && has_hole && is_one)
 }
 
 #[test]
-fn a_wide_range(rt: HostRuntime) -> Result<(), Fail> {
-    let mut domain = Domain::range(rt.alloc(), LEAST_VALUE, GREATEST_VALUE)?;
-    assert_eq!(rt; domain.len(), 2_000_000_001);
-    assert!(rt; keep(&mut domain, Op::NotEqual, 0)?);
-    assert_eq!(rt; domain.len(), 2_000_000_000);
-    assert_eq!(rt; (domain.above(-1), domain.below(1)), (Some(1), Some(-1)));
-    assert!(rt; keep(&mut domain, Op::Equal, 5)?);
-    assert_eq!(rt; domain.len(), 1);
-    Ok(())
-}
-
-#[test]
-fn the_least_and_the_greatest(rt: HostRuntime) -> Result<(), Fail> {
-    let mut domain = Domain::listed(rt.alloc(), &[-4, 9, 2])?;
-    assert!(rt; domain.restrict(lit(Op::AtMost, 8))?);
-    assert_eq!(rt; (domain.min(), domain.max()), (-4, 2));
-    assert!(rt; !lit(Op::AtMost, 3).negated().is_true_at(3));
-    assert!(rt; lit(Op::AtMost, 3).negated().is_true_at(4));
+fn sets(rt: HostRuntime) -> Result<(), Fail> {
+    assert!(rt; is_range(rt.alloc())?);
+    assert!(rt; is_listed(rt.alloc())?);
+    assert!(rt; is_narrowed(rt.alloc())?);
+    assert!(rt; is_wide(rt.alloc())?);
     Ok(())
 }
 
@@ -100,34 +94,27 @@ fn run_end(domain: &Domain, value: i64) -> Option<i64> {
     }
 }
 
+fn has_places_and_runs(alloc: Global) -> Result<bool, Memory> {
+    let domain = Domain::listed(alloc, &[5, 1, 3, 4])?;
+    Ok(
+        nth(&domain, 0) == Some(1)
+            && nth(&domain, 3) == Some(5)
+            && nth(&domain, 4).is_none()
+            && run_end(&domain, 1) == Some(1)
+            && run_end(&domain, 3) == Some(5)
+            && run_end(&domain, 2).is_none(),
+    )
+}
+
 #[test]
 fn places_and_runs(rt: HostRuntime) -> Result<(), Fail> {
-    let mut range = Domain::range(rt.alloc(), 1, 6)?;
-    assert!(rt; keep(&mut range, Op::NotEqual, 3)?);
-    let listed = Domain::listed(rt.alloc(), &[5, 1, 3, 4])?;
-    assert_eq!(rt;
-        (nth(&range, 1), nth(&range, 2), nth(&range, 4)),
-        (Some(2), Some(4), Some(6))
-    );
-    assert_eq!(rt;
-        (nth(&listed, 0), nth(&listed, 3), nth(&listed, 4)),
-        (Some(1), Some(5), None)
-    );
-    assert_eq!(rt;
-        (run_end(&range, 1), run_end(&range, 3), run_end(&range, 4)),
-        (Some(2), None, Some(6))
-    );
-    assert_eq!(rt;
-        (
-            run_end(&listed, 1),
-            run_end(&listed, 3),
-            run_end(&listed, 5)
-        ),
-        (Some(1), Some(5), Some(5))
-    );
-    assert_eq!(rt;
-        (place_of(&[], 3), place_of(&[3], 3), place_of(&[2], 3)),
-        (0, 0, 1)
-    );
+    assert!(rt; has_places_and_runs(rt.alloc())?);
+    assert!(rt; place_of(&[], 3) == 0 && place_of(&[3], 3) == 0 && place_of(&[2], 3) == 1);
     Ok(())
+}
+
+#[test]
+fn literals(rt: HostRuntime) {
+    let above = lit(Op::AtMost, 3).negated();
+    assert!(rt; !above.is_true_at(3) && above.is_true_at(4));
 }

@@ -1,5 +1,5 @@
 // Solutions, which is better, and cuts, on one small model for each goal.
-ghost use Rattle.std.specs.Prelude.{◌≡◌, IfOk, length};
+ghost use Rattle.std.specs.Prelude.{IfOk};
 ghost use Rattle.fzn_meaning.specs.WellFormed.{IsWellFormed};
 
 use crate::kinds::model_of;
@@ -19,52 +19,57 @@ fn small_model(alloc: Global, goal: &str) -> Result<Model, Fail>
     model_of(alloc, file.as_str())
 }
 
+/// Whether values without, by one of them, by a constraint and by their number, are solutions.
+fn are_told(model: &Model) -> bool
+    requires { IsWellFormed model.now }
+{
+    is_solution(model, &[1, 2])
+        && is_solution(model, &[1, 3])
+        && !is_solution(model, &[1, 1])
+        && !is_solution(model, &[2, 2])
+        && !is_solution(model, &[1, 4])
+        && !is_solution(model, &[0, 2])
+        && !is_solution(model, &[1])
+        && !is_solution(model, &[1, 2, 3])
+}
+
 #[test]
 fn solutions(rt: HostRuntime) -> Result<(), Fail> {
     let model = small_model(rt.alloc(), "satisfy")?;
-    for (values, want) in [
-        ([1, 2].as_slice(), true),
-        ([1, 3].as_slice(), true),
-        // not within the sets
-        ([1, 1].as_slice(), false),
-        ([2, 2].as_slice(), false),
-        // the sum, the other constraint
-        ([1, 4].as_slice(), false),
-        ([0, 2].as_slice(), false),
-        // another length
-        ([1].as_slice(), false),
-        ([1, 2, 3].as_slice(), false),
-    ] {
-        assert_eq!(rt; is_solution(&model, values), want, "{values:?}");
-    }
+    assert!(rt; are_told(&model));
     Ok(())
 }
 
-/// Whether both lists have a value for each variable, and the first is better.
-fn is_better(model: &Model, first: &[i64], second: &[i64]) -> bool
+/// Whether the values with the first y are better than those with the second, and the other way.
+fn betters(model: &Model, first: i64, second: i64) -> (bool, bool)
     requires { IsWellFormed model.now }
 {
-    let count = model.vars.len();
-    first.len() == count && second.len() == count && better(model, first, second)
+    if model.vars.len() != 2 {
+        return (false, false);
+    }
+    (
+        better(model, &[1, first], &[0, second]),
+        better(model, &[0, second], &[1, first]),
+    )
 }
 
-#[test]
-fn better_by_goal(rt: HostRuntime) -> Result<(), Fail> {
-    let alloc = rt.alloc();
-    let any = small_model(alloc, "satisfy")?;
-    let least = small_model(alloc, "minimize y")?;
-    let greatest = small_model(alloc, "maximize y")?;
-    for (a, b, less, more) in [
-        // values of y, whether the first is less, whether it is more
-        (2, 3, true, false),
-        (3, 2, false, true),
-        (3, 3, false, false),
-    ] {
-        assert!(rt; !is_better(&any, &[1, a], &[0, b]), "{a} and {b}");
-        assert_eq!(rt; is_better(&least, &[1, a], &[0, b]), less, "{a} and {b}");
-        assert_eq!(rt; is_better(&greatest, &[1, a], &[0, b]), more, "{a} and {b}");
+/// Whether 3 and 4 of y are better so, and neither of 3 and 3 is; and the cut of y = 3 is this clause.
+fn is_goal(
+    alloc: Global,
+    goal: &str,
+    three_and_four: (bool, bool),
+    clause: &[Lit],
+) -> Result<bool, Fail> {
+    let model = small_model(alloc, goal)?;
+    if model.vars.len() != 2 {
+        return Ok(false);
     }
-    Ok(())
+    let found = cut(alloc, &model, &[1, 3])?;
+    Ok(
+        betters(&model, 3, 4) == three_and_four
+            && betters(&model, 3, 3) == (false, false)
+            && found.as_slice() == clause,
+    )
 }
 
 fn lit(number: usize, op: Op, value: i64) -> Lit {
@@ -76,30 +81,18 @@ fn lit(number: usize, op: Op, value: i64) -> Lit {
 }
 
 #[test]
-fn cuts_by_goal(rt: HostRuntime) -> Result<(), Fail> {
-    let alloc = rt.alloc();
+fn goals(rt: HostRuntime) -> Result<(), Fail> {
     let differs = [lit(1, Op::NotEqual, 1), lit(2, Op::NotEqual, 3)];
+    assert!(rt; is_goal(rt.alloc(), "satisfy", (false, false), &differs)?);
     let below = [lit(2, Op::AtMost, 2)];
+    assert!(rt; is_goal(rt.alloc(), "minimize y", (true, false), &below)?);
     let above = [lit(2, Op::AtLeast, 4)];
-    for (goal, want) in [
-        ("satisfy", differs.as_slice()),
-        ("minimize y", below.as_slice()),
-        ("maximize y", above.as_slice()),
-    ] {
-        let model = small_model(alloc, goal)?;
-        let values = [1, 3];
-        if model.vars.len() == values.len() {
-            let clause = cut(alloc, &model, &values)?;
-            assert_eq!(rt; clause.as_slice(), want, "{goal}");
-        }
-    }
+    assert!(rt; is_goal(rt.alloc(), "maximize y", (false, true), &above)?);
     Ok(())
 }
 
 #[test]
 fn products_add_up(rt: HostRuntime) {
-    assert_eq!(rt;
-        plus_product(-1, 1_000_000_000, i64::MIN),
-        -9_223_372_036_854_775_808_000_000_001
-    );
+    let sum = plus_product(-1, 1_000_000_000, i64::MIN);
+    assert!(rt; sum == -9_223_372_036_854_775_808_000_000_001);
 }

@@ -10,39 +10,65 @@ use fzn_state::{State, greatest_value, is_fixed_to, is_index, least_value, may_b
 use std::alloc::Global;
 use std::test::*;
 
-/// Whether x may be 5 and 6, and 4 may be 4 and 5; the ends of x and of 4; whether y is fixed to 7 and to 6, and x to 2 and to 9.
-fn told(alloc: Global, state: &State) -> Result<String, Memory> {
-    if state.len() != 2 || state.has_empty() {
-        return Ok(String::new(alloc));
+/// Whether the first variable may be 5 and 6, and 4 may be 4 and 5.
+fn may_be_so(state: &State) -> Option<[bool; 4]> {
+    if state.len() != 2 {
+        return None;
     }
     let x = Term::Variable(VarId(1));
-    let y = Term::Variable(VarId(2));
     let four = Term::Constant(4);
-    format!(in alloc;
-        "{} {} {} {}, {} {} {} {}, {} {} {} {}",
+    Some([
         may_be(state, x, &5),
         may_be(state, x, &6),
         may_be(state, four, &4),
         may_be(state, four, &5),
+    ])
+}
+
+/// The least and the greatest value of the first variable and of 4.
+fn ends(state: &State) -> Option<[i64; 4]> {
+    if state.len() != 2 || state.has_empty() {
+        return None;
+    }
+    let x = Term::Variable(VarId(1));
+    let four = Term::Constant(4);
+    Some([
         least_value(state, x),
         greatest_value(state, x),
         least_value(state, four),
         greatest_value(state, four),
+    ])
+}
+
+/// Whether the second variable is fixed to 7 and to 6, and the first to 2.
+fn are_fixed(state: &State) -> Option<[bool; 3]> {
+    if state.len() != 2 || state.has_empty() {
+        return None;
+    }
+    let y = Term::Variable(VarId(2));
+    Some([
         is_fixed_to(state, y, 7),
         is_fixed_to(state, y, 6),
-        is_fixed_to(state, x, 2),
-        is_fixed_to(state, x, 9)
-    )
+        is_fixed_to(state, Term::Variable(VarId(1)), 2),
+    ])
+}
+
+/// Whether terms are told of the sets of x, which is 2, 5 or 9, and of y, which is 7.
+fn are_told(state: &State) -> bool {
+    may_be_so(state) == Some([true, false, true, false])
+        && ends(state) == Some([2, 9, 4, 4])
+        && are_fixed(state) == Some([true, false, false])
+}
+
+fn are_terms_told(alloc: Global) -> Result<bool, Fail> {
+    let model = model_of(alloc, "var {2,5,9}: x; var 7..7: y; solve satisfy;")?;
+    let state = declared(alloc, &model)?;
+    Ok(are_told(&state))
 }
 
 #[test]
 fn terms_on_sets(rt: HostRuntime) -> Result<(), Fail> {
-    let model = model_of(rt.alloc(), "var {2,5,9}: x; var 7..7: y; solve satisfy;")?;
-    let state = declared(rt.alloc(), &model)?;
-    assert_eq!(rt;
-        told(rt.alloc(), &state)?.as_str(),
-        "true false true false, 2 9 4 4, true false false false"
-    );
+    assert!(rt; are_terms_told(rt.alloc())?);
     Ok(())
 }
 
@@ -53,24 +79,26 @@ fn terms_in_lists(rt: HostRuntime) {
     let terms = [five, y, five];
     assert!(rt; term_at(&terms, &1) == five && term_at(&terms, &2) == y);
     assert!(rt; is_index(3, &1) && is_index(3, &3) && !is_index(3, &0) && !is_index(3, &4));
-    assert_eq!(rt; (y.value(&[8, 9]), five.value(&[8, 9])), (9, 5));
-    assert_eq!(rt; (y.number(), five.number()), (0, 5));
+    assert!(rt; y.value(&[8, 9]) == 9 && five.value(&[8, 9]) == 5);
+    assert!(rt; y.number() == 0 && five.number() == 5);
 }
 
-/// A row of two constants.
-fn row(alloc: Global, first: i64, second: i64) -> Result<Rows, Memory> {
-    let mut terms = Items::new(alloc);
-    terms.push(Term::Constant(first))?;
-    terms.push(Term::Constant(second))?;
-    Ok(Rows::new(Shared::new(alloc, terms)?))
+/// Whether a row of two constants has them.
+fn is_row(alloc: Global) -> Result<bool, Memory> {
+    let constants = [Term::Constant(4), Term::Constant(-2)];
+    let terms = Items::from_slice(alloc, constants.as_slice())?;
+    let rows = Rows::new(Shared::new(alloc, terms)?);
+    Ok(rows.constants() == constants.as_slice())
 }
 
 #[test]
 fn rows_are_their_constants(rt: HostRuntime) -> Result<(), Fail> {
-    let rows = row(rt.alloc(), 4, -2)?;
-    let want = [Term::Constant(4), Term::Constant(-2)];
-    assert!(rt; rows.constants() == want.as_slice());
+    assert!(rt; is_row(rt.alloc())?);
     Ok(())
+}
+
+fn place(coefficient: i64, term: Term) -> Place {
+    Place { coefficient, term }
 }
 
 #[test]
@@ -78,21 +106,8 @@ fn places_of_a_form(rt: HostRuntime) {
     let x = Term::Variable(VarId(1));
     let five = Term::Constant(5);
     let places = Places::Difference(x, five);
-    assert_eq!(rt; places.len(), 2);
-    assert_eq!(rt;
-        places.place(0),
-        Place {
-            coefficient: 1,
-            term: x
-        }
-    );
-    assert_eq!(rt;
-        places.place(1),
-        Place {
-            coefficient: -1,
-            term: five
-        }
-    );
+    assert!(rt; places.len() == 2);
+    assert!(rt; places.place(0) == place(1, x) && places.place(1) == place(-1, five));
 }
 
 /// The bound of each constraint's form.
@@ -107,28 +122,24 @@ fn bounds_of_forms(alloc: Global, model: &Model) -> Result<String, Memory> {
     Ok(text)
 }
 
+const FORMS: &str =
+    "var bool: a; var bool: b; var 0..5: x; constraint bool_clause([a,b],[a,b,b]); constraint int_lin_le([2],[x],7); constraint bool_not(a,b); constraint int_abs(x,x); solve satisfy;";
+
 #[test]
 fn forms_of_constraints(rt: HostRuntime) -> Result<(), Fail> {
-    let model = model_of(
-        rt.alloc(),
-        "var bool: a; var bool: b; var 0..5: x; constraint bool_clause([a,b],[a,b,b]); constraint int_lin_le([2],[x],7);
-        constraint bool_not(a,b); constraint int_abs(x,x); solve satisfy;",
-    )?;
-    assert_eq!(rt;
-        bounds_of_forms(rt.alloc(), &model)?.as_str(),
-        "2 7 1 none "
-    );
+    let model = model_of(rt.alloc(), FORMS)?;
+    assert!(rt; bounds_of_forms(rt.alloc(), &model)?.as_str() == "2 7 1 none ");
     Ok(())
 }
 
 #[test]
 fn rules_know_what_is_meant(rt: HostRuntime) {
-    assert_eq!(rt; (form_is_meant(), relation_is_meant()), ((), ()));
+    assert!(rt; (form_is_meant(), relation_is_meant()) == ((), ()));
 }
 
 #[test]
 fn quotients_round_towards_0(rt: HostRuntime) {
-    assert_eq!(rt; outcome_of(Operation::Quotient, &-7, &2), Some(-3));
-    assert_eq!(rt; outcome_of(Operation::Remainder, &-7, &2), Some(-1));
-    assert_eq!(rt; outcome_of(Operation::Quotient, &-7, &0), None);
+    assert!(rt; outcome_of(Operation::Quotient, &-7, &2) == Some(-3));
+    assert!(rt; outcome_of(Operation::Remainder, &-7, &2) == Some(-1));
+    assert!(rt; outcome_of(Operation::Quotient, &-7, &0).is_none());
 }

@@ -1,47 +1,35 @@
+// Lists of one owner and of several, and names.
 use fzn_list::{Items, Shared, Text};
+use std::alloc::{AllocError, Global};
 use std::test::Fail;
 
-#[test]
-fn lists_what_was_pushed(rt: HostRuntime) -> Result<(), Fail> {
-    let mut items: Items<u64> = Items::new(rt.alloc());
-    assert_eq!(rt; items.len(), 0);
-    for value in [3, 1, 2] {
-        items.push(value)?;
-    }
-    assert_eq!(rt; items.len(), 3);
-    assert_eq!(rt; items.as_slice(), [3, 1, 2].as_slice());
-    Ok(())
-}
-
-#[test]
-fn lists_a_slice_and_is_cleared(rt: HostRuntime) -> Result<(), Fail> {
-    let mut items: Items<u64> = Items::from_slice(rt.alloc(), [3, 1, 2].as_slice())?;
-    assert_eq!(rt; items.as_slice(), [3, 1, 2].as_slice());
+fn is_pushed_and_cleared(alloc: Global) -> Result<bool, AllocError> {
+    let mut items: Items<u64> = Items::new(alloc);
+    items.push(3)?;
+    items.push(1)?;
+    let is_pushed = items.len() == 2 && items.as_slice() == [3, 1].as_slice();
     items.clear();
-    assert_eq!(rt; items.len(), 0);
-    items.push(4)?;
-    assert_eq!(rt; items.as_slice(), [4].as_slice());
-    Ok(())
+    Ok(is_pushed && items.len() == 0)
 }
 
-#[test]
-fn one_list_of_two_owners(rt: HostRuntime) -> Result<(), Fail> {
-    let mut items: Items<u64> = Items::new(rt.alloc());
-    for value in [3, 1] {
-        items.push(value)?;
-    }
-    let list = Shared::new(rt.alloc(), items)?;
+fn is_shared(alloc: Global) -> Result<bool, AllocError> {
+    let items: Items<u64> = Items::from_slice(alloc, [3, 1].as_slice())?;
+    let list = Shared::new(alloc, items)?;
     let same = list.share()?;
     drop(list);
-    assert_eq!(rt; same.len(), 2);
-    assert_eq!(rt; same.as_slice(), [3, 1].as_slice());
-    Ok(())
+    Ok(same.len() == 2 && same.as_slice() == [3, 1].as_slice())
+}
+
+fn is_kept(alloc: Global) -> Result<bool, AllocError> {
+    let text = Text::from_slice(alloc, b"queens")?;
+    let copy = text.copy(alloc)?;
+    Ok(text.as_slice() == b"queens".as_slice() && copy.as_slice() == b"queens".as_slice())
 }
 
 #[test]
-fn keeps_the_bytes_of_a_name(rt: HostRuntime) -> Result<(), Fail> {
-    let text = Text::from_slice(rt.alloc(), b"queens")?;
-    assert_eq!(rt; text.as_slice(), b"queens".as_slice());
-    assert_eq!(rt; text.copy(rt.alloc())?.as_slice(), b"queens".as_slice());
+fn lists_what_was_put(rt: HostRuntime) -> Result<(), Fail> {
+    assert!(rt; is_pushed_and_cleared(rt.alloc())?);
+    assert!(rt; is_shared(rt.alloc())?);
+    assert!(rt; is_kept(rt.alloc())?);
     Ok(())
 }

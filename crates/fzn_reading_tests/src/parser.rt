@@ -1,39 +1,11 @@
-// The trees of files.
+// The tree of a file.
 use fzn_lexer::{Place, tokens};
 use fzn_list::Items;
 use fzn_parser::{
     Arg, Basic, Con, Int, Listed, Literal, Param, ParamValue, Tree, one_reading, parse,
 };
-use std::alloc::Global;
+use std::alloc::{AllocError, Global};
 use std::test::*;
-
-/// Files that the grammar has, most of which state no model.
-const FILES: &str = "
-solve satisfy;
-predicate p(array [int] of var int: x, set of 1..3: s); predicate q(); solve satisfy;
-predicate p(bool: a, array [1..0] of set of {1, 2}: b, -1..1: c, var {}: d); solve satisfy;
-int: k = -3; bool: b = true; set of int: s = {3, 1}; set of int: e = 1..0; solve satisfy;
-array [1..2] of int: q = [1, 2]; array [1..0] of set of int: n = []; solve satisfy;
-array [1..2] of bool: q = [true, 1..2]; array [1..1] of int: r = [{}]; solve satisfy;
-var 1..3: x :: output_var = 2; var bool: b; var int: y = x; var {1, 3}: z; solve maximize x;
-array [1..2] of var int: r :: output_array([1..2]) = [1, q]; solve satisfy;
-array [1..1] of var set of int: r = []; var set of {}: y; var bool: z; solve satisfy;
-constraint p(1..2, {}, [], a, true, [1..2, {3}, false]) :: a(b, [{1}, 2]); solve satisfy;
-constraint p(); solve :: c(\"text\", d([e, \"f\"], []), g()) :: h minimize 3;
-";
-
-fn is_read(alloc: Global, file: &str) -> bool {
-    tokens(alloc, file.as_bytes()).is_ok_and(|tokens| parse(alloc, &tokens).is_ok())
-}
-
-#[test]
-fn files(rt: HostRuntime) {
-    assert_eq!(rt; FILES.trim().lines().count(), 11);
-    for file in FILES.trim().lines() {
-        assert!(rt; is_read(rt.alloc(), file), "{file}");
-    }
-    assert!(rt; !is_read(rt.alloc(), "solve satisfy"));
-}
 
 const FILE: &str =
     "predicate q(var int: a);\nint: k = -3;\nvar {2, 1}: x = k;\nconstraint p({4}, [x]) :: t(\"u\");\nsolve minimize x;";
@@ -73,28 +45,32 @@ fn is_tree_of_file(tree: &Tree) -> bool {
     tree.predicates.len() == 1 && tree.vars.len() == 1 && is_k(param) && is_p(con)
 }
 
+fn is_parsed(alloc: Global) -> bool {
+    match tokens(alloc, FILE.as_bytes()) {
+        Ok(tokens) => parse(alloc, &tokens).is_ok_and(|tree| is_tree_of_file(&tree)),
+        Err(_) => false,
+    }
+}
+
 #[test]
-fn a_tree(rt: HostRuntime) -> Result<(), Fail> {
-    let tokens = tokens(rt.alloc(), FILE.as_bytes())
-        .ok()
-        .ok_or("the file has tokens")?;
-    let tree = parse(rt.alloc(), &tokens);
-    assert!(rt; tree.is_ok_and(|tree| is_tree_of_file(&tree)));
-    assert_eq!(rt; one_reading(), ());
-    Ok(())
+fn a_tree(rt: HostRuntime) {
+    assert!(rt; is_parsed(rt.alloc()));
+    assert!(rt; one_reading() == ());
 }
 
 #[test]
 fn an_entry_takes_40_bytes(rt: HostRuntime) {
-    assert_eq!(rt; size_of::<Basic>(), 40);
+    assert!(rt; size_of::<Basic>() == 40);
+}
+
+fn is_listed(alloc: Global) -> Result<bool, AllocError> {
+    let values = Items::from_slice(alloc, [4, 2].as_slice())?;
+    let listed = Listed::new(alloc, values)?;
+    Ok(listed.as_slice() == [4, 2].as_slice())
 }
 
 #[test]
 fn listed_values(rt: HostRuntime) -> Result<(), Fail> {
-    let mut values = Items::new(rt.alloc());
-    values.push(4)?;
-    values.push(2)?;
-    let listed = Listed::new(rt.alloc(), values)?;
-    assert_eq!(rt; listed.as_slice(), [4, 2].as_slice());
+    assert!(rt; is_listed(rt.alloc())?);
     Ok(())
 }
