@@ -106,3 +106,24 @@ fn a_chain_and_a_conflict(rt: HostRuntime) -> Result<(), Fail> {
     assert!(rt; !clauses.is_held(id));
     Ok(())
 }
+
+#[test]
+fn a_number_that_is_used_again(rt: HostRuntime) -> Result<(), Fail> {
+    let (mut clauses, trail) = start(rt.alloc())?;
+    let id = hold(
+        &mut clauses,
+        &trail,
+        lit(1, Op::AtMost, 3),
+        lit(2, Op::AtMost, 5),
+    )?;
+    clauses.remove(id);
+    clauses.sweep();
+    let other = [lit(1, Op::AtLeast, 4)];
+    if (id.0 as usize) < clauses.len() && !clauses.is_held(id) {
+        clauses.put(id, other.as_slice())?;
+    }
+    assert!(rt; clauses.is_held(id));
+    assert!(rt; clauses.clause(id) == other.as_slice());
+    assert_eq!(rt; clauses.len(), 1);
+    Ok(())
+}

@@ -6,8 +6,8 @@ use fzn_domain::{Lit, Memory, Op, VarId};
 use fzn_list::Items;
 use fzn_meaning::{Place, Term};
 use fzn_sums::{
-    conflict_at_most, conflict_not_equal, greatest_value, least_value, refute_at_most,
-    refute_not_equal,
+    conflict_at_most, conflict_not_equal, ends_of, greatest_value, least_value, refute_at_most,
+    refute_equal, refute_not_equal,
 };
 use std::test::*;
 
@@ -76,5 +76,35 @@ fn ends_of_terms(rt: HostRuntime) -> Result<(), Fail> {
     assert!(rt; least_value(&trail, Y) == 1 && greatest_value(&trail, Y) == 5);
     let seven = Term::Constant(7);
     assert!(rt; least_value(&trail, seven) == 7 && greatest_value(&trail, seven) == 7);
+    Ok(())
+}
+
+#[test]
+fn ends_of_sums(rt: HostRuntime) -> Result<(), Fail> {
+    let mut trail = trail_of(rt.alloc(), 10)?;
+    assert!(rt; keep_bounds(&mut trail, (2, 2), (0, 5))?);
+    let ends = ends_of(&trail, &[TWICE_X, THRICE_Y]);
+    assert!(rt; ends.least == 4 && ends.greatest == 19 && ends.widest == 15);
+    Ok(())
+}
+
+#[test]
+fn sums_that_are_equal(rt: HostRuntime) -> Result<(), Fail> {
+    let alloc = rt.alloc();
+    let mut trail = trail_of(alloc, 10)?;
+    assert!(rt; keep_bounds(&mut trail, (2, 2), (0, 5))?);
+    let opposite = [
+        Place {
+            coefficient: -2,
+            term: X,
+        },
+        Place {
+            coefficient: -3,
+            term: Y,
+        },
+    ];
+    let sum = [TWICE_X, THRICE_Y];
+    let clause = [lit(1, Op::AtMost, 1), lit(2, Op::AtMost, 1)];
+    assert!(rt; is_found(refute_equal(alloc, &trail, &sum, &opposite, 7), &clause));
     Ok(())
 }
