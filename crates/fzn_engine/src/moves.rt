@@ -24,8 +24,10 @@ use fzn_learned::{Source, clause_of};
 use fzn_meaning::Model;
 use fzn_trail::{ClauseId, Reason, Trail};
 
-/// How many inferences without an entry may stand beside those on which entries may rest.
-const SPARE: usize = 256;
+/// How many inferences without an entry may stand beside those on which entries may rest: so many, and one for each so many entries.
+const SPARE: usize = 64;
+
+const SHARE: usize = 16;
 
 impl Solver {
     /// Asserts what the held clauses force, and gives one that is false.
@@ -144,7 +146,9 @@ fn kept_len(trail: &Trail, count: usize, notes: &mut Notes) -> usize
         return count;
     }
     let len = stack_len(trail, count);
-    notes.next_cut = len.saturating_add(trail.len()).saturating_add(SPARE);
+    notes.next_cut = len
+        .saturating_add(trail.len() / SHARE)
+        .saturating_add(SPARE);
     len
 }
 

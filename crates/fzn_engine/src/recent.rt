@@ -4,9 +4,9 @@ use fzn_trail::ClauseId;
 use std::alloc::Global;
 
 /// With how many clauses some are forgotten, at first and at last.
-const FIRST_MOST: usize = 20_000;
+const FIRST_MOST: usize = 3_000;
 
-const LAST_MOST: usize = 100_000;
+const LAST_MOST: usize = 6_000;
 
 /// Clauses that may be forgotten, by their numbers, in the order in which they were held.
 #[derive(Drop)]

@@ -3,6 +3,9 @@ use fzn_domain::Memory;
 use fzn_trail::ClauseId;
 use std::alloc::Global;
 
+/// So many are kept at most.
+const MOST: usize = 30_000;
+
 /// Clauses that may be forgotten, each with a rank and how far its number is from the end: the least of these pairs are kept longest.
 /// The newest clause stands last.
 #[derive(Drop)]
@@ -32,8 +35,8 @@ impl Ranks {
         self.ranks.len() > self.most
     }
 
-    /// Adds the worse half of the clauses to the others, without reasons and the newest clause, where there are many. More are kept from
-    /// now on.
+    /// Adds the worse half of the clauses to the others, without reasons and the newest clause, where there are many. A tenth more are
+    /// kept from now on, up to a limit.
     pub fn take_worst(
         &mut self,
         alloc: Global,
@@ -43,7 +46,7 @@ impl Ranks {
         if !self.has_many() {
             return Ok(());
         }
-        self.most = self.most.saturating_add(self.most / 10);
+        self.most = self.most.saturating_add(self.most / 10).min(MOST);
         let newest = self.ranks.pop();
         self.ranks.sort_unstable();
         let half = self.ranks.len() / 2;
