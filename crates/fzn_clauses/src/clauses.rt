@@ -17,10 +17,10 @@ ghost use Rattle.fzn_clauses.specs.declared.clauses.Visit.TheVariants.{Refuted, 
 ghost use Rattle.fzn_clauses.specs.Looks.{IsForced, LooksAs};
 
 use crate::arena::{Arena, Pair};
-use crate::keys::{OPERATORS, key_of, operator_at};
+use crate::keys::{PLACES, key_at, key_of, operator_at};
 use crate::lists::{Lists, Watcher};
-use crate::state::{ClauseState, can_fail, can_falsify, is_certain, may_have_fallen, state_of};
-use fzn_domain::{Lit, Memory, Op};
+use crate::state::{ClauseState, can_fail, is_certain, may_have_fallen, next_place, state_of};
+use fzn_domain::{Lit, Memory};
 use fzn_trail::{ClauseId, Reason, Trail};
 use std::alloc::Global;
 
@@ -284,22 +284,25 @@ impl Clauses {
         ensures mark { OnOk result (trail.new.mark ≡ trail.old.mark) }
         ensures all { IfOk result (λ found. IfNone found (VisitsEntry lit self.old self.new trail.old trail.new)) }
     {
-        let mut place = 0;
-        while place < OPERATORS {
-            let op = operator_at(place);
-            if can_falsify(trail.domain(lit.var), lit, op) {
-                if let Some(k) = self.visit_all(lit, op, trail)? {
-                    return Ok(Some(k));
-                }
+        let mut place = next_place(trail.domain(lit.var), lit, 0);
+        while place < PLACES {
+            if let Some(k) = self.visit_all(lit, place, trail)? {
+                return Ok(Some(k));
             }
-            place += 1;
+            place = next_place(trail.domain(lit.var), lit, place + 1);
         }
         Ok(None)
     }
 
-    /// Visits the clauses that watch a literal with this operator which the entry may have made false.
-    fn visit_all(&mut self, entry: Lit, op: Op, trail: &mut Trail) -> Result<Option<usize>, Memory>
+    /// Visits the clauses that watch a literal of this place which the entry may have made false.
+    fn visit_all(
+        &mut self,
+        entry: Lit,
+        place: usize,
+        trail: &mut Trail,
+    ) -> Result<Option<usize>, Memory>
         requires var { IsVariable (length trail.old.declared) entry.var }
+        requires in_range { place < 18 }
         requires ready { IsReady self.old trail.old }
         ensures ran { Ran self.old self.new trail.old trail.new }
         ensures ready { OnOk result (IsReady self.new trail.new) }
@@ -307,11 +310,11 @@ impl Clauses {
         ensures keeps { OnOk result (KeepsRuns self.old self.new trail.old trail.new) }
         ensures pending { OnOk result (self.new.pending ≡ self.old.pending) }
         ensures mark { OnOk result (trail.new.mark ≡ trail.old.mark) }
-        ensures all { IfOk result (λ found. IfNone found (VisitsAll entry (key_at entry.var op) self.old self.new trail.old trail.new)) }
+        ensures all { IfOk result (λ found. IfNone found (VisitsAll entry (key_at entry.var place) self.old self.new trail.old trail.new)) }
     {
-        let key = key_of(entry.var, op);
+        let key = key_at(entry.var, place);
         let mut end = self.lists.len(key);
-        while let Some(j) = self.last_fallen(entry, op, end, trail) {
+        while let Some(j) = self.last_fallen(entry, place, end, trail) {
             let watcher = self.lists.at(key, j);
             end = j;
             match self.visit(watcher, key, trail)? {
@@ -323,14 +326,16 @@ impl Clauses {
         Ok(None)
     }
 
-    /// The last place before this one in the list of the variable and the operator where the entry may have made the literal false.
-    fn last_fallen(&self, entry: Lit, op: Op, end: usize, trail: &Trail) -> Option<usize>
+    /// The last watcher before this one, in the list at this place of the variable, whose literal the entry may have made false.
+    fn last_fallen(&self, entry: Lit, place: usize, end: usize, trail: &Trail) -> Option<usize>
         requires var { IsVariable (length trail.now.declared) entry.var }
-        requires within { end ≤ length (list_at self.now.lists (key_at entry.var op)) }
-        ensures found { IfSome result (λ j. (j < end) × AreSpared entry trail.now.sets (key_at entry.var op) (list_at self.now.lists (key_at entry.var op)) (j + 1) end) }
-        ensures none { IfNone result (AreSpared entry trail.now.sets (key_at entry.var op) (list_at self.now.lists (key_at entry.var op)) 0 end) }
+        requires in_range { place < 18 }
+        requires within { end ≤ length (list_at self.now.lists (key_at entry.var place)) }
+        ensures found { IfSome result (λ j. (j < end) × AreSpared entry trail.now.sets (key_at entry.var place) (list_at self.now.lists (key_at entry.var place)) (j + 1) end) }
+        ensures none { IfNone result (AreSpared entry trail.now.sets (key_at entry.var place) (list_at self.now.lists (key_at entry.var place)) 0 end) }
     {
-        let key = key_of(entry.var, op);
+        let key = key_at(entry.var, place);
+        let op = operator_at(place);
         let domain = trail.domain(entry.var);
         let list = self.lists.list(key);
         let mut j = end;
@@ -476,7 +481,7 @@ impl Clauses {
             k,
             value: lit.value,
         };
-        let key = key_of(lit.var, lit.op);
+        let key = key_of(lit);
         if self.is_watching(watcher, key) {
             return Ok(());
         }
@@ -489,7 +494,7 @@ impl Clauses {
 fn is_at(lit: Lit, watcher: Watcher, key: usize) -> bool
     ensures { IsTrue result ↔ IsAt lit watcher.value key }
 {
-    lit.value == watcher.value && key_of(lit.var, lit.op) == key
+    lit.value == watcher.value && key_of(lit) == key
 }
 
 /// Asserts the literal, if it is not yet true.

@@ -7,7 +7,7 @@ use Rattle.fzn_clauses.proofs.clauses.Clauses.last_fallen.Given as goal
 abbrev pub invariant-loop-j : goal.invariant-loop-j
 invariant-loop-j l = record {
   within : l.j ≤ l.end;
-  spared : AreSpared l.entry l.trail.sets (key_at l.entry.var l.op) (list_at l.self.lists (key_at l.entry.var l.op)) l.j l.end;
+  spared : AreSpared l.entry l.trail.sets (key_at l.entry.var l.place) (list_at l.self.lists (key_at l.entry.var l.place)) l.j l.end;
 }
 
 abbrev pub decreases-loop-j : goal.decreases-loop-j
