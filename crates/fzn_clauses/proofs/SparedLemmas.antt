@@ -38,16 +38,16 @@ one_key a b p q small_p small_q same low =
 abbrev literal : ℕ → Op → ℤ → Lit
 literal var op value = record { var = record { 0 = var }; op = op; value = value }
 
-pub AreSpared-none : (entry : Lit) (sets : List IntSet) (key : ℕ) (list : List Watcher) (end : ℕ) → AreSpared entry sets key list end end
-AreSpared-none entry sets key list end i lit low high is at = absurd (omega (arith, low, high))
+pub AreSpared-none : (earlier : IntSet) (entry : Lit) (sets : List IntSet) (key : ℕ) (list : List Watcher) (end : ℕ) → AreSpared earlier entry sets key list end end
+AreSpared-none earlier entry sets key list end i lit low high is at = absurd (omega (arith, low, high))
 
-pub AreSpared-more : (entry : Lit) (sets : List IntSet) (var : VarId) (place : ℕ) (list : List Watcher) (j from end : ℕ) → place < 18 → from ≡ j + 1 → key var.0 place < 2 ^ 64 - 1 → IsStill entry (set_of sets var) (record { var = var; op = operator_at place; value = (get_or list j no_watcher).value }) → AreSpared entry sets (key var.0 place) list from end → AreSpared entry sets (key var.0 place) list j end
-AreSpared-more entry sets var place list j from end in_range next own possible spared i lit low high is at = elim (cases_eq i j) [
+pub AreSpared-more : (earlier : IntSet) (entry : Lit) (sets : List IntSet) (var : VarId) (place : ℕ) (list : List Watcher) (j from end : ℕ) → place < 18 → from ≡ j + 1 → key var.0 place < 2 ^ 64 - 1 → IsStill earlier entry (set_of sets var) (record { var = var; op = operator_at place; value = (get_or list j no_watcher).value }) → AreSpared earlier entry sets (key var.0 place) list from end → AreSpared earlier entry sets (key var.0 place) list j end
+AreSpared-more earlier entry sets var place list j from end in_range next own possible spared i lit low high is at = elim (cases_eq i j) [
   | inr apart ↦ spared i lit (omega (arith, low, apart, next)) high is at
   | inl e ↦
       let one = one_key lit.var.0 var.0 (place_of lit) place (place_among_less lit.op lit.value) in_range is own in
       let value : lit.value ≡ (get_or list j no_watcher).value = at ∙ ap (λ (n : ℕ). (get_or list n no_watcher).value) e in
       let same : lit ≡ literal var.0 (operator_at place) (get_or list j no_watcher).value =
       ap (λ (n : ℕ). literal n lit.op lit.value) one.0 ∙ ap (λ (o : Op). literal var.0 o lit.value) (operator_is lit place one.1) ∙ ap (literal var.0 (operator_at place)) value in
-      subst (λ (l : Lit). IsStill entry (set_of sets l.var) l) (sym same) possible
+      subst (λ (l : Lit). IsStill earlier entry (set_of sets l.var) l) (sym same) possible
 ]

@@ -9,7 +9,7 @@ ghost use Rattle.fzn_clauses.specs.Held.{IsHeld, clause_of, AllHeld, held_in};
 ghost use Rattle.fzn_clauses.specs.Kept.{AreSpared, IsLast, KeepsRuns, KeepsRunning, KeepsWatching, LooksAt, Sweeps, Unwinds, Visits, VisitsAll, VisitsEntry};
 ghost use Rattle.fzn_clauses.specs.Propagation.{IsPropagated, IsConflict, AllSettled};
 ghost use Rattle.fzn_clauses.specs.Watched.{watched_at, removed, added};
-ghost use Rattle.fzn_clauses.specs.Watching.{held_by, IsAt, IsOn, IsTidy, Enlists, IsRewatched, IsReady, IsWatching, AreVariables, Ran, Settles};
+ghost use Rattle.fzn_clauses.specs.Watching.{held_by, IsAt, IsOn, IsTidy, Enlists, IsRewatched, IsReady, IsWatching, AreVariables, Ran, Settles, set_at_mark};
 ghost use Rattle.fzn_clauses.specs.Keys.{key_at};
 ghost use Rattle.fzn_clauses.specs.Lists.{list_at, AreLonger};
 ghost use Rattle.fzn_clauses.specs.declared.clauses.Look.TheVariants.{Conflict};
@@ -275,6 +275,7 @@ impl Clauses {
     /// Visits the clauses that watch a literal which an entry with this one may have made false.
     fn visit_entry(&mut self, lit: Lit, trail: &mut Trail) -> Result<Option<usize>, Memory>
         requires var { IsVariable (length trail.old.declared) lit.var }
+        requires next { trail.old.mark < length trail.old.entries }
         requires ready { IsReady self.old trail.old }
         ensures ran { Ran self.old self.new trail.old trail.new }
         ensures ready { OnOk result (IsReady self.new trail.new) }
@@ -282,7 +283,7 @@ impl Clauses {
         ensures keeps { OnOk result (KeepsRuns self.old self.new trail.old trail.new) }
         ensures pending { OnOk result (self.new.pending ≡ self.old.pending) }
         ensures mark { OnOk result (trail.new.mark ≡ trail.old.mark) }
-        ensures all { IfOk result (λ found. IfNone found (VisitsEntry lit self.old self.new trail.old trail.new)) }
+        ensures all { IfOk result (λ found. IfNone found (VisitsEntry (set_at_mark trail.old) lit self.old self.new trail.old trail.new)) }
     {
         let mut place = next_place(trail.domain(lit.var), lit, 0);
         while place < PLACES {
@@ -303,6 +304,7 @@ impl Clauses {
     ) -> Result<Option<usize>, Memory>
         requires var { IsVariable (length trail.old.declared) entry.var }
         requires in_range { place < 18 }
+        requires next { trail.old.mark < length trail.old.entries }
         requires ready { IsReady self.old trail.old }
         ensures ran { Ran self.old self.new trail.old trail.new }
         ensures ready { OnOk result (IsReady self.new trail.new) }
@@ -310,7 +312,7 @@ impl Clauses {
         ensures keeps { OnOk result (KeepsRuns self.old self.new trail.old trail.new) }
         ensures pending { OnOk result (self.new.pending ≡ self.old.pending) }
         ensures mark { OnOk result (trail.new.mark ≡ trail.old.mark) }
-        ensures all { IfOk result (λ found. IfNone found (VisitsAll entry (key_at entry.var place) self.old self.new trail.old trail.new)) }
+        ensures all { IfOk result (λ found. IfNone found (VisitsAll (set_at_mark trail.old) entry (key_at entry.var place) self.old self.new trail.old trail.new)) }
     {
         let key = key_at(entry.var, place);
         let mut end = self.lists.len(key);
@@ -330,13 +332,15 @@ impl Clauses {
     fn last_fallen(&self, entry: Lit, place: usize, end: usize, trail: &Trail) -> Option<usize>
         requires var { IsVariable (length trail.now.declared) entry.var }
         requires in_range { place < 18 }
+        requires next { trail.now.mark < length trail.now.entries }
         requires within { end ≤ length (list_at self.now.lists (key_at entry.var place)) }
-        ensures found { IfSome result (λ j. (j < end) × AreSpared entry trail.now.sets (key_at entry.var place) (list_at self.now.lists (key_at entry.var place)) (j + 1) end) }
-        ensures none { IfNone result (AreSpared entry trail.now.sets (key_at entry.var place) (list_at self.now.lists (key_at entry.var place)) 0 end) }
+        ensures found { IfSome result (λ j. (j < end) × AreSpared (set_at_mark trail.now) entry trail.now.sets (key_at entry.var place) (list_at self.now.lists (key_at entry.var place)) (j + 1) end) }
+        ensures none { IfNone result (AreSpared (set_at_mark trail.now) entry trail.now.sets (key_at entry.var place) (list_at self.now.lists (key_at entry.var place)) 0 end) }
     {
         let key = key_at(entry.var, place);
         let op = operator_at(place);
         let domain = trail.domain(entry.var);
+        let before = trail.domain_before(trail.seen());
         let list = self.lists.list(key);
         let mut j = end;
         while j > 0 {
@@ -346,7 +350,7 @@ impl Clauses {
                 op,
                 value: list[j].value,
             };
-            if may_have_fallen(domain, lit, entry, key) {
+            if may_have_fallen(before, domain, lit, entry, key) {
                 return Some(j);
             }
         }
