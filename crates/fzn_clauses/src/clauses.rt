@@ -9,7 +9,7 @@ ghost use Rattle.fzn_clauses.specs.Held.{IsHeld, clause_of, AllHeld, held_in};
 ghost use Rattle.fzn_clauses.specs.Kept.{AreSpared, IsLast, KeepsRuns, KeepsRunning, KeepsWatching, LooksAt, Sweeps, Unwinds, Visits, VisitsAll, VisitsEntry};
 ghost use Rattle.fzn_clauses.specs.Propagation.{IsPropagated, IsConflict, AllSettled};
 ghost use Rattle.fzn_clauses.specs.Watched.{watched_at, removed, added};
-ghost use Rattle.fzn_clauses.specs.Watching.{held_by, IsAt, IsOn, IsTidy, Enlists, IsRewatched, IsReady, IsWatching, AreVariables, Ran, Settles, set_at_mark};
+ghost use Rattle.fzn_clauses.specs.Watching.{held_by, IsAt, IsOn, IsTidy, IsEnlistedAt, Enlists, IsRewatched, IsReady, IsWatching, AreVariables, Ran, Settles, set_at_mark};
 ghost use Rattle.fzn_clauses.specs.Keys.{key_at};
 ghost use Rattle.fzn_clauses.specs.Lists.{list_at, AreLonger};
 ghost use Rattle.fzn_clauses.specs.declared.clauses.Look.TheVariants.{Conflict};
@@ -467,30 +467,41 @@ impl Clauses {
         ensures ok { OnOk result (IsRewatched k pair self.old self.new) }
         ensures err { OnErr result (self.new.arena ≡ self.old.arena) }
     {
-        let first = self.arena.clause(k)[pair.first];
-        let second = self.arena.clause(k)[pair.second];
-        self.enlist(k, first)?;
-        self.enlist(k, second)?;
+        self.enlist(k, pair.first)?;
+        self.enlist(k, pair.second)?;
         self.arena.watch(k, pair);
         Ok(())
     }
 
-    /// Puts the clause into the list of this literal, if it does not watch it yet.
-    fn enlist(&mut self, k: usize, lit: Lit) -> Result<(), Memory>
-        requires { IsTidy self.old.arena self.old.lists }
-        ensures ok { OnOk result (Enlists k lit self.old self.new) }
+    /// Puts the clause into the list of its literal at this place, if it is not there yet.
+    fn enlist(&mut self, k: usize, place: usize) -> Result<(), Memory>
+        requires in_range { k < length self.old.arena }
+        requires tidy { IsTidy self.old.arena self.old.lists }
+        requires fits { place < length (watched_at self.old.arena k).clause }
+        ensures ok { OnOk result (Enlists k (literal_at (watched_at self.old.arena k).clause place) self.old self.new) }
         ensures err { OnErr result (self.new.arena ≡ self.old.arena) }
     {
+        if self.is_enlisted(k, place) {
+            return Ok(());
+        }
+        let lit = self.arena.clause(k)[place];
         let watcher = Watcher {
             k,
             value: lit.value,
         };
-        let key = key_of(lit);
-        if self.is_watching(watcher, key) {
-            return Ok(());
-        }
-        self.lists.push(key, watcher)?;
+        self.lists.push(key_of(lit), watcher)?;
         Ok(())
+    }
+
+    /// Whether the clause watches this place, and so is in the list of the literal there.
+    fn is_enlisted(&self, k: usize, place: usize) -> bool
+        requires in_range { k < length self.now.arena }
+        requires tidy { IsTidy self.now.arena self.now.lists }
+        ensures { OnTrue result (IsEnlistedAt self.now.lists k (literal_at (watched_at self.now.arena k).clause place)) }
+    {
+        let pair = self.arena.pair(k);
+        let listed = self.arena.is_live(k) && self.arena.is_listed(k);
+        listed && (place == pair.first || place == pair.second)
     }
 }
 
