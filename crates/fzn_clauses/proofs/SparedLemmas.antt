@@ -11,7 +11,7 @@ use Rattle.fzn_clauses.specs.declared.lists.Watcher.{Watcher}
 use Rattle.fzn_clauses.specs.Keys.{place_of, operator_at, key, IsStill}
 use Rattle.fzn_clauses.specs.Kept.{AreSpared}
 use Rattle.fzn_clauses.specs.Lists.{no_watcher}
-use Rattle.fzn_clauses.proofs.KeyLemmas.{operator_at-place_of, place_of_less}
+use Rattle.fzn_clauses.proofs.PlaceLemmas.{operator_is, place_among_less}
 
 under : (x limit : ℕ) → min x limit < limit → min x limit ≡ x
 under x limit h = elim (cases_lt x limit) [
@@ -19,37 +19,35 @@ under x limit h = elim (cases_lt x limit) [
   | inr ge ↦ let e : min x limit ≡ limit = min-eq_right ge in absurd (omega (arith, e, h))
 ]
 
--- a key that is not the greatest number is of one variable and one operator
-plain : (var place limit : ℕ) → min (min (var * 4) limit + place) limit < limit → min (min (var * 4) limit + place) limit ≡ var * 4 + place
+-- a key that is not the greatest number is of one variable and one place
+plain : (var place limit : ℕ) → min (min (var * 18) limit + place) limit < limit → min (min (var * 18) limit + place) limit ≡ var * 18 + place
 plain var place limit h =
-    let outer : min (min (var * 4) limit + place) limit ≡ min (var * 4) limit + place = under (min (var * 4) limit + place) limit h in
-    let inner : min (var * 4) limit ≡ var * 4 = under (var * 4) limit (omega (arith, outer, h)) in
+    let outer : min (min (var * 18) limit + place) limit ≡ min (var * 18) limit + place = under (min (var * 18) limit + place) limit h in
+    let inner : min (var * 18) limit ≡ var * 18 = under (var * 18) limit (omega (arith, outer, h)) in
     outer ∙ ap (λ (n : ℕ). n + place) inner
 
-one_key : (a b : ℕ) (p q : Op) → key a p ≡ key b q → key b q < 2 ^ 64 - 1 → (a ≡ b) × (p ≡ q)
+one_key : (a b p q : ℕ) → p < 18 → q < 18 → key a p ≡ key b q → key b q < 2 ^ 64 - 1 → (a ≡ b) × (p ≡ q)
 unfolding key
-one_key a b p q same low =
-    let here = plain b (place_of q) (2 ^ 64 - 1) low in
-    let there = plain a (place_of p) (2 ^ 64 - 1) (subst (λ (n : ℕ). n < 2 ^ 64 - 1) (sym same) low) in
-    let sum : a * 4 + place_of p ≡ b * 4 + place_of q = sym there ∙ same ∙ here in
-    let small_p = place_of_less p in
-    let small_q = place_of_less q in
-    let at : place_of p ≡ place_of q = omega (arith, sum, small_p, small_q) in
-    (omega (arith, sum, at), sym (operator_at-place_of p) ∙ ap operator_at at ∙ operator_at-place_of q)
+one_key a b p q small_p small_q same low =
+    let here = plain b q (2 ^ 64 - 1) low in
+    let there = plain a p (2 ^ 64 - 1) (subst (λ (n : ℕ). n < 2 ^ 64 - 1) (sym same) low) in
+    let sum : a * 18 + p ≡ b * 18 + q = sym there ∙ same ∙ here in
+    let at : p ≡ q = omega (arith, sum, small_p, small_q) in
+    (omega (arith, sum, at), at)
 
 abbrev literal : ℕ → Op → ℤ → Lit
 literal var op value = record { var = record { 0 = var }; op = op; value = value }
 
-pub AreSpared-none : (entry : Lit) (sets : List IntSet) (key : ℕ) (list : List Watcher) (end : ℕ) → AreSpared entry sets key list end end
-AreSpared-none entry sets key list end i lit low high is at = absurd (omega (arith, low, high))
+pub AreSpared-none : (earlier : IntSet) (entry : Lit) (sets : List IntSet) (key : ℕ) (list : List Watcher) (end : ℕ) → AreSpared earlier entry sets key list end end
+AreSpared-none earlier entry sets key list end i lit low high is at = absurd (omega (arith, low, high))
 
-pub AreSpared-more : (entry : Lit) (sets : List IntSet) (var : VarId) (op : Op) (list : List Watcher) (j from end : ℕ) → from ≡ j + 1 → key var.0 op < 2 ^ 64 - 1 → IsStill entry (set_of sets var) (record { var = var; op = op; value = (get_or list j no_watcher).value }) → AreSpared entry sets (key var.0 op) list from end → AreSpared entry sets (key var.0 op) list j end
-AreSpared-more entry sets var op list j from end next own possible spared i lit low high is at = elim (cases_eq i j) [
+pub AreSpared-more : (earlier : IntSet) (entry : Lit) (sets : List IntSet) (var : VarId) (place : ℕ) (list : List Watcher) (j from end : ℕ) → place < 18 → from ≡ j + 1 → key var.0 place < 2 ^ 64 - 1 → IsStill earlier entry (set_of sets var) (record { var = var; op = operator_at place; value = (get_or list j no_watcher).value }) → AreSpared earlier entry sets (key var.0 place) list from end → AreSpared earlier entry sets (key var.0 place) list j end
+AreSpared-more earlier entry sets var place list j from end in_range next own possible spared i lit low high is at = elim (cases_eq i j) [
   | inr apart ↦ spared i lit (omega (arith, low, apart, next)) high is at
   | inl e ↦
-      let one = one_key lit.var.0 var.0 lit.op op is own in
+      let one = one_key lit.var.0 var.0 (place_of lit) place (place_among_less lit.op lit.value) in_range is own in
       let value : lit.value ≡ (get_or list j no_watcher).value = at ∙ ap (λ (n : ℕ). (get_or list n no_watcher).value) e in
-      let same : lit ≡ literal var.0 op (get_or list j no_watcher).value =
-      ap (λ (n : ℕ). literal n lit.op lit.value) one.0 ∙ ap (λ (o : Op). literal var.0 o lit.value) one.1 ∙ ap (literal var.0 op) value in
-      subst (λ (l : Lit). IsStill entry (set_of sets l.var) l) (sym same) possible
+      let same : lit ≡ literal var.0 (operator_at place) (get_or list j no_watcher).value =
+      ap (λ (n : ℕ). literal n lit.op lit.value) one.0 ∙ ap (λ (o : Op). literal var.0 o lit.value) (operator_is lit place one.1) ∙ ap (literal var.0 (operator_at place)) value in
+      subst (λ (l : Lit). IsStill earlier entry (set_of sets l.var) l) (sym same) possible
 ]

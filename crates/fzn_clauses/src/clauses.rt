@@ -9,7 +9,7 @@ ghost use Rattle.fzn_clauses.specs.Held.{IsHeld, clause_of, AllHeld, held_in};
 ghost use Rattle.fzn_clauses.specs.Kept.{AreSpared, IsLast, KeepsRuns, KeepsRunning, KeepsWatching, LooksAt, Sweeps, Unwinds, Visits, VisitsAll, VisitsEntry};
 ghost use Rattle.fzn_clauses.specs.Propagation.{IsPropagated, IsConflict, AllSettled};
 ghost use Rattle.fzn_clauses.specs.Watched.{watched_at, removed, added};
-ghost use Rattle.fzn_clauses.specs.Watching.{held_by, IsAt, IsOn, IsTidy, Enlists, IsRewatched, IsReady, IsWatching, AreVariables, Ran, Settles};
+ghost use Rattle.fzn_clauses.specs.Watching.{held_by, IsAt, IsOn, IsTidy, IsEnlistedAt, Enlists, IsRewatched, IsReady, IsWatching, AreVariables, Ran, Settles, set_at_mark};
 ghost use Rattle.fzn_clauses.specs.Keys.{key_at};
 ghost use Rattle.fzn_clauses.specs.Lists.{list_at, AreLonger};
 ghost use Rattle.fzn_clauses.specs.declared.clauses.Look.TheVariants.{Conflict};
@@ -17,10 +17,10 @@ ghost use Rattle.fzn_clauses.specs.declared.clauses.Visit.TheVariants.{Refuted, 
 ghost use Rattle.fzn_clauses.specs.Looks.{IsForced, LooksAs};
 
 use crate::arena::{Arena, Pair};
-use crate::keys::{OPERATORS, key_of, operator_at};
+use crate::keys::{PLACES, key_at, key_of, operator_at};
 use crate::lists::{Lists, Watcher};
-use crate::state::{ClauseState, can_fail, can_falsify, is_certain, may_have_fallen, state_of};
-use fzn_domain::{Lit, Memory, Op};
+use crate::state::{ClauseState, can_fail, is_certain, may_have_fallen, next_place, state_of};
+use fzn_domain::{Lit, Memory};
 use fzn_trail::{ClauseId, Reason, Trail};
 use std::alloc::Global;
 
@@ -275,6 +275,7 @@ impl Clauses {
     /// Visits the clauses that watch a literal which an entry with this one may have made false.
     fn visit_entry(&mut self, lit: Lit, trail: &mut Trail) -> Result<Option<usize>, Memory>
         requires var { IsVariable (length trail.old.declared) lit.var }
+        requires next { trail.old.mark < length trail.old.entries }
         requires ready { IsReady self.old trail.old }
         ensures ran { Ran self.old self.new trail.old trail.new }
         ensures ready { OnOk result (IsReady self.new trail.new) }
@@ -282,24 +283,28 @@ impl Clauses {
         ensures keeps { OnOk result (KeepsRuns self.old self.new trail.old trail.new) }
         ensures pending { OnOk result (self.new.pending ≡ self.old.pending) }
         ensures mark { OnOk result (trail.new.mark ≡ trail.old.mark) }
-        ensures all { IfOk result (λ found. IfNone found (VisitsEntry lit self.old self.new trail.old trail.new)) }
+        ensures all { IfOk result (λ found. IfNone found (VisitsEntry (set_at_mark trail.old) lit self.old self.new trail.old trail.new)) }
     {
-        let mut place = 0;
-        while place < OPERATORS {
-            let op = operator_at(place);
-            if can_falsify(trail.domain(lit.var), lit, op) {
-                if let Some(k) = self.visit_all(lit, op, trail)? {
-                    return Ok(Some(k));
-                }
+        let mut place = next_place(trail.domain(lit.var), lit, 0);
+        while place < PLACES {
+            if let Some(k) = self.visit_all(lit, place, trail)? {
+                return Ok(Some(k));
             }
-            place += 1;
+            place = next_place(trail.domain(lit.var), lit, place + 1);
         }
         Ok(None)
     }
 
-    /// Visits the clauses that watch a literal with this operator which the entry may have made false.
-    fn visit_all(&mut self, entry: Lit, op: Op, trail: &mut Trail) -> Result<Option<usize>, Memory>
+    /// Visits the clauses that watch a literal of this place which the entry may have made false.
+    fn visit_all(
+        &mut self,
+        entry: Lit,
+        place: usize,
+        trail: &mut Trail,
+    ) -> Result<Option<usize>, Memory>
         requires var { IsVariable (length trail.old.declared) entry.var }
+        requires in_range { place < 18 }
+        requires next { trail.old.mark < length trail.old.entries }
         requires ready { IsReady self.old trail.old }
         ensures ran { Ran self.old self.new trail.old trail.new }
         ensures ready { OnOk result (IsReady self.new trail.new) }
@@ -307,11 +312,11 @@ impl Clauses {
         ensures keeps { OnOk result (KeepsRuns self.old self.new trail.old trail.new) }
         ensures pending { OnOk result (self.new.pending ≡ self.old.pending) }
         ensures mark { OnOk result (trail.new.mark ≡ trail.old.mark) }
-        ensures all { IfOk result (λ found. IfNone found (VisitsAll entry (key_at entry.var op) self.old self.new trail.old trail.new)) }
+        ensures all { IfOk result (λ found. IfNone found (VisitsAll (set_at_mark trail.old) entry (key_at entry.var place) self.old self.new trail.old trail.new)) }
     {
-        let key = key_of(entry.var, op);
+        let key = key_at(entry.var, place);
         let mut end = self.lists.len(key);
-        while let Some(j) = self.last_fallen(entry, op, end, trail) {
+        while let Some(j) = self.last_fallen(entry, place, end, trail) {
             let watcher = self.lists.at(key, j);
             end = j;
             match self.visit(watcher, key, trail)? {
@@ -323,15 +328,19 @@ impl Clauses {
         Ok(None)
     }
 
-    /// The last place before this one in the list of the variable and the operator where the entry may have made the literal false.
-    fn last_fallen(&self, entry: Lit, op: Op, end: usize, trail: &Trail) -> Option<usize>
+    /// The last watcher before this one, in the list at this place of the variable, whose literal the entry may have made false.
+    fn last_fallen(&self, entry: Lit, place: usize, end: usize, trail: &Trail) -> Option<usize>
         requires var { IsVariable (length trail.now.declared) entry.var }
-        requires within { end ≤ length (list_at self.now.lists (key_at entry.var op)) }
-        ensures found { IfSome result (λ j. (j < end) × AreSpared entry trail.now.sets (key_at entry.var op) (list_at self.now.lists (key_at entry.var op)) (j + 1) end) }
-        ensures none { IfNone result (AreSpared entry trail.now.sets (key_at entry.var op) (list_at self.now.lists (key_at entry.var op)) 0 end) }
+        requires in_range { place < 18 }
+        requires next { trail.now.mark < length trail.now.entries }
+        requires within { end ≤ length (list_at self.now.lists (key_at entry.var place)) }
+        ensures found { IfSome result (λ j. (j < end) × AreSpared (set_at_mark trail.now) entry trail.now.sets (key_at entry.var place) (list_at self.now.lists (key_at entry.var place)) (j + 1) end) }
+        ensures none { IfNone result (AreSpared (set_at_mark trail.now) entry trail.now.sets (key_at entry.var place) (list_at self.now.lists (key_at entry.var place)) 0 end) }
     {
-        let key = key_of(entry.var, op);
+        let key = key_at(entry.var, place);
+        let op = operator_at(place);
         let domain = trail.domain(entry.var);
+        let before = trail.domain_before(trail.seen());
         let list = self.lists.list(key);
         let mut j = end;
         while j > 0 {
@@ -341,7 +350,7 @@ impl Clauses {
                 op,
                 value: list[j].value,
             };
-            if may_have_fallen(domain, lit, entry, key) {
+            if may_have_fallen(before, domain, lit, entry, key) {
                 return Some(j);
             }
         }
@@ -458,30 +467,41 @@ impl Clauses {
         ensures ok { OnOk result (IsRewatched k pair self.old self.new) }
         ensures err { OnErr result (self.new.arena ≡ self.old.arena) }
     {
-        let first = self.arena.clause(k)[pair.first];
-        let second = self.arena.clause(k)[pair.second];
-        self.enlist(k, first)?;
-        self.enlist(k, second)?;
+        self.enlist(k, pair.first)?;
+        self.enlist(k, pair.second)?;
         self.arena.watch(k, pair);
         Ok(())
     }
 
-    /// Puts the clause into the list of this literal, if it does not watch it yet.
-    fn enlist(&mut self, k: usize, lit: Lit) -> Result<(), Memory>
-        requires { IsTidy self.old.arena self.old.lists }
-        ensures ok { OnOk result (Enlists k lit self.old self.new) }
+    /// Puts the clause into the list of its literal at this place, if it is not there yet.
+    fn enlist(&mut self, k: usize, place: usize) -> Result<(), Memory>
+        requires in_range { k < length self.old.arena }
+        requires tidy { IsTidy self.old.arena self.old.lists }
+        requires fits { place < length (watched_at self.old.arena k).clause }
+        ensures ok { OnOk result (Enlists k (literal_at (watched_at self.old.arena k).clause place) self.old self.new) }
         ensures err { OnErr result (self.new.arena ≡ self.old.arena) }
     {
+        if self.is_enlisted(k, place) {
+            return Ok(());
+        }
+        let lit = self.arena.clause(k)[place];
         let watcher = Watcher {
             k,
             value: lit.value,
         };
-        let key = key_of(lit.var, lit.op);
-        if self.is_watching(watcher, key) {
-            return Ok(());
-        }
-        self.lists.push(key, watcher)?;
+        self.lists.push(key_of(lit), watcher)?;
         Ok(())
+    }
+
+    /// Whether the clause watches this place, and so is in the list of the literal there.
+    fn is_enlisted(&self, k: usize, place: usize) -> bool
+        requires in_range { k < length self.now.arena }
+        requires tidy { IsTidy self.now.arena self.now.lists }
+        ensures { OnTrue result (IsEnlistedAt self.now.lists k (literal_at (watched_at self.now.arena k).clause place)) }
+    {
+        let pair = self.arena.pair(k);
+        let listed = self.arena.is_live(k) && self.arena.is_listed(k);
+        listed && (place == pair.first || place == pair.second)
     }
 }
 
@@ -489,7 +509,7 @@ impl Clauses {
 fn is_at(lit: Lit, watcher: Watcher, key: usize) -> bool
     ensures { IsTrue result ↔ IsAt lit watcher.value key }
 {
-    lit.value == watcher.value && key_of(lit.var, lit.op) == key
+    lit.value == watcher.value && key_of(lit) == key
 }
 
 /// Asserts the literal, if it is not yet true.

@@ -1,46 +1,54 @@
 use Rattle.std.proofs.Common.{arith, List, ◌≡◌, ◌<◌, ◌-◌, ◌^◌, ℕ, ℤ, FitsSigned, w64, rules, to_z-of_z, get_or, ap, ◌∙◌, subst}
+use Rattle.fzn_domain.specs.declared.literal.Op.{Op}
 use Rattle.fzn_domain.specs.IntSet.{IntSet}
 use Rattle.fzn_domain.specs.Narrow.{set_of}
+use Rattle.fzn_trail.specs.Replay.{set_before}
 use Rattle.fzn_clauses.specs.declared.lists.Watcher.{Watcher}
-use Rattle.fzn_clauses.specs.Keys.{key_at, IsStill}
+use Rattle.fzn_clauses.specs.Keys.{key_at, operator_at, IsStill}
 use Rattle.fzn_clauses.specs.Kept.{AreSpared}
 use Rattle.fzn_clauses.specs.Lists.{list_at, no_watcher}
+use Rattle.fzn_clauses.specs.Watching.{set_at_mark}
 use Rattle.fzn_clauses.proofs.SparedLemmas.{AreSpared-none, AreSpared-more}
 use Rattle.fzn_clauses.proofs.clauses.Clauses.last_fallen.Goals as goal
 
 pub loop-j-init : goal.loop-j-init
 loop-j-init c = record {
   within = omega arith;
-  spared = AreSpared-none c.args.entry c.args.trail.now.sets (key_at c.args.entry.var c.args.op) (list_at c.args.self.now.lists (key_at c.args.entry.var c.args.op)) c.args.end;
+  spared = AreSpared-none (set_at_mark c.args.trail.now) c.args.entry c.args.trail.now.sets (key_at c.args.entry.var c.args.place) (list_at c.args.self.now.lists (key_at c.args.entry.var c.args.place)) c.args.end;
 }
 
 pub loop-j-preserved : goal.loop-j-preserved
 loop-j-preserved c =
     let here = get_or c.list-list.result.now (c.loop-j.j - 1) no_watcher in
-    let at : here ≡ get_or (list_at c.args.self.now.lists (key_at c.args.entry.var c.args.op)) (c.loop-j.j - 1) no_watcher =
-    ap (λ (l : List Watcher). get_or l (c.loop-j.j - 1) no_watcher) (c.list-list.ensures ∙ ap (λ (n : ℕ). list_at c.args.self.now.lists n) c.key_of-key.ensures) in
+    let at : here ≡ get_or (list_at c.args.self.now.lists (key_at c.args.entry.var c.args.place)) (c.loop-j.j - 1) no_watcher =
+    ap (λ (l : List Watcher). get_or l (c.loop-j.j - 1) no_watcher) (c.list-list.ensures ∙ ap (λ (n : ℕ). list_at c.args.self.now.lists n) c.key_at-key.ensures) in
     let fits : FitsSigned w64 here.value = search rules in
-    let on_domain = subst (λ (v : ℤ). IsStill c.args.entry c.domain-domain.result.now (record { var = c.args.entry.var; op = c.args.op; value = v })) (to_z-of_z fits) c.if-may_have_fallen.ensures.still in
-    let on_set : IsStill c.args.entry (set_of c.args.trail.now.sets c.args.entry.var) (record { var = c.args.entry.var; op = c.args.op; value = here.value }) =
-    subst (λ (s : IntSet). IsStill c.args.entry s (record { var = c.args.entry.var; op = c.args.op; value = here.value })) c.domain-domain.ensures.value on_domain in
+    let earlier : c.domain_before-before.result.now ≡ set_at_mark c.args.trail.now =
+    c.domain_before-before.ensures.value ∙ ap (λ (n : ℕ). set_before c.args.trail.now.declared c.args.trail.now.entries n) c.seen.ensures.value in
+    let on_domain = subst (λ (o : Op). IsStill c.domain_before-before.result.now c.args.entry c.domain-domain.result.now (record { var = c.args.entry.var; op = o; value = here.value })) c.operator_at-op.ensures
+    (subst (λ (v : ℤ). IsStill c.domain_before-before.result.now c.args.entry c.domain-domain.result.now (record { var = c.args.entry.var; op = c.operator_at-op.result; value = v })) (to_z-of_z fits) c.if-may_have_fallen.ensures.still) in
+    let on_set : IsStill (set_at_mark c.args.trail.now) c.args.entry (set_of c.args.trail.now.sets c.args.entry.var) (record { var = c.args.entry.var; op = operator_at c.args.place; value = here.value }) =
+    subst (λ (s : IntSet). IsStill s c.args.entry (set_of c.args.trail.now.sets c.args.entry.var) (record { var = c.args.entry.var; op = operator_at c.args.place; value = here.value })) earlier
+    (subst (λ (s : IntSet). IsStill c.domain_before-before.result.now c.args.entry s (record { var = c.args.entry.var; op = operator_at c.args.place; value = here.value })) c.domain-domain.ensures.value on_domain) in
     record {
       within = omega (arith, c.loop-j.invariant.within);
       spared =
-          AreSpared-more c.args.entry c.args.trail.now.sets c.args.entry.var c.args.op (list_at c.args.self.now.lists (key_at c.args.entry.var c.args.op)) (c.loop-j.j - 1) c.loop-j.j c.args.end
+          AreSpared-more (set_at_mark c.args.trail.now) c.args.entry c.args.trail.now.sets c.args.entry.var c.args.place (list_at c.args.self.now.lists (key_at c.args.entry.var c.args.place)) (c.loop-j.j - 1) c.loop-j.j c.args.end
+          c.requires.in_range
           (omega (arith, c.loop-j-test.true))
-          (subst (λ (n : ℕ). n < 2 ^ 64 - 1) c.key_of-key.ensures c.if-may_have_fallen.ensures.own)
-          (subst (λ (w : Watcher). IsStill c.args.entry (set_of c.args.trail.now.sets c.args.entry.var) (record { var = c.args.entry.var; op = c.args.op; value = w.value })) at on_set)
+          (subst (λ (n : ℕ). n < 2 ^ 64 - 1) c.key_at-key.ensures c.if-may_have_fallen.ensures.own)
+          (subst (λ (w : Watcher). IsStill (set_at_mark c.args.trail.now) c.args.entry (set_of c.args.trail.now.sets c.args.entry.var) (record { var = c.args.entry.var; op = operator_at c.args.place; value = w.value })) at on_set)
           c.loop-j.invariant.spared;
     }
 
 pub returns-then-may_have_fallen-clause-found : goal.returns-then-may_have_fallen-clause-found
 returns-then-may_have_fallen-clause-found c = (
   omega (arith, c.loop-j.invariant.within, c.loop-j-test.true),
-  subst (λ (n : ℕ). AreSpared c.args.entry c.args.trail.now.sets (key_at c.args.entry.var c.args.op) (list_at c.args.self.now.lists (key_at c.args.entry.var c.args.op)) n c.args.end)
+  subst (λ (n : ℕ). AreSpared (set_at_mark c.args.trail.now) c.args.entry c.args.trail.now.sets (key_at c.args.entry.var c.args.place) (list_at c.args.self.now.lists (key_at c.args.entry.var c.args.place)) n c.args.end)
       (omega (arith, c.loop-j-test.true)) c.loop-j.invariant.spared,
 )
 
 pub returns-clause-none : goal.returns-clause-none
 returns-clause-none c =
-    subst (λ (n : ℕ). AreSpared c.args.entry c.args.trail.now.sets (key_at c.args.entry.var c.args.op) (list_at c.args.self.now.lists (key_at c.args.entry.var c.args.op)) n c.args.end)
+    subst (λ (n : ℕ). AreSpared (set_at_mark c.args.trail.now) c.args.entry c.args.trail.now.sets (key_at c.args.entry.var c.args.place) (list_at c.args.self.now.lists (key_at c.args.entry.var c.args.place)) n c.args.end)
     (omega (arith, c.loop-j-test.false)) c.loop-j.invariant.spared
