@@ -6,15 +6,15 @@
 #![tactic(auto)]
 
 #[cfg(test)]
-mod arith;
-#[cfg(test)]
 mod clauses;
 #[cfg(test)]
 mod engine;
 #[cfg(test)]
 mod fixpoints;
 #[cfg(test)]
-mod propagators;
+mod inferences;
+#[cfg(test)]
+mod models;
 #[cfg(test)]
 mod search;
 #[cfg(test)]
