@@ -1,5 +1,5 @@
 // What follows from constraints on x and y, by clauses worked out by hand.
-ghost use Rattle.std.specs.Prelude.{◌≡◌, ◌<◌, ◌≤◌, IfOk, OnOk, length};
+ghost use Rattle.std.specs.Prelude.{◌≡◌, ◌≤◌, length};
 ghost use Rattle.fzn_domain.specs.Narrow.{NoneEmpty};
 ghost use Rattle.fzn_meaning.specs.Solutions.{declared_sets};
 ghost use Rattle.fzn_meaning.specs.WellFormed.{IsWellFormed};
@@ -148,7 +148,7 @@ fn ends(range: &str) -> (i64, i64) {
 /// Keeps a variable within the range.
 fn keep_range(trail: &mut Trail, var: VarId, range: &str) -> Result<(), Memory>
     requires { (1 ≤ var.0) × (var.0 ≤ length trail.old.declared) }
-    ensures { OnOk result (trail.new.declared ≡ trail.old.declared) }
+    ensures { trail.new.declared ≡ trail.old.declared }
 {
     let (low, high) = ends(range);
     keep(trail, lit(var.0, Op::AtLeast, low))?;

@@ -1,5 +1,5 @@
 // Models that are read from their text, and trails of their sets.
-ghost use Rattle.std.specs.Prelude.{◌≡◌, ◌<◌, ◌≤◌, IsTrue, IfOk, OnOk, length};
+ghost use Rattle.std.specs.Prelude.{◌≡◌, ◌≤◌, IsTrue, IfOk, length};
 ghost use Rattle.fzn_domain.specs.Narrow.{NoneEmpty};
 ghost use Rattle.fzn_meaning.specs.Solutions.{declared_sets};
 ghost use Rattle.fzn_meaning.specs.WellFormed.{IsWellFormed};
@@ -64,7 +64,7 @@ pub(crate) fn lit(var: usize, op: Op, value: i64) -> Lit
 /// Keeps the values at which the literal is true.
 pub(crate) fn keep(trail: &mut Trail, lit: Lit) -> Result<(), Memory>
     requires { (1 ≤ lit.var.0) × (lit.var.0 ≤ length trail.old.declared) }
-    ensures { OnOk result (trail.new.declared ≡ trail.old.declared) }
+    ensures { trail.new.declared ≡ trail.old.declared }
 {
     trail.assert(lit, Reason::Decision)?;
     Ok(())

@@ -1,5 +1,6 @@
 // Decisions and values worked out by hand, of x, which is 5, and of y.
-ghost use Rattle.std.specs.Prelude.{◌≡◌, IfOk, length};
+ghost use Rattle.std.specs.Prelude.{◌≡◌, IfOk, IsTrue, length};
+ghost use Rattle.fzn_domain.specs.Narrow.{AllFixed};
 ghost use Rattle.fzn_meaning.specs.Solutions.{declared_sets};
 ghost use Rattle.fzn_trail.specs.Levels.{NoneEmpty};
 
@@ -120,18 +121,22 @@ fn decisions(rt: HostRuntime) -> Result<(), Fail> {
     Ok(())
 }
 
-/// Whether the variables have the values 5 and 7, and nothing is left to decide.
-fn is_fixed(alloc: Global, search: &mut Search, trail: &Trail) -> Result<bool, Memory>
+/// Whether nothing is left to decide.
+fn is_fixed(search: &mut Search, trail: &Trail) -> bool
     requires variables { search.old.vars ≡ length trail.now.declared }
-    requires two { length trail.now.declared ≡ 2 }
     requires first { search.old.nodes ≡ 0 }
     requires filled { NoneEmpty trail.now.sets }
+    ensures { IsTrue result → AllFixed trail.now.sets }
 {
-    if !search.is_fixed(trail) || search.decide(trail).is_some() {
-        return Ok(false);
-    }
+    search.is_fixed(trail) && search.decide(trail).is_none() && search.nodes() == 0
+}
+
+fn are_values(alloc: Global, trail: &Trail) -> Result<bool, Memory>
+    requires two { length trail.now.declared ≡ 2 }
+    requires fixed { AllFixed trail.now.sets }
+{
     let values = values_of(alloc, trail, 2)?;
-    Ok(values.as_slice() == [5, 7].as_slice() && search.nodes() == 0)
+    Ok(values.as_slice() == [5, 7].as_slice())
 }
 
 /// Whether a level is dropped at a restart.
@@ -142,16 +147,22 @@ fn is_restarted(search: &mut Search, trail: &mut Trail) -> Result<bool, Memory> 
     Ok(is_above && trail.level() == 0)
 }
 
-fn is_fixed_and_restarted(alloc: Global, model: &Model) -> Result<bool, Memory> {
+fn is_told(alloc: Global, model: &Model, trail: &mut Trail) -> Result<bool, Memory>
+    requires two { length trail.old.declared ≡ 2 }
+    requires variables { length model.now.vars ≡ 2 }
+    requires filled { NoneEmpty trail.old.sets }
+{
     let mut search = search_of(alloc, model, &[], false)?;
-    let mut trail = trail_of(alloc, model)?;
-    let count = model.vars.len();
     Ok(
-        count == 2
-            && is_filled(&trail, count)
-            && is_fixed(alloc, &mut search, &trail)?
-            && is_restarted(&mut search, &mut trail)?,
+        is_fixed(&mut search, trail)
+            && are_values(alloc, trail)?
+            && is_restarted(&mut search, trail)?,
     )
+}
+
+fn is_fixed_and_restarted(alloc: Global, model: &Model) -> Result<bool, Memory> {
+    let mut trail = trail_of(alloc, model)?;
+    Ok(model.vars.len() == 2 && is_filled(&trail, 2) && is_told(alloc, model, &mut trail)?)
 }
 
 #[test]

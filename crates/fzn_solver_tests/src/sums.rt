@@ -90,17 +90,21 @@ fn are_ends(trail: &Trail) -> bool
         && ends.widest == 15
 }
 
+fn are_all(alloc: Global, trail: &Trail) -> bool
+    requires two { length trail.now.declared ≡ 2 }
+    requires filled { NoneEmpty trail.now.sets }
+{
+    are_at_most(alloc, trail)
+        && are_different(alloc, trail)
+        && are_equal(alloc, trail)
+        && are_ends(trail)
+}
+
 fn are_told(alloc: Global) -> Result<bool, Memory> {
     let mut trail = trail_of(alloc)?;
     keep(&mut trail, lit(1, Op::Equal, 2))?;
     keep(&mut trail, lit(2, Op::AtMost, 5))?;
-    Ok(
-        is_filled(&trail, 2)
-            && are_at_most(alloc, &trail)
-            && are_different(alloc, &trail)
-            && are_equal(alloc, &trail)
-            && are_ends(&trail),
-    )
+    Ok(is_filled(&trail, 2) && are_all(alloc, &trail))
 }
 
 #[test]

@@ -1,6 +1,5 @@
 // Levels of x and y, which go from 0 to 9, by hand.
-ghost use Rattle.std.specs.Prelude.{◌≡◌, ◌≤◌, length};
-ghost use Rattle.fzn_trail.specs.Levels.{level_of};
+ghost use Rattle.std.specs.Prelude.{◌≡◌, length};
 
 use crate::models::lit;
 use crate::two_variables::trail_of;
