@@ -5,7 +5,7 @@ ghost use Rattle.fzn_meaning.specs.Solutions.{declared_sets};
 ghost use Rattle.fzn_meaning.specs.WellFormed.{IsWellFormed};
 ghost use Rattle.fzn_propagators.specs.Propagators.{StandFor};
 
-use crate::models::{is_filled, keep, lit, model_of, trail_of};
+use crate::models::{is_filled, keep, model_of, trail_of};
 use fzn_domain::{Lit, Memory, Op, VarId};
 use fzn_engine::Constraints;
 use fzn_meaning::{Model, holds};
@@ -118,7 +118,7 @@ fn choose_one(trail: &mut Trail, var: VarId, bits: u64, few: usize) -> Result<u6
         if trail.declared(var).contains(value) {
             let is_one = first <= place && place - first < few;
             if !is_one || left % 2 == 0 {
-                keep(trail, lit(var.0, Op::NotEqual, value))?;
+                keep(trail, var, Op::NotEqual, value)?;
             }
             if is_one {
                 left /= 2;
@@ -149,7 +149,7 @@ fn thin_out_one(trail: &mut Trail, var: VarId, seed: u64, gone: u64) -> Result<u
     for offset in 0..21_usize {
         number = next_random(number);
         if (number >> 40) % 6 < gone {
-            keep(trail, lit(var.0, Op::NotEqual, offset as i64 - 10))?;
+            keep(trail, var, Op::NotEqual, offset as i64 - 10)?;
         }
     }
     Ok(number)
@@ -199,7 +199,7 @@ fn advance(
     let Some(lit) = open_literal(trail, count, found.clause.as_slice()) else {
         return Ok(Progress::Failed);
     };
-    keep(trail, lit)?;
+    keep(trail, lit.var, lit.op, lit.value)?;
     Ok(Progress::Narrowed)
 }
 

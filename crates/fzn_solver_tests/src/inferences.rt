@@ -4,7 +4,7 @@ ghost use Rattle.fzn_domain.specs.Narrow.{NoneEmpty};
 ghost use Rattle.fzn_meaning.specs.Solutions.{declared_sets};
 ghost use Rattle.fzn_meaning.specs.WellFormed.{IsWellFormed};
 
-use crate::models::{is_filled, keep, lit, model_of, trail_of};
+use crate::models::{is_filled, keep, model_of, trail_of};
 use fzn_arith::{Propagator, propagator_of};
 use fzn_domain::{Lit, Memory, Op, VarId};
 use fzn_engine::Constraints;
@@ -151,8 +151,8 @@ fn keep_range(trail: &mut Trail, var: VarId, range: &str) -> Result<(), Memory>
     ensures { trail.new.declared ≡ trail.old.declared }
 {
     let (low, high) = ends(range);
-    keep(trail, lit(var.0, Op::AtLeast, low))?;
-    keep(trail, lit(var.0, Op::AtMost, high))?;
+    keep(trail, var, Op::AtLeast, low)?;
+    keep(trail, var, Op::AtMost, high)?;
     Ok(())
 }
 

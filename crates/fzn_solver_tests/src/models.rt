@@ -61,11 +61,11 @@ pub(crate) fn lit(var: usize, op: Op, value: i64) -> Lit
     }
 }
 
-/// Keeps the values at which the literal is true.
-pub(crate) fn keep(trail: &mut Trail, lit: Lit) -> Result<(), Memory>
-    requires { (1 ≤ lit.var.0) × (lit.var.0 ≤ length trail.old.declared) }
+/// Keeps the values of the variable that compare so with this one.
+pub(crate) fn keep(trail: &mut Trail, var: VarId, op: Op, value: i64) -> Result<(), Memory>
+    requires { (1 ≤ var.0) × (var.0 ≤ length trail.old.declared) }
     ensures { trail.new.declared ≡ trail.old.declared }
 {
-    trail.assert(lit, Reason::Decision)?;
+    trail.assert(Lit { var, op, value }, Reason::Decision)?;
     Ok(())
 }

@@ -105,7 +105,7 @@ fn are_decided(alloc: Global, model: &Model) -> Result<bool, Memory> {
         return Ok(false);
     }
     let mut before = trail_of(alloc, model)?;
-    keep(&mut before, lit(2, Op::Equal, -1))?;
+    keep(&mut before, VarId(2), Op::Equal, -1)?;
     Ok(
         is_first_decided(alloc, model, &trail)?
             && is_annotation_followed(alloc, model, &trail)?
@@ -123,12 +123,13 @@ fn decisions(rt: HostRuntime) -> Result<(), Fail> {
 
 /// Whether nothing is left to decide.
 fn is_fixed(search: &mut Search, trail: &Trail) -> bool
-    requires variables { search.old.vars ≡ length trail.now.declared }
-    requires first { search.old.nodes ≡ 0 }
+    requires first { search.old ≡ record { vars = length trail.now.declared; nodes = 0 } }
     requires filled { NoneEmpty trail.now.sets }
     ensures { IsTrue result → AllFixed trail.now.sets }
 {
-    search.is_fixed(trail) && search.decide(trail).is_none() && search.nodes() == 0
+    let is_fixed = search.is_fixed(trail);
+    let decision = search.decide(trail);
+    is_fixed && decision.is_none() && search.nodes() == 0
 }
 
 fn are_values(alloc: Global, trail: &Trail) -> Result<bool, Memory>

@@ -102,8 +102,8 @@ fn are_all(alloc: Global, trail: &Trail) -> bool
 
 fn are_told(alloc: Global) -> Result<bool, Memory> {
     let mut trail = trail_of(alloc)?;
-    keep(&mut trail, lit(1, Op::Equal, 2))?;
-    keep(&mut trail, lit(2, Op::AtMost, 5))?;
+    keep(&mut trail, VarId(1), Op::Equal, 2)?;
+    keep(&mut trail, VarId(2), Op::AtMost, 5)?;
     Ok(is_filled(&trail, 2) && are_all(alloc, &trail))
 }
 
