@@ -1,37 +1,17 @@
 // Propagation worked out by hand.
-ghost use Rattle.std.specs.Prelude.{◌≡◌, ◌<◌, length, IfOk, OnOk};
+ghost use Rattle.std.specs.Prelude.{◌≡◌, length, IfOk, OnOk};
 ghost use Rattle.fzn_domain.specs.Narrow.{IsVariable, IsClauseOver};
 ghost use Rattle.fzn_trail.specs.Levels.{NoneEmpty};
 ghost use Rattle.fzn_clauses.specs.Held.{AllHeld, IsHeld};
 ghost use Rattle.fzn_clauses.specs.Watching.{held_by, IsWatching};
 
+use crate::models::{is_filled, lit};
 use crate::two_variables::trail_of;
 use fzn_clauses::Clauses;
 use fzn_domain::{Lit, Memory, Op, VarId};
 use fzn_trail::{ClauseId, Trail};
 use std::alloc::Global;
-use std::test::Fail;
-
-pub(crate) fn lit(var: usize, op: Op, value: i64) -> Lit
-    ensures { result.var.0 ≡ var }
-{
-    Lit {
-        var: VarId(var),
-        op,
-        value,
-    }
-}
-
-/// No clauses, on a fresh trail.
-fn start(alloc: Global) -> Result<(Clauses, Trail), Memory>
-    ensures over { IfOk result (λ both. AllHeld (IsClauseOver 2) (held_by both.0)) }
-    ensures watching { IfOk result (λ both. IsWatching both.0 both.1) }
-    ensures count { IfOk result (λ both. length both.1.declared ≡ 2) }
-    ensures not_empty { IfOk result (λ both. NoneEmpty both.1.sets) }
-{
-    let trail = trail_of(alloc, 9)?;
-    Ok((Clauses::new(alloc), trail))
-}
+use std::test::*;
 
 fn hold(clauses: &mut Clauses, trail: &Trail, first: Lit, second: Lit) -> Result<ClauseId, Memory>
     requires over { AllHeld (IsClauseOver 2) (held_by clauses.old) }
@@ -44,6 +24,25 @@ fn hold(clauses: &mut Clauses, trail: &Trail, first: Lit, second: Lit) -> Result
 {
     let _entries = trail.len();
     clauses.add(&[first, second])
+}
+
+/// Clauses of which the last forces a literal, and with it each forces one of the clause before it.
+fn hold_chain(clauses: &mut Clauses, trail: &Trail) -> Result<(), Memory>
+    requires over { AllHeld (IsClauseOver 2) (held_by clauses.old) }
+    requires watching { IsWatching clauses.old trail.now }
+    ensures over { OnOk result (AllHeld (IsClauseOver 2) (held_by clauses.new)) }
+    ensures watching { IsWatching clauses.new trail.now }
+{
+    let (low, high) = (lit(2, Op::AtMost, 5), lit(2, Op::AtLeast, 6));
+    hold(clauses, trail, low, lit(1, Op::Equal, 2))?;
+    hold(clauses, trail, lit(1, Op::AtLeast, 4), high)?;
+    hold(
+        clauses,
+        trail,
+        lit(1, Op::AtMost, 3),
+        lit(1, Op::AtLeast, 10),
+    )?;
+    Ok(())
 }
 
 fn run(clauses: &mut Clauses, trail: &mut Trail) -> Result<Option<ClauseId>, Memory>
@@ -59,71 +58,74 @@ fn run(clauses: &mut Clauses, trail: &mut Trail) -> Result<Option<ClauseId>, Mem
     clauses.propagate(trail)
 }
 
-/// Clauses of which the last forces a literal, and with it each forces one of the clause before it.
-fn hold_chain(clauses: &mut Clauses, trail: &Trail) -> Result<(), Memory>
+/// Whether the clauses force three literals, after which x has one value and y four.
+fn is_forced(clauses: &mut Clauses, trail: &mut Trail) -> Result<bool, Memory>
     requires over { AllHeld (IsClauseOver 2) (held_by clauses.old) }
-    requires watching { IsWatching clauses.old trail.now }
-    ensures over { OnOk result (AllHeld (IsClauseOver 2) (held_by clauses.new)) }
-    ensures watching { IsWatching clauses.new trail.now }
+    requires watching { IsWatching clauses.old trail.old }
+    requires count { length trail.old.declared ≡ 2 }
+    requires not_empty { NoneEmpty trail.old.sets }
+    ensures same { held_by clauses.new ≡ held_by clauses.old }
+    ensures watching { OnOk result (IsWatching clauses.new trail.new) }
+    ensures count { length trail.new.declared ≡ 2 }
+    ensures not_empty { NoneEmpty trail.new.sets }
 {
-    hold(clauses, trail, lit(2, Op::AtMost, 5), lit(1, Op::Equal, 2))?;
-    hold(
+    let none = run(clauses, trail)?.is_none();
+    let (x, y) = (trail.domain(VarId(1)).len(), trail.domain(VarId(2)).len());
+    Ok(none && trail.len() == 3 && x == 1 && y == 4)
+}
+
+/// Whether one more clause is false, and can be taken out.
+fn is_conflict(clauses: &mut Clauses, trail: &mut Trail) -> Result<bool, Memory>
+    requires over { AllHeld (IsClauseOver 2) (held_by clauses.old) }
+    requires watching { IsWatching clauses.old trail.old }
+    requires count { length trail.old.declared ≡ 2 }
+    requires not_empty { NoneEmpty trail.old.sets }
+{
+    let id = hold(
         clauses,
         trail,
-        lit(1, Op::AtLeast, 4),
-        lit(2, Op::AtLeast, 6),
+        lit(1, Op::NotEqual, 2),
+        lit(2, Op::AtMost, 5),
     )?;
-    hold(
-        clauses,
-        trail,
-        lit(1, Op::AtMost, 3),
-        lit(1, Op::AtLeast, 10),
-    )?;
-    Ok(())
+    let is_met = run(clauses, trail)? == Some(id) && clauses.looked() > 0;
+    let is_there = clauses.len() == 4 && clauses.is_held(id) && clauses.clause(id).len() == 2;
+    clauses.remove(id);
+    Ok(is_met && is_there && !clauses.is_held(id))
+}
+
+fn is_chain(alloc: Global) -> Result<bool, Memory> {
+    let mut trail = trail_of(alloc)?;
+    let mut clauses = Clauses::new(alloc);
+    hold_chain(&mut clauses, &trail)?;
+    Ok(
+        is_filled(&trail, 2)
+            && is_forced(&mut clauses, &mut trail)?
+            && is_conflict(&mut clauses, &mut trail)?,
+    )
 }
 
 #[test]
 fn a_chain_and_a_conflict(rt: HostRuntime) -> Result<(), Fail> {
-    let (mut clauses, mut trail) = start(rt.alloc())?;
-    hold_chain(&mut clauses, &trail)?;
-    assert!(rt; run(&mut clauses, &mut trail)?.is_none());
-    assert_eq!(rt; trail.len(), 3);
-    assert_eq!(rt;
-        (trail.domain(VarId(1)).len(), trail.domain(VarId(2)).len()),
-        (1, 4)
-    );
-    let id = hold(
-        &mut clauses,
-        &trail,
-        lit(1, Op::NotEqual, 2),
-        lit(2, Op::AtMost, 5),
-    )?;
-    assert_eq!(rt; run(&mut clauses, &mut trail)?, Some(id));
-    assert_eq!(rt; (clauses.len(), clauses.clause(id).len()), (4, 2));
-    assert!(rt; clauses.is_held(id));
-    assert!(rt; clauses.looked() > 0);
-    clauses.remove(id);
-    assert!(rt; !clauses.is_held(id));
+    assert!(rt; is_chain(rt.alloc())?);
     Ok(())
+}
+
+/// Whether the number of a clause that was taken out is that of another.
+fn is_used_again(clauses: &mut Clauses) -> Result<bool, Memory> {
+    let id = clauses.add(&[lit(1, Op::AtMost, 3), lit(2, Op::AtMost, 5)])?;
+    clauses.remove(id);
+    clauses.sweep();
+    if (id.0 as usize) >= clauses.len() || clauses.is_held(id) {
+        return Ok(false);
+    }
+    let other = [lit(1, Op::AtLeast, 4)];
+    clauses.put(id, &other)?;
+    Ok(clauses.len() == 1 && clauses.is_held(id) && clauses.clause(id) == other.as_slice())
 }
 
 #[test]
 fn a_number_that_is_used_again(rt: HostRuntime) -> Result<(), Fail> {
-    let (mut clauses, trail) = start(rt.alloc())?;
-    let id = hold(
-        &mut clauses,
-        &trail,
-        lit(1, Op::AtMost, 3),
-        lit(2, Op::AtMost, 5),
-    )?;
-    clauses.remove(id);
-    clauses.sweep();
-    let other = [lit(1, Op::AtLeast, 4)];
-    if (id.0 as usize) < clauses.len() && !clauses.is_held(id) {
-        clauses.put(id, other.as_slice())?;
-    }
-    assert!(rt; clauses.is_held(id));
-    assert!(rt; clauses.clause(id) == other.as_slice());
-    assert_eq!(rt; clauses.len(), 1);
+    let mut clauses = Clauses::new(rt.alloc());
+    assert!(rt; is_used_again(&mut clauses)?);
     Ok(())
 }

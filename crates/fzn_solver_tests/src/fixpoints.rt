@@ -5,12 +5,12 @@ ghost use Rattle.fzn_meaning.specs.Solutions.{declared_sets};
 ghost use Rattle.fzn_meaning.specs.WellFormed.{IsWellFormed};
 ghost use Rattle.fzn_propagators.specs.Propagators.{StandFor};
 
-use fzn_domain::{Domain, Lit, Memory, Op, VarId};
+use crate::models::{is_filled, keep, model_of, trail_of};
+use fzn_domain::{Lit, Memory, Op, VarId};
 use fzn_engine::Constraints;
-use fzn_meaning::{Model, Var, holds};
+use fzn_meaning::{Model, holds};
 use fzn_propagators::Propagators;
-use fzn_reading::read_model;
-use fzn_trail::{Reason, Trail};
+use fzn_trail::Trail;
 use std::alloc::{AllocError, Global};
 use std::test::*;
 
@@ -87,39 +87,6 @@ const SMALL: u64 = 512;
 
 const RANDOM: u64 = 60;
 
-/// The declared sets.
-fn declared(alloc: Global, vars: &[Var]) -> Result<Vec<Domain>, Memory>
-    ensures { IfOk result (λ declared. declared.items ≡ declared_sets vars.now) }
-{
-    let mut declared = Vec::new(alloc);
-    for var in vars {
-        declared.push(var.domain.copy()?)?;
-    }
-    Ok(declared)
-}
-
-/// The sets that the model declares.
-fn trail_of(alloc: Global, model: &Model) -> Result<Trail, Memory>
-    ensures declared { IfOk result (λ trail. trail.declared ≡ declared_sets model.now.vars) }
-{
-    let trail = Trail::new(alloc, declared(alloc, model.vars.as_slice())?)?;
-    Ok(trail)
-}
-
-/// Whether each set has a value.
-fn is_filled(trail: &Trail, count: usize) -> bool
-    requires { count ≡ length trail.now.declared }
-    ensures { IsTrue result → NoneEmpty trail.now.sets }
-{
-    let _entries = trail.len(); // There are as many sets as are declared.
-    for k in 0..count {
-        if trail.domain(VarId(k + 1)).is_empty() {
-            return false;
-        }
-    }
-    true
-}
-
 /// The next of numbers in no order.
 fn next_random(seed: u64) -> u64 {
     seed.wrapping_mul(6_364_136_223_846_793_005)
@@ -151,7 +118,7 @@ fn choose_one(trail: &mut Trail, var: VarId, bits: u64, few: usize) -> Result<u6
         if trail.declared(var).contains(value) {
             let is_one = first <= place && place - first < few;
             if !is_one || left % 2 == 0 {
-                take_out(trail, var, value)?;
+                keep(trail, var, Op::NotEqual, value)?;
             }
             if is_one {
                 left /= 2;
@@ -182,23 +149,10 @@ fn thin_out_one(trail: &mut Trail, var: VarId, seed: u64, gone: u64) -> Result<u
     for offset in 0..21_usize {
         number = next_random(number);
         if (number >> 40) % 6 < gone {
-            take_out(trail, var, offset as i64 - 10)?;
+            keep(trail, var, Op::NotEqual, offset as i64 - 10)?;
         }
     }
     Ok(number)
-}
-
-fn take_out(trail: &mut Trail, var: VarId, value: i64) -> Result<(), Memory>
-    requires { (1 ≤ var.0) × (var.0 ≤ length trail.old.declared) }
-    ensures { OnOk result (trail.new.declared ≡ trail.old.declared) }
-{
-    let lit = Lit {
-        var,
-        op: Op::NotEqual,
-        value,
-    };
-    trail.assert(lit, Reason::Decision)?;
-    Ok(())
 }
 
 /// The sets of this choice.
@@ -245,7 +199,7 @@ fn advance(
     let Some(lit) = open_literal(trail, count, found.clause.as_slice()) else {
         return Ok(Progress::Failed);
     };
-    trail.assert(lit, Reason::Decision)?;
+    keep(trail, lit.var, lit.op, lit.value)?;
     Ok(Progress::Narrowed)
 }
 
@@ -560,25 +514,53 @@ fn is_narrow_from(
     Ok(Some(narrow))
 }
 
+/// The first choice of sets that leaves what has no support, and the last where none leaves each set a value.
+fn weak_choice(
+    alloc: Global,
+    model: &Model,
+    measure: &Model,
+    marks: &str,
+) -> Result<Option<u64>, Memory>
+    requires model { IsWellFormed model.now }
+    requires measure { IsWellFormed measure.now }
+{
+    let mut is_judged = false;
+    for choice in 0..SMALL + RANDOM {
+        match is_narrow_from(alloc, model, measure, marks, choice)? {
+            Some(false) => return Ok(Some(choice)),
+            Some(true) => is_judged = true,
+            None => {}
+        }
+    }
+    Ok(if is_judged {
+        None
+    } else {
+        Some(SMALL + RANDOM)
+    })
+}
+
+fn model_with(alloc: Global, declarations: &str, constraints: &str) -> Result<Model, Fail>
+    ensures { IfOk result IsWellFormed }
+{
+    let text = format!(in alloc; "{declarations} {constraints} solve satisfy;")?;
+    model_of(alloc, text.as_str())
+}
+
+/// The choice at which the row is weak.
+fn weak_choice_of(alloc: Global, row: &str) -> Result<Option<u64>, Fail> {
+    let (marks, file) = row.split_once(' ').unwrap_or((row, ""));
+    let (declarations, texts) = file.split_once('|').unwrap_or((file, ""));
+    let (constraint, measures) = texts.split_once('|').unwrap_or((texts, texts));
+    let model = model_with(alloc, declarations, constraint)?;
+    let measure = model_with(alloc, declarations, measures)?;
+    Ok(weak_choice(alloc, &model, &measure, marks)?)
+}
+
 #[test]
 fn what_is_left_has_support(rt: HostRuntime) -> Result<(), Fail> {
-    let alloc = rt.alloc();
     for row in ROWS.trim().lines() {
-        let (marks, file) = row.split_once(' ').unwrap_or((row, ""));
-        let (declarations, texts) = file.split_once('|').unwrap_or((file, ""));
-        let (constraint, measures) = texts.split_once('|').unwrap_or((texts, texts));
-        let text = format!(in alloc; "{declarations} {constraint} solve satisfy;")?;
-        let model = read_model(alloc, &mut text.as_str().as_bytes())?;
-        let other = format!(in alloc; "{declarations} {measures} solve satisfy;")?;
-        let measure = read_model(alloc, &mut other.as_str().as_bytes())?;
-        let mut is_judged = false;
-        for choice in 0..SMALL + RANDOM {
-            if let Some(narrow) = is_narrow_from(alloc, &model, &measure, marks, choice)? {
-                assert!(rt; narrow, "{row}, choice {choice}");
-                is_judged = true;
-            }
-        }
-        assert!(rt; is_judged, "{row}");
+        let choice = weak_choice_of(rt.alloc(), row)?;
+        assert!(rt; choice.is_none(), "{row}, choice {choice:?}");
     }
     Ok(())
 }

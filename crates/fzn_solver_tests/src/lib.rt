@@ -1,12 +1,11 @@
 //! Tests of the crates that search.
 //!
-//! In: trails, clauses and small models made by hand. Out: the calls of `fzn_trail`, `fzn_clauses`, `fzn_search`, `fzn_sums`, `fzn_arith`,
-//! `fzn_propagators` and `fzn_engine`, against clauses, decisions and endings worked out by hand. Nothing is proved here beyond that
-//! the tests are safe; they stand apart so that the crates below are not proved a second time with them.
+//! In: trails and clauses made by hand, models read from their text. Out: the calls of `fzn_trail`, `fzn_clauses`, `fzn_search`,
+//! `fzn_sums`, `fzn_arith`, `fzn_table`, `fzn_propagators` and `fzn_engine`, against clauses, decisions and endings worked out by hand, and
+//! what is left of small sets against the values that meet each kind of constraint. Nothing is proved here beyond that the tests are safe;
+//! they stand apart so that the crates below are not proved a second time with them.
 #![tactic(auto)]
 
-#[cfg(test)]
-mod arith;
 #[cfg(test)]
 mod clauses;
 #[cfg(test)]
@@ -14,7 +13,9 @@ mod engine;
 #[cfg(test)]
 mod fixpoints;
 #[cfg(test)]
-mod propagators;
+mod inferences;
+#[cfg(test)]
+mod models;
 #[cfg(test)]
 mod search;
 #[cfg(test)]

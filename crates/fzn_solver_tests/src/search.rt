@@ -1,143 +1,174 @@
-// Decisions and values worked out by hand.
-ghost use Rattle.std.specs.Prelude.{◌≡◌, ◌≤ℤ◌, [], ◌∷◌, pos, IfOk};
-ghost use Rattle.fzn_domain.specs.IntSet.{range};
-ghost use Rattle.fzn_domain.specs.Limits.{IsInLimits};
-ghost use Rattle.fzn_trail.specs.Levels.{NoneEmpty, fresh};
+// Decisions and values worked out by hand, of x, which is 5, and of y.
+ghost use Rattle.std.specs.Prelude.{◌≡◌, IfOk, IsTrue, length};
+ghost use Rattle.fzn_domain.specs.Narrow.{AllFixed};
+ghost use Rattle.fzn_meaning.specs.Solutions.{declared_sets};
+ghost use Rattle.fzn_trail.specs.Levels.{NoneEmpty};
 
-use fzn_domain::{Domain, Lit, Memory, Op, VarId};
-use fzn_list::{Items, Text};
-use fzn_meaning::{Kind, Var};
+use crate::models::{is_filled, keep, lit, model_of, trail_of};
+use fzn_domain::{Lit, Memory, Op, VarId};
+use fzn_list::Items;
+use fzn_meaning::Model;
 use fzn_search::{Annotation, Choice, Search, ValueChoice, VarChoice, values_of};
-use fzn_trail::{Reason, Trail};
+use fzn_trail::Trail;
 use std::alloc::Global;
-use std::test::Fail;
+use std::slice;
+use std::test::*;
 
-/// A variable that is 5, and one between these two values.
-fn trail_of(alloc: Global, low: i64, high: i64) -> Result<Trail, Memory>
-    requires low_in_limits { IsInLimits low }
-    requires high_in_limits { IsInLimits high }
-    requires some { low ≤ℤ high }
-    ensures declared { IfOk result (λ trail. trail ≡ fresh (range (pos 5) (pos 5) ∷ range low high ∷ [])) }
-    ensures filled { IfOk result (λ trail. NoneEmpty trail.sets) }
-{
-    let mut declared = Vec::new(alloc);
-    declared.push(Domain::range(alloc, 5, 5)?)?;
-    declared.push(Domain::range(alloc, low, high)?)?;
-    let trail = Trail::new(alloc, declared)?;
-    Ok(trail)
-}
-
-fn variable(alloc: Global, domain: Domain) -> Result<Var, Memory> {
-    Ok(Var {
-        name: Text::from_slice(alloc, b"x".as_slice())?,
-        domain,
-        kind: Kind::Integer,
-    })
-}
-
-/// A search over the same two variables.
 fn search_of(
     alloc: Global,
-    low: i64,
-    high: i64,
+    model: &Model,
     annotations: &[Annotation],
     free: bool,
 ) -> Result<Search, Memory>
-    requires low_in_limits { IsInLimits low }
-    requires high_in_limits { IsInLimits high }
-    ensures { IfOk result (λ search. search ≡ record { vars = 2; nodes = 0 }) }
+    ensures { IfOk result (λ search. search ≡ record { vars = length model.now.vars; nodes = 0 }) }
 {
-    let mut vars = Vec::new(alloc);
-    vars.push(variable(alloc, Domain::range(alloc, 5, 5)?)?)?;
-    vars.push(variable(alloc, Domain::range(alloc, low, high)?)?)?;
     let choice = Choice {
         free,
         seed: None,
         restart_after: Some(2),
         keep: 0,
     };
-    Search::new(alloc, vars.as_slice(), annotations, choice)
+    Search::new(alloc, model.vars.as_slice(), annotations, choice)
 }
 
-fn second(op: Op, value: i64) -> Lit
-    ensures { result.var.0 ≡ 2 }
+/// Whether the first variable that is open is decided, by its least value.
+fn is_first_decided(alloc: Global, model: &Model, trail: &Trail) -> Result<bool, Memory>
+    requires declared { trail.now.declared ≡ declared_sets model.now.vars }
+    requires filled { NoneEmpty trail.now.sets }
 {
-    Lit {
-        var: VarId(2),
-        op,
-        value,
-    }
+    let mut search = search_of(alloc, model, &[], false)?;
+    let is_open = !search.is_fixed(trail);
+    let decision = search.decide(trail);
+    Ok(is_open && decision == Some(lit(2, Op::AtMost, -4)) && search.nodes() == 1)
 }
 
-#[test]
-fn the_first_open_variable_is_decided(rt: HostRuntime) -> Result<(), Fail> {
-    let alloc = rt.alloc();
-    let none = Vec::new(alloc);
-    let mut search = search_of(alloc, 0, 9, none.as_slice(), false)?;
-    let trail = trail_of(alloc, 0, 9)?;
-    assert!(rt; !search.is_fixed(&trail));
-    assert!(rt; search.decide(&trail) == Some(second(Op::AtMost, 0)));
-    assert_eq!(rt; search.nodes(), 1);
-    Ok(())
-}
-
-#[test]
-fn an_annotation_is_followed(rt: HostRuntime) -> Result<(), Fail> {
-    let alloc = rt.alloc();
-    let mut vars = Items::new(alloc);
-    vars.push(VarId(2))?;
-    let mut annotations = Vec::new(alloc);
-    annotations.push(Annotation {
-        vars,
+/// The upper half of y first.
+fn annotation(alloc: Global) -> Result<Annotation, Memory> {
+    Ok(Annotation {
+        vars: Items::from_slice(alloc, [VarId(2)].as_slice())?,
         var_choice: VarChoice::FirstFail,
         value_choice: ValueChoice::ReverseSplit,
-    })?;
-    let mut search = search_of(alloc, -4, 1, annotations.as_slice(), false)?;
-    let trail = trail_of(alloc, -4, 1)?;
-    assert!(rt; search.decide(&trail) == Some(second(Op::AtLeast, -1)));
-    Ok(())
+    })
+}
+
+fn is_annotation_followed(alloc: Global, model: &Model, trail: &Trail) -> Result<bool, Memory>
+    requires declared { trail.now.declared ≡ declared_sets model.now.vars }
+    requires filled { NoneEmpty trail.now.sets }
+{
+    let annotation = annotation(alloc)?;
+    let mut search = search_of(alloc, model, slice::from_ref(&annotation), false)?;
+    Ok(search.decide(trail) == Some(lit(2, Op::AtLeast, -1)))
+}
+
+/// Whether a restart is due at the second conflict, not at the first.
+fn is_restart_due(search: &mut Search, named: &[Lit; 2], again: Lit) -> Result<bool, Memory>
+    ensures { search.new ≡ search.old }
+{
+    search.bump(named.as_slice())?;
+    let is_early = search.conflict();
+    search.bump([again].as_slice())?;
+    Ok(search.conflict() && !is_early)
+}
+
+/// Whether what conflicts named most is decided after a restart.
+fn is_most_named_decided(alloc: Global, model: &Model, trail: &Trail) -> Result<bool, Memory>
+    requires declared { trail.now.declared ≡ declared_sets model.now.vars }
+    requires filled { NoneEmpty trail.now.sets }
+{
+    let mut search = search_of(alloc, model, &[], true)?;
+    let named = [lit(2, Op::AtLeast, -3), lit(2, Op::Equal, -1)];
+    let most = lit(2, Op::NotEqual, -1);
+    let is_due = is_restart_due(&mut search, &named, most)?;
+    Ok(is_due && search.decide(trail) == Some(most))
+}
+
+/// Whether a comparison is decided as it was on the trail before it was undone.
+fn is_decided_as_before(
+    alloc: Global,
+    model: &Model,
+    before: &Trail,
+    trail: &Trail,
+) -> Result<bool, Memory>
+    requires declared { trail.now.declared ≡ declared_sets model.now.vars }
+    requires filled { NoneEmpty trail.now.sets }
+{
+    let mut search = search_of(alloc, model, &[], true)?;
+    search.bump([lit(2, Op::NotEqual, -1)].as_slice())?;
+    search.undo(before, 0);
+    Ok(search.decide(trail) == Some(lit(2, Op::Equal, -1)))
+}
+
+fn are_decided(alloc: Global, model: &Model) -> Result<bool, Memory> {
+    let trail = trail_of(alloc, model)?;
+    let count = model.vars.len();
+    if count != 2 || !is_filled(&trail, count) {
+        return Ok(false);
+    }
+    let mut before = trail_of(alloc, model)?;
+    keep(&mut before, VarId(2), Op::Equal, -1)?;
+    Ok(
+        is_first_decided(alloc, model, &trail)?
+            && is_annotation_followed(alloc, model, &trail)?
+            && is_most_named_decided(alloc, model, &trail)?
+            && is_decided_as_before(alloc, model, &before, &trail)?,
+    )
 }
 
 #[test]
-fn what_conflicts_named_most_is_decided(rt: HostRuntime) -> Result<(), Fail> {
-    let alloc = rt.alloc();
-    let none = Vec::new(alloc);
-    let mut search = search_of(alloc, 0, 9, none.as_slice(), true)?;
-    let trail = trail_of(alloc, 0, 9)?;
-    search.bump([second(Op::AtLeast, 3), second(Op::Equal, 5)].as_slice())?;
-    assert!(rt; !search.conflict());
-    search.bump([second(Op::NotEqual, 5)].as_slice())?;
-    assert!(rt; search.conflict());
-    assert!(rt; search.decide(&trail) == Some(second(Op::NotEqual, 5)));
+fn decisions(rt: HostRuntime) -> Result<(), Fail> {
+    let model = model_of(rt.alloc(), "var 5..5: x; var -4..1: y; solve satisfy;")?;
+    assert!(rt; are_decided(rt.alloc(), &model)?);
     Ok(())
 }
 
-#[test]
-fn a_comparison_is_decided_as_it_was(rt: HostRuntime) -> Result<(), Fail> {
-    let alloc = rt.alloc();
-    let none = Vec::new(alloc);
-    let mut search = search_of(alloc, 0, 9, none.as_slice(), true)?;
-    search.bump([second(Op::NotEqual, 5)].as_slice())?;
-    let mut before = trail_of(alloc, 0, 9)?;
-    before.assert(second(Op::Equal, 5), Reason::Decision)?;
-    search.undo(&before, 0);
-    let trail = trail_of(alloc, 0, 9)?;
-    assert!(rt; search.decide(&trail) == Some(second(Op::Equal, 5)));
-    Ok(())
+/// Whether nothing is left to decide.
+fn is_fixed(search: &mut Search, trail: &Trail) -> bool
+    requires first { search.old ≡ record { vars = length trail.now.declared; nodes = 0 } }
+    requires filled { NoneEmpty trail.now.sets }
+    ensures { IsTrue result → AllFixed trail.now.sets }
+{
+    let is_fixed = search.is_fixed(trail);
+    let decision = search.decide(trail);
+    is_fixed && decision.is_none() && search.nodes() == 0
+}
+
+fn are_values(alloc: Global, trail: &Trail) -> Result<bool, Memory>
+    requires two { length trail.now.declared ≡ 2 }
+    requires fixed { AllFixed trail.now.sets }
+{
+    let values = values_of(alloc, trail, 2)?;
+    Ok(values.as_slice() == [5, 7].as_slice())
+}
+
+/// Whether a level is dropped at a restart.
+fn is_restarted(search: &mut Search, trail: &mut Trail) -> Result<bool, Memory> {
+    trail.push_level()?;
+    let is_above = trail.level() == 1;
+    search.restart(trail);
+    Ok(is_above && trail.level() == 0)
+}
+
+fn is_told(alloc: Global, model: &Model, trail: &mut Trail) -> Result<bool, Memory>
+    requires two { length trail.old.declared ≡ 2 }
+    requires variables { length model.now.vars ≡ 2 }
+    requires filled { NoneEmpty trail.old.sets }
+{
+    let mut search = search_of(alloc, model, &[], false)?;
+    Ok(
+        is_fixed(&mut search, trail)
+            && are_values(alloc, trail)?
+            && is_restarted(&mut search, trail)?,
+    )
+}
+
+fn is_fixed_and_restarted(alloc: Global, model: &Model) -> Result<bool, Memory> {
+    let mut trail = trail_of(alloc, model)?;
+    Ok(model.vars.len() == 2 && is_filled(&trail, 2) && is_told(alloc, model, &mut trail)?)
 }
 
 #[test]
 fn fixed_variables_have_values(rt: HostRuntime) -> Result<(), Fail> {
-    let alloc = rt.alloc();
-    let none = Vec::new(alloc);
-    let mut search = search_of(alloc, 7, 7, none.as_slice(), false)?;
-    let mut trail = trail_of(alloc, 7, 7)?;
-    assert!(rt; search.is_fixed(&trail));
-    assert!(rt; search.decide(&trail).is_none());
-    let values = values_of(alloc, &trail, 2)?;
-    assert!(rt; values.as_slice() == [5, 7].as_slice());
-    trail.push_level()?;
-    search.restart(&mut trail);
-    assert_eq!(rt; (trail.level(), search.nodes()), (0, 0));
+    let model = model_of(rt.alloc(), "var 5..5: x; var 7..7: y; solve satisfy;")?;
+    assert!(rt; is_fixed_and_restarted(rt.alloc(), &model)?);
     Ok(())
 }

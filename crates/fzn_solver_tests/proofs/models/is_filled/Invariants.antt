@@ -1,6 +1,6 @@
 use Rattle.std.proofs.Common.{ℕ, ◌<◌, get_or}
 use Rattle.fzn_domain.specs.IntSet.{size, no_values}
-use Rattle.fzn_solver_tests.proofs.fixpoints.is_filled.Given as goal
+use Rattle.fzn_solver_tests.proofs.models.is_filled.Given as goal
 
 -- the sets before this one have values
 abbrev pub invariant-loop-k : goal.invariant-loop-k

@@ -1,6 +1,6 @@
 use Rattle.std.proofs.Common.{◌≡◌, take}
 use Rattle.fzn_meaning.specs.Solutions.{declared_sets}
-use Rattle.fzn_solver_tests.proofs.fixpoints.declared.Given as goal
+use Rattle.fzn_solver_tests.proofs.models.declared.Given as goal
 
 abbrev pub invariant-loop-var : goal.invariant-loop-var
 invariant-loop-var l = l.declared.items ≡ declared_sets (take l.var-index l.vars)

@@ -1,3 +1,0 @@
-mod OneLemmas
-mod PairLemmas
-mod TrailLemmas
