@@ -1,9 +1,9 @@
-use fzn_solver::{RunFault, Unwatched, run};
-use fzn_words::{Options, options_of};
+use crate::words::options_in;
+use fzn_solver::{Report, RunFault, Unwatched, Watch, run};
+use fzn_words::{Options, OptionsFault};
 use std::alloc::Global;
-use std::io;
+use std::io::Write;
 use std::str::from_utf8;
-use std::test::Fail;
 
 mod answers;
 mod faults;
@@ -22,24 +22,35 @@ const LEAST: &str =
     "var 0..10: x :: output_var; constraint int_lin_le([-2],[x],-7); solve minimize x;";
 
 /// Every solution is wanted, and nine decisions may be made.
-fn all_of(alloc: Global) -> Result<Options, Fail> {
-    Ok(options_of(alloc, &["-a", "--nodes", "9", "m.fzn"])?)
+fn all_of(alloc: Global) -> Result<Options, OptionsFault> {
+    options_in(alloc, "-a --nodes 9 m.fzn")
 }
 
 fn text_of(bytes: &[u8]) -> &str {
     from_utf8(bytes).unwrap_or("no text")
 }
 
-/// The certificate of a run that meets no fault.
-fn certificate_of(alloc: Global, options: &Options, file: &str) -> Result<Vec<u8>, RunFault> {
-    let mut cert: Vec<u8> = Vec::new(alloc);
-    run(
-        alloc,
-        file.as_bytes(),
-        options,
-        &mut io::sink(),
-        &mut cert,
-        &mut Unwatched,
-    )?;
-    Ok(cert)
+/// A run on a file's text, over writers of any kind.
+fn solve<W: Write, C: Write, P: Watch>(
+    alloc: Global,
+    file: &str,
+    options: &Options,
+    out: &mut W,
+    cert: &mut C,
+    watch: &mut P,
+) -> Result<Report, RunFault> {
+    run(alloc, file.as_bytes(), options, out, cert, watch)
+}
+
+/// Whether a run gives this answer; its certificate goes behind what stands in `cert`.
+fn is_answered(
+    alloc: Global,
+    file: &str,
+    options: &Options,
+    answer: &[u8],
+    cert: &mut Vec<u8>,
+) -> bool {
+    let mut out: Vec<u8> = Vec::new(alloc);
+    let report = solve(alloc, file, options, &mut out, cert, &mut Unwatched);
+    report.is_ok() && out.as_slice() == answer
 }

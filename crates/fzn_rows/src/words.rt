@@ -1,5 +1,5 @@
 // The words of command lines, each after one space, and what they give.
-use fzn_words::{CheckOptions, OptionsFault, check_options_of, options_of};
+use fzn_words::{CheckOptions, Options, OptionsFault, check_options_of, options_of};
 use std::alloc::{AllocError, Global};
 use std::test::Fail;
 
@@ -34,7 +34,18 @@ m.fzn m.fzn    | fault 23 CommandLine, status 3
 --version      | help true, status 0
 ";
 
-fn fault_line(alloc: Global, fault: OptionsFault) -> Result<String, AllocError> {
+/// The options that the words of a line give `fznsolve`.
+pub(crate) fn options_in(alloc: Global, line: &str) -> Result<Options, OptionsFault> {
+    let words: Vec<&str> = line.split_whitespace().collect(alloc)?;
+    options_of(alloc, &words)
+}
+
+fn check_options_in(alloc: Global, line: &str) -> Result<CheckOptions, OptionsFault> {
+    let words: Vec<&str> = line.split_whitespace().collect(alloc)?;
+    check_options_of(alloc, &words)
+}
+
+fn fault_line(alloc: Global, fault: &OptionsFault) -> Result<String, AllocError> {
     let status = fault.status();
     match fault {
         OptionsFault::Help(text) => {
@@ -46,12 +57,7 @@ fn fault_line(alloc: Global, fault: OptionsFault) -> Result<String, AllocError> 
     }
 }
 
-/// What the words of `fznsolve` give, as one line.
-fn solve_line(alloc: Global, words: &[&str]) -> Result<String, AllocError> {
-    let options = match options_of(alloc, words) {
-        Ok(options) => options,
-        Err(fault) => return fault_line(alloc, fault),
-    };
+fn solve_line(alloc: Global, options: &Options) -> Result<String, AllocError> {
     let cert = options.cert.as_deref().unwrap_or("");
     let all = if options.all { "a " } else { "" };
     let free = if options.free { "f " } else { "" };
@@ -62,35 +68,54 @@ fn solve_line(alloc: Global, words: &[&str]) -> Result<String, AllocError> {
     )
 }
 
-/// What the words of `fzncheck` give, as one line.
-fn check_line(alloc: Global, words: &[&str]) -> Result<String, AllocError> {
-    match check_options_of(alloc, words) {
-        Ok(CheckOptions::Check { all, model, cert }) => {
-            format!(in alloc; "{all} {model} {cert}")
-        }
-        Ok(CheckOptions::ToVersion2 { old, new }) => format!(in alloc; "to2 {old} {new}"),
-        Err(fault) => fault_line(alloc, fault),
+fn check_line(alloc: Global, options: &CheckOptions) -> Result<String, AllocError> {
+    match options {
+        CheckOptions::Check { all, model, cert } => format!(in alloc; "{all} {model} {cert}"),
+        CheckOptions::ToVersion2 { old, new } => format!(in alloc; "to2 {old} {new}"),
     }
+}
+
+/// What the words give `fznsolve`, as one line.
+fn solve_told(alloc: Global, words: &str) -> Result<String, AllocError> {
+    match options_in(alloc, words) {
+        Ok(options) => solve_line(alloc, &options),
+        Err(fault) => fault_line(alloc, &fault),
+    }
+}
+
+/// What the words give `fzncheck`, as one line.
+fn check_told(alloc: Global, words: &str) -> Result<String, AllocError> {
+    match check_options_in(alloc, words) {
+        Ok(options) => check_line(alloc, &options),
+        Err(fault) => fault_line(alloc, &fault),
+    }
+}
+
+/// Whether the words of a row give what it tells.
+fn is_solve_row(alloc: Global, row: &str) -> Result<bool, Fail> {
+    let (words, want) = row.split_once('|').ok_or("a row has two columns")?;
+    let told = solve_told(alloc, words)?;
+    Ok(told.as_str().trim() == want.trim())
+}
+
+fn is_check_row(alloc: Global, row: &str) -> Result<bool, Fail> {
+    let (words, want) = row.split_once('|').ok_or("a row has two columns")?;
+    let told = check_told(alloc, words)?;
+    Ok(told.as_str() == want.trim())
 }
 
 #[test]
 fn words_of_fznsolve(rt: HostRuntime) -> Result<(), Fail> {
-    for line in SOLVE.trim().lines() {
-        let (words, want) = line.split_once('|').ok_or("a line has two columns")?;
-        let words: Vec<&str> = words.split_whitespace().collect(rt.alloc())?;
-        let got = solve_line(rt.alloc(), words.as_slice())?;
-        assert_eq!(rt; got.as_str().trim(), want.trim(), "{line}");
+    for row in SOLVE.trim().lines() {
+        assert!(rt; is_solve_row(rt.alloc(), row)?, "{row}");
     }
     Ok(())
 }
 
 #[test]
 fn words_of_fzncheck(rt: HostRuntime) -> Result<(), Fail> {
-    for line in CHECK.trim().lines() {
-        let (words, want) = line.split_once('|').ok_or("a line has two columns")?;
-        let words: Vec<&str> = words.split_whitespace().collect(rt.alloc())?;
-        let got = check_line(rt.alloc(), words.as_slice())?;
-        assert_eq!(rt; got.as_str(), want.trim(), "{line}");
+    for row in CHECK.trim().lines() {
+        assert!(rt; is_check_row(rt.alloc(), row)?, "{row}");
     }
     Ok(())
 }

@@ -1,7 +1,8 @@
 // What a run tells of itself.
-use fzn_solver::{Report, Unwatched, run};
-use fzn_words::options_of;
-use std::alloc::Global;
+use super::solve;
+use crate::words::options_in;
+use fzn_solver::{Report, Unwatched};
+use std::alloc::{AllocError, Global};
 use std::io;
 use std::test::Fail;
 
@@ -22,34 +23,37 @@ const REPORTS: &str = "
 -n 1 --nodes 3 m.fzn | var 0..3: x :: output_var; solve maximize x; | 4 Complete | 3
 ";
 
-fn report_of(alloc: Global, words: &str, file: &str) -> Result<Report, Fail> {
-    let words: Vec<&str> = words.split_whitespace().collect(alloc)?;
-    let options = options_of(alloc, &words)?;
-    Ok(run(
+fn report_of(alloc: Global, words: &str, file: &str) -> Option<Report> {
+    let options = options_in(alloc, words).ok()?;
+    solve(
         alloc,
-        file.as_bytes(),
+        file,
         &options,
         &mut io::sink(),
         &mut io::sink(),
         &mut Unwatched,
-    )?)
+    )
+    .ok()
+}
+
+fn is_told(alloc: Global, report: Report, told: &str, most: &str) -> Result<bool, AllocError> {
+    let text = format!(in alloc; "{} {:?}", report.solutions, report.ending)?;
+    let within = most.parse::<u64>().is_ok_and(|most| report.nodes <= most);
+    Ok(text.as_str() == told && within)
 }
 
 /// Whether the report of a row is as the row tells.
 fn is_as_told(alloc: Global, row: &str) -> Result<bool, Fail> {
-    let columns: Vec<&str> = row.split('|').map(|it| it.trim()).collect(alloc)?;
-    let [words, file, told, most] = columns.as_slice() else {
-        return Err("a row has four columns")?;
-    };
-    let report = report_of(alloc, words, file)?;
-    let text = format!(in alloc; "{} {:?}", report.solutions, report.ending)?;
-    let within = most.parse::<u64>().is_ok_and(|most| report.nodes <= most);
-    Ok(text.as_str() == *told && within)
+    let (words, rest) = row.split_once(" | ").ok_or("a row has four columns")?;
+    let (file, rest) = rest.split_once(" | ").ok_or("a row has four columns")?;
+    let (told, most) = rest.split_once(" | ").ok_or("a row has four columns")?;
+    let report = report_of(alloc, words, file).ok_or("a file that is answered")?;
+    Ok(is_told(alloc, report, told, most)?)
 }
 
 #[test]
 fn reports(rt: HostRuntime) -> Result<(), Fail> {
-    assert_eq!(rt; REPORTS.trim().lines().count(), 13);
+    assert!(rt; REPORTS.trim().lines().count() == 13);
     for row in REPORTS.trim().lines() {
         assert!(rt; is_as_told(rt.alloc(), row)?, "{row}");
     }
