@@ -2,7 +2,7 @@ use crate::words::options_in;
 use fzn_solver::{Report, RunFault, Unwatched, Watch, run};
 use fzn_words::{Options, OptionsFault};
 use std::alloc::Global;
-use std::io::Write;
+use std::io::{Read, Write};
 use std::str::from_utf8;
 
 mod answers;
@@ -30,16 +30,16 @@ fn text_of(bytes: &[u8]) -> &str {
     from_utf8(bytes).unwrap_or("no text")
 }
 
-/// A run on a file's text, over writers of any kind.
-fn solve<W: Write, C: Write, P: Watch>(
+/// A run, whatever it reads and writes.
+pub(crate) fn solve<R: Read + Drop, W: Write, C: Write, P: Watch>(
     alloc: Global,
-    file: &str,
+    file: R,
     options: &Options,
     out: &mut W,
     cert: &mut C,
     watch: &mut P,
 ) -> Result<Report, RunFault> {
-    run(alloc, file.as_bytes(), options, out, cert, watch)
+    run(alloc, file, options, out, cert, watch)
 }
 
 /// Whether a run gives this answer; its certificate goes behind what stands in `cert`.
@@ -51,6 +51,13 @@ fn is_answered(
     cert: &mut Vec<u8>,
 ) -> bool {
     let mut out: Vec<u8> = Vec::new(alloc);
-    let report = solve(alloc, file, options, &mut out, cert, &mut Unwatched);
+    let report = solve(
+        alloc,
+        file.as_bytes(),
+        options,
+        &mut out,
+        cert,
+        &mut Unwatched,
+    );
     report.is_ok() && out.as_slice() == answer
 }

@@ -1,8 +1,9 @@
 // A file with each form of items, and a certificate, with each byte changed: solver and checker give an answer, or the same fault; the
 // checker prints what is true of the file, or nothing.
+use crate::runs::solve;
 use crate::words::options_in;
-use fzn_checker::{CheckFault, Verdict, check};
-use fzn_solver::{Report, RunFault, Unwatched, run};
+use fzn_checker::{CheckFault, check};
+use fzn_solver::{RunFault, Unwatched};
 use fzn_words::Options;
 use std::alloc::{AllocError, Global};
 use std::test::Fail;
@@ -24,23 +25,11 @@ constraint bool_clause([b, yes], []);
 solve :: int_search(q, input_order, indomain_min, complete) minimize y;
 "#;
 
-/// How solver and checker reply to a file.
-#[derive(Clone, Copy, Debug, PartialEq)]
-enum Reply {
-    /// Both answer.
-    Answered,
-    /// Both refuse the file by the same fault at a place.
-    Refused,
-    Otherwise,
-}
-
-fn reply_of(solved: Result<Report, RunFault>, checked: Result<Verdict, CheckFault>) -> Reply {
-    match (solved, checked) {
-        (Ok(_), Ok(_)) => Reply::Answered,
-        (Err(RunFault::File(first)), Err(CheckFault::File(second))) if first == second => {
-            Reply::Refused
-        }
-        _ => Reply::Otherwise,
+/// Whether both refuse the file by the same fault at a place.
+fn are_refused(solver: Option<RunFault>, checker: Option<CheckFault>) -> bool {
+    match (solver, checker) {
+        (Some(RunFault::File(first)), Some(CheckFault::File(second))) => first == second,
+        _ => false,
     }
 }
 
@@ -49,14 +38,12 @@ fn is_replied_to(alloc: Global, options: &Options, file: &[u8]) -> bool {
     let mut out: Vec<u8> = Vec::new(alloc);
     let mut cert: Vec<u8> = Vec::new(alloc);
     let mut printed: Vec<u8> = Vec::new(alloc);
-    let solved = run(alloc, file, options, &mut out, &mut cert, &mut Unwatched);
-    let checked = check(alloc, file, cert.as_slice(), options.all, &mut printed);
+    let solver = solve(alloc, file, options, &mut out, &mut cert, &mut Unwatched).err();
+    let checker = check(alloc, file, cert.as_slice(), options.all, &mut printed).err();
+    let is_answered = solver.is_none() && checker.is_none();
+    let is_nothing = out.is_empty() && cert.is_empty();
     let is_same = out.as_slice() == printed.as_slice();
-    match reply_of(solved, checked) {
-        Reply::Answered => is_same,
-        Reply::Refused => is_same && out.is_empty() && cert.is_empty(),
-        Reply::Otherwise => false,
-    }
+    is_same && (is_answered || is_nothing && are_refused(solver, checker))
 }
 
 /// Puts the byte at the place, where the bytes have it.

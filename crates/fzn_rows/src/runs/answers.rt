@@ -27,7 +27,7 @@ fn report_of(alloc: Global, words: &str, file: &str) -> Option<Report> {
     let options = options_in(alloc, words).ok()?;
     solve(
         alloc,
-        file,
+        file.as_bytes(),
         &options,
         &mut io::sink(),
         &mut io::sink(),

@@ -47,11 +47,18 @@ fn is_same(
 ) -> bool {
     let mut out: Vec<u8> = Vec::new(alloc);
     let mut cert: Vec<u8> = Vec::new(alloc);
-    let report = solve(alloc, file, options, &mut out, &mut cert, &mut Unwatched);
+    let report = solve(
+        alloc,
+        file.as_bytes(),
+        options,
+        &mut out,
+        &mut cert,
+        &mut Unwatched,
+    );
     report.is_ok() && out.as_slice() == answer && cert.as_slice() == certificate
 }
 
-/// How often what a run tells goes back, or comes to something else than its report; with the last that it told.
+/// What a run tells last, where it never goes back and comes to the decisions of its report.
 fn last_of(
     alloc: Global,
     options: &Options,
@@ -60,7 +67,7 @@ fn last_of(
     cert: &mut Vec<u8>,
 ) -> Option<Progress> {
     let mut last = untold();
-    let report = solve(alloc, file, options, out, cert, &mut last).ok()?;
+    let report = solve(alloc, file.as_bytes(), options, out, cert, &mut last).ok()?;
     if last.falls == 0 && report.nodes == last.progress.nodes {
         Some(last.progress)
     } else {

@@ -53,7 +53,15 @@ fn fault_of<W: Write, C: Write>(
     out: &mut W,
     cert: &mut C,
 ) -> Option<RunFault> {
-    solve(alloc, TWO_BOOLEANS, options, out, cert, &mut Unwatched).err()
+    solve(
+        alloc,
+        TWO_BOOLEANS.as_bytes(),
+        options,
+        out,
+        cert,
+        &mut Unwatched,
+    )
+    .err()
 }
 
 /// Whether the bytes are the first so many of the text.
@@ -191,7 +199,15 @@ fn is_written(alloc: Global, options: &Options, file: &str, all: &RefCell<Vec<u8
         all,
         name: "<cert>",
     };
-    solve(alloc, file, options, &mut out, &mut cert, &mut Unwatched).is_ok()
+    solve(
+        alloc,
+        file.as_bytes(),
+        options,
+        &mut out,
+        &mut cert,
+        &mut Unwatched,
+    )
+    .is_ok()
 }
 
 /// What a run writes and flushes, in order.
