@@ -1,6 +1,5 @@
-use crate::words::options_in;
 use fzn_solver::{Report, RunFault, Unwatched, Watch, run};
-use fzn_words::{Options, OptionsFault};
+use fzn_words::{Learning, Options};
 use std::alloc::Global;
 use std::io::{Read, Write};
 use std::str::from_utf8;
@@ -21,9 +20,21 @@ const SOLUTION: &[u8] = b"a = false;\nb = true;\n----------\n";
 const LEAST: &str =
     "var 0..10: x :: output_var; constraint int_lin_le([-2],[x],-7); solve minimize x;";
 
-/// Every solution is wanted, and nine decisions may be made.
-fn all_of(alloc: Global) -> Result<Options, OptionsFault> {
-    options_in(alloc, "-a --nodes 9 m.fzn")
+/// All solutions or one are wanted, and so many decisions may be made; what else there is as without words.
+pub(crate) fn options_of(alloc: Global, all: bool, nodes: u64) -> Options {
+    Options {
+        all,
+        limit: None,
+        free: false,
+        seed: None,
+        nodes,
+        learn: Learning::First,
+        restart_after: 100,
+        keep: 2_000,
+        progress: false,
+        model: String::new(alloc),
+        cert: None,
+    }
 }
 
 fn text_of(bytes: &[u8]) -> &str {

@@ -1,7 +1,6 @@
 // A file with each form of items, and a certificate, with each byte changed: solver and checker give an answer, or the same fault; the
 // checker prints what is true of the file, or nothing.
-use crate::runs::solve;
-use crate::words::options_in;
+use crate::runs::{options_of, solve};
 use fzn_checker::{CheckFault, check};
 use fzn_solver::{RunFault, Unwatched};
 use fzn_words::Options;
@@ -66,7 +65,7 @@ fn is_answered_or_refused(alloc: Global, options: &Options, at: usize) -> Result
 
 #[test]
 fn each_byte_of_a_file_changed(rt: HostRuntime) -> Result<(), Fail> {
-    let options = options_in(rt.alloc(), "--nodes 100 m.fzn")?;
+    let options = options_of(rt.alloc(), false, 100);
     for at in 0..FILE.len() {
         assert!(rt;
             is_answered_or_refused(rt.alloc(), &options, at)?,

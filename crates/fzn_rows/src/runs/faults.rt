@@ -1,4 +1,4 @@
-use super::{TWO_BOOLEANS, all_of, solve};
+use super::{TWO_BOOLEANS, options_of, solve};
 use fzn_lexer::{Fault, FaultKind, Place};
 use fzn_solver::{RunFault, Unwatched};
 use fzn_words::Options;
@@ -48,7 +48,7 @@ fn is_unread(alloc: Global, options: &Options, file: &str) -> Result<bool, Alloc
 
 #[test]
 fn failed_reads(rt: HostRuntime) -> Result<(), Fail> {
-    let options = all_of(rt.alloc())?;
+    let options = options_of(rt.alloc(), true, 9);
     for file in ["", "solve", TWO_BOOLEANS] {
         assert!(rt; is_unread(rt.alloc(), &options, file)?, "{file:?}");
     }

@@ -1,6 +1,5 @@
 // Runs that restart after each conflict, and keep no learned clause but the newest.
-use super::{is_answered, text_of};
-use crate::words::options_in;
+use super::{is_answered, options_of, text_of};
 use fzn_checker::check;
 use fzn_words::{Learning, Options};
 use std::alloc::Global;
@@ -44,7 +43,7 @@ fn certificate_of(
     file: &str,
     answer: &[u8],
 ) -> Result<Vec<u8>, Fail> {
-    let mut options = options_in(alloc, "m.fzn")?;
+    let mut options = options_of(alloc, false, 10_000_000);
     forget(&mut options, learn, seed);
     let mut cert: Vec<u8> = Vec::new(alloc);
     let is_right = is_answered(alloc, file, &options, answer, &mut cert)

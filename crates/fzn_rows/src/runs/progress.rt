@@ -1,4 +1,4 @@
-use super::{LEAST, TWO_BOOLEANS, all_of, solve};
+use super::{LEAST, TWO_BOOLEANS, options_of, solve};
 use fzn_solver::{Progress, Unwatched, Watch};
 use fzn_words::Options;
 use std::alloc::Global;
@@ -95,7 +95,7 @@ const MOST: &str = "var 0..3: y; var 0..3: x :: output_var; solve maximize x;";
 
 #[test]
 fn progress(rt: HostRuntime) -> Result<(), Fail> {
-    let options = all_of(rt.alloc())?;
+    let options = options_of(rt.alloc(), true, 9);
     assert!(rt; is_told(rt.alloc(), &options, TWO_BOOLEANS, 1, None));
     assert!(rt; is_told(rt.alloc(), &options, LEAST, 1, Some(4)));
     assert!(rt; is_told(rt.alloc(), &options, MOST, 4, Some(3)));

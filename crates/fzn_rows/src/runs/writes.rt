@@ -1,5 +1,4 @@
-use super::{ANSWER, LEAST, SOLUTION, TWO_BOOLEANS, all_of, is_answered, solve, text_of};
-use crate::words::options_in;
+use super::{ANSWER, LEAST, SOLUTION, TWO_BOOLEANS, is_answered, options_of, solve, text_of};
 use fzn_solver::{RunFault, Unwatched};
 use fzn_words::Options;
 use std::alloc::Global;
@@ -116,7 +115,7 @@ fn whole_of(alloc: Global, options: &Options) -> Result<Vec<u8>, Fail> {
 #[test]
 fn failed_writes_of_the_answer(rt: HostRuntime) -> Result<(), Fail> {
     let alloc = rt.alloc();
-    let options = all_of(alloc)?;
+    let options = options_of(alloc, true, 9);
     let whole = whole_of(alloc, &options)?;
     for room in 0..ANSWER.len() {
         let is_right = is_answer_cut(alloc, &options, &whole, room, false)
@@ -129,7 +128,7 @@ fn failed_writes_of_the_answer(rt: HostRuntime) -> Result<(), Fail> {
 #[test]
 fn failed_writes_of_the_certificate(rt: HostRuntime) -> Result<(), Fail> {
     let alloc = rt.alloc();
-    let options = all_of(alloc)?;
+    let options = options_of(alloc, true, 9);
     let whole = whole_of(alloc, &options)?;
     for room in 0..whole.len() {
         let is_right = is_certificate_cut(alloc, &options, &whole, room, false)
@@ -157,7 +156,7 @@ fn is_unflushed(
 #[test]
 fn failed_flushes(rt: HostRuntime) -> Result<(), Fail> {
     let alloc = rt.alloc();
-    let options = all_of(alloc)?;
+    let options = options_of(alloc, true, 9);
     assert!(rt; is_unflushed(alloc, &options, 9, 0, RunFault::WriteCert, b""));
     assert!(rt; is_unflushed(alloc, &options, 9, 1, RunFault::WriteCert, SOLUTION));
     assert!(rt; is_unflushed(alloc, &options, 0, 9, RunFault::WriteOutput, SOLUTION));
@@ -211,11 +210,11 @@ fn is_written(alloc: Global, options: &Options, file: &str, all: &RefCell<Vec<u8
 }
 
 /// What a run writes and flushes, in order.
-fn calls_of(alloc: Global, words: &str, file: &str) -> Result<Vec<u8>, Fail> {
-    let options = options_in(alloc, words)?;
-    let all: RefCell<Vec<u8>> = RefCell::new(Vec::new(alloc));
-    if is_written(alloc, &options, file, &all) {
-        Ok(all.into_inner())
+fn calls_of(alloc: Global, all: bool, file: &str) -> Result<Vec<u8>, Fail> {
+    let options = options_of(alloc, all, 1_000);
+    let calls: RefCell<Vec<u8>> = RefCell::new(Vec::new(alloc));
+    if is_written(alloc, &options, file, &calls) {
+        Ok(calls.into_inner())
     } else {
         Err("a fault")?
     }
@@ -224,12 +223,12 @@ fn calls_of(alloc: Global, words: &str, file: &str) -> Result<Vec<u8>, Fail> {
 /// Whether these calls are among those of a run, and these are the last.
 fn is_in_order(
     alloc: Global,
-    words: &str,
+    all: bool,
     file: &str,
     solution: &str,
     end: &str,
 ) -> Result<bool, Fail> {
-    let calls = calls_of(alloc, words, file)?;
+    let calls = calls_of(alloc, all, file)?;
     Ok(text_of(&calls).contains(solution) && text_of(&calls).ends_with(end))
 }
 
@@ -238,7 +237,7 @@ fn certificate_before_answer(rt: HostRuntime) -> Result<(), Fail> {
     assert!(rt;
         is_in_order(
             rt.alloc(),
-            "-a m.fzn",
+            true,
             TWO_BOOLEANS,
             "\ns 0 1\n<cert>a = false;\nb = true;\n----------\n<out>",
             "\ne closed\n<cert>==========\n<out>",
@@ -247,7 +246,7 @@ fn certificate_before_answer(rt: HostRuntime) -> Result<(), Fail> {
     assert!(rt;
         is_in_order(
             rt.alloc(),
-            "-a m.fzn",
+            true,
             LEAST,
             "\ns 4\n<cert>x = 4;\n----------\n<out>",
             "\ne closed\n<cert>==========\n<out>",
@@ -256,7 +255,7 @@ fn certificate_before_answer(rt: HostRuntime) -> Result<(), Fail> {
     assert!(rt;
         is_in_order(
             rt.alloc(),
-            "m.fzn",
+            false,
             LEAST,
             "\ns 4\n<cert>i ",
             "\ne closed\n<cert>x = 4;\n----------\n==========\n<out>",
