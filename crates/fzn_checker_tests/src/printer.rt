@@ -1,42 +1,44 @@
-ghost use Rattle.std.specs.Prelude.{IfOk, OnOk};
-ghost use Rattle.std.specs.List.{All};
-ghost use Rattle.fzn_meaning.specs.Solutions.{IsAssignment};
+ghost use Rattle.std.specs.Prelude.{IfOk};
+ghost use Rattle.fzn_meaning.specs.Solutions.{IsProper};
 ghost use Rattle.fzn_meaning.specs.WellFormed.{IsWellFormed};
 
-use crate::checker::{least_bit, one};
-use fzn_domain::Memory;
-use fzn_list::Items;
+use crate::checker::least_bit;
+use fzn_checker::{Accepted, CheckFault, check_certificate};
 use fzn_meaning::{Model, is_solution};
 use fzn_printer::{Ending, PrintFault, Printer, put_answer};
 use std::alloc::Global;
 use std::test::Fail;
 
-#[test]
-fn endings_without_a_solution(rt: HostRuntime) -> Result<(), Fail> {
-    let cases = [
-        // the ending, its line
-        (
-            Ending::Unsatisfiable,
-            b"=====UNSATISFIABLE=====\n".as_slice(),
-        ),
-        (Ending::NodeLimit, b"=====UNKNOWN=====\n".as_slice()),
-    ];
-    for (ending, line) in cases {
-        let mut text: Vec<u8> = Vec::new(rt.alloc());
-        Printer::new(&mut text).close(ending)?;
-        assert_eq!(rt; text.as_slice(), line);
-    }
-    Ok(())
+/// Whether an answer without a solution is this line.
+fn is_ended(alloc: Global, ending: Ending, line: &[u8]) -> bool {
+    let mut text: Vec<u8> = Vec::new(alloc);
+    let is_closed = Printer::new(&mut text).close(ending).is_ok();
+    is_closed && text.as_slice() == line
 }
 
 #[test]
-fn nothing_after_the_end(rt: HostRuntime) -> Result<(), Fail> {
-    let mut text: Vec<u8> = Vec::new(rt.alloc());
+fn endings_without_a_solution(rt: HostRuntime) {
+    assert!(rt;
+        is_ended(
+            rt.alloc(),
+            Ending::Unsatisfiable,
+            b"=====UNSATISFIABLE=====\n"
+        )
+    );
+    assert!(rt; is_ended(rt.alloc(), Ending::NodeLimit, b"=====UNKNOWN=====\n"));
+}
+
+/// Whether nothing is printed after the end.
+fn is_shut(alloc: Global) -> bool {
+    let mut text: Vec<u8> = Vec::new(alloc);
     let mut printer = Printer::new(&mut text);
-    printer.flush()?;
-    printer.close(Ending::NodeLimit)?;
-    assert_eq!(rt; printer.close(Ending::Complete), Err(PrintFault::Failed));
-    Ok(())
+    let is_closed = printer.flush().is_ok() && printer.close(Ending::NodeLimit).is_ok();
+    is_closed && printer.close(Ending::Complete) == Err(PrintFault::Failed)
+}
+
+#[test]
+fn nothing_after_the_end(rt: HostRuntime) {
+    assert!(rt; is_shut(rt.alloc()));
 }
 
 #[test]
@@ -45,54 +47,55 @@ fn closed_endings(rt: HostRuntime) {
     assert!(rt; !Ending::NodeLimit.is_closed() && !Ending::SolutionLimit.is_closed());
 }
 
+/// Prints the solution 1 and the end, and says whether all is printed.
+fn prints_one(model: &Model, text: &mut Vec<u8>) -> bool
+    requires { IsWellFormed model.now }
+{
+    if !is_solution(model, &[1]) {
+        return false;
+    }
+    let mut printer = Printer::new(text);
+    printer.solution(model, &[1]).is_ok() && printer.close(Ending::Complete).is_ok()
+}
+
 #[test]
 fn one_solution(rt: HostRuntime) -> Result<(), Fail> {
     let model = least_bit(rt.alloc())?;
     let mut text: Vec<u8> = Vec::new(rt.alloc());
-    let mut printer = Printer::new(&mut text);
-    assert!(rt; is_solution(&model, &[1]));
-    printer.solution(&model, &[1])?;
-    printer.close(Ending::Complete)?;
-    let _ = printer;
-    assert_eq!(rt;
-        text.as_slice(),
-        b"x = 1;\n----------\n==========\n".as_slice()
-    );
-    Ok(())
-}
-
-fn push_value(found: &mut Vec<Items<i64>>, model: &Model, values: Items<i64>) -> Result<(), Memory>
-    requires model { IsWellFormed model.now }
-    requires found { All (IsAssignment model.now) found.old.items }
-    ensures { OnOk result (All (IsAssignment model.now) found.new.items) }
-{
-    if is_solution(model, values.as_slice()) {
-        found.push(values)?;
-    }
+    assert!(rt; prints_one(&model, &mut text));
+    assert!(rt; text.as_slice() == b"x = 1;\n----------\n==========\n".as_slice());
     Ok(())
 }
 
 /// The solution 1, and then 0.
-fn both(alloc: Global, model: &Model) -> Result<Vec<Items<i64>>, Memory>
-    requires model { IsWellFormed model.now }
-    ensures { IfOk result (λ found. All (IsAssignment model.now) found.items) }
+fn both(alloc: Global, model: &Model) -> Result<Accepted, CheckFault>
+    requires { IsWellFormed model.now }
+    ensures { IfOk result (λ answer. IsProper model.now answer.solutions.items) }
 {
-    let mut found = Vec::new(alloc);
-    push_value(&mut found, model, one(alloc, 1)?)?;
-    push_value(&mut found, model, one(alloc, 0)?)?;
-    Ok(found)
+    check_certificate(
+        alloc,
+        model,
+        b"fzc 1\nvars 1 cons 0\ns 1\ns 0\ne open\n".as_slice(),
+    )
 }
+
+/// Prints the last of the solutions, and then all of them and the end; says whether all is printed.
+fn prints_both(model: &Model, answer: &Accepted, text: &mut Vec<u8>) -> bool
+    requires model { IsWellFormed model.now }
+    requires answer { IsProper model.now answer.now.solutions.items }
+{
+    put_answer(text, model, answer.solutions.as_slice(), false, false).is_ok()
+        && put_answer(text, model, answer.solutions.as_slice(), true, true).is_ok()
+}
+
+const BOTH: &[u8] = b"x = 0;\n----------\nx = 1;\n----------\nx = 0;\n----------\n==========\n";
 
 #[test]
 fn answers_of_two_solutions(rt: HostRuntime) -> Result<(), Fail> {
     let model = least_bit(rt.alloc())?;
-    let found = both(rt.alloc(), &model)?;
+    let answer = both(rt.alloc(), &model)?;
     let mut text: Vec<u8> = Vec::new(rt.alloc());
-    put_answer(&mut text, &model, found.as_slice(), false, false)?;
-    put_answer(&mut text, &model, found.as_slice(), true, true)?;
-    assert_eq!(rt;
-        text.as_slice(),
-        b"x = 0;\n----------\nx = 1;\n----------\nx = 0;\n----------\n==========\n".as_slice()
-    );
+    assert!(rt; prints_both(&model, &answer, &mut text));
+    assert!(rt; text.as_slice() == BOTH);
     Ok(())
 }

@@ -1,3 +1,4 @@
+use crate::writer::LINES;
 use fzn_cert::{CertFault, FaultKind, Step, StepWriter, Version};
 use fzn_cert_reader::StepReader;
 use fzn_list::Items;
@@ -5,10 +6,13 @@ use fzn_rules::Rule;
 use std::alloc::Global;
 use std::io;
 use std::io::Read;
-use std::test::Fail;
+use std::test::*;
 
 const ROW: &[u8] =
     b"fzc 1\nvars 2 cons 2\ni 2 lin ; 1<=0\ni 1 lin ; 1>=1 2>=1\ns 0 1\nr ; 1 2 3\ne closed\n";
+
+const TWO: &[u8] =
+    b"fzc 2\nvars 2 cons 2\ni 2 lin ; 1<=0\ni 1 lin ; 1>=1 2>=1\nr 2>=1 ; 1 2\nd 2\ns 0 1\nr ; 1 3 5\ne open\n";
 
 // Gives `most` bytes a call, and fails at the end where it is to.
 #[derive(Drop)]
@@ -30,114 +34,119 @@ impl Read for Cut<'_> {
     }
 }
 
-// How many steps come before the end or a fault, and what the last line says or the fault.
-fn outcome_of<R: Read + Drop>(alloc: Global, input: R) -> (u64, Result<Option<bool>, CertFault>) {
-    let mut reader = StepReader::new(alloc, input);
-    let mut steps = 0u64;
-    for _ in 0..100u8 {
-        match reader.next(alloc) {
-            Ok(Some(_)) => steps = steps.saturating_add(1),
-            Ok(None) => return (steps, Ok(reader.closed())),
-            Err(fault) => return (steps, Err(fault)),
+pub(crate) fn cut_in(bytes: &[u8], most: usize, fails: bool) -> Cut<'_> {
+    Cut { bytes, most, fails }
+}
+
+/// Whether a step comes next.
+fn has_step(alloc: Global, reader: &mut StepReader<Cut<'_>>) -> bool {
+    matches!(reader.next(alloc), Ok(Some(_)))
+}
+
+fn has_steps(alloc: Global, reader: &mut StepReader<Cut<'_>>, count: u8) -> bool {
+    for _ in 0..count {
+        if !has_step(alloc, reader) {
+            return false;
         }
     }
-    (steps, Ok(None))
+    true
+}
+
+fn has_ended(alloc: Global, reader: &mut StepReader<Cut<'_>>) -> bool {
+    matches!(reader.next(alloc), Ok(None))
+}
+
+/// Whether so many steps come before the end, which says whether the answer is closed.
+fn is_read(alloc: Global, bytes: &[u8], most: usize, steps: u8, closed: bool) -> bool {
+    let mut reader = StepReader::new(alloc, cut_in(bytes, most, false));
+    has_steps(alloc, &mut reader, steps)
+        && has_ended(alloc, &mut reader)
+        && reader.closed() == Some(closed)
 }
 
 #[test]
 fn reads_however_the_bytes_are_cut(rt: HostRuntime) {
-    let alloc = rt.alloc();
-    let two: &[u8] =
-        b"fzc 2\nvars 2 cons 2\ni 2 lin ; 1<=0\ni 1 lin ; 1>=1 2>=1\nr 2>=1 ; 1 2\nd 2\ns 0 1\nr ; 1 3 5\ne open\n";
     for most in [1, 2, 3, 7, 4096] {
-        let row = Cut {
-            bytes: ROW,
-            most,
-            fails: false,
-        };
-        assert_eq!(rt; outcome_of(alloc, row), (4, Ok(Some(true))), "by {most}");
-        let row = Cut {
-            bytes: two,
-            most,
-            fails: false,
-        };
-        assert_eq!(rt; outcome_of(alloc, row), (6, Ok(Some(false))), "by {most}");
+        assert!(rt; is_read(rt.alloc(), ROW, most, 4, true), "by {most}");
+        assert!(rt; is_read(rt.alloc(), TWO, most, 6, false), "by {most}");
     }
 }
 
 #[test]
 fn reads_a_step_of_each_kind(rt: HostRuntime) {
-    let alloc = rt.alloc();
-    let text: &[u8] =
-        b"fzc 2\nvars 2 cons 1\ni 7 cut -4000000000 1 ; 2!=-1000000001 2!=-1000000001\ni 8 hall 2 -3 ;\ns 0 4\nr ; 1 1\nd 1 2\ne closed\n";
-    assert_eq!(rt; outcome_of(alloc, text), (5, Ok(Some(true))));
+    assert!(rt; is_read(rt.alloc(), LINES, 4096, 5, true));
+}
+
+/// The fault that comes next, if one does.
+fn fault_of(alloc: Global, reader: &mut StepReader<Cut<'_>>) -> Option<CertFault> {
+    reader.next(alloc).err()
+}
+
+/// The first fault within nine steps.
+fn first_fault(alloc: Global, reader: &mut StepReader<Cut<'_>>) -> Option<CertFault> {
+    for _ in 0..9u8 {
+        let fault = fault_of(alloc, reader);
+        if fault.is_some() {
+            return fault;
+        }
+    }
+    None
+}
+
+/// Whether the bytes, behind which a read fails, have this fault, and each call after it fails at its line.
+fn is_torn(alloc: Global, bytes: &[u8], kind: FaultKind, line: u64) -> bool {
+    let mut reader = StepReader::new(alloc, cut_in(bytes, 1, true));
+    let failed = CertFault {
+        kind: FaultKind::Failed,
+        line,
+    };
+    first_fault(alloc, &mut reader) == Some(CertFault { kind, line })
+        && fault_of(alloc, &mut reader) == Some(failed)
 }
 
 #[test]
 fn a_failed_read_comes_after_what_was_read(rt: HostRuntime) {
-    let alloc = rt.alloc();
-    let cases: [(&[u8], FaultKind, u64); 3] = [
-        (b"fzc 9\n", FaultKind::Header, 1),
-        (b"fzc 1\nvars 2 cons 2\n", FaultKind::Read, 3),
-        (ROW, FaultKind::Read, 7),
-    ];
-    for (bytes, kind, line) in cases {
-        let mut reader = StepReader::new(
-            alloc,
-            Cut {
-                bytes,
-                most: 1,
-                fails: true,
-            },
-        );
-        let mut last = Ok(());
-        for _ in 0..9u8 {
-            if last.is_ok() {
-                last = reader.next(alloc).map(|_| ());
-            }
-        }
-        assert_eq!(rt; last, Err(CertFault { kind, line }), "{bytes:?}");
-        let again = reader.next(alloc).map(|_| ());
-        assert_eq!(rt;
-            again,
-            Err(CertFault {
-                kind: FaultKind::Failed,
-                line
-            }),
-            "{bytes:?} again"
-        );
-    }
+    assert!(rt; is_torn(rt.alloc(), b"fzc 9\n", FaultKind::Header, 1));
+    assert!(rt; is_torn(rt.alloc(), b"fzc 1\nvars 2 cons 2\n", FaultKind::Read, 3));
+    assert!(rt; is_torn(rt.alloc(), ROW, FaultKind::Read, 7));
+}
+
+/// Whether the reader tells nothing of the first two lines and of the last.
+fn is_untold(reader: &StepReader<Cut<'_>>) -> bool {
+    reader.header().is_none()
+        && reader.counts().is_none()
+        && reader.version().is_none()
+        && reader.closed().is_none()
+}
+
+/// Whether it tells the first two lines, and nothing of the last.
+fn is_told(reader: &StepReader<Cut<'_>>) -> bool {
+    reader.counts() == Some((2, 2))
+        && reader.version() == Some(Version::One)
+        && reader.closed().is_none()
+}
+
+/// Whether the next step is from constraint 2 by the rule `lin`.
+fn has_lin(alloc: Global, reader: &mut StepReader<Cut<'_>>) -> bool {
+    matches!(
+        reader.next(alloc),
+        Ok(Some(Step::Infer {
+            constraint: 2,
+            rule: Rule::Lin,
+            ..
+        }))
+    )
 }
 
 #[test]
 fn tells_what_the_lines_say(rt: HostRuntime) {
-    let alloc = rt.alloc();
-    let mut reader = StepReader::new(alloc, ROW);
-    assert_eq!(rt;
-        (reader.counts(), reader.version(), reader.closed()),
-        (None, None, None)
-    );
-    assert_eq!(rt; reader.header(), None);
-    assert!(rt;
-        matches!(
-            reader.next(alloc),
-            Ok(Some(Step::Infer {
-                constraint: 2,
-                rule: Rule::Lin,
-                ..
-            }))
-        )
-    );
-    assert_eq!(rt;
-        (reader.counts(), reader.version(), reader.closed()),
-        (Some((2, 2)), Some(Version::One), None)
-    );
+    let mut reader = StepReader::new(rt.alloc(), cut_in(ROW, 4096, false));
+    assert!(rt; is_untold(&reader));
+    assert!(rt; has_lin(rt.alloc(), &mut reader) && is_told(&reader));
 }
 
-/// A certificate of an inference and a solution.
-fn written(alloc: Global) -> Result<Vec<u8>, FaultKind> {
-    let mut out: Vec<u8> = Vec::new(alloc);
-    let mut writer = StepWriter::new(alloc, &mut out, 2, 8)?;
+/// Writes an inference, a solution and the end.
+fn write_two(alloc: Global, writer: &mut StepWriter<'_, Vec<u8>>) -> Result<(), FaultKind> {
     let step = Step::Infer {
         constraint: 8,
         rule: Rule::Hall(2, -3),
@@ -145,29 +154,33 @@ fn written(alloc: Global) -> Result<Vec<u8>, FaultKind> {
     };
     writer.write(alloc, &step)?;
     writer.write(alloc, &Step::Solution(Items::new(alloc)))?;
-    writer.finish(true)?;
-    let _ = writer;
-    Ok(out)
+    writer.finish(true)
 }
 
-/// Whether the first step that is read is the inference.
-fn begins_with_the_inference(alloc: Global, bytes: &[u8]) -> bool {
-    let mut reader = StepReader::new(alloc, bytes);
-    let is_read = matches!(
+/// Whether the next step is the inference.
+fn has_hall(alloc: Global, reader: &mut StepReader<Cut<'_>>) -> bool {
+    matches!(
         reader.next(alloc),
         Ok(Some(Step::Infer {
             constraint: 8,
             rule: Rule::Hall(2, -3),
             ..
         }))
-    );
-    is_read && reader.counts() == Some((2, 8))
+    )
+}
+
+fn begins_with_hall(alloc: Global, bytes: &[u8]) -> bool {
+    let mut reader = StepReader::new(alloc, cut_in(bytes, 4096, false));
+    has_hall(alloc, &mut reader) && reader.counts() == Some((2, 8))
 }
 
 #[test]
 fn reads_what_was_written(rt: HostRuntime) -> Result<(), Fail> {
-    let out = written(rt.alloc())?;
-    assert_eq!(rt; outcome_of(rt.alloc(), out.as_slice()), (2, Ok(Some(true))));
-    assert!(rt; begins_with_the_inference(rt.alloc(), out.as_slice()));
+    let mut out: Vec<u8> = Vec::new(rt.alloc());
+    let mut writer = StepWriter::new(rt.alloc(), &mut out, 2, 8)?;
+    write_two(rt.alloc(), &mut writer)?;
+    let _ = writer;
+    assert!(rt; is_read(rt.alloc(), &out, 4096, 2, true));
+    assert!(rt; begins_with_hall(rt.alloc(), &out));
     Ok(())
 }

@@ -1,9 +1,10 @@
-use crate::reader::Cut;
-use crate::writer::Narrow;
+use crate::reader::{Cut, cut_in};
+use crate::writer::with_room;
 use fzn_checker::{CheckFault, to2};
+use std::alloc::{AllocError, Global};
 use std::io;
-use std::io::Write;
-use std::test::Fail;
+use std::io::{Read, Write};
+use std::test::*;
 
 const OLD: &[u8] =
     b"fzc 1\nvars 2 cons 2\ni 2 lin ; 1<=0\ni 1 lin ; 1>=1 2>=1\ns 0 1\nr ; 1 2 3\ne closed\n";
@@ -37,51 +38,78 @@ impl Write for Unflushed {
     }
 }
 
+/// The fault of a certificate that is written anew.
+fn fault_of<C: Read + Drop, W: Write>(alloc: Global, old: C, new: &mut W) -> Option<CheckFault> {
+    to2(alloc, old, new).err()
+}
+
+fn is_rewritten(alloc: Global) -> bool {
+    let mut new: Vec<u8> = Vec::new(alloc);
+    to2(alloc, OLD, &mut new) == Ok(4) && new.as_slice() == NEW
+}
+
 #[test]
 fn another_first_line(rt: HostRuntime) {
-    let mut new: Vec<u8> = Vec::new(rt.alloc());
-    assert_eq!(rt; to2(rt.alloc(), OLD, &mut new), Ok(4));
-    assert_eq!(rt; new.as_slice(), NEW);
+    assert!(rt; is_rewritten(rt.alloc()));
+}
+
+/// What is wrong with a certificate.
+fn told(alloc: Global, old: &str, new: &mut Vec<u8>) -> Result<String, AllocError> {
+    match fault_of(alloc, old.as_bytes(), new) {
+        Some(fault) => format!(in alloc; "{fault}"),
+        None => Ok(String::new(alloc)),
+    }
+}
+
+/// Whether a certificate has this fault, and this stands then.
+fn is_left(alloc: Global, old: &str, fault: &str, stands: &str) -> Result<bool, AllocError> {
+    let mut new: Vec<u8> = Vec::new(alloc);
+    let told = told(alloc, old, &mut new)?;
+    Ok(told.as_str() == fault && new.as_slice() == stands.as_bytes())
+}
+
+/// Whether the row, with its line feeds, is right.
+fn is_right(alloc: Global, row: &str) -> Result<bool, Fail> {
+    let (old, told) = row.split_once(": ").ok_or("a row has three parts")?;
+    let (fault, stands) = told.rsplit_once(":").ok_or("a row has three parts")?;
+    Ok(is_left(alloc, old, fault, stands)?)
+}
+
+fn is_as_told(alloc: Global, row: &str) -> Result<bool, Fail> {
+    let row = row.replace(alloc, '|', "\n")?;
+    is_right(alloc, row.as_str())
 }
 
 #[test]
 fn the_first_faulty_line(rt: HostRuntime) -> Result<(), Fail> {
-    let alloc = rt.alloc();
+    assert!(rt; FAULTS.trim().lines().count() == 7);
     for row in FAULTS.trim().lines() {
-        let (old, told) = row.split_once(": ").ok_or("a row")?;
-        let (fault, stands) = told.rsplit_once(":").ok_or("a row")?;
-        let old = old.replace(alloc, '|', "\n")?;
-        let stands = stands.replace(alloc, '|', "\n")?;
-        let mut new: Vec<u8> = Vec::new(alloc);
-        let text = match to2(alloc, old.as_bytes(), &mut new) {
-            Ok(steps) => format!(in alloc; "{steps}")?,
-            Err(found) => format!(in alloc; "{found}")?,
-        };
-        assert_eq!(rt; text.as_str(), fault, "{row}");
-        assert_eq!(rt; new.as_slice(), stands.as_bytes(), "{row}");
+        assert!(rt; is_as_told(rt.alloc(), row)?, "{row}");
     }
     Ok(())
 }
 
-#[test]
-fn reads_and_writes_that_fail(rt: HostRuntime) -> Result<(), Fail> {
-    let alloc = rt.alloc();
-    let cut = Cut {
-        bytes: &OLD[..30],
-        most: 7,
-        fails: true,
-    };
+fn is_unread(alloc: Global) -> bool {
     let mut new: Vec<u8> = Vec::new(alloc);
-    assert_eq!(rt; to2(alloc, cut, &mut new), Err(CheckFault::Read));
-    let mut narrow = Narrow {
-        taken: Vec::new(alloc),
-        room: 40,
-        fails: true,
-    };
-    assert_eq!(rt; to2(alloc, OLD, &mut narrow), Err(CheckFault::WriteCert));
-    assert_eq!(rt; narrow.taken.as_slice(), &NEW[..40]);
-    let mut unflushed = Unflushed(Vec::new(alloc));
-    assert_eq!(rt; to2(alloc, OLD, &mut unflushed), Err(CheckFault::WriteCert));
-    assert_eq!(rt; unflushed.0.as_slice(), NEW);
-    Ok(())
+    let torn: Cut<'static> = cut_in(&OLD[..30], 7, true);
+    fault_of(alloc, torn, &mut new) == Some(CheckFault::Read)
+}
+
+fn is_unwritten(alloc: Global) -> bool {
+    let mut new = with_room(alloc, 40, true);
+    let fault = fault_of(alloc, OLD, &mut new);
+    fault == Some(CheckFault::WriteCert) && new.taken.as_slice() == &NEW[..40]
+}
+
+fn is_unflushed(alloc: Global) -> bool {
+    let mut new = Unflushed(Vec::new(alloc));
+    let fault = fault_of(alloc, OLD, &mut new);
+    fault == Some(CheckFault::WriteCert) && new.0.as_slice() == NEW
+}
+
+#[test]
+fn reads_and_writes_that_fail(rt: HostRuntime) {
+    assert!(rt; is_unread(rt.alloc()));
+    assert!(rt; is_unwritten(rt.alloc()));
+    assert!(rt; is_unflushed(rt.alloc()));
 }

@@ -2,6 +2,7 @@ ghost use Rattle.std.specs.Prelude.{◌≡◌, ◌∷◌, [], IfOk};
 ghost use Rattle.std.specs.List.{AllByRecursion};
 ghost use Rattle.fzn_cert.specs.declared.step.Version.TheVariants.{Two};
 ghost use Rattle.fzn_cert.specs.Spelling.{IsNumber, IsSpelled};
+ghost use Rattle.fzn_cert.specs.Writer.{version_of};
 
 use fzn_cert::{FaultKind, Refusal, Step, StepWriter, Version, one_line, one_verdict};
 use fzn_domain::{Lit, Memory, Op, VarId};
@@ -10,7 +11,7 @@ use fzn_rules::Rule;
 use std::alloc::Global;
 use std::io;
 use std::io::Write;
-use std::test::Fail;
+use std::test::*;
 
 // Takes three bytes a call up to `room`, and then fails or takes none.
 #[derive(Drop)]
@@ -36,15 +37,23 @@ impl Write for Narrow {
     }
 }
 
+pub(crate) fn with_room(alloc: Global, room: usize, fails: bool) -> Narrow {
+    Narrow {
+        taken: Vec::new(alloc),
+        room,
+        fails,
+    }
+}
+
+fn is_told(alloc: Global) -> Result<bool, Memory> {
+    let text = format!(in alloc; "{} / {}", FaultKind::Spelling, Refusal::NoSuchVariable)?;
+    Ok(text.as_str() == "fault 31 Spelling / fault 49 NoSuchVariable")
+}
+
 #[test]
 fn tells_its_laws_and_faults(rt: HostRuntime) -> Result<(), Fail> {
-    let alloc = rt.alloc();
-    assert_eq!(rt; (one_line(), one_verdict()), ((), ()));
-    let text = format!(in alloc; "{} / {}", FaultKind::Spelling, Refusal::NoSuchVariable)?;
-    assert_eq!(rt;
-        text.as_str(),
-        "fault 31 Spelling / fault 49 NoSuchVariable"
-    );
+    assert!(rt; (one_line(), one_verdict()) == ((), ()));
+    assert!(rt; is_told(rt.alloc())?);
     Ok(())
 }
 
@@ -83,83 +92,106 @@ fn delete_step(alloc: Global) -> Result<Step, Memory>
     Ok(Step::Delete { ids })
 }
 
-// Writes one step of each kind.
-fn write_all<W: Write>(alloc: Global, out: &mut W) -> Result<(), FaultKind> {
-    let mut writer = StepWriter::over(out);
-    writer.begin(alloc, Version::Two, 2, 1)?;
-    writer.write(alloc, &cut_step(alloc)?)?;
-    writer.write(
-        alloc,
-        &Step::Infer {
-            constraint: 8,
-            rule: Rule::Hall(2, -3),
-            clause: Items::new(alloc),
-        },
-    )?;
-    writer.write(alloc, &Step::Solution(items_of(alloc, 0i64, 4i64)?))?;
+fn hall_step(alloc: Global) -> Step
+    ensures { IsSpelled Two result }
+{
+    Step::Infer {
+        constraint: 8,
+        rule: Rule::Hall(2, -3),
+        clause: Items::new(alloc),
+    }
+}
+
+fn solution_step(alloc: Global) -> Result<Step, Memory>
+    ensures { IfOk result (IsSpelled Two) }
+{
+    Ok(Step::Solution(items_of(alloc, 0i64, 4i64)?))
+}
+
+fn resolve_step(alloc: Global) -> Result<Step, Memory>
+    ensures { IfOk result (IsSpelled Two) }
+{
+    Ok(Step::Resolve {
+        clause: Items::new(alloc),
+        ids: items_of(alloc, 1u64, 1u64)?,
+    })
+}
+
+/// What a certificate of version 2 with a step of each kind has.
+pub(crate) const LINES: &[u8] =
+    b"fzc 2\nvars 2 cons 1\ni 7 cut -4000000000 1 ; 2!=-1000000001 2!=-1000000001\ni 8 hall 2 -3 ;\ns 0 4\nr ; 1 1\nd 1 2\ne closed\n";
+
+/// Writes the step, where there is memory for it.
+fn put(
+    alloc: Global,
+    writer: &mut StepWriter<'_, Narrow>,
+    step: Result<Step, Memory>,
+) -> Result<(), FaultKind>
+    requires version { version_of writer.old ≡ Two }
+    requires step { IfOk step (IsSpelled Two) }
+    ensures { version_of writer.new ≡ Two }
+{
+    writer.write(alloc, &step?)
+}
+
+fn write_steps(alloc: Global, writer: &mut StepWriter<'_, Narrow>) -> Result<(), FaultKind>
+    requires { version_of writer.old ≡ Two }
+{
+    put(alloc, writer, cut_step(alloc))?;
+    put(alloc, writer, Ok(hall_step(alloc)))?;
+    put(alloc, writer, solution_step(alloc))?;
     writer.flush()?;
-    writer.write(
-        alloc,
-        &Step::Resolve {
-            clause: Items::new(alloc),
-            ids: items_of(alloc, 1u64, 1u64)?,
-        },
-    )?;
-    writer.write(alloc, &delete_step(alloc)?)?;
+    put(alloc, writer, resolve_step(alloc))?;
+    put(alloc, writer, delete_step(alloc))?;
     writer.finish(true)
 }
 
+// Writes one step of each kind.
+fn write_all(alloc: Global, out: &mut Narrow) -> Result<(), FaultKind> {
+    let mut writer = StepWriter::over(out);
+    writer.begin(alloc, Version::Two, 2, 1)?;
+    write_steps(alloc, &mut writer)
+}
+
+/// Whether the lines are written, or with less room a beginning of them.
+fn is_written(alloc: Global, room: usize, fails: bool) -> bool {
+    let mut out = with_room(alloc, room, fails);
+    let is_right = match write_all(alloc, &mut out) {
+        Ok(()) => room == LINES.len(),
+        Err(fault) => room != LINES.len() && fault == FaultKind::Write,
+    };
+    is_right && out.taken.len() == room && LINES.starts_with(&out.taken)
+}
+
 #[test]
-fn writes_the_lines_or_a_beginning(rt: HostRuntime) -> Result<(), Fail> {
-    let alloc = rt.alloc();
-    let want: &[u8] =
-        b"fzc 2\nvars 2 cons 1\ni 7 cut -4000000000 1 ; 2!=-1000000001 2!=-1000000001\ni 8 hall 2 -3 ;\ns 0 4\nr ; 1 1\nd 1 2\ne closed\n";
-    for room in 0..want.len() + 1 {
-        for fails in [false, true] {
-            let mut out = Narrow {
-                taken: Vec::new(alloc),
-                room,
-                fails,
-            };
-            let result = write_all(alloc, &mut out);
-            let is_whole = room == want.len();
-            assert_eq!(rt;
-                result,
-                if is_whole {
-                    Ok(())
-                } else {
-                    Err(FaultKind::Write)
-                },
-                "room {room}"
-            );
-            assert_eq!(rt; out.taken.as_slice(), &want[..room], "room {room}");
-        }
+fn writes_the_lines_or_a_beginning(rt: HostRuntime) {
+    for room in 0..LINES.len() + 1 {
+        assert!(rt; is_written(rt.alloc(), room, false), "room {room}");
+        assert!(rt; is_written(rt.alloc(), room, true), "room {room}");
     }
-    Ok(())
+}
+
+/// Whether of three solutions one is written, the next fails, and each call fails from then on.
+fn is_shut(alloc: Global, writer: &mut StepWriter<'_, Narrow>) -> bool {
+    let step = Step::Solution(Items::new(alloc));
+    writer.write(alloc, &step) == Ok(())
+        && writer.write(alloc, &step) == Err(FaultKind::Write)
+        && writer.write(alloc, &step) == Err(FaultKind::Failed)
+        && writer.flush() == Err(FaultKind::Failed)
+        && writer.finish(true) == Err(FaultKind::Failed)
+}
+
+fn is_shut_by_a_fault(alloc: Global) -> Result<bool, FaultKind> {
+    let mut out = with_room(alloc, 23, true);
+    let mut writer = StepWriter::with_version(alloc, &mut out, Version::One, 0, 0)?;
+    let is_shut = is_shut(alloc, &mut writer);
+    let _ = writer;
+    Ok(is_shut && out.taken.as_slice() == b"fzc 1\nvars 0 cons 0\ns\ns".as_slice())
 }
 
 #[test]
 fn writes_nothing_after_a_fault(rt: HostRuntime) -> Result<(), Fail> {
-    let alloc = rt.alloc();
-    let mut out = Narrow {
-        taken: Vec::new(alloc),
-        room: 23,
-        fails: true,
-    };
-    let mut writer = StepWriter::with_version(alloc, &mut out, Version::One, 0, 0)?;
-    let step = Step::Solution(Items::new(alloc));
-    assert_eq!(rt; writer.write(alloc, &step), Ok(()));
-    assert_eq!(rt; writer.write(alloc, &step), Err(FaultKind::Write));
-    assert_eq!(rt; writer.write(alloc, &step), Err(FaultKind::Failed));
-    assert_eq!(rt;
-        (writer.flush(), writer.finish(true)),
-        (Err(FaultKind::Failed), Err(FaultKind::Failed))
-    );
-    let _ = writer;
-    assert_eq!(rt;
-        out.taken.as_slice(),
-        b"fzc 1\nvars 0 cons 0\ns\ns".as_slice()
-    );
+    assert!(rt; is_shut_by_a_fault(rt.alloc())?);
     Ok(())
 }
 
@@ -173,27 +205,31 @@ fn ones(alloc: Global, count: u32) -> Result<Items<u64>, Memory>
     Ok(ids)
 }
 
+/// Writes a step with so many ids, and says how many bytes stand then where it is written or is too long.
+fn written(alloc: Global, count: u32, is_short: bool) -> Result<usize, FaultKind> {
+    let mut out: Vec<u8> = Vec::new(alloc);
+    let mut writer = StepWriter::new(alloc, &mut out, 1, 1)?;
+    let step = Step::Resolve {
+        clause: Items::new(alloc),
+        ids: ones(alloc, count)?,
+    };
+    let written = writer.write(alloc, &step);
+    let _ = writer;
+    let want = if is_short {
+        Ok(())
+    } else {
+        Err(FaultKind::StepTooLong)
+    };
+    if written == want {
+        Ok(out.len())
+    } else {
+        Err(FaultKind::Failed)
+    }
+}
+
 #[test]
 fn the_longest_lines(rt: HostRuntime) -> Result<(), Fail> {
-    let alloc = rt.alloc();
-    let cases = [
-        (2_097_150, Ok(()), 4_194_303),
-        (2_097_151, Err(FaultKind::StepTooLong), 0),
-    ];
-    for (count, want, len) in cases {
-        let mut out: Vec<u8> = Vec::new(alloc);
-        let mut writer = StepWriter::new(alloc, &mut out, 1, 1)?;
-        let step = Step::Resolve {
-            clause: Items::new(alloc),
-            ids: ones(alloc, count)?,
-        };
-        assert_eq!(rt; writer.write(alloc, &step), want, "{count} ids");
-        let _ = writer;
-        assert_eq!(rt;
-            out.len(),
-            20 + len + if len > 0 { 1 } else { 0 },
-            "{count} ids"
-        );
-    }
+    assert!(rt; written(rt.alloc(), 2_097_150, true)? == 20 + 4_194_304);
+    assert!(rt; written(rt.alloc(), 2_097_151, false)? == 20);
     Ok(())
 }

@@ -1,9 +1,8 @@
-use fzn_solver::{RunFault, Unwatched, run};
-use fzn_words::{Options, options_of};
+use fzn_solver::{Report, RunFault, Unwatched, Watch, run};
+use fzn_words::{Learning, Options};
 use std::alloc::Global;
-use std::io;
+use std::io::{Read, Write};
 use std::str::from_utf8;
-use std::test::Fail;
 
 mod answers;
 mod faults;
@@ -21,25 +20,55 @@ const SOLUTION: &[u8] = b"a = false;\nb = true;\n----------\n";
 const LEAST: &str =
     "var 0..10: x :: output_var; constraint int_lin_le([-2],[x],-7); solve minimize x;";
 
-/// Every solution is wanted, and nine decisions may be made.
-fn all_of(alloc: Global) -> Result<Options, Fail> {
-    Ok(options_of(alloc, &["-a", "--nodes", "9", "m.fzn"])?)
+/// All solutions or one are wanted, and so many decisions may be made; what else there is as without words.
+pub(crate) fn options_of(alloc: Global, all: bool, nodes: u64) -> Options {
+    Options {
+        all,
+        limit: None,
+        free: false,
+        seed: None,
+        nodes,
+        learn: Learning::First,
+        restart_after: 100,
+        keep: 2_000,
+        progress: false,
+        model: String::new(alloc),
+        cert: None,
+    }
 }
 
 fn text_of(bytes: &[u8]) -> &str {
     from_utf8(bytes).unwrap_or("no text")
 }
 
-/// The certificate of a run that meets no fault.
-fn certificate_of(alloc: Global, options: &Options, file: &str) -> Result<Vec<u8>, RunFault> {
-    let mut cert: Vec<u8> = Vec::new(alloc);
-    run(
+/// A run, whatever it reads and writes.
+pub(crate) fn solve<R: Read + Drop, W: Write, C: Write, P: Watch>(
+    alloc: Global,
+    file: R,
+    options: &Options,
+    out: &mut W,
+    cert: &mut C,
+    watch: &mut P,
+) -> Result<Report, RunFault> {
+    run(alloc, file, options, out, cert, watch)
+}
+
+/// Whether a run gives this answer; its certificate goes behind what stands in `cert`.
+fn is_answered(
+    alloc: Global,
+    file: &str,
+    options: &Options,
+    answer: &[u8],
+    cert: &mut Vec<u8>,
+) -> bool {
+    let mut out: Vec<u8> = Vec::new(alloc);
+    let report = solve(
         alloc,
         file.as_bytes(),
         options,
-        &mut io::sink(),
-        &mut cert,
+        &mut out,
+        cert,
         &mut Unwatched,
-    )?;
-    Ok(cert)
+    );
+    report.is_ok() && out.as_slice() == answer
 }

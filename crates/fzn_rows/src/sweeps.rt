@@ -1,8 +1,9 @@
 // A file with each form of items, and a certificate, with each byte changed: solver and checker give an answer, or the same fault; the
 // checker prints what is true of the file, or nothing.
+use crate::runs::{options_of, solve};
 use fzn_checker::{CheckFault, check};
-use fzn_solver::{RunFault, Unwatched, run};
-use fzn_words::{Options, options_of};
+use fzn_solver::{RunFault, Unwatched};
+use fzn_words::Options;
 use std::alloc::{AllocError, Global};
 use std::test::Fail;
 
@@ -23,52 +24,53 @@ constraint bool_clause([b, yes], []);
 solve :: int_search(q, input_order, indomain_min, complete) minimize y;
 "#;
 
-/// How solver and checker reply to a file.
-#[derive(Clone, Copy, Debug, PartialEq)]
-enum Reply {
-    /// The solver answers, and the checker prints the same.
-    Answered,
-    /// Both refuse the file by the same fault at a place, and print nothing.
-    Refused,
-    Otherwise,
+/// Whether both refuse the file by the same fault at a place.
+fn are_refused(solver: Option<RunFault>, checker: Option<CheckFault>) -> bool {
+    match (solver, checker) {
+        (Some(RunFault::File(first)), Some(CheckFault::File(second))) => first == second,
+        _ => false,
+    }
 }
 
-fn reply_to(alloc: Global, options: &Options, file: &[u8]) -> Reply {
+/// Whether the file is answered by both alike, or refused by both with nothing printed.
+fn is_replied_to(alloc: Global, options: &Options, file: &[u8]) -> bool {
     let mut out: Vec<u8> = Vec::new(alloc);
     let mut cert: Vec<u8> = Vec::new(alloc);
-    let mut checked: Vec<u8> = Vec::new(alloc);
-    let solved = run(alloc, file, options, &mut out, &mut cert, &mut Unwatched);
-    let seen = check(alloc, file, cert.as_slice(), options.all, &mut checked);
-    let is_same = out.as_slice() == checked.as_slice();
+    let mut printed: Vec<u8> = Vec::new(alloc);
+    let solver = solve(alloc, file, options, &mut out, &mut cert, &mut Unwatched).err();
+    let checker = check(alloc, file, cert.as_slice(), options.all, &mut printed).err();
+    let is_answered = solver.is_none() && checker.is_none();
     let is_nothing = out.is_empty() && cert.is_empty();
-    match (solved, seen) {
-        (Ok(_), Ok(_)) if is_same => Reply::Answered,
-        (Err(RunFault::File(first)), Err(CheckFault::File(second)))
-            if is_same && is_nothing && first == second => { Reply::Refused }
-        _ => Reply::Otherwise,
+    let is_same = out.as_slice() == printed.as_slice();
+    is_same && (is_answered || is_nothing && are_refused(solver, checker))
+}
+
+/// Puts the byte at the place, where the bytes have it.
+fn put_at(bytes: &mut [u8], at: usize, byte: u8) {
+    if at < bytes.len() {
+        bytes[at] = byte;
     }
 }
 
 /// Whether the file with another byte at the place is answered or refused, for each byte.
 fn is_answered_or_refused(alloc: Global, options: &Options, at: usize) -> Result<bool, AllocError> {
     let mut file = Vec::from_slice(alloc, FILE.as_bytes())?;
+    let mut is_right = true;
     for byte in 0..=255u8 {
-        if at < file.len() {
-            file[at] = byte;
-        }
-        if reply_to(alloc, options, file.as_slice()) == Reply::Otherwise {
-            return Ok(false);
-        }
+        put_at(&mut file, at, byte);
+        is_right = is_right && is_replied_to(alloc, options, &file);
     }
-    Ok(true)
+    Ok(is_right)
 }
 
 #[test]
 fn each_byte_of_a_file_changed(rt: HostRuntime) -> Result<(), Fail> {
-    let options = options_of(rt.alloc(), &["--nodes", "100", "m.fzn"])?;
+    let options = options_of(rt.alloc(), false, 100);
     for at in 0..FILE.len() {
-        let is_right = is_answered_or_refused(rt.alloc(), &options, at)?;
-        assert!(rt; is_right, "with byte {at} changed");
+        assert!(rt;
+            is_answered_or_refused(rt.alloc(), &options, at)?,
+            "with byte {at} changed"
+        );
     }
     Ok(())
 }
@@ -93,15 +95,12 @@ fn is_judged(alloc: Global, certificate: &[u8]) -> bool {
 /// Whether the certificate with another byte at the place is judged rightly, for each byte.
 fn is_judged_with_each(alloc: Global, at: usize) -> Result<bool, AllocError> {
     let mut certificate = Vec::from_slice(alloc, CERTIFICATE)?;
+    let mut is_right = true;
     for byte in 0..=255u8 {
-        if at < certificate.len() {
-            certificate[at] = byte;
-        }
-        if !is_judged(alloc, certificate.as_slice()) {
-            return Ok(false);
-        }
+        put_at(&mut certificate, at, byte);
+        is_right = is_right && is_judged(alloc, &certificate);
     }
-    Ok(true)
+    Ok(is_right)
 }
 
 #[test]

@@ -1,55 +1,67 @@
 // What a run tells of itself.
-use fzn_solver::{Report, Unwatched, run};
-use fzn_words::options_of;
-use std::alloc::Global;
+use super::{options_of, solve};
+use fzn_solver::{Report, Unwatched};
+use fzn_words::Options;
+use std::alloc::{AllocError, Global};
 use std::io;
 use std::test::Fail;
 
-/// Words, a file, and the number of solutions with the ending; then the most decisions: the number of assignments less one, or the limit.
+/// What is wanted, at how many solutions to stop, and how many decisions may be made; a file, and the number of solutions with the ending; then the most decisions: the number of assignments less one, or the limit.
 const REPORTS: &str = "
--a --nodes 9 m.fzn | var bool: a; var bool: b; constraint bool_clause([a,b],[]); constraint bool_clause([],[a]); solve satisfy; | 1 Complete | 3
---nodes 9 m.fzn | var bool: a; var bool: b; constraint bool_clause([a,b],[]); constraint bool_clause([],[a]); solve satisfy; | 1 SolutionLimit | 3
--a --nodes 0 m.fzn | solve satisfy; | 1 Complete | 0
---nodes 0 m.fzn | var 5..3: x; solve satisfy; | 0 Unsatisfiable | 0
--a --nodes 0 m.fzn | var bool: a :: output_var; solve satisfy; | 0 NodeLimit | 0
--a --nodes 3 m.fzn | var bool: a :: output_var; var bool: b; solve satisfy; | 2 Complete | 3
---nodes 10 m.fzn | var 0..10: x :: output_var; constraint int_lin_le([-2],[x],-7); solve minimize x; | 1 Complete | 10
---nodes 3 m.fzn | var 0..3: x :: output_var; solve maximize x; | 4 Complete | 3
---nodes 1 m.fzn | var 0..3: x :: output_var; solve maximize x; | 1 NodeLimit | 1
--a -n 2 --nodes 3 m.fzn | var bool: a :: output_var; var bool: b :: output_var; solve satisfy; | 2 SolutionLimit | 3
--n 4 --nodes 3 m.fzn | var bool: a :: output_var; var bool: b :: output_var; solve satisfy; | 4 SolutionLimit | 3
--n 5 --nodes 3 m.fzn | var bool: a :: output_var; var bool: b :: output_var; solve satisfy; | 4 Complete | 3
--n 1 --nodes 3 m.fzn | var 0..3: x :: output_var; solve maximize x; | 4 Complete | 3
+all none 9 | var bool: a; var bool: b; constraint bool_clause([a,b],[]); constraint bool_clause([],[a]); solve satisfy; | 1 Complete | 3
+one none 9 | var bool: a; var bool: b; constraint bool_clause([a,b],[]); constraint bool_clause([],[a]); solve satisfy; | 1 SolutionLimit | 3
+all none 0 | solve satisfy; | 1 Complete | 0
+one none 0 | var 5..3: x; solve satisfy; | 0 Unsatisfiable | 0
+all none 0 | var bool: a :: output_var; solve satisfy; | 0 NodeLimit | 0
+all none 3 | var bool: a :: output_var; var bool: b; solve satisfy; | 2 Complete | 3
+one none 10 | var 0..10: x :: output_var; constraint int_lin_le([-2],[x],-7); solve minimize x; | 1 Complete | 10
+one none 3 | var 0..3: x :: output_var; solve maximize x; | 4 Complete | 3
+one none 1 | var 0..3: x :: output_var; solve maximize x; | 1 NodeLimit | 1
+all 2 3 | var bool: a :: output_var; var bool: b :: output_var; solve satisfy; | 2 SolutionLimit | 3
+one 4 3 | var bool: a :: output_var; var bool: b :: output_var; solve satisfy; | 4 SolutionLimit | 3
+one 5 3 | var bool: a :: output_var; var bool: b :: output_var; solve satisfy; | 4 Complete | 3
+one 1 3 | var 0..3: x :: output_var; solve maximize x; | 4 Complete | 3
 ";
 
-fn report_of(alloc: Global, words: &str, file: &str) -> Result<Report, Fail> {
-    let words: Vec<&str> = words.split_whitespace().collect(alloc)?;
-    let options = options_of(alloc, &words)?;
-    Ok(run(
+fn options_in(alloc: Global, words: &str) -> Option<Options> {
+    let (wanted, rest) = words.split_once(' ')?;
+    let (limit, nodes) = rest.split_once(' ')?;
+    let mut options = options_of(alloc, wanted == "all", nodes.parse::<u64>().ok()?);
+    options.limit = limit.parse::<u64>().ok();
+    Some(options)
+}
+
+fn report_of(alloc: Global, words: &str, file: &str) -> Option<Report> {
+    let options = options_in(alloc, words)?;
+    solve(
         alloc,
         file.as_bytes(),
         &options,
         &mut io::sink(),
         &mut io::sink(),
         &mut Unwatched,
-    )?)
+    )
+    .ok()
+}
+
+fn is_told(alloc: Global, report: Report, told: &str, most: &str) -> Result<bool, AllocError> {
+    let text = format!(in alloc; "{} {:?}", report.solutions, report.ending)?;
+    let within = most.parse::<u64>().is_ok_and(|most| report.nodes <= most);
+    Ok(text.as_str() == told && within)
 }
 
 /// Whether the report of a row is as the row tells.
 fn is_as_told(alloc: Global, row: &str) -> Result<bool, Fail> {
-    let columns: Vec<&str> = row.split('|').map(|it| it.trim()).collect(alloc)?;
-    let [words, file, told, most] = columns.as_slice() else {
-        return Err("a row has four columns")?;
-    };
-    let report = report_of(alloc, words, file)?;
-    let text = format!(in alloc; "{} {:?}", report.solutions, report.ending)?;
-    let within = most.parse::<u64>().is_ok_and(|most| report.nodes <= most);
-    Ok(text.as_str() == *told && within)
+    let (words, rest) = row.split_once(" | ").ok_or("a row has four columns")?;
+    let (file, rest) = rest.split_once(" | ").ok_or("a row has four columns")?;
+    let (told, most) = rest.split_once(" | ").ok_or("a row has four columns")?;
+    let report = report_of(alloc, words, file).ok_or("a file that is answered")?;
+    Ok(is_told(alloc, report, told, most)?)
 }
 
 #[test]
 fn reports(rt: HostRuntime) -> Result<(), Fail> {
-    assert_eq!(rt; REPORTS.trim().lines().count(), 13);
+    assert!(rt; REPORTS.trim().lines().count() == 13);
     for row in REPORTS.trim().lines() {
         assert!(rt; is_as_told(rt.alloc(), row)?, "{row}");
     }

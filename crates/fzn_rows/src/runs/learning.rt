@@ -1,9 +1,8 @@
 // Runs that restart after each conflict, and keep no learned clause but the newest.
-use super::text_of;
+use super::{is_answered, options_of, text_of};
 use fzn_checker::check;
-use fzn_solver::{Unwatched, run};
-use fzn_words::{Options, options_of};
-use std::alloc::{AllocError, Global};
+use fzn_words::{Learning, Options};
+use std::alloc::Global;
 use std::test::Fail;
 
 /// x, or a and b however they are: not all of these.
@@ -18,121 +17,127 @@ const ONE_LITERAL: &str =
 const PIGEONS: &str =
     "var bool: a1; var bool: a2; var bool: b1; var bool: b2; var bool: c1; var bool: c2; constraint bool_clause([a1,a2],[]); constraint bool_clause([b1,b2],[]); constraint bool_clause([c1,c2],[]); constraint bool_clause([],[a1,b1]); constraint bool_clause([],[a1,c1]); constraint bool_clause([],[b1,c1]); constraint bool_clause([],[a2,b2]); constraint bool_clause([],[a2,c2]); constraint bool_clause([],[b2,c2]); solve satisfy;";
 
-fn forgetful(alloc: Global, learn: &str, seed: Option<u64>) -> Result<Options, Fail> {
-    let mut options = options_of(alloc, &["--learn", learn, "m.fzn"])?;
+const ONE_ANSWER: &[u8] = b"----------\n";
+
+const NO_ANSWER: &[u8] = b"=====UNSATISFIABLE=====\n";
+
+fn forget(options: &mut Options, learn: Learning, seed: Option<u64>) {
+    options.learn = learn;
     options.seed = seed;
     options.restart_after = 1;
     options.keep = 0;
-    Ok(options)
 }
 
-/// The certificate of a run that answers so, as the checker does by it.
+/// Whether the checker gives this answer by the certificate.
+fn is_accepted(alloc: Global, file: &str, answer: &[u8], cert: &[u8]) -> bool {
+    let mut out: Vec<u8> = Vec::new(alloc);
+    let verdict = check(alloc, file.as_bytes(), cert, false, &mut out);
+    verdict.is_ok() && out.as_slice() == answer
+}
+
+/// The certificate of a run that gives this answer, as the checker does by it.
 fn certificate_of(
     alloc: Global,
-    options: &Options,
+    learn: Learning,
+    seed: Option<u64>,
     file: &str,
-    answer: &str,
+    answer: &[u8],
 ) -> Result<Vec<u8>, Fail> {
-    let mut out: Vec<u8> = Vec::new(alloc);
+    let mut options = options_of(alloc, false, 10_000_000);
+    forget(&mut options, learn, seed);
     let mut cert: Vec<u8> = Vec::new(alloc);
-    let mut checked: Vec<u8> = Vec::new(alloc);
-    run(
-        alloc,
-        file.as_bytes(),
-        options,
-        &mut out,
-        &mut cert,
-        &mut Unwatched,
-    )?;
-    check(
-        alloc,
-        file.as_bytes(),
-        cert.as_slice(),
-        options.all,
-        &mut checked,
-    )?;
-    if text_of(&out) != answer || text_of(&checked) != answer {
-        return Err("another answer")?;
+    let is_right = is_answered(alloc, file, &options, answer, &mut cert)
+        && is_accepted(alloc, file, answer, &cert);
+    if is_right {
+        Ok(cert)
+    } else {
+        Err("another answer")?
     }
-    Ok(cert)
 }
 
-/// The literals of a step `r`, in one order.
-fn literals_of(alloc: Global, line: &str) -> Result<String, AllocError> {
-    let clause = line.split(';').next().unwrap_or("");
-    let mut lits: Vec<&str> = clause.split_whitespace().collect(alloc)?;
-    lits.sort_unstable();
-    lits.dedup();
-    lits.join(alloc, " ")
-}
-
-/// Whether no two steps `r` have the same literals.
-fn learns_each_once(alloc: Global, certificate: &str) -> Result<bool, AllocError> {
-    let mut clauses = Vec::new(alloc);
-    for line in certificate.lines() {
-        if line.starts_with("r ") {
-            clauses.push(literals_of(alloc, line)?)?;
-        }
-    }
-    let count = clauses.len();
-    clauses.sort_unstable();
-    clauses.dedup();
-    Ok(clauses.len() == count)
+/// Whether a run that is satisfied learns this clause.
+fn learns(alloc: Global, learn: Learning, file: &str, clause: &str) -> Result<bool, Fail> {
+    let cert = certificate_of(alloc, learn, None, file, ONE_ANSWER)?;
+    Ok(text_of(&cert).contains(clause))
 }
 
 #[test]
 fn one_literal_is_learned(rt: HostRuntime) -> Result<(), Fail> {
-    for (learn, clause) in [("first", "\nr 2>=1 ; "), ("plain", "\nr 1>=1 2>=1 ; ")] {
-        let options = forgetful(rt.alloc(), learn, None)?;
-        let certificate = certificate_of(rt.alloc(), &options, ONE_LITERAL, "----------\n")?;
-        assert!(rt;
-            text_of(&certificate).contains(clause),
-            "{}",
-            text_of(&certificate)
-        );
-    }
+    assert!(rt; learns(rt.alloc(), Learning::First, ONE_LITERAL, "\nr 2>=1 ; ")?);
+    assert!(rt; learns(rt.alloc(), Learning::Plain, ONE_LITERAL, "\nr 1>=1 2>=1 ; ")?);
     Ok(())
 }
 
 #[test]
 fn a_restart_deletes(rt: HostRuntime) -> Result<(), Fail> {
-    let options = forgetful(rt.alloc(), "first", None)?;
-    let certificate = certificate_of(rt.alloc(), &options, FOUR_CLAUSES, "----------\n")?;
-    assert!(rt;
-        text_of(&certificate).contains("\nd "),
-        "{}",
-        text_of(&certificate)
-    );
+    assert!(rt; learns(rt.alloc(), Learning::First, FOUR_CLAUSES, "\nd ")?);
     Ok(())
 }
 
 #[test]
 fn plain_learning_deletes_nothing(rt: HostRuntime) -> Result<(), Fail> {
-    let options = forgetful(rt.alloc(), "plain", None)?;
-    let certificate = certificate_of(rt.alloc(), &options, PIGEONS, "=====UNSATISFIABLE=====\n")?;
-    assert!(rt;
-        !text_of(&certificate).contains("\nd "),
-        "{}",
-        text_of(&certificate)
-    );
+    let cert = certificate_of(rt.alloc(), Learning::Plain, None, PIGEONS, NO_ANSWER)?;
+    assert!(rt; !text_of(&cert).contains("\nd "));
     Ok(())
+}
+
+/// The literals of a step `r`.
+fn clause_of(line: &str) -> Option<&str> {
+    let (clause, _) = line.strip_prefix("r ")?.split_once(';')?;
+    Some(clause)
+}
+
+fn has_word(text: &str, wanted: &str) -> bool {
+    for word in text.split_whitespace() {
+        if word == wanted {
+            return true;
+        }
+    }
+    false
+}
+
+/// Whether each literal of the one is one of the other.
+fn is_within(clause: &str, other: &str) -> bool {
+    for word in clause.split_whitespace() {
+        if !has_word(other, word) {
+            return false;
+        }
+    }
+    true
+}
+
+/// How many steps `r` have the same literals as this clause.
+fn count_of(certificate: &str, clause: &str) -> u64 {
+    let mut count = 0u64;
+    for line in certificate.lines() {
+        if let Some(other) = clause_of(line) {
+            if is_within(clause, other) && is_within(other, clause) {
+                count = count.saturating_add(1);
+            }
+        }
+    }
+    count
+}
+
+/// Whether there are steps `r`, no two of them with the same literals.
+fn learns_each_once(certificate: &str) -> bool {
+    let mut is_learned = false;
+    for line in certificate.lines() {
+        if let Some(clause) = clause_of(line) {
+            is_learned = true;
+            if count_of(certificate, clause) != 1 {
+                return false;
+            }
+        }
+    }
+    is_learned
 }
 
 #[test]
 fn each_clause_is_learned_once(rt: HostRuntime) -> Result<(), Fail> {
     for seed in 0..10 {
-        let options = forgetful(rt.alloc(), "first", Some(seed))?;
-        let certificate = certificate_of(
-            rt.alloc(),
-            &options,
-            PIGEONS,
-            "=====UNSATISFIABLE=====\n",
-        )?;
-        assert!(rt;
-            learns_each_once(rt.alloc(), text_of(&certificate))?,
-            "{seed}: {}",
-            text_of(&certificate)
-        );
+        let cert = certificate_of(rt.alloc(), Learning::First, Some(seed), PIGEONS, NO_ANSWER)?;
+        assert!(rt; learns_each_once(text_of(&cert)), "{seed}");
     }
     Ok(())
 }

@@ -1,5 +1,6 @@
-use super::{LEAST, TWO_BOOLEANS, all_of, text_of};
-use fzn_solver::{Progress, Report, Unwatched, Watch, run};
+use super::{LEAST, TWO_BOOLEANS, options_of, solve};
+use fzn_solver::{Progress, Unwatched, Watch};
+use fzn_words::Options;
 use std::alloc::Global;
 use std::test::Fail;
 
@@ -23,54 +24,81 @@ impl Watch for Last {
     }
 }
 
-/// What a run tells, and its answer with the certificate behind it.
-fn told<P: Watch>(alloc: Global, file: &str, watch: &mut P) -> Result<(Report, Vec<u8>), Fail> {
+fn untold() -> Last {
+    Last {
+        progress: Progress {
+            nodes: 0,
+            conflicts: 0,
+            inferences: 0,
+            solutions: 0,
+            best: None,
+        },
+        falls: 0,
+    }
+}
+
+/// Whether a run that no one watches gives this answer and this certificate.
+fn is_same(
+    alloc: Global,
+    options: &Options,
+    file: &str,
+    answer: &[u8],
+    certificate: &[u8],
+) -> bool {
     let mut out: Vec<u8> = Vec::new(alloc);
     let mut cert: Vec<u8> = Vec::new(alloc);
-    let report = run(
+    let report = solve(
         alloc,
         file.as_bytes(),
-        &all_of(alloc)?,
+        options,
         &mut out,
         &mut cert,
-        watch,
-    )?;
-    out.extend_from_slice(&cert)?;
-    Ok((report, out))
+        &mut Unwatched,
+    );
+    report.is_ok() && out.as_slice() == answer && cert.as_slice() == certificate
 }
+
+/// What a run tells last, where it never goes back and comes to the decisions of its report.
+fn last_of(
+    alloc: Global,
+    options: &Options,
+    file: &str,
+    out: &mut Vec<u8>,
+    cert: &mut Vec<u8>,
+) -> Option<Progress> {
+    let mut last = untold();
+    let report = solve(alloc, file.as_bytes(), options, out, cert, &mut last).ok()?;
+    if last.falls == 0 && report.nodes == last.progress.nodes {
+        Some(last.progress)
+    } else {
+        None
+    }
+}
+
+/// Whether a run tells so many solutions and this best value last, never went back before, and does what it does when no one watches.
+fn is_told(
+    alloc: Global,
+    options: &Options,
+    file: &str,
+    solutions: u64,
+    best: Option<i64>,
+) -> bool {
+    let mut out: Vec<u8> = Vec::new(alloc);
+    let mut cert: Vec<u8> = Vec::new(alloc);
+    let Some(last) = last_of(alloc, options, file, &mut out, &mut cert) else {
+        return false;
+    };
+    last.solutions == solutions && last.best == best && is_same(alloc, options, file, &out, &cert)
+}
+
+const MOST: &str = "var 0..3: y; var 0..3: x :: output_var; solve maximize x;";
 
 #[test]
 fn progress(rt: HostRuntime) -> Result<(), Fail> {
-    let alloc = rt.alloc();
-    let cases = [
-        // the file, its solutions, the objective's value in the last one
-        (TWO_BOOLEANS, 1, None),
-        (LEAST, 1, Some(4)),
-        (
-            "var 0..3: y; var 0..3: x :: output_var; solve maximize x;",
-            4,
-            Some(3),
-        ),
-        ("solve satisfy;", 1, None),
-    ];
-    for (file, solutions, best) in cases {
-        let mut last = Last {
-            progress: Progress {
-                nodes: 0,
-                conflicts: 0,
-                inferences: 0,
-                solutions: 0,
-                best: None,
-            },
-            falls: 0,
-        };
-        let (report, with) = told(alloc, file, &mut last)?;
-        let (_, without) = told(alloc, file, &mut Unwatched)?;
-        assert_eq!(rt; text_of(&with), text_of(&without), "{file}");
-        assert_eq!(rt; last.progress.nodes, report.nodes, "{file}");
-        assert_eq!(rt; last.progress.solutions, solutions, "{file}");
-        assert_eq!(rt; last.progress.best, best, "{file}");
-        assert_eq!(rt; last.falls, 0, "{file}");
-    }
+    let options = options_of(rt.alloc(), true, 9);
+    assert!(rt; is_told(rt.alloc(), &options, TWO_BOOLEANS, 1, None));
+    assert!(rt; is_told(rt.alloc(), &options, LEAST, 1, Some(4)));
+    assert!(rt; is_told(rt.alloc(), &options, MOST, 4, Some(3)));
+    assert!(rt; is_told(rt.alloc(), &options, "solve satisfy;", 1, None));
     Ok(())
 }

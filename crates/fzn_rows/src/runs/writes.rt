@@ -1,6 +1,6 @@
-use super::{ANSWER, LEAST, SOLUTION, TWO_BOOLEANS, all_of, certificate_of, text_of};
-use fzn_solver::{Report, RunFault, Unwatched, run};
-use fzn_words::{Options, options_of};
+use super::{ANSWER, LEAST, SOLUTION, TWO_BOOLEANS, is_answered, options_of, solve, text_of};
+use fzn_solver::{RunFault, Unwatched};
+use fzn_words::Options;
 use std::alloc::Global;
 use std::cell::RefCell;
 use std::io;
@@ -45,14 +45,14 @@ impl Write for Narrow {
     }
 }
 
-/// Solves all of the file of two Booleans.
-fn solve<W: Write, C: Write>(
+/// The fault of a run on the file of two Booleans.
+fn fault_of<W: Write, C: Write>(
     alloc: Global,
     options: &Options,
     out: &mut W,
     cert: &mut C,
-) -> Result<Report, RunFault> {
-    run(
+) -> Option<RunFault> {
+    solve(
         alloc,
         TWO_BOOLEANS.as_bytes(),
         options,
@@ -60,31 +60,67 @@ fn solve<W: Write, C: Write>(
         cert,
         &mut Unwatched,
     )
+    .err()
+}
+
+/// Whether the bytes are the first so many of the text.
+fn is_front(bytes: &[u8], text: &[u8], count: usize) -> bool {
+    bytes.len() == count && text.starts_with(bytes)
+}
+
+/// Whether a beginning of the certificate stands that has the solution, and all of it where it is to be whole.
+fn has_solution(cert: &[u8], whole: &[u8], is_whole: bool) -> bool {
+    let is_front = is_front(cert, whole, cert.len());
+    is_front && text_of(cert).contains("\ns 0 1\n") && (cert.len() == whole.len()) == is_whole
+}
+
+/// Whether a run with so much room for its answer fails behind the line of the solution.
+fn is_answer_cut(alloc: Global, options: &Options, whole: &[u8], room: usize, fails: bool) -> bool {
+    let mut out = with_room(alloc, room, fails, 9);
+    let mut cert: Vec<u8> = Vec::new(alloc);
+    let fault = fault_of(alloc, options, &mut out, &mut cert);
+    fault == Some(RunFault::WriteOutput)
+        && is_front(&out.taken, ANSWER, room)
+        && has_solution(&cert, whole, room >= SOLUTION.len())
+}
+
+/// Whether a run with so much room for its certificate fails, with an answer only behind the line of the solution.
+fn is_certificate_cut(
+    alloc: Global,
+    options: &Options,
+    whole: &[u8],
+    room: usize,
+    fails: bool,
+) -> bool {
+    let mut out: Vec<u8> = Vec::new(alloc);
+    let mut cert = with_room(alloc, room, fails, 9);
+    let fault = fault_of(alloc, options, &mut out, &mut cert);
+    let shown = text_of(&cert.taken).contains("\ns 0 1\n");
+    let want = if shown { SOLUTION } else { b"".as_slice() };
+    fault == Some(RunFault::WriteCert)
+        && is_front(&cert.taken, whole, room)
+        && out.as_slice() == want
+}
+
+/// The whole certificate.
+fn whole_of(alloc: Global, options: &Options) -> Result<Vec<u8>, Fail> {
+    let mut cert: Vec<u8> = Vec::new(alloc);
+    if is_answered(alloc, TWO_BOOLEANS, options, ANSWER, &mut cert) {
+        Ok(cert)
+    } else {
+        Err("another answer")?
+    }
 }
 
 #[test]
 fn failed_writes_of_the_answer(rt: HostRuntime) -> Result<(), Fail> {
     let alloc = rt.alloc();
-    let options = all_of(alloc)?;
-    let whole = certificate_of(alloc, &options, TWO_BOOLEANS)?;
+    let options = options_of(alloc, true, 9);
+    let whole = whole_of(alloc, &options)?;
     for room in 0..ANSWER.len() {
-        for fails in [false, true] {
-            let mut out = with_room(alloc, room, fails, 9);
-            let mut cert: Vec<u8> = Vec::new(alloc);
-            assert_eq!(rt;
-                solve(alloc, &options, &mut out, &mut cert),
-                Err(RunFault::WriteOutput),
-                "room {room}"
-            );
-            assert_eq!(rt; text_of(&out.taken), text_of(&ANSWER[..room]));
-            assert!(rt; text_of(&cert).contains("\ns 0 1\n"), "room {room}");
-            assert!(rt; whole.starts_with(&cert), "room {room}");
-            assert_eq!(rt;
-                cert.len() == whole.len(),
-                room >= SOLUTION.len(),
-                "room {room}"
-            );
-        }
+        let is_right = is_answer_cut(alloc, &options, &whole, room, false)
+            && is_answer_cut(alloc, &options, &whole, room, true);
+        assert!(rt; is_right, "room {room}");
     }
     Ok(())
 }
@@ -92,43 +128,39 @@ fn failed_writes_of_the_answer(rt: HostRuntime) -> Result<(), Fail> {
 #[test]
 fn failed_writes_of_the_certificate(rt: HostRuntime) -> Result<(), Fail> {
     let alloc = rt.alloc();
-    let options = all_of(alloc)?;
-    let whole = certificate_of(alloc, &options, TWO_BOOLEANS)?;
+    let options = options_of(alloc, true, 9);
+    let whole = whole_of(alloc, &options)?;
     for room in 0..whole.len() {
-        for fails in [false, true] {
-            let mut out: Vec<u8> = Vec::new(alloc);
-            let mut cert = with_room(alloc, room, fails, 9);
-            assert_eq!(rt;
-                solve(alloc, &options, &mut out, &mut cert),
-                Err(RunFault::WriteCert),
-                "room {room}"
-            );
-            assert_eq!(rt; text_of(&cert.taken), text_of(&whole[..room]));
-            let shown = text_of(&cert.taken).contains("\ns 0 1\n");
-            let want = if shown { SOLUTION } else { b"".as_slice() };
-            assert_eq!(rt; text_of(&out), text_of(want), "room {room}");
-        }
+        let is_right = is_certificate_cut(alloc, &options, &whole, room, false)
+            && is_certificate_cut(alloc, &options, &whole, room, true);
+        assert!(rt; is_right, "room {room}");
     }
     Ok(())
+}
+
+/// Whether a run of which so many flushes of the answer and of the certificate succeed has this fault, and prints this.
+fn is_unflushed(
+    alloc: Global,
+    options: &Options,
+    answers: u8,
+    certs: u8,
+    fault: RunFault,
+    want: &[u8],
+) -> bool {
+    let mut out = with_room(alloc, 1000, true, answers);
+    let mut cert = with_room(alloc, 1000, true, certs);
+    let found = fault_of(alloc, options, &mut out, &mut cert);
+    found == Some(fault) && out.taken.as_slice() == want
 }
 
 #[test]
 fn failed_flushes(rt: HostRuntime) -> Result<(), Fail> {
     let alloc = rt.alloc();
-    let cases = [
-        // flushes of the answer and of the certificate that succeed, the fault, what is printed
-        (9, 0, RunFault::WriteCert, b"".as_slice()),
-        (9, 1, RunFault::WriteCert, SOLUTION),
-        (0, 9, RunFault::WriteOutput, SOLUTION),
-        (1, 9, RunFault::WriteOutput, ANSWER),
-    ];
-    let options = all_of(alloc)?;
-    for (answers, certs, fault, want) in cases {
-        let mut out = with_room(alloc, 1000, true, answers);
-        let mut cert = with_room(alloc, 1000, true, certs);
-        assert_eq!(rt; solve(alloc, &options, &mut out, &mut cert), Err(fault));
-        assert_eq!(rt; text_of(&out.taken), text_of(want), "{fault}");
-    }
+    let options = options_of(alloc, true, 9);
+    assert!(rt; is_unflushed(alloc, &options, 9, 0, RunFault::WriteCert, b""));
+    assert!(rt; is_unflushed(alloc, &options, 9, 1, RunFault::WriteCert, SOLUTION));
+    assert!(rt; is_unflushed(alloc, &options, 0, 9, RunFault::WriteOutput, SOLUTION));
+    assert!(rt; is_unflushed(alloc, &options, 1, 9, RunFault::WriteOutput, ANSWER));
     Ok(())
 }
 
@@ -159,52 +191,75 @@ impl Write for Shared<'_> {
     }
 }
 
+/// Whether a run that writes all into this list ends well.
+fn is_written(alloc: Global, options: &Options, file: &str, all: &RefCell<Vec<u8>>) -> bool {
+    let mut out = Shared { all, name: "<out>" };
+    let mut cert = Shared {
+        all,
+        name: "<cert>",
+    };
+    solve(
+        alloc,
+        file.as_bytes(),
+        options,
+        &mut out,
+        &mut cert,
+        &mut Unwatched,
+    )
+    .is_ok()
+}
+
+/// What a run writes and flushes, in order.
+fn calls_of(alloc: Global, all: bool, file: &str) -> Result<Vec<u8>, Fail> {
+    let options = options_of(alloc, all, 1_000);
+    let calls: RefCell<Vec<u8>> = RefCell::new(Vec::new(alloc));
+    if is_written(alloc, &options, file, &calls) {
+        Ok(calls.into_inner())
+    } else {
+        Err("a fault")?
+    }
+}
+
+/// Whether these calls are among those of a run, and these are the last.
+fn is_in_order(
+    alloc: Global,
+    all: bool,
+    file: &str,
+    solution: &str,
+    end: &str,
+) -> Result<bool, Fail> {
+    let calls = calls_of(alloc, all, file)?;
+    Ok(text_of(&calls).contains(solution) && text_of(&calls).ends_with(end))
+}
+
 #[test]
 fn certificate_before_answer(rt: HostRuntime) -> Result<(), Fail> {
-    let alloc = rt.alloc();
-    let cases = [
-        // the file, the words, what follows the line of the last solution, what stands at the end
-        (
+    assert!(rt;
+        is_in_order(
+            rt.alloc(),
+            true,
             TWO_BOOLEANS,
-            ["-a", "m.fzn"].as_slice(),
             "\ns 0 1\n<cert>a = false;\nb = true;\n----------\n<out>",
             "\ne closed\n<cert>==========\n<out>",
-        ),
-        (
+        )?
+    );
+    assert!(rt;
+        is_in_order(
+            rt.alloc(),
+            true,
             LEAST,
-            &["-a", "m.fzn"],
             "\ns 4\n<cert>x = 4;\n----------\n<out>",
             "\ne closed\n<cert>==========\n<out>",
-        ),
-        (
+        )?
+    );
+    assert!(rt;
+        is_in_order(
+            rt.alloc(),
+            false,
             LEAST,
-            &["m.fzn"],
             "\ns 4\n<cert>i ",
             "\ne closed\n<cert>x = 4;\n----------\n==========\n<out>",
-        ),
-    ];
-    for (file, words, solution, end) in cases {
-        let options = options_of(alloc, words)?;
-        let all: RefCell<Vec<u8>> = RefCell::new(Vec::new(alloc));
-        let mut out = Shared {
-            all: &all,
-            name: "<out>",
-        };
-        let mut cert = Shared {
-            all: &all,
-            name: "<cert>",
-        };
-        run(
-            alloc,
-            file.as_bytes(),
-            &options,
-            &mut out,
-            &mut cert,
-            &mut Unwatched,
-        )?;
-        let calls = all.into_inner();
-        assert!(rt; text_of(&calls).contains(solution), "{}", text_of(&calls));
-        assert!(rt; text_of(&calls).ends_with(end), "{}", text_of(&calls));
-    }
+        )?
+    );
     Ok(())
 }
