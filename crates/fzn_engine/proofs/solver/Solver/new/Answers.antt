@@ -1,4 +1,6 @@
-use Rattle.std.proofs.Common.{rules}
+use Rattle.std.proofs.Common.{rules, sym, subst}
+use Rattle.fzn_trail.specs.Levels.{Levels}
+use Rattle.fzn_clauses.specs.Watching.{IsWatching}
 use Rattle.fzn_engine.proofs.solver.Solver.new.Goals as goal
 
 pub returns-clause-fresh : goal.returns-clause-fresh
@@ -18,7 +20,9 @@ returns-clause-fresh c = record {
     };
     plain = λ is. search rules;
   };
-  watching = search rules;
+  watching =
+      let F : Levels → Type 0 = λ trail. IsWatching c.new-3.result trail in
+      subst F (sym c.in_ok-trail.ensures) (c.new-3.ensures.watching _);
   scratch = search rules;
   vars = search rules;
   found_is = search rules;
