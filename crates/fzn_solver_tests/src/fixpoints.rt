@@ -5,7 +5,7 @@ ghost use Rattle.fzn_meaning.specs.Solutions.{declared_sets};
 ghost use Rattle.fzn_meaning.specs.WellFormed.{IsWellFormed};
 ghost use Rattle.fzn_propagators.specs.Propagators.{StandFor};
 
-use crate::models::{is_filled, keep, model_of, trail_of};
+use crate::models::{is_filled, keep, model_of, next_random, trail_of};
 use fzn_domain::{Lit, Memory, Op, VarId};
 use fzn_engine::Constraints;
 use fzn_meaning::{Model, holds};
@@ -86,12 +86,6 @@ const BITS: usize = 9;
 const SMALL: u64 = 512;
 
 const RANDOM: u64 = 60;
-
-/// The next of numbers in no order.
-fn next_random(seed: u64) -> u64 {
-    seed.wrapping_mul(6_364_136_223_846_793_005)
-        .wrapping_add(1_442_695_040_888_963_407)
-}
 
 /// Keeps of a few values in the middle of each set those whose bits are set, one set after the other.
 fn choose(trail: &mut Trail, count: usize, bits: u64) -> Result<(), Memory>

@@ -2,8 +2,9 @@
 //!
 //! In: trails and clauses made by hand, models read from their text. Out: the calls of `fzn_trail`, `fzn_clauses`, `fzn_search`,
 //! `fzn_sums`, `fzn_arith`, `fzn_table`, `fzn_propagators` and `fzn_engine`, against clauses, decisions and endings worked out by hand, and
-//! what is left of small sets against the values that meet each kind of constraint. Nothing is proved here beyond that the tests are safe;
-//! they stand apart so that the crates below are not proved a second time with them.
+//! what is left of small sets against the values that meet each kind of constraint; the trail and the watched clauses also against their
+//! plainest bodies, on random clauses. Nothing is proved here beyond that the tests are safe; they stand apart so that the crates below are
+//! not proved a second time with them.
 #![tactic(auto)]
 
 #[cfg(test)]
@@ -18,6 +19,8 @@ mod inferences;
 mod models;
 #[cfg(test)]
 mod search;
+#[cfg(test)]
+mod second_opinion;
 #[cfg(test)]
 mod sums;
 #[cfg(test)]

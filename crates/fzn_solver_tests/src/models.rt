@@ -1,4 +1,4 @@
-// Models that are read from their text, and trails of their sets.
+// Models that are read from their text, trails of their sets, and numbers in no order.
 ghost use Rattle.std.specs.Prelude.{◌≡◌, ◌≤◌, IsTrue, IfOk, length};
 ghost use Rattle.fzn_domain.specs.Narrow.{NoneEmpty};
 ghost use Rattle.fzn_meaning.specs.Solutions.{declared_sets};
@@ -68,4 +68,10 @@ pub(crate) fn keep(trail: &mut Trail, var: VarId, op: Op, value: i64) -> Result<
 {
     trail.assert(Lit { var, op, value }, Reason::Decision)?;
     Ok(())
+}
+
+/// The next of numbers in no order.
+pub(crate) fn next_random(seed: u64) -> u64 {
+    seed.wrapping_mul(6_364_136_223_846_793_005)
+        .wrapping_add(1_442_695_040_888_963_407)
 }
