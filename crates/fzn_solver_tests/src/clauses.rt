@@ -97,11 +97,12 @@ fn is_chain(alloc: Global) -> Result<bool, Memory> {
     let mut trail = trail_of(alloc)?;
     let mut clauses = Clauses::new(alloc);
     hold_chain(&mut clauses, &trail)?;
-    Ok(
-        is_filled(&trail, 2)
-            && is_forced(&mut clauses, &mut trail)?
-            && is_conflict(&mut clauses, &mut trail)?,
-    )
+    if !is_filled(&trail, 2) {
+        return Ok(false);
+    }
+    let is_right = is_forced(&mut clauses, &mut trail)?;
+    let is_met = is_conflict(&mut clauses, &mut trail)?;
+    Ok(is_right && is_met)
 }
 
 #[test]
