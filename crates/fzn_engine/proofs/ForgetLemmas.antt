@@ -25,9 +25,9 @@ use Rattle.fzn_clauses.specs.Watching.{held_by}
 use Rattle.fzn_clauses.proofs.HeldLemmas.{AllHeld-push}
 use Rattle.fzn_learned.specs.Reasoned.{IsOther}
 use Rattle.fzn_learned.proofs.CallerLemmas.{IsReasoned-grown, IsReasoned-without}
-use Rattle.fzn_engine.specs.declared.notes.Notes.{Notes}
+use Rattle.fzn_upkeep.specs.declared.notes.Notes.{Notes}
 use Rattle.fzn_engine.specs.declared.solver.Solver.{Solver}
-use Rattle.fzn_engine.specs.Forgetting.{IsFlagged}
+use Rattle.fzn_upkeep.specs.Forgetting.{IsFlagged}
 use Rattle.fzn_engine.specs.Search.{IsAfter, IsTended, stock_of}
 use Rattle.fzn_engine.specs.State.{known_in, with_clause, AreNumbered, IsJustified, CoreOf, StateOf}
 use Rattle.fzn_engine.proofs.NumberLemmas.{AreNumbered-push}

@@ -24,7 +24,7 @@ use Rattle.fzn_clauses.specs.Held.{Held, IsHeld, AllHeld, at_number, clause_of}
 use Rattle.fzn_clauses.specs.Kept.{KeepsWatching}
 use Rattle.fzn_clauses.specs.Watching.{held_by}
 use Rattle.fzn_learned.specs.Reasoned.{IsForced, IsReason, IsReasoned, Known, Leads}
-use Rattle.fzn_engine.specs.declared.notes.Notes.{Notes}
+use Rattle.fzn_upkeep.specs.declared.notes.Notes.{Notes}
 use Rattle.fzn_engine.specs.declared.solver.Solver.{Solver}
 use Rattle.fzn_engine.specs.Search.{IsAfter, IsTended, stock_of}
 use Rattle.fzn_engine.specs.State.{known_in, AreNumbered, IsJustified, CoreOf, StateOf}

@@ -35,7 +35,7 @@ use Rattle.fzn_engine.specs.declared.limits.Ending.{Ending}
 use Rattle.fzn_engine.specs.declared.limits.Ending.TheVariants.{Closed, NodeLimit, SolutionLimit}
 use Rattle.fzn_engine.specs.declared.limits.Limits.{Limits}
 use Rattle.fzn_engine.specs.declared.solver.Solver.{Solver}
-use Rattle.fzn_engine.specs.Inference.{IsQuiet}
+use Rattle.fzn_constraints.specs.Inference.{IsQuiet}
 use Rattle.fzn_engine.specs.Volume.{volume}
 use Rattle.fzn_engine.specs.Outcome.{HasRoom, IsReached, count, IsCertified, IsEnded, IsExhaustedIf, IsOutcome}
 use Rattle.fzn_engine.specs.Search.{IsAfter, stock_of, work_of, IsWithinLimits, IsRecorded, IsDecided, IsOngoing, IsOver, Holds}

@@ -16,7 +16,7 @@ use Rattle.fzn_learned.specs.Learned.{IsDerived}
 use Rattle.fzn_learned.specs.Reasoned.{Known, clause_of}
 use Rattle.fzn_learned.proofs.CallerLemmas.{IsReasoned-grown}
 use Rattle.fzn_engine.specs.declared.limits.Limits.{Limits}
-use Rattle.fzn_engine.specs.declared.notes.Notes.{Notes}
+use Rattle.fzn_upkeep.specs.declared.notes.Notes.{Notes}
 use Rattle.fzn_engine.specs.declared.solver.Solver.{Solver}
 use Rattle.fzn_engine.specs.Outcome.{HasRoom, count}
 use Rattle.fzn_engine.specs.Search.{IsTended, IsOngoing, IsWritten, GiveSources, Holds, stock_of, work_of}

@@ -8,12 +8,12 @@ ghost use Rattle.fzn_cert.specs.Accepted.{AllAccepted};
 ghost use Rattle.fzn_clauses.specs.Held.{AllHeld};
 ghost use Rattle.fzn_clauses.specs.Watching.{held_by};
 ghost use Rattle.fzn_search.specs.Fixed.{AllFixed};
-ghost use Rattle.fzn_engine.specs.Inference.{IsQuiet};
+ghost use Rattle.fzn_constraints.specs.Inference.{IsQuiet};
 ghost use Rattle.fzn_engine.specs.Outcome.{IsReached};
 ghost use Rattle.fzn_engine.specs.Search.{IsAfter, IsWithinLimits, IsRecorded, Goes, Continues, IsOver, ending_of};
 
 use crate::fault::Fault;
-use crate::inference::Constraints;
+use fzn_constraints::Constraints;
 use crate::limits::{Ending, Limits};
 use crate::sink::Sink;
 use crate::solver::Solver;

@@ -6,10 +6,10 @@ ghost use Rattle.fzn_meaning.specs.Solutions.{cut_of};
 ghost use Rattle.fzn_cert.specs.declared.step.Step.{Step};
 ghost use Rattle.fzn_clauses.specs.Held.{IsHeld, at_number};
 ghost use Rattle.fzn_clauses.specs.Watching.{held_by};
-ghost use Rattle.fzn_engine.specs.Forgetting.{IsFlagged};
+ghost use Rattle.fzn_upkeep.specs.Forgetting.{IsFlagged};
 ghost use Rattle.fzn_engine.specs.Search.{IsAfter, IsTended};
 
-use crate::reasons::reasons_on;
+use fzn_upkeep::reasons_on;
 use crate::solver::Solver;
 use fzn_cert::Step;
 use fzn_domain::Memory;

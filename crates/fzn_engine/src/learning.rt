@@ -6,12 +6,12 @@ ghost use Rattle.fzn_cert.specs.declared.step.Step.{Step};
 ghost use Rattle.fzn_cert.specs.Accepted.{AllAccepted};
 ghost use Rattle.fzn_conflict.specs.declared.analysis.Learn.TheVariants.{First};
 ghost use Rattle.fzn_learned.specs.Learned.{IsConflicting};
-ghost use Rattle.fzn_engine.specs.Inference.{IsInference};
+ghost use Rattle.fzn_constraints.specs.Inference.{IsInference};
 ghost use Rattle.fzn_engine.specs.State.{known_in};
 ghost use Rattle.fzn_engine.specs.Search.{IsAfter, stock_of, IsWritten, Learns, Goes};
 
 use crate::fault::Fault;
-use crate::inference::Inference;
+use fzn_constraints::Inference;
 use crate::sink::Sink;
 use crate::solver::Solver;
 use fzn_cert::Step;

@@ -15,8 +15,8 @@ ghost use Rattle.fzn_trail.specs.Levels.{level_of};
 ghost use Rattle.fzn_engine.specs.State.{known_in};
 ghost use Rattle.fzn_engine.specs.Search.{IsAfter, stock_of, IsBackAt, IsForcedBy, IsDecided, IsKeptBy, Goes};
 
-use crate::inference::Inference;
-use crate::notes::Notes;
+use fzn_constraints::Inference;
+use fzn_upkeep::Notes;
 use crate::solver::Solver;
 use fzn_cert::Step;
 use fzn_domain::{Lit, Memory};

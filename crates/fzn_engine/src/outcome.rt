@@ -8,7 +8,7 @@ ghost use Rattle.fzn_cert.specs.Accepted.{AllAccepted};
 ghost use Rattle.fzn_engine.specs.Outcome.{HasRoom, count, IsEnded, IsOutcome};
 
 use crate::fault::Fault;
-use crate::inference::Constraints;
+use fzn_constraints::Constraints;
 use crate::limits::{Ending, Limits};
 use crate::sink::Sink;
 use crate::solver::Solver;

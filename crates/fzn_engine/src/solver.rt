@@ -5,8 +5,7 @@ ghost use Rattle.fzn_meaning.specs.declared.model.Model.{Model};
 ghost use Rattle.fzn_meaning.specs.Solutions.{declared_sets};
 ghost use Rattle.fzn_engine.specs.Search.{IsAfter};
 
-use crate::notes::Notes;
-use crate::numbers::Numbers;
+use fzn_upkeep::{Notes, Numbers};
 use fzn_clauses::Clauses;
 use fzn_conflict::Learn;
 use fzn_domain::{Domain, Memory};

@@ -19,7 +19,7 @@ use Rattle.fzn_propagators.specs.declared.kinds.AnyPropagator.{AnyPropagator}
 use Rattle.fzn_propagator.specs.declared.propagator.Inference.{Inference as Found}
 use Rattle.fzn_propagators.specs.AnyCrate.{any_number, AnyIsFor, AnyFits}
 use Rattle.fzn_propagator.specs.Inference.{IsInferenceOf, AreExhausted, IsInference as IsFound}
-use Rattle.fzn_engine.specs.Inference.{IsInference, IsQuiet}
+use Rattle.fzn_constraints.specs.Inference.{IsInference, IsQuiet}
 use Rattle.fzn_propagators.specs.Propagators.{IsPropagatorOf, AreFor}
 use Rattle.fzn_propagators.proofs.MadeLemmas.{some_member}
 use Rattle.fzn_propagators.proofs.SpelledLemmas.{rule-spelled, few-number, literals-spelled}

@@ -5,12 +5,13 @@ ghost use Rattle.fzn_meaning.specs.Solutions.{declared_sets};
 ghost use Rattle.fzn_meaning.specs.WellFormed.{IsWellFormed};
 ghost use Rattle.fzn_propagators.specs.Propagators.{StandFor};
 
-use crate::models::{is_filled, keep, model_of, next_random, trail_of};
+use crate::models::{model_of, trail_of};
 use fzn_domain::{Lit, Memory, Op, VarId};
-use fzn_engine::Constraints;
+use fzn_constraints::Constraints;
 use fzn_meaning::{Model, holds};
 use fzn_propagators::Propagators;
 use fzn_trail::Trail;
+use fzn_trail_tests::{is_filled, keep, next_random};
 use std::alloc::{AllocError, Global};
 use std::test::*;
 

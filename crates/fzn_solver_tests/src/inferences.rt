@@ -4,14 +4,15 @@ ghost use Rattle.fzn_domain.specs.Narrow.{NoneEmpty};
 ghost use Rattle.fzn_meaning.specs.Solutions.{declared_sets};
 ghost use Rattle.fzn_meaning.specs.WellFormed.{IsWellFormed};
 
-use crate::models::{is_filled, keep, model_of, trail_of};
+use crate::models::{model_of, trail_of};
 use fzn_arith::{Propagator, propagator_of};
 use fzn_domain::{Lit, Memory, Op, VarId};
-use fzn_engine::Constraints;
+use fzn_constraints::Constraints;
 use fzn_meaning::Model;
 use fzn_propagators::Propagators;
 use fzn_rules::Rule;
 use fzn_trail::Trail;
+use fzn_trail_tests::{is_filled, keep};
 use std::alloc::Global;
 use std::test::*;
 

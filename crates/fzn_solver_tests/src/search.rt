@@ -4,12 +4,13 @@ ghost use Rattle.fzn_domain.specs.Narrow.{AllFixed};
 ghost use Rattle.fzn_meaning.specs.Solutions.{declared_sets};
 ghost use Rattle.fzn_trail.specs.Levels.{NoneEmpty};
 
-use crate::models::{is_filled, keep, lit, model_of, trail_of};
+use crate::models::{model_of, trail_of};
 use fzn_domain::{Lit, Memory, Op, VarId};
 use fzn_list::Items;
 use fzn_meaning::Model;
 use fzn_search::{Annotation, Choice, Search, ValueChoice, VarChoice, values_of};
 use fzn_trail::Trail;
+use fzn_trail_tests::{is_filled, keep, lit};
 use std::alloc::Global;
 use std::slice;
 use std::test::*;

@@ -2,7 +2,7 @@
 use Rattle.std.proofs.Common.{Bool, List, All, sym, subst}
 use Rattle.fzn_trail.specs.declared.trail.Entry.{Entry}
 use Rattle.fzn_trail.specs.Levels.{Levels}
-use Rattle.fzn_engine.specs.Forgetting.{IsFlagged}
+use Rattle.fzn_upkeep.specs.Forgetting.{IsFlagged}
 use Rattle.fzn_engine.proofs.ForgetLemmas.{nothing-tended, tended-through}
 use Rattle.fzn_engine.proofs.solver.Solver.forget.Goals as goal
 

@@ -1,0 +1,46 @@
+// What the constraints of a model justify on a trail.
+ghost use Rattle.std.specs.Prelude.{◌≡◌, IfOk, IfSome, IfNone};
+ghost use Rattle.fzn_meaning.specs.declared.model.Model.{Model};
+ghost use Rattle.fzn_meaning.specs.Solutions.{declared_sets};
+ghost use Rattle.fzn_trail.specs.Levels.{NoneEmpty};
+ghost use Rattle.fzn_constraints.specs.Inference.{IsInference, IsQuiet};
+
+use fzn_domain::{Lit, Memory};
+use fzn_list::Items;
+use fzn_meaning::Model;
+use fzn_rules::Rule;
+use fzn_trail::Trail;
+use std::alloc::Global;
+
+/// A clause that the rule justifies from the constraint of this number.
+#[derive(Drop)]
+pub struct Inference {
+    pub constraint: u64,
+    pub rule: Rule,
+    pub clause: Items<Lit>,
+}
+
+/// What reasons for all constraints of a model.
+pub trait Constraints {
+    /// The models for whose constraints it reasons.
+    ghost is_for: { Self → Model → Type 0 };
+
+    /// An inference, where some constraint has one that is asked. Where each variable has one value, all are asked.
+    fn infer(
+        &mut self,
+        alloc: Global,
+        model: &Model,
+        trail: &Trail,
+    ) -> Result<Option<Inference>, Memory>
+        requires is_for { is_for self.old model.now }
+        requires declared { trail.now.declared ≡ declared_sets model.now.vars }
+        requires not_empty { NoneEmpty trail.now.sets }
+        ensures found { IfOk result (λ found. IfSome found (IsInference model.now trail.now)) }
+        ensures none { IfOk result (λ found. IfNone found (IsQuiet model.now trail.now)) }
+        ensures same { is_for self.new model.now };
+
+    /// Tells that of the trail's entries that it was shown only so many, the first, are sure to stand.
+    fn rewind(&mut self, model: &Model, entries: usize)
+        requires is_for { is_for self.old model.now }
+        ensures same { is_for self.new model.now };
+}

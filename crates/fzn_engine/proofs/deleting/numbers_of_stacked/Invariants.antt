@@ -1,5 +1,0 @@
-use Rattle.fzn_engine.proofs.DeletionLemmas.{AreOfStacked}
-use Rattle.fzn_engine.proofs.deleting.numbers_of_stacked.Given as goal
-
-abbrev pub invariant-loop-place : goal.invariant-loop-place
-invariant-loop-place l = AreOfStacked l.inferences l.found.items l.place

@@ -1,5 +1,0 @@
-use Rattle.fzn_solver_tests.specs.Carried.{IsCarried}
-use Rattle.fzn_solver_tests.proofs.second_opinion.hold_all.Given as goal
-
-abbrev pub invariant-loop : goal.invariant-loop
-invariant-loop l = IsCarried l.tested.clauses l.tested.trail

@@ -1,0 +1,2 @@
+pub mod Deletion
+pub mod Forgetting
