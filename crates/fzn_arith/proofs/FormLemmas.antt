@@ -21,7 +21,7 @@ use Rattle.fzn_meaning.specs.Linear.{IsLinear}
 use Rattle.fzn_meaning.specs.Meaning.{HasBooleanSets, HasBooleanValues, booleans_of, switch_value, IsBit, IsSwitch}
 use Rattle.fzn_meaning.proofs.CallerLemmas.{bits-choice}
 use Rattle.fzn_rules.specs.declared.rule.Rule.TheVariants.{Lin}
-use Rattle.fzn_state.specs.Terms.{least_value, greatest_value, IsFixedTo}
+use Rattle.fzn_sets.specs.Terms.{least_value, greatest_value, IsFixedTo}
 use Rattle.fzn_builtin_rules.specs.Linear.{low_product, least_sum}
 use Rattle.fzn_builtin_rules.specs.Form.{Form, form, form_of, IsFormMet, FormHolds}
 use Rattle.fzn_builtin_rules.proofs.CallerLemmas.{form_meets}

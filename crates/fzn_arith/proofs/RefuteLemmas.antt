@@ -8,7 +8,7 @@ use Rattle.fzn_meaning.specs.declared.term.Place.{Place}
 use Rattle.fzn_meaning.specs.declared.relation.Comparison.{Comparison}
 use Rattle.fzn_meaning.specs.declared.relation.Comparison.TheVariants.{AtMost, Equal, NotEqual}
 use Rattle.fzn_meaning.specs.Term.{IsTerm, IsPlace}
-use Rattle.fzn_state.specs.Terms.{IsFixedTo}
+use Rattle.fzn_sets.specs.Terms.{IsFixedTo}
 use Rattle.fzn_builtin_rules.specs.Linear.{low_end, low_product, high_product, least_sum, greatest_sum, NoneCompares, AllCompare, IsExcluded}
 use Rattle.fzn_builtin_rules.specs.Form.{Form}
 use Rattle.fzn_trail.specs.Levels.{Levels}

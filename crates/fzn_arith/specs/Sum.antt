@@ -7,7 +7,7 @@ use Rattle.fzn_domain.specs.Narrow.{IsClauseOver, denied, is_some_empty}
 use Rattle.fzn_meaning.specs.declared.term.Place.{Place}
 use Rattle.fzn_meaning.specs.Term.{IsPlace}
 use Rattle.fzn_builtin_rules.specs.Form.{Form, IsFormMet}
-use Rattle.fzn_state.specs.Terms.{IsFixedTo}
+use Rattle.fzn_sets.specs.Terms.{IsFixedTo}
 use Rattle.fzn_trail.specs.Levels.{Levels}
 use Rattle.fzn_trail.specs.Unit.{IsFalseOrUnit}
 use Rattle.fzn_propagator.specs.Inference.{IsWritable}

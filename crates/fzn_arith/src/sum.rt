@@ -2,7 +2,7 @@
 ghost use Rattle.std.specs.Prelude.{◌≢◌, length, IsTrue, IfOk, IfSome, IfNone};
 ghost use Rattle.fzn_domain.specs.Narrow.{NoneEmpty};
 ghost use Rattle.fzn_meaning.specs.Term.{IsTerm};
-ghost use Rattle.fzn_state.specs.Terms.{least_value, greatest_value};
+ghost use Rattle.fzn_sets.specs.Terms.{least_value, greatest_value};
 ghost use Rattle.fzn_arith.specs.Kinds.{form_in, IsFormOf, IsReady};
 ghost use Rattle.fzn_arith.specs.Sum.{IsFound, IsLeftAlone};
 

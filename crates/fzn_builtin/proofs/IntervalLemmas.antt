@@ -14,8 +14,8 @@ use Rattle.fzn_meaning.specs.declared.arithmetic.Operation.{Operation}
 use Rattle.fzn_meaning.specs.declared.arithmetic.Operation.TheVariants as operation
 use Rattle.fzn_meaning.specs.declared.constraint.Constraint.TheVariants as constraint
 use Rattle.fzn_meaning.specs.Term.{IsTerm}
-use Rattle.fzn_state.specs.Terms.{least_value, greatest_value}
-use Rattle.fzn_state.proofs.ValueLemmas.{IsBetween, MayBe-ends}
+use Rattle.fzn_sets.specs.Terms.{least_value, greatest_value}
+use Rattle.fzn_sets.proofs.ValueLemmas.{IsBetween, MayBe-ends}
 use Rattle.fzn_builtin_rules.specs.Choices.{inputs_of, result_of, Relates, NoneOf, count_of, IsChoice}
 use Rattle.fzn_builtin_rules.specs.Product.{corners, IsBoxMet}
 use Rattle.fzn_builtin_rules.specs.Rows.{IsRowsMet}

@@ -8,7 +8,7 @@ use Rattle.fzn_meaning.specs.declared.arithmetic.Operation.TheVariants as operat
 use Rattle.fzn_meaning.specs.declared.constraint.Constraint.{Constraint}
 use Rattle.fzn_meaning.specs.declared.constraint.Constraint.TheVariants.{Arithmetic, IntAbs}
 use Rattle.fzn_meaning.specs.Arithmetic.{IsArithmetic}
-use Rattle.fzn_state.specs.Terms.{MayBe}
+use Rattle.fzn_sets.specs.Terms.{MayBe}
 use Rattle.fzn_rules.specs.declared.rule.Rule.{Rule}
 use Rattle.fzn_rules.specs.declared.rule.Rule.TheVariants.{Box, Enum, Rows}
 use Rattle.fzn_builtin.specs.declared.interval.Interval.{Interval}

@@ -4,7 +4,7 @@ use Rattle.std.specs.List.{All}
 use Rattle.fzn_domain.specs.IntSet.{IntSet, contains}
 use Rattle.fzn_meaning.specs.declared.term.Term.{Term}
 use Rattle.fzn_meaning.specs.Term.{IsTerm}
-use Rattle.fzn_state.specs.Terms.{MayBe}
+use Rattle.fzn_sets.specs.Terms.{MayBe}
 use Rattle.fzn_explain.specs.declared.claim.Claim.{Claim}
 use Rattle.fzn_explain.specs.Claims.{IsDenied}
 

@@ -8,7 +8,7 @@ ghost use Rattle.fzn_meaning.specs.declared.constraint.Constraint.TheVariants as
 ghost use Rattle.fzn_meaning.specs.Meaning.{IsSwitch};
 ghost use Rattle.fzn_meaning.specs.Term.{IsTerm};
 ghost use Rattle.fzn_rules.specs.declared.rule.Rule.TheVariants as rule;
-ghost use Rattle.fzn_state.specs.Terms.{MayBe};
+ghost use Rattle.fzn_sets.specs.Terms.{MayBe};
 ghost use Rattle.fzn_explain.specs.Claims.{IsDenied, IsJustified};
 ghost use Rattle.fzn_builtin.specs.Intervals.{IsLimitedInterval};
 ghost use Rattle.fzn_builtin.specs.Members.{AreAsked, IsNextAsked, NoneAsked, IsSwitchedTo};

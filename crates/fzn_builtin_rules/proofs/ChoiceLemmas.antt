@@ -15,10 +15,10 @@ use Rattle.fzn_domain.proofs.CountLemmas.{in_below, of_below}
 use Rattle.fzn_meaning.specs.declared.term.Term.{Term}
 use Rattle.fzn_meaning.specs.declared.term.Term.TheVariants.{Constant, Variable}
 use Rattle.fzn_meaning.specs.Term.{IsTerm}
-use Rattle.fzn_state.specs.Terms.{MayBe}
+use Rattle.fzn_sets.specs.Terms.{MayBe}
 use Rattle.fzn_builtin_rules.specs.Choices.{count_of, choices, IsChoice}
 use Rattle.fzn_builtin_rules.specs.Numbered.{nth_member, nth_value, value_in, rest_in, choice_at}
-use Rattle.fzn_state.proofs.CallerLemmas.{some_value}
+use Rattle.fzn_sets.proofs.CallerLemmas.{some_value}
 
 -- ---- the members without the least one
 

@@ -19,7 +19,7 @@ use Rattle.fzn_meaning.specs.Booleans.{IsBoolClause}
 use Rattle.fzn_meaning.specs.Meaning.{Meets, IsWellFormed, switch_value}
 use Rattle.fzn_builtin_rules.specs.Choices.{inputs_of, result_of, weighted_sum, Relates, IsChoice, NoneOf, NoChoiceFits, IsFixedMet, IsEnumMet}
 use Rattle.fzn_builtin_rules.proofs.SumLemmas.{total_by-cons}
-use Rattle.fzn_state.proofs.CallerLemmas.{MayBe-term_value}
+use Rattle.fzn_sets.proofs.CallerLemmas.{MayBe-term_value}
 use Rattle.fzn_builtin_rules.proofs.CountLemmas.{inputs_formed}
 
 abbrev terms : List Place → List Term

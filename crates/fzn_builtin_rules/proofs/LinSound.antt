@@ -15,7 +15,7 @@ use Rattle.fzn_builtin_rules.specs.Linear.{least_sum, greatest_sum, NoneCompares
 use Rattle.fzn_builtin_rules.specs.Form.{Form, form_of, IsFormMet, IsLinMet, FormHolds}
 use Rattle.fzn_builtin_rules.proofs.SumLemmas.{sum_between}
 use Rattle.fzn_builtin_rules.proofs.FormLemmas.{form_holds}
-use Rattle.fzn_state.proofs.CallerLemmas.{IsBetween, fixed_value}
+use Rattle.fzn_sets.proofs.CallerLemmas.{IsBetween, fixed_value}
 
 none_compares : (comparison : Comparison) (low high bound x : ℤ) → IsBetween low high x → NoneCompares comparison low high bound → IsLinear comparison x bound → ⊥
 none_compares AtMost low high bound x between none holds = omega (arith, ints)

@@ -11,7 +11,7 @@ use Rattle.fzn_meaning.specs.Entries.{IsIndex, entry_at}
 use Rattle.fzn_meaning.specs.Comparisons.{IsSwitched}
 use Rattle.fzn_meaning.specs.Elements.{IsElement}
 use Rattle.fzn_meaning.specs.Booleans.{Passes, IsBoolClause}
-use Rattle.fzn_state.specs.Terms.{MayBe}
+use Rattle.fzn_sets.specs.Terms.{MayBe}
 use Rattle.fzn_builtin_rules.specs.Choices.{NoneOf}
 use Rattle.fzn_builtin_rules.specs.Numbered.{choice_at, rest_after}
 use Rattle.fzn_builtin_rules.proofs.ChosenLemmas.{count_all, count_some, length-choice_at, choice_at-append}

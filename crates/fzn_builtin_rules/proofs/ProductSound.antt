@@ -11,10 +11,10 @@ use Rattle.fzn_meaning.specs.declared.constraint.Constraint.{Constraint}
 use Rattle.fzn_meaning.specs.declared.constraint.Constraint.TheVariants as constraint
 use Rattle.fzn_meaning.specs.Term.{term_value}
 use Rattle.fzn_meaning.specs.Meaning.{Meets}
-use Rattle.fzn_state.specs.Terms.{least_value, greatest_value}
+use Rattle.fzn_sets.specs.Terms.{least_value, greatest_value}
 use Rattle.fzn_builtin_rules.specs.Product.{corners, IsProductOut, IsBoxMet}
 use Rattle.fzn_builtin_rules.proofs.ProductLemmas.{mono_up, mono_down}
-use Rattle.fzn_state.proofs.CallerLemmas.{IsBetween, term_between}
+use Rattle.fzn_sets.proofs.CallerLemmas.{IsBetween, term_between}
 
 -- with one factor between two numbers: above, below what both products are
 above_both : (c low high x bound : ℤ) → IsBetween low high x → bound <ℤ (c *ℤ low) → bound <ℤ (c *ℤ high) → bound <ℤ (c *ℤ x)

@@ -19,9 +19,9 @@ use Rattle.fzn_meaning.specs.Comparisons.{IsRelated, IsSwitched}
 use Rattle.fzn_meaning.specs.Extrema.{Bounds}
 use Rattle.fzn_meaning.specs.Sets.{IsInSet}
 use Rattle.fzn_meaning.specs.Meaning.{Meets, IsWellFormed, switch_value}
-use Rattle.fzn_state.specs.Terms.{MayBe, term_at}
+use Rattle.fzn_sets.specs.Terms.{MayBe, term_at}
 use Rattle.fzn_builtin_rules.specs.Rows.{ShareNone, AsksEquality, IsSetMissed, NoEntryFits, Passes, IsRowsMet}
-use Rattle.fzn_state.proofs.CallerLemmas.{MayBe-term_value, length-values_of, MayBe-entry_at, term_between, fixed_value}
+use Rattle.fzn_sets.proofs.CallerLemmas.{MayBe-term_value, length-values_of, MayBe-entry_at, term_between, fixed_value}
 use Rattle.fzn_builtin_rules.proofs.LinSound.{zero_not_one}
 
 module _ (sets : List IntSet) (values : List ℤ) (within : IsWithin sets values) where

@@ -16,7 +16,7 @@ use Rattle.fzn_meaning.specs.Extrema.{IsExtremum}
 use Rattle.fzn_meaning.specs.Elements.{IsElement}
 use Rattle.fzn_meaning.specs.Sets.{IsInSet}
 use Rattle.fzn_meaning.specs.Booleans.{IsBoolNot, IsBoolToInt, IsGated, IsBoolXor, IsArrayBoolXor, IsBoolClause}
-use Rattle.fzn_state.specs.Terms.{MayBe}
+use Rattle.fzn_sets.specs.Terms.{MayBe}
 
 -- the input places; the five globals have none
 unfoldable pub inputs_of : Constraint → Option (List Term)

@@ -6,7 +6,7 @@ use Rattle.fzn_meaning.specs.declared.term.Place.{Place}
 use Rattle.fzn_meaning.specs.declared.relation.Comparison.{Comparison}
 use Rattle.fzn_meaning.specs.declared.relation.Comparison.TheVariants.{AtMost, Equal, NotEqual}
 use Rattle.fzn_meaning.specs.Term.{total_by}
-use Rattle.fzn_state.specs.Terms.{least_value, greatest_value, IsFixedTo}
+use Rattle.fzn_sets.specs.Terms.{least_value, greatest_value, IsFixedTo}
 
 -- the value at which a place gives least, and the one at which it gives most
 abbrev pub low_end : List IntSet → Place → ℤ

@@ -7,7 +7,7 @@ use Rattle.fzn_meaning.specs.declared.arithmetic.Operation.{Operation}
 use Rattle.fzn_meaning.specs.declared.arithmetic.Operation.TheVariants.{Times}
 use Rattle.fzn_meaning.specs.declared.constraint.Constraint.{Constraint}
 use Rattle.fzn_meaning.specs.declared.constraint.Constraint.TheVariants.{Arithmetic}
-use Rattle.fzn_state.specs.Terms.{least_value, greatest_value}
+use Rattle.fzn_sets.specs.Terms.{least_value, greatest_value}
 
 -- the four products of the bounds of two terms
 abbrev pub corners : List IntSet → Term → Term → List ℤ

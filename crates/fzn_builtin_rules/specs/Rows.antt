@@ -10,7 +10,7 @@ use Rattle.fzn_meaning.specs.declared.extremum.Extreme.TheVariants.{Least, Great
 use Rattle.fzn_meaning.specs.declared.constraint.Constraint.{Constraint}
 use Rattle.fzn_meaning.specs.declared.constraint.Constraint.TheVariants.{Compare, BoolToInt, IntAbs, Extremum, Element, SetIn}
 use Rattle.fzn_meaning.specs.Entries.{IsIndex}
-use Rattle.fzn_state.specs.Terms.{least_value, greatest_value, IsFixedTo, MayBe, term_at}
+use Rattle.fzn_sets.specs.Terms.{least_value, greatest_value, IsFixedTo, MayBe, term_at}
 
 -- no number is in both sets
 abbrev pub AreApart : IntSet → IntSet → Type 0

@@ -9,34 +9,34 @@ ghost use Rattle.fzn_builtin_rules.specs.Borrowed.{form_in};
 use crate::ends::{Ends, ends_of};
 use crate::form::{Form, form_of};
 use fzn_meaning::{Comparison, Constraint};
-use fzn_state::{State, is_fixed_to};
+use fzn_sets::{Sets, is_fixed_to};
 
 /// Whether the ends of the sum of the constraint's form leave no way to meet it.
-pub fn is_lin_met(constraint: &Constraint, state: &State) -> bool
-    requires constraint { IsWellFormed (length state.now.sets) constraint.now }
-    requires nonempty { is_some_empty state.now.sets ≡ false }
-    ensures { IsTrue result ↔ IsLinMet constraint.now state.now.sets }
+pub fn is_lin_met(constraint: &Constraint, sets: &Sets) -> bool
+    requires constraint { IsWellFormed (length sets.now.present) constraint.now }
+    requires nonempty { is_some_empty sets.now.present ≡ false }
+    ensures { IsTrue result ↔ IsLinMet constraint.now sets.now.present }
 {
     match form_of(constraint) {
         None => false,
-        Some(form) => is_form_met(&form, state),
+        Some(form) => is_form_met(&form, sets),
     }
 }
 
 /// Whether the ends of the form's sum leave no way for it to hold.
-fn is_form_met(form: &Form<'_>, state: &State) -> bool
-    requires form { Fits (length state.now.sets) (form_in form.now) }
-    requires nonempty { is_some_empty state.now.sets ≡ false }
-    ensures { IsTrue result ↔ IsFormMet (form_in form.now) state.now.sets }
+fn is_form_met(form: &Form<'_>, sets: &Sets) -> bool
+    requires form { Fits (length sets.now.present) (form_in form.now) }
+    requires nonempty { is_some_empty sets.now.present ≡ false }
+    ensures { IsTrue result ↔ IsFormMet (form_in form.now) sets.now.present }
 {
-    let ends = ends_of(state, &form.places);
+    let ends = ends_of(sets, &form.places);
     match form.switch {
         None => none_compares(form.comparison, ends, form.bound),
-        Some(switch) if is_fixed_to(state, switch, 1) => {
+        Some(switch) if is_fixed_to(sets, switch, 1) => {
             none_compares(form.comparison, ends, form.bound)
         }
         Some(switch) => {
-            is_fixed_to(state, switch, 0) && all_compare(form.comparison, ends, form.bound)
+            is_fixed_to(sets, switch, 0) && all_compare(form.comparison, ends, form.bound)
         }
     }
 }

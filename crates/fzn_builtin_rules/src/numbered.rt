@@ -9,19 +9,19 @@ ghost use Rattle.fzn_builtin_rules.specs.Numbered.{nth_member, value_in, rest_in
 
 use fzn_domain::Domain;
 use fzn_meaning::Term;
-use fzn_state::State;
+use fzn_sets::Sets;
 
 /// How many values the term may have.
-#[tactic(auto, using(fzn_state::proofs::CallerLemmas::some_value))]
-pub(crate) fn count_of(state: &State, term: Term) -> usize
-    requires term { IsTerm (length state.now.sets) term }
-    requires nonempty { is_some_empty state.now.sets ≡ false }
-    ensures value { result ≡ count_of state.now.sets term }
+#[tactic(auto, using(fzn_sets::proofs::CallerLemmas::some_value))]
+pub(crate) fn count_of(sets: &Sets, term: Term) -> usize
+    requires term { IsTerm (length sets.now.present) term }
+    requires nonempty { is_some_empty sets.now.present ≡ false }
+    ensures value { result ≡ count_of sets.now.present term }
     ensures some { 0 < result }
 {
     match term {
         Term::Constant(_) => 1,
-        Term::Variable(var) => state.domain(var).len(),
+        Term::Variable(var) => sets.domain(var).len(),
     }
 }
 
@@ -35,17 +35,17 @@ fn nth_member(set: &Domain, n: usize) -> i64
 }
 
 /// The value of the term in the choice with this number.
-#[tactic(auto, using(fzn_state::proofs::CallerLemmas::some_value), unfolding(crate::specs::Numbered::value_in))]
-pub(crate) fn value_in(state: &State, term: Term, number: usize) -> i64
-    requires term { IsTerm (length state.now.sets) term }
-    requires nonempty { is_some_empty state.now.sets ≡ false }
-    ensures value { result ≡ value_in state.now.sets term number }
+#[tactic(auto, using(fzn_sets::proofs::CallerLemmas::some_value), unfolding(crate::specs::Numbered::value_in))]
+pub(crate) fn value_in(sets: &Sets, term: Term, number: usize) -> i64
+    requires term { IsTerm (length sets.now.present) term }
+    requires nonempty { is_some_empty sets.now.present ≡ false }
+    ensures value { result ≡ value_in sets.now.present term number }
     ensures in_limits { IsInLimits result }
 {
     match term {
         Term::Constant(k) => k,
         Term::Variable(var) => {
-            let set = state.domain(var);
+            let set = sets.domain(var);
             nth_member(set, number % set.len())
         }
     }
@@ -53,10 +53,10 @@ pub(crate) fn value_in(state: &State, term: Term, number: usize) -> i64
 
 /// What of the choice's number is left for the terms behind.
 #[tactic(auto, unfolding(crate::specs::Numbered::rest_in))]
-pub(crate) fn rest_in(state: &State, term: Term, number: usize) -> usize
-    requires term { IsTerm (length state.now.sets) term }
-    requires nonempty { is_some_empty state.now.sets ≡ false }
-    ensures { result ≡ rest_in state.now.sets term number }
+pub(crate) fn rest_in(sets: &Sets, term: Term, number: usize) -> usize
+    requires term { IsTerm (length sets.now.present) term }
+    requires nonempty { is_some_empty sets.now.present ≡ false }
+    ensures { result ≡ rest_in sets.now.present term number }
 {
-    number / count_of(state, term)
+    number / count_of(sets, term)
 }

@@ -12,21 +12,21 @@ ghost use Rattle.fzn_meaning.specs.Extrema.{IsExtremum};
 ghost use Rattle.fzn_meaning.specs.Elements.{IsElement};
 ghost use Rattle.fzn_meaning.specs.Booleans.{Passes, IsBoolClause};
 ghost use Rattle.fzn_meaning.specs.Meaning.{IsWellFormed, IsSwitch};
-ghost use Rattle.fzn_state.specs.Terms.{MayBe};
+ghost use Rattle.fzn_sets.specs.Terms.{MayBe};
 ghost use Rattle.fzn_builtin_rules.specs.Choices.{NoneOf};
 ghost use Rattle.fzn_builtin_rules.specs.Numbered.{value_in, rest_in, choice_at, IsOneOfTwo, FailsAt};
 
 use crate::chosen::{count_value, entry_in, extreme_in, rest_after, weighted_sum};
 use crate::numbered::{rest_in, value_in};
 use fzn_meaning::{Comparison, Constraint, Extreme, Gate, Operation, Relation, Term};
-use fzn_state::{State, greatest_value, is_fixed_to, is_index, least_value, may_be};
+use fzn_sets::{Sets, greatest_value, is_fixed_to, is_index, least_value, may_be};
 
 /// Whether the choice with this number fits no value of the result.
 #[tactic(auto, unfolding(crate::specs::Choices::inputs_of, crate::specs::Choices::result_of, crate::specs::Choices::Relates, fzn_meaning::specs::Meaning::IsWellFormed))]
-pub(crate) fn fails_at(constraint: &Constraint, state: &State, number: usize) -> bool
-    requires constraint { IsWellFormed (length state.now.sets) constraint.now }
-    requires nonempty { is_some_empty state.now.sets ≡ false }
-    ensures { IsTrue result ↔ FailsAt constraint.now state.now.sets number }
+pub(crate) fn fails_at(constraint: &Constraint, sets: &Sets, number: usize) -> bool
+    requires constraint { IsWellFormed (length sets.now.present) constraint.now }
+    requires nonempty { is_some_empty sets.now.present ≡ false }
+    ensures { IsTrue result ↔ FailsAt constraint.now sets.now.present number }
 {
     match constraint {
         Constraint::Compare {
@@ -34,22 +34,22 @@ pub(crate) fn fails_at(constraint: &Constraint, state: &State, number: usize) ->
             left,
             right,
             switch,
-        } => { compare_fails(state, *relation, *left, *right, *switch, number) }
-        Constraint::BoolNot { left, right } => !differ(state, *left, *right, number),
+        } => { compare_fails(sets, *relation, *left, *right, *switch, number) }
+        Constraint::BoolNot { left, right } => !differ(sets, *left, *right, number),
         Constraint::BoolToInt { boolean, integer } => {
-            !may_be(state, *integer, &value_in(state, *boolean, number))
+            !may_be(sets, *integer, &value_in(sets, *boolean, number))
         }
         Constraint::Arithmetic {
             operation,
             left,
             right,
             result,
-        } => { arithmetic_fails(state, *operation, *left, *right, *result, number) }
+        } => { arithmetic_fails(sets, *operation, *left, *right, *result, number) }
         Constraint::IntAbs { of, result } => {
-            !may_be(state, *result, &value_in(state, *of, number).abs())
+            !may_be(sets, *result, &value_in(sets, *of, number).abs())
         }
         Constraint::SetIn { term, set, switch } => {
-            switch_fails(state, *switch, set.contains(value_in(state, *term, number)))
+            switch_fails(sets, *switch, set.contains(value_in(sets, *term, number)))
         }
         Constraint::Linear {
             sum,
@@ -57,84 +57,84 @@ pub(crate) fn fails_at(constraint: &Constraint, state: &State, number: usize) ->
             bound,
             switch,
         } => {
-            let value = weighted_sum(state, sum, number);
-            switch_fails(state, *switch, compares(*comparison, &value, bound))
+            let value = weighted_sum(sets, sum, number);
+            switch_fails(sets, *switch, compares(*comparison, &value, bound))
         }
         Constraint::BoolLinEq { sum, total } => {
-            !may_be_wide(state, *total, &weighted_sum(state, sum, number))
+            !may_be_wide(sets, *total, &weighted_sum(sets, sum, number))
         }
         Constraint::Extremum {
             extreme,
             entries,
             result,
-        } => { extremum_fails(state, *extreme, entries.as_slice(), *result, number) }
+        } => { extremum_fails(sets, *extreme, entries.as_slice(), *result, number) }
         Constraint::Element {
             index,
             entries,
             value,
-        } => { element_fails(state, *index, entries.as_slice(), *value, number) }
+        } => { element_fails(sets, *index, entries.as_slice(), *value, number) }
         Constraint::Gated {
             gate,
             inputs,
             result,
-        } => { gate_fails(state, *gate, inputs.as_slice(), *result, number) }
+        } => { gate_fails(sets, *gate, inputs.as_slice(), *result, number) }
         Constraint::BoolXor {
             left,
             right,
             result,
-        } => { result_fails(state, *result, is_one_of_two(state, *left, *right, number)) }
+        } => { result_fails(sets, *result, is_one_of_two(sets, *left, *right, number)) }
         Constraint::ArrayBoolXor { inputs } => {
-            count_value(state, inputs.as_slice(), number, &1) % 2 != 1
+            count_value(sets, inputs.as_slice(), number, &1) % 2 != 1
         }
         Constraint::BoolClause { positive, negative } => {
-            clause_fails(state, positive.as_slice(), negative.as_slice(), number)
+            clause_fails(sets, positive.as_slice(), negative.as_slice(), number)
         }
         _ => true,
     }
 }
 
 /// Whether no value of the switch goes with the constraint without it, which holds or does not. Without a switch it has to hold.
-fn switch_fails(state: &State, switch: Option<Term>, holds: bool) -> bool
-    requires switch { IsSwitch (length state.now.sets) switch }
-    requires nonempty { is_some_empty state.now.sets ≡ false }
-    ensures { IsTrue result ↔ NoneOf state.now.sets switch (λ value. IsSwitched value (IsTrue holds)) }
+fn switch_fails(sets: &Sets, switch: Option<Term>, holds: bool) -> bool
+    requires switch { IsSwitch (length sets.now.present) switch }
+    requires nonempty { is_some_empty sets.now.present ≡ false }
+    ensures { IsTrue result ↔ NoneOf sets.now.present switch (λ value. IsSwitched value (IsTrue holds)) }
 {
     match switch {
         None => !holds,
-        Some(term) => result_fails(state, term, holds),
+        Some(term) => result_fails(sets, term, holds),
     }
 }
 
 /// Whether no value of the term is 1 exactly where it has to be.
-fn result_fails(state: &State, term: Term, holds: bool) -> bool
-    requires term { IsTerm (length state.now.sets) term }
-    requires nonempty { is_some_empty state.now.sets ≡ false }
-    ensures { IsTrue result ↔ NoneOf state.now.sets (Some term) (λ value. IsSwitched value (IsTrue holds)) }
+fn result_fails(sets: &Sets, term: Term, holds: bool) -> bool
+    requires term { IsTerm (length sets.now.present) term }
+    requires nonempty { is_some_empty sets.now.present ≡ false }
+    ensures { IsTrue result ↔ NoneOf sets.now.present (Some term) (λ value. IsSwitched value (IsTrue holds)) }
 {
     if holds {
-        !may_be(state, term, &1)
+        !may_be(sets, term, &1)
     } else {
-        is_fixed_to(state, term, 1)
+        is_fixed_to(sets, term, 1)
     }
 }
 
 fn compare_fails(
-    state: &State,
+    sets: &Sets,
     relation: Relation,
     left: Term,
     right: Term,
     switch: Option<Term>,
     number: usize,
 ) -> bool
-    requires left { IsTerm (length state.now.sets) left }
-    requires right { IsTerm (length state.now.sets) right }
-    requires switch { IsSwitch (length state.now.sets) switch }
-    requires nonempty { is_some_empty state.now.sets ≡ false }
-    ensures { IsTrue result ↔ NoneOf state.now.sets switch (λ value. IsSwitched value (IsRelated relation (value_in state.now.sets left number) (value_in state.now.sets right (rest_in state.now.sets left number)))) }
+    requires left { IsTerm (length sets.now.present) left }
+    requires right { IsTerm (length sets.now.present) right }
+    requires switch { IsSwitch (length sets.now.present) switch }
+    requires nonempty { is_some_empty sets.now.present ≡ false }
+    ensures { IsTrue result ↔ NoneOf sets.now.present switch (λ value. IsSwitched value (IsRelated relation (value_in sets.now.present left number) (value_in sets.now.present right (rest_in sets.now.present left number)))) }
 {
-    let first = value_in(state, left, number);
-    let second = value_in(state, right, rest_in(state, left, number));
-    switch_fails(state, switch, is_related(relation, &first, &second))
+    let first = value_in(sets, left, number);
+    let second = value_in(sets, right, rest_in(sets, left, number));
+    switch_fails(sets, switch, is_related(relation, &first, &second))
 }
 
 fn is_related(relation: Relation, left: &i64, right: &i64) -> bool
@@ -149,35 +149,35 @@ fn is_related(relation: Relation, left: &i64, right: &i64) -> bool
 }
 
 /// Whether the values of the two terms differ.
-fn differ(state: &State, left: Term, right: Term, number: usize) -> bool
-    requires left { IsTerm (length state.now.sets) left }
-    requires right { IsTerm (length state.now.sets) right }
-    requires nonempty { is_some_empty state.now.sets ≡ false }
-    ensures { IsTrue result ↔ (value_in state.now.sets left number ≢ value_in state.now.sets right (rest_in state.now.sets left number)) }
+fn differ(sets: &Sets, left: Term, right: Term, number: usize) -> bool
+    requires left { IsTerm (length sets.now.present) left }
+    requires right { IsTerm (length sets.now.present) right }
+    requires nonempty { is_some_empty sets.now.present ≡ false }
+    ensures { IsTrue result ↔ (value_in sets.now.present left number ≢ value_in sets.now.present right (rest_in sets.now.present left number)) }
 {
-    let first = value_in(state, left, number);
-    let second = value_in(state, right, rest_in(state, left, number));
+    let first = value_in(sets, left, number);
+    let second = value_in(sets, right, rest_in(sets, left, number));
     first != second
 }
 
 fn arithmetic_fails(
-    state: &State,
+    sets: &Sets,
     operation: Operation,
     left: Term,
     right: Term,
     of: Term,
     number: usize,
 ) -> bool
-    requires left { IsTerm (length state.now.sets) left }
-    requires right { IsTerm (length state.now.sets) right }
-    requires of { IsTerm (length state.now.sets) of }
-    requires nonempty { is_some_empty state.now.sets ≡ false }
-    ensures { IsTrue result ↔ ((value : ℤ) → MayBe state.now.sets of value → IsArithmetic operation (value_in state.now.sets left number) (value_in state.now.sets right (rest_in state.now.sets left number)) value → ⊥) }
+    requires left { IsTerm (length sets.now.present) left }
+    requires right { IsTerm (length sets.now.present) right }
+    requires of { IsTerm (length sets.now.present) of }
+    requires nonempty { is_some_empty sets.now.present ≡ false }
+    ensures { IsTrue result ↔ ((value : ℤ) → MayBe sets.now.present of value → IsArithmetic operation (value_in sets.now.present left number) (value_in sets.now.present right (rest_in sets.now.present left number)) value → ⊥) }
 {
-    let first = value_in(state, left, number);
-    let second = value_in(state, right, rest_in(state, left, number));
+    let first = value_in(sets, left, number);
+    let second = value_in(sets, right, rest_in(sets, left, number));
     match outcome_of(operation, &first, &second) {
-        Some(value) => !may_be(state, of, &value),
+        Some(value) => !may_be(sets, of, &value),
         None => true,
     }
 }
@@ -210,18 +210,18 @@ fn compares(comparison: Comparison, sum: &i128, bound: &i64) -> bool
 }
 
 /// Whether the number, however large, is in the set of the term.
-fn may_be_wide(state: &State, term: Term, value: &i128) -> bool
-    requires term { IsTerm (length state.now.sets) term }
-    requires nonempty { is_some_empty state.now.sets ≡ false }
-    ensures { IsTrue result ↔ MayBe state.now.sets term value.now }
+fn may_be_wide(sets: &Sets, term: Term, value: &i128) -> bool
+    requires term { IsTerm (length sets.now.present) term }
+    requires nonempty { is_some_empty sets.now.present ≡ false }
+    ensures { IsTrue result ↔ MayBe sets.now.present term value.now }
 {
-    if *value < least_value(state, term) as i128 {
+    if *value < least_value(sets, term) as i128 {
         return false;
     }
-    if *value > greatest_value(state, term) as i128 {
+    if *value > greatest_value(sets, term) as i128 {
         return false;
     }
-    may_be(state, term, &narrow(value))
+    may_be(sets, term, &narrow(value))
 }
 
 fn narrow(value: &i128) -> i64
@@ -231,19 +231,19 @@ fn narrow(value: &i128) -> i64
     *value as i64
 }
 
-fn element_fails(state: &State, index: Term, entries: &[Term], of: Term, number: usize) -> bool
-    requires index { IsTerm (length state.now.sets) index }
-    requires entries { All (IsTerm (length state.now.sets)) entries.now }
-    requires of { IsTerm (length state.now.sets) of }
-    requires nonempty { is_some_empty state.now.sets ≡ false }
-    ensures { IsTrue result ↔ ((value : ℤ) → MayBe state.now.sets of value → IsElement (value_in state.now.sets index number) (choice_at state.now.sets entries.now (rest_in state.now.sets index number)) value → ⊥) }
+fn element_fails(sets: &Sets, index: Term, entries: &[Term], of: Term, number: usize) -> bool
+    requires index { IsTerm (length sets.now.present) index }
+    requires entries { All (IsTerm (length sets.now.present)) entries.now }
+    requires of { IsTerm (length sets.now.present) of }
+    requires nonempty { is_some_empty sets.now.present ≡ false }
+    ensures { IsTrue result ↔ ((value : ℤ) → MayBe sets.now.present of value → IsElement (value_in sets.now.present index number) (choice_at sets.now.present entries.now (rest_in sets.now.present index number)) value → ⊥) }
 {
-    let place = value_in(state, index, number);
+    let place = value_in(sets, index, number);
     if !is_index(entries.len(), &place) {
         return true;
     }
-    let rest = rest_in(state, index, number);
-    !may_be(state, of, &entry_in(state, entries, rest, place_of(&place)))
+    let rest = rest_in(sets, index, number);
+    !may_be(sets, of, &entry_in(sets, entries, rest, place_of(&place)))
 }
 
 /// The place, counted from 0, of an index from 1.
@@ -254,38 +254,32 @@ fn place_of(index: &i64) -> usize
     *index as usize - 1
 }
 
-fn extremum_fails(
-    state: &State,
-    extreme: Extreme,
-    entries: &[Term],
-    of: Term,
-    number: usize,
-) -> bool
-    requires entries { All (IsTerm (length state.now.sets)) entries.now }
+fn extremum_fails(sets: &Sets, extreme: Extreme, entries: &[Term], of: Term, number: usize) -> bool
+    requires entries { All (IsTerm (length sets.now.present)) entries.now }
     requires some { 0 < length entries.now }
-    requires of { IsTerm (length state.now.sets) of }
-    requires nonempty { is_some_empty state.now.sets ≡ false }
-    ensures { IsTrue result ↔ ((value : ℤ) → MayBe state.now.sets of value → IsExtremum extreme (choice_at state.now.sets entries.now number) value → ⊥) }
+    requires of { IsTerm (length sets.now.present) of }
+    requires nonempty { is_some_empty sets.now.present ≡ false }
+    ensures { IsTrue result ↔ ((value : ℤ) → MayBe sets.now.present of value → IsExtremum extreme (choice_at sets.now.present entries.now number) value → ⊥) }
 {
-    !may_be(state, of, &extreme_in(state, extreme, entries, number))
+    !may_be(sets, of, &extreme_in(sets, extreme, entries, number))
 }
 
-fn gate_fails(state: &State, gate: Gate, inputs: &[Term], of: Term, number: usize) -> bool
-    requires inputs { All (IsTerm (length state.now.sets)) inputs.now }
-    requires of { IsTerm (length state.now.sets) of }
-    requires nonempty { is_some_empty state.now.sets ≡ false }
-    ensures { IsTrue result ↔ NoneOf state.now.sets (Some of) (λ value. IsSwitched value (Passes gate (choice_at state.now.sets inputs.now number))) }
+fn gate_fails(sets: &Sets, gate: Gate, inputs: &[Term], of: Term, number: usize) -> bool
+    requires inputs { All (IsTerm (length sets.now.present)) inputs.now }
+    requires of { IsTerm (length sets.now.present) of }
+    requires nonempty { is_some_empty sets.now.present ≡ false }
+    ensures { IsTrue result ↔ NoneOf sets.now.present (Some of) (λ value. IsSwitched value (Passes gate (choice_at sets.now.present inputs.now number))) }
 {
-    result_fails(state, of, passes(state, gate, inputs, number))
+    result_fails(sets, of, passes(sets, gate, inputs, number))
 }
 
 /// Whether the values of the inputs make the gate give 1.
-fn passes(state: &State, gate: Gate, inputs: &[Term], number: usize) -> bool
-    requires inputs { All (IsTerm (length state.now.sets)) inputs.now }
-    requires nonempty { is_some_empty state.now.sets ≡ false }
-    ensures { IsTrue result ↔ Passes gate (choice_at state.now.sets inputs.now number) }
+fn passes(sets: &Sets, gate: Gate, inputs: &[Term], number: usize) -> bool
+    requires inputs { All (IsTerm (length sets.now.present)) inputs.now }
+    requires nonempty { is_some_empty sets.now.present ≡ false }
+    ensures { IsTrue result ↔ Passes gate (choice_at sets.now.present inputs.now number) }
 {
-    let ones = count_value(state, inputs, number, &1);
+    let ones = count_value(sets, inputs, number, &1);
     match gate {
         Gate::And => ones == inputs.len(),
         Gate::Or => ones > 0,
@@ -293,24 +287,24 @@ fn passes(state: &State, gate: Gate, inputs: &[Term], number: usize) -> bool
 }
 
 /// Whether one of the two values is 1 and the other is not.
-fn is_one_of_two(state: &State, left: Term, right: Term, number: usize) -> bool
-    requires left { IsTerm (length state.now.sets) left }
-    requires right { IsTerm (length state.now.sets) right }
-    requires nonempty { is_some_empty state.now.sets ≡ false }
-    ensures { IsTrue result ↔ IsOneOfTwo (value_in state.now.sets left number) (value_in state.now.sets right (rest_in state.now.sets left number)) }
+fn is_one_of_two(sets: &Sets, left: Term, right: Term, number: usize) -> bool
+    requires left { IsTerm (length sets.now.present) left }
+    requires right { IsTerm (length sets.now.present) right }
+    requires nonempty { is_some_empty sets.now.present ≡ false }
+    ensures { IsTrue result ↔ IsOneOfTwo (value_in sets.now.present left number) (value_in sets.now.present right (rest_in sets.now.present left number)) }
 {
-    let first = value_in(state, left, number);
-    let second = value_in(state, right, rest_in(state, left, number));
+    let first = value_in(sets, left, number);
+    let second = value_in(sets, right, rest_in(sets, left, number));
     (first == 1) != (second == 1)
 }
 
 /// Whether no positive value is 1 and no negative one is 0.
-fn clause_fails(state: &State, positive: &[Term], negative: &[Term], number: usize) -> bool
-    requires positive { All (IsTerm (length state.now.sets)) positive.now }
-    requires negative { All (IsTerm (length state.now.sets)) negative.now }
-    requires nonempty { is_some_empty state.now.sets ≡ false }
-    ensures { IsTrue result ↔ (IsBoolClause (take (length positive.now) (choice_at state.now.sets (positive.now ++ negative.now) number)) (drop (length positive.now) (choice_at state.now.sets (positive.now ++ negative.now) number)) → ⊥) }
+fn clause_fails(sets: &Sets, positive: &[Term], negative: &[Term], number: usize) -> bool
+    requires positive { All (IsTerm (length sets.now.present)) positive.now }
+    requires negative { All (IsTerm (length sets.now.present)) negative.now }
+    requires nonempty { is_some_empty sets.now.present ≡ false }
+    ensures { IsTrue result ↔ (IsBoolClause (take (length positive.now) (choice_at sets.now.present (positive.now ++ negative.now) number)) (drop (length positive.now) (choice_at sets.now.present (positive.now ++ negative.now) number)) → ⊥) }
 {
-    let rest = rest_after(state, positive, number);
-    count_value(state, positive, number, &1) == 0 && count_value(state, negative, rest, &0) == 0
+    let rest = rest_after(sets, positive, number);
+    count_value(sets, positive, number, &1) == 0 && count_value(sets, negative, rest, &0) == 0
 }

@@ -5,18 +5,18 @@ ghost use Rattle.fzn_domain.specs.Narrow.{is_some_empty};
 ghost use Rattle.fzn_domain.specs.Limits.{IsInLimits};
 ghost use Rattle.fzn_meaning.specs.Term.{IsTerm};
 ghost use Rattle.fzn_meaning.specs.Meaning.{IsWellFormed};
-ghost use Rattle.fzn_state.specs.Terms.{least_value, greatest_value};
+ghost use Rattle.fzn_sets.specs.Terms.{least_value, greatest_value};
 ghost use Rattle.fzn_builtin_rules.specs.Product.{corners, IsProductOut, IsArithmeticOut, IsBoxMet};
 
 use fzn_meaning::{Constraint, Operation, Term};
-use fzn_state::{State, greatest_value, least_value};
+use fzn_sets::{Sets, greatest_value, least_value};
 
 /// Whether the bounds of a product exclude each value of the result.
 #[tactic(auto, unfolding(crate::specs::Product::IsBoxMet, fzn_meaning::specs::Meaning::IsWellFormed))]
-pub fn is_box_met(constraint: &Constraint, state: &State) -> bool
-    requires constraint { IsWellFormed (length state.now.sets) constraint.now }
-    requires nonempty { is_some_empty state.now.sets ≡ false }
-    ensures { IsTrue result ↔ IsBoxMet constraint.now state.now.sets }
+pub fn is_box_met(constraint: &Constraint, sets: &Sets) -> bool
+    requires constraint { IsWellFormed (length sets.now.present) constraint.now }
+    requires nonempty { is_some_empty sets.now.present ≡ false }
+    ensures { IsTrue result ↔ IsBoxMet constraint.now sets.now.present }
 {
     match constraint {
         Constraint::Arithmetic {
@@ -24,46 +24,46 @@ pub fn is_box_met(constraint: &Constraint, state: &State) -> bool
             left,
             right,
             result,
-        } => { is_arithmetic_out(state, *operation, *left, *right, *result) }
+        } => { is_arithmetic_out(sets, *operation, *left, *right, *result) }
         _ => false,
     }
 }
 
-fn is_arithmetic_out(state: &State, operation: Operation, left: Term, right: Term, of: Term) -> bool
-    requires left { IsTerm (length state.now.sets) left }
-    requires right { IsTerm (length state.now.sets) right }
-    requires of { IsTerm (length state.now.sets) of }
-    requires nonempty { is_some_empty state.now.sets ≡ false }
-    ensures { IsTrue result ↔ IsArithmeticOut state.now.sets operation left right of }
+fn is_arithmetic_out(sets: &Sets, operation: Operation, left: Term, right: Term, of: Term) -> bool
+    requires left { IsTerm (length sets.now.present) left }
+    requires right { IsTerm (length sets.now.present) right }
+    requires of { IsTerm (length sets.now.present) of }
+    requires nonempty { is_some_empty sets.now.present ≡ false }
+    ensures { IsTrue result ↔ IsArithmeticOut sets.now.present operation left right of }
 {
     match operation {
-        Operation::Times => is_product_out(state, left, right, of),
+        Operation::Times => is_product_out(sets, left, right, of),
         _ => false,
     }
 }
 
-fn is_product_out(state: &State, left: Term, right: Term, of: Term) -> bool
-    requires left { IsTerm (length state.now.sets) left }
-    requires right { IsTerm (length state.now.sets) right }
-    requires of { IsTerm (length state.now.sets) of }
-    requires nonempty { is_some_empty state.now.sets ≡ false }
-    ensures { IsTrue result ↔ IsProductOut state.now.sets left right of }
+fn is_product_out(sets: &Sets, left: Term, right: Term, of: Term) -> bool
+    requires left { IsTerm (length sets.now.present) left }
+    requires right { IsTerm (length sets.now.present) right }
+    requires of { IsTerm (length sets.now.present) of }
+    requires nonempty { is_some_empty sets.now.present ≡ false }
+    ensures { IsTrue result ↔ IsProductOut sets.now.present left right of }
 {
-    let corners = corners(state, left, right);
-    all_above(&corners, state, of) || all_below(&corners, state, of)
+    let corners = corners(sets, left, right);
+    all_above(&corners, sets, of) || all_below(&corners, sets, of)
 }
 
 /// The four products of the bounds of two terms.
-fn corners(state: &State, left: Term, right: Term) -> [i128; 4]
-    requires left { IsTerm (length state.now.sets) left }
-    requires right { IsTerm (length state.now.sets) right }
-    requires nonempty { is_some_empty state.now.sets ≡ false }
-    ensures { result ≡ corners state.now.sets left right }
+fn corners(sets: &Sets, left: Term, right: Term) -> [i128; 4]
+    requires left { IsTerm (length sets.now.present) left }
+    requires right { IsTerm (length sets.now.present) right }
+    requires nonempty { is_some_empty sets.now.present ≡ false }
+    ensures { result ≡ corners sets.now.present left right }
 {
-    let low = least_value(state, left);
-    let high = greatest_value(state, left);
-    let other_low = least_value(state, right);
-    let other_high = greatest_value(state, right);
+    let low = least_value(sets, left);
+    let high = greatest_value(sets, left);
+    let other_low = least_value(sets, right);
+    let other_high = greatest_value(sets, right);
     [
         product(&low, &other_low),
         product(&low, &other_high),
@@ -81,21 +81,21 @@ fn product(left: &i64, right: &i64) -> i128
 }
 
 /// Whether all exceed the greatest value of the term.
-fn all_above(products: &[i128; 4], state: &State, term: Term) -> bool
-    requires term { IsTerm (length state.now.sets) term }
-    requires nonempty { is_some_empty state.now.sets ≡ false }
-    ensures { IsTrue result ↔ All (λ product. greatest_value state.now.sets term <ℤ product) products.now }
+fn all_above(products: &[i128; 4], sets: &Sets, term: Term) -> bool
+    requires term { IsTerm (length sets.now.present) term }
+    requires nonempty { is_some_empty sets.now.present ≡ false }
+    ensures { IsTrue result ↔ All (λ product. greatest_value sets.now.present term <ℤ product) products.now }
 {
-    let bound = greatest_value(state, term) as i128;
+    let bound = greatest_value(sets, term) as i128;
     products.iter().all(|product| bound < *product)
 }
 
 /// Whether all are below the least value of the term.
-fn all_below(products: &[i128; 4], state: &State, term: Term) -> bool
-    requires term { IsTerm (length state.now.sets) term }
-    requires nonempty { is_some_empty state.now.sets ≡ false }
-    ensures { IsTrue result ↔ All (λ product. product <ℤ least_value state.now.sets term) products.now }
+fn all_below(products: &[i128; 4], sets: &Sets, term: Term) -> bool
+    requires term { IsTerm (length sets.now.present) term }
+    requires nonempty { is_some_empty sets.now.present ≡ false }
+    ensures { IsTrue result ↔ All (λ product. product <ℤ least_value sets.now.present term) products.now }
 {
-    let bound = least_value(state, term) as i128;
+    let bound = least_value(sets, term) as i128;
     products.iter().all(|product| *product < bound)
 }

@@ -9,14 +9,14 @@ ghost use Rattle.fzn_builtin_rules.specs.Rows.{AsksEquality, ShareNone, IsOutsid
 use crate::overlap::{amounts_apart, are_apart, is_amount_in, is_part_of};
 use fzn_domain::Domain;
 use fzn_meaning::{Constraint, Extreme, Relation, Term};
-use fzn_state::{State, greatest_value, is_fixed_to, least_value, may_be};
+use fzn_sets::{Sets, greatest_value, is_fixed_to, least_value, may_be};
 
 /// Whether the sets leave no value, no entry that the constraint asks for.
 #[tactic(auto, unfolding(crate::specs::Rows::IsRowsMet, fzn_meaning::specs::Meaning::IsWellFormed))]
-pub fn is_rows_met(constraint: &Constraint, state: &State) -> bool
-    requires constraint { IsWellFormed (length state.now.sets) constraint.now }
-    requires nonempty { is_some_empty state.now.sets ≡ false }
-    ensures { IsTrue result ↔ IsRowsMet constraint.now state.now.sets }
+pub fn is_rows_met(constraint: &Constraint, sets: &Sets) -> bool
+    requires constraint { IsWellFormed (length sets.now.present) constraint.now }
+    requires nonempty { is_some_empty sets.now.present ≡ false }
+    ensures { IsTrue result ↔ IsRowsMet constraint.now sets.now.present }
 {
     match constraint {
         Constraint::Compare {
@@ -24,104 +24,104 @@ pub fn is_rows_met(constraint: &Constraint, state: &State) -> bool
             left,
             right,
             switch,
-        } => { asks_equality(state, *relation, *switch) && share_none(state, *left, *right) }
-        Constraint::BoolToInt { boolean, integer } => share_none(state, *boolean, *integer),
-        Constraint::SetIn { term, set, switch } => is_set_missed(state, *term, set, *switch),
+        } => { asks_equality(sets, *relation, *switch) && share_none(sets, *left, *right) }
+        Constraint::BoolToInt { boolean, integer } => share_none(sets, *boolean, *integer),
+        Constraint::SetIn { term, set, switch } => is_set_missed(sets, *term, set, *switch),
         Constraint::Element {
             index,
             entries,
             value,
-        } => { no_entry_fits(state, *index, entries.as_slice(), *value) }
+        } => { no_entry_fits(sets, *index, entries.as_slice(), *value) }
         Constraint::Extremum {
             extreme,
             entries,
             result,
         } => {
-            some_passes(state, *extreme, *result, entries.as_slice())
-                || none_shares(state, entries.as_slice(), *result)
+            some_passes(sets, *extreme, *result, entries.as_slice())
+                || none_shares(sets, entries.as_slice(), *result)
         }
-        Constraint::IntAbs { of, result } => no_amount_fits(state, *of, *result),
+        Constraint::IntAbs { of, result } => no_amount_fits(sets, *of, *result),
         _ => false,
     }
 }
 
 /// Whether the relation and its switch leave no other way than that the two terms are equal.
-fn asks_equality(state: &State, relation: Relation, switch: Option<Term>) -> bool
-    requires switch { IsSwitch (length state.now.sets) switch }
-    requires nonempty { is_some_empty state.now.sets ≡ false }
-    ensures { IsTrue result ↔ AsksEquality state.now.sets relation switch }
+fn asks_equality(sets: &Sets, relation: Relation, switch: Option<Term>) -> bool
+    requires switch { IsSwitch (length sets.now.present) switch }
+    requires nonempty { is_some_empty sets.now.present ≡ false }
+    ensures { IsTrue result ↔ AsksEquality sets.now.present relation switch }
 {
     match (relation, switch) {
         (Relation::Equal, None) => true,
-        (Relation::Equal, Some(switch)) => is_fixed_to(state, switch, 1),
-        (Relation::NotEqual, Some(switch)) => is_fixed_to(state, switch, 0),
+        (Relation::Equal, Some(switch)) => is_fixed_to(sets, switch, 1),
+        (Relation::NotEqual, Some(switch)) => is_fixed_to(sets, switch, 0),
         _ => false,
     }
 }
 
 /// Whether the sets of the two terms share no value.
-fn share_none(state: &State, first: Term, second: Term) -> bool
-    requires first { IsTerm (length state.now.sets) first }
-    requires second { IsTerm (length state.now.sets) second }
-    requires nonempty { is_some_empty state.now.sets ≡ false }
-    ensures { IsTrue result ↔ ShareNone state.now.sets first second }
+fn share_none(sets: &Sets, first: Term, second: Term) -> bool
+    requires first { IsTerm (length sets.now.present) first }
+    requires second { IsTerm (length sets.now.present) second }
+    requires nonempty { is_some_empty sets.now.present ≡ false }
+    ensures { IsTrue result ↔ ShareNone sets.now.present first second }
 {
     match first {
-        Term::Constant(k) => !may_be(state, second, &k),
-        Term::Variable(var) => is_outside(state, second, state.domain(var)),
+        Term::Constant(k) => !may_be(sets, second, &k),
+        Term::Variable(var) => is_outside(sets, second, sets.domain(var)),
     }
 }
 
-fn is_set_missed(state: &State, term: Term, set: &Domain, switch: Option<Term>) -> bool
-    requires term { IsTerm (length state.now.sets) term }
-    requires switch { IsSwitch (length state.now.sets) switch }
-    requires nonempty { is_some_empty state.now.sets ≡ false }
-    ensures { IsTrue result ↔ IsSetMissed state.now.sets term set.now switch }
+fn is_set_missed(sets: &Sets, term: Term, set: &Domain, switch: Option<Term>) -> bool
+    requires term { IsTerm (length sets.now.present) term }
+    requires switch { IsSwitch (length sets.now.present) switch }
+    requires nonempty { is_some_empty sets.now.present ≡ false }
+    ensures { IsTrue result ↔ IsSetMissed sets.now.present term set.now switch }
 {
     match switch {
-        None => is_outside(state, term, set),
-        Some(switch) if is_fixed_to(state, switch, 1) => is_outside(state, term, set),
-        Some(switch) => is_fixed_to(state, switch, 0) && is_inside(state, term, set),
+        None => is_outside(sets, term, set),
+        Some(switch) if is_fixed_to(sets, switch, 1) => is_outside(sets, term, set),
+        Some(switch) => is_fixed_to(sets, switch, 0) && is_inside(sets, term, set),
     }
 }
 
 /// Whether no value of the term is in the set.
-#[tactic(auto, using(fzn_state::proofs::CallerLemmas::some_value))]
-fn is_outside(state: &State, term: Term, set: &Domain) -> bool
-    requires term { IsTerm (length state.now.sets) term }
-    requires nonempty { is_some_empty state.now.sets ≡ false }
-    ensures { IsTrue result ↔ IsOutside state.now.sets term set.now }
+#[tactic(auto, using(fzn_sets::proofs::CallerLemmas::some_value))]
+fn is_outside(sets: &Sets, term: Term, set: &Domain) -> bool
+    requires term { IsTerm (length sets.now.present) term }
+    requires nonempty { is_some_empty sets.now.present ≡ false }
+    ensures { IsTrue result ↔ IsOutside sets.now.present term set.now }
 {
     match term {
         Term::Constant(k) => !set.contains(k),
-        Term::Variable(var) => are_apart(state.domain(var), set),
+        Term::Variable(var) => are_apart(sets.domain(var), set),
     }
 }
 
 /// Whether every value of the term is in the set.
-#[tactic(auto, using(fzn_state::proofs::CallerLemmas::some_value))]
-fn is_inside(state: &State, term: Term, set: &Domain) -> bool
-    requires term { IsTerm (length state.now.sets) term }
-    requires nonempty { is_some_empty state.now.sets ≡ false }
-    ensures { IsTrue result ↔ IsInside state.now.sets term set.now }
+#[tactic(auto, using(fzn_sets::proofs::CallerLemmas::some_value))]
+fn is_inside(sets: &Sets, term: Term, set: &Domain) -> bool
+    requires term { IsTerm (length sets.now.present) term }
+    requires nonempty { is_some_empty sets.now.present ≡ false }
+    ensures { IsTrue result ↔ IsInside sets.now.present term set.now }
 {
     match term {
         Term::Constant(k) => set.contains(k),
-        Term::Variable(var) => is_part_of(state.domain(var), set),
+        Term::Variable(var) => is_part_of(sets.domain(var), set),
     }
 }
 
 /// Whether no index has an entry that shares a value with the term.
-fn no_entry_fits(state: &State, index: Term, entries: &[Term], value: Term) -> bool
-    requires index { IsTerm (length state.now.sets) index }
-    requires entries { All (IsTerm (length state.now.sets)) entries.now }
+fn no_entry_fits(sets: &Sets, index: Term, entries: &[Term], value: Term) -> bool
+    requires index { IsTerm (length sets.now.present) index }
+    requires entries { All (IsTerm (length sets.now.present)) entries.now }
     requires short { length entries.now ≤ 100000 }
-    requires value { IsTerm (length state.now.sets) value }
-    requires nonempty { is_some_empty state.now.sets ≡ false }
-    ensures { IsTrue result ↔ NoEntryFits state.now.sets index entries.now value }
+    requires value { IsTerm (length sets.now.present) value }
+    requires nonempty { is_some_empty sets.now.present ≡ false }
+    ensures { IsTrue result ↔ NoEntryFits sets.now.present index entries.now value }
 {
     for k in 0..entries.len() {
-        if may_be(state, index, &(k as i64 + 1)) && !share_none(state, entries[k], value) {
+        if may_be(sets, index, &(k as i64 + 1)) && !share_none(sets, entries[k], value) {
             return false;
         }
     }
@@ -129,41 +129,41 @@ fn no_entry_fits(state: &State, index: Term, entries: &[Term], value: Term) -> b
 }
 
 /// Whether every value of some entry is beyond every value of the result.
-fn some_passes(state: &State, extreme: Extreme, bound: Term, entries: &[Term]) -> bool
-    requires bound { IsTerm (length state.now.sets) bound }
-    requires entries { All (IsTerm (length state.now.sets)) entries.now }
-    requires nonempty { is_some_empty state.now.sets ≡ false }
-    ensures { IsTrue result ↔ Any (Passes state.now.sets extreme bound) entries.now }
+fn some_passes(sets: &Sets, extreme: Extreme, bound: Term, entries: &[Term]) -> bool
+    requires bound { IsTerm (length sets.now.present) bound }
+    requires entries { All (IsTerm (length sets.now.present)) entries.now }
+    requires nonempty { is_some_empty sets.now.present ≡ false }
+    ensures { IsTrue result ↔ Any (Passes sets.now.present extreme bound) entries.now }
 {
     for entry in entries {
-        if passes(state, extreme, bound, *entry) {
+        if passes(sets, extreme, bound, *entry) {
             return true;
         }
     }
     false
 }
 
-fn passes(state: &State, extreme: Extreme, bound: Term, entry: Term) -> bool
-    requires bound { IsTerm (length state.now.sets) bound }
-    requires entry { IsTerm (length state.now.sets) entry }
-    requires nonempty { is_some_empty state.now.sets ≡ false }
-    ensures { IsTrue result ↔ Passes state.now.sets extreme bound entry }
+fn passes(sets: &Sets, extreme: Extreme, bound: Term, entry: Term) -> bool
+    requires bound { IsTerm (length sets.now.present) bound }
+    requires entry { IsTerm (length sets.now.present) entry }
+    requires nonempty { is_some_empty sets.now.present ≡ false }
+    ensures { IsTrue result ↔ Passes sets.now.present extreme bound entry }
 {
     match extreme {
-        Extreme::Greatest => greatest_value(state, bound) < least_value(state, entry),
-        Extreme::Least => greatest_value(state, entry) < least_value(state, bound),
+        Extreme::Greatest => greatest_value(sets, bound) < least_value(sets, entry),
+        Extreme::Least => greatest_value(sets, entry) < least_value(sets, bound),
     }
 }
 
 /// Whether no entry shares a value with the term.
-fn none_shares(state: &State, entries: &[Term], value: Term) -> bool
-    requires entries { All (IsTerm (length state.now.sets)) entries.now }
-    requires value { IsTerm (length state.now.sets) value }
-    requires nonempty { is_some_empty state.now.sets ≡ false }
-    ensures { IsTrue result ↔ All (λ entry. ShareNone state.now.sets entry value) entries.now }
+fn none_shares(sets: &Sets, entries: &[Term], value: Term) -> bool
+    requires entries { All (IsTerm (length sets.now.present)) entries.now }
+    requires value { IsTerm (length sets.now.present) value }
+    requires nonempty { is_some_empty sets.now.present ≡ false }
+    ensures { IsTrue result ↔ All (λ entry. ShareNone sets.now.present entry value) entries.now }
 {
     for entry in entries {
-        if !share_none(state, *entry, value) {
+        if !share_none(sets, *entry, value) {
             return false;
         }
     }
@@ -171,18 +171,18 @@ fn none_shares(state: &State, entries: &[Term], value: Term) -> bool
 }
 
 /// Whether no value of the one term has its amount in the set of the other.
-#[tactic(auto, using(fzn_state::proofs::CallerLemmas::some_value))]
-fn no_amount_fits(state: &State, of: Term, amount: Term) -> bool
-    requires of { IsTerm (length state.now.sets) of }
-    requires amount { IsTerm (length state.now.sets) amount }
-    requires nonempty { is_some_empty state.now.sets ≡ false }
-    ensures { IsTrue result ↔ NoAmountFits state.now.sets of amount }
+#[tactic(auto, using(fzn_sets::proofs::CallerLemmas::some_value))]
+fn no_amount_fits(sets: &Sets, of: Term, amount: Term) -> bool
+    requires of { IsTerm (length sets.now.present) of }
+    requires amount { IsTerm (length sets.now.present) amount }
+    requires nonempty { is_some_empty sets.now.present ≡ false }
+    ensures { IsTrue result ↔ NoAmountFits sets.now.present of amount }
 {
     match (of, amount) {
-        (Term::Constant(k), _) => !may_be(state, amount, &k.abs()),
-        (Term::Variable(var), Term::Constant(k)) => !is_amount_in(k, state.domain(var)),
+        (Term::Constant(k), _) => !may_be(sets, amount, &k.abs()),
+        (Term::Variable(var), Term::Constant(k)) => !is_amount_in(k, sets.domain(var)),
         (Term::Variable(one), Term::Variable(other)) => {
-            amounts_apart(state.domain(one), state.domain(other))
+            amounts_apart(sets.domain(one), sets.domain(other))
         }
     }
 }

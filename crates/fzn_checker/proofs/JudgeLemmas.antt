@@ -13,18 +13,18 @@ use Rattle.fzn_meaning.specs.Solutions.{declared_sets}
 use Rattle.fzn_meaning.specs.WellFormed.{IsWellFormed}
 use Rattle.fzn_rules.specs.declared.rule.Rule.{Rule}
 use Rattle.fzn_rules.specs.Rules.{IsMet}
-use Rattle.fzn_state.specs.State.{Sets, start}
+use Rattle.fzn_sets.specs.Sets.{Narrowed, start}
 use Rattle.fzn_cert.specs.Accepted.{denying, IsTrivial, IsRuleMet}
 
--- the sets of a state that began with the declared ones, after a clause was denied
-pub denied_from : (model : Model) (old : Sets) (new : List IntSet) (clause : List Lit) → old ≡ start (declared_sets model.vars) → new ≡ denied old.sets clause → new ≡ denying model clause
-denied_from model old new clause old_is new_is = new_is ∙ ap (λ (s : Sets). denied s.sets clause) old_is
+-- the sets of a sets that began with the declared ones, after a clause was denied
+pub denied_from : (model : Model) (old : Narrowed) (new : List IntSet) (clause : List Lit) → old ≡ start (declared_sets model.vars) → new ≡ denied old.present clause → new ≡ denying model clause
+denied_from model old new clause old_is new_is = new_is ∙ ap (λ (s : Narrowed). denied s.present clause) old_is
 
 pub count-declared : (model : Model) → length (declared_sets model.vars) ≡ length model.vars
 count-declared model = length-map model.vars (λ var. var.domain)
 
-pub count-state : (model : Model) (state : Sets) → state ≡ start (declared_sets model.vars) → length state.sets ≡ length model.vars
-count-state model state is = ap (λ (s : Sets). length s.sets) is ∙ count-declared model
+pub count-sets : (model : Model) (sets : Narrowed) → sets ≡ start (declared_sets model.vars) → length sets.present ≡ length model.vars
+count-sets model sets is = ap (λ (s : Narrowed). length s.present) is ∙ count-declared model
 
 pub count-denied : (model : Model) (new : List IntSet) (clause : List Lit) → new ≡ denying model clause → length new ≡ length model.vars
 count-denied model new clause is = ap length is ∙ length-denied clause (declared_sets model.vars) ∙ count-declared model
@@ -55,8 +55,8 @@ rule_not_met model new c rule clause constraint is below at not_met met = elim (
 ]
 
 -- no set was empty, and none became so
-pub not_trivial : (model : Model) (old : Sets) (new : List IntSet) (clause : List Lit) (has_empty emptied : Bool) → old ≡ start (declared_sets model.vars) → new ≡ denying model clause → is_some_empty new ≡ (is_some_empty old.sets || emptied) → has_empty ≡ is_some_empty (declared_sets model.vars) → has_empty ≡ false → emptied ≡ false → IsTrivial model clause → ⊥
+pub not_trivial : (model : Model) (old : Narrowed) (new : List IntSet) (clause : List Lit) (has_empty emptied : Bool) → old ≡ start (declared_sets model.vars) → new ≡ denying model clause → is_some_empty new ≡ (is_some_empty old.present || emptied) → has_empty ≡ is_some_empty (declared_sets model.vars) → has_empty ≡ false → emptied ≡ false → IsTrivial model clause → ⊥
 not_trivial model old new clause has_empty emptied old_is new_is told empty none none_new trivial =
-    let was : is_some_empty old.sets ≡ false = ap (λ (s : Sets). is_some_empty s.sets) old_is ∙ sym empty ∙ none in
+    let was : is_some_empty old.present ≡ false = ap (λ (s : Narrowed). is_some_empty s.present) old_is ∙ sym empty ∙ none in
     let now : is_some_empty new ≡ true = ap is_some_empty new_is ∙ trivial in
     grind arith

@@ -5,7 +5,7 @@ use Rattle.fzn_domain.specs.Narrow.{ChainOutcome, accepted, not_unit, no_conflic
 use Rattle.fzn_meaning.specs.declared.model.Model.{Model}
 use Rattle.fzn_meaning.specs.Solutions.{declared_sets}
 use Rattle.fzn_meaning.specs.WellFormed.{IsWellFormed}
-use Rattle.fzn_state.specs.State.{Sets, start}
+use Rattle.fzn_sets.specs.Sets.{Narrowed, start}
 use Rattle.fzn_chain.specs.Link.{IsBound}
 use Rattle.fzn_cert.specs.declared.step.Step.{Step}
 use Rattle.fzn_cert.specs.declared.step.Step.TheVariants.{Infer, Resolve, Solution, Delete}
@@ -15,10 +15,10 @@ use Rattle.fzn_cert.specs.Past.{Past}
 use Rattle.fzn_cert.specs.Sound.{IsSound}
 
 -- What a step is judged on: a model, what sound steps left, the declared sets, and whether one of them is empty.
-pub record IsReady (model : Model) (past : Past) (state : Sets) (has_empty : Bool) : Type 0 where
+pub record IsReady (model : Model) (past : Past) (sets : Narrowed) (has_empty : Bool) : Type 0 where
   pub well_formed : IsWellFormed model
   pub sound : IsSound model past
-  pub fresh : state ≡ start (declared_sets model.vars)
+  pub fresh : sets ≡ start (declared_sets model.vars)
   pub empty : has_empty ≡ is_some_empty (declared_sets model.vars)
 
 -- the numbers of the step's literals are in their range

@@ -14,7 +14,7 @@ use fzn_cert_reader::StepReader;
 use fzn_domain::{Domain, Memory};
 use fzn_list::Items;
 use fzn_meaning::{Model, Var};
-use fzn_rules::State;
+use fzn_sets::Sets;
 use std::alloc::Global;
 use std::io::Read;
 
@@ -59,8 +59,8 @@ pub fn check_certificate<C: Read + Drop>(
     ensures exhausted { IfOk result (λ answer. answer.closed ≡ true → IsExhausted model.now answer.solutions.items) }
 {
     let mut reader = StepReader::new(alloc, cert);
-    let mut state = State::new(alloc, domains_of(alloc, model.vars.as_slice())?);
-    let has_empty = state.has_empty();
+    let mut sets = Sets::new(alloc, domains_of(alloc, model.vars.as_slice())?)?;
+    let has_empty = sets.has_empty();
     let mut history = History::new(alloc);
     let mut given = Given::new(alloc);
     let mut line = 3;
@@ -70,7 +70,7 @@ pub fn check_certificate<C: Read + Drop>(
             model,
             &mut history,
             &mut given,
-            &mut state,
+            &mut sets,
             has_empty,
             step,
         )?;

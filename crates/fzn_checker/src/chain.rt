@@ -9,20 +9,20 @@ use crate::history::History;
 use fzn_cert::Refusal;
 use fzn_chain::Link;
 use fzn_domain::Memory;
-use fzn_rules::State;
+use fzn_sets::Sets;
 
 /// What is wrong with the chain of these clauses, if anything.
-pub fn follow(history: &History, state: &mut State, ids: &[u64]) -> Result<Option<Refusal>, Memory>
+pub fn follow(history: &History, sets: &mut Sets, ids: &[u64]) -> Result<Option<Refusal>, Memory>
     requires held { All (IsHeld history.now) ids.now }
-    requires over { All (λ held. IfSome held (IsClauseOver (length state.old.sets))) history.now.clauses }
-    ensures fault { IfOk result (λ fault. fault ≡ chain_fault (chain_outcome state.old.sets (clauses_held history.now ids.now))) }
-    ensures declared { state.new.declared ≡ state.old.declared }
+    requires over { All (λ held. IfSome held (IsClauseOver (length sets.old.present))) history.now.clauses }
+    ensures fault { IfOk result (λ fault. fault ≡ chain_fault (chain_outcome sets.old.present (clauses_held history.now ids.now))) }
+    ensures declared { sets.new.declared ≡ sets.old.declared }
 {
     for id in ids {
         let Some(clause) = history.clause(*id) else {
             unreachable!()
         };
-        match fzn_chain::follow(state, clause.as_slice())? {
+        match fzn_chain::follow(sets, clause.as_slice())? {
             Link::Refuted => return Ok(None),
             Link::Narrowed => {}
             Link::Open => return Ok(Some(Refusal::NotUnit)),

@@ -5,7 +5,7 @@ ghost use Rattle.fzn_domain.specs.Narrow.{IsClauseOver, is_some_empty};
 ghost use Rattle.fzn_meaning.specs.declared.model.Model.{Model};
 ghost use Rattle.fzn_meaning.specs.Solutions.{declared_sets};
 ghost use Rattle.fzn_meaning.specs.WellFormed.{IsWellFormed};
-ghost use Rattle.fzn_state.specs.State.{start};
+ghost use Rattle.fzn_sets.specs.Sets.{start};
 ghost use Rattle.fzn_cert.specs.declared.step.Step.TheVariants.{Infer, Resolve, Solution, Delete};
 ghost use Rattle.fzn_cert.specs.Past.{Past};
 ghost use Rattle.fzn_cert.specs.Accepted.{IsJudged};
@@ -22,28 +22,29 @@ use fzn_cert::{Refusal, Step};
 use fzn_chain::deny;
 use fzn_domain::{Lit, Memory};
 use fzn_meaning::{Model, is_solution};
-use fzn_rules::{Rule, State, refutes};
+use fzn_rules::{Rule, refutes};
+use fzn_sets::Sets;
 use std::alloc::Global;
 
-/// What is wrong with a step after those before it, and none where it is accepted. The state has the declared sets before and after;
+/// What is wrong with a step after those before it, and none where it is accepted. The sets has the declared sets before and after;
 /// `has_empty` tells whether one of them is empty.
 pub fn fault_of(
     alloc: Global,
     model: &Model,
     history: &History,
     given: &Given,
-    state: &mut State,
+    sets: &mut Sets,
     has_empty: bool,
     step: &Step,
 ) -> Result<Option<Refusal>, Memory>
-    requires ready { IsReady model.now history.now state.old has_empty }
+    requires ready { IsReady model.now history.now sets.old has_empty }
     requires given { AreGiven model.now history.now.solutions given.now }
     requires bounds { HasBounds step.now }
     ensures judged { IfOk result (IsJudged model.now history.now step.now) }
-    ensures same { state.new ≡ state.old }
+    ensures same { sets.new ≡ sets.old }
 {
-    let judged = judge_on(alloc, model, history, given, state, has_empty, step);
-    state.restore();
+    let judged = judge_on(alloc, model, history, given, sets, has_empty, step);
+    sets.restore();
     judged
 }
 
@@ -53,33 +54,26 @@ fn judge_on(
     model: &Model,
     history: &History,
     given: &Given,
-    state: &mut State,
+    sets: &mut Sets,
     has_empty: bool,
     step: &Step,
 ) -> Result<Option<Refusal>, Memory>
-    requires ready { IsReady model.now history.now state.old has_empty }
+    requires ready { IsReady model.now history.now sets.old has_empty }
     requires given { AreGiven model.now history.now.solutions given.now }
     requires bounds { HasBounds step.now }
     ensures judged { IfOk result (IsJudged model.now history.now step.now) }
-    ensures declared { state.new.declared ≡ state.old.declared }
+    ensures declared { sets.new.declared ≡ sets.old.declared }
 {
     match step {
         Step::Infer {
             constraint,
             rule,
             clause,
-        } => judge_infer(
-            model,
-            state,
-            has_empty,
-            *constraint,
-            rule,
-            clause.as_slice(),
-        ),
+        } => judge_infer(model, sets, has_empty, *constraint, rule, clause.as_slice()),
         Step::Resolve { clause, ids } => judge_resolve(
             model,
             history,
-            state,
+            sets,
             has_empty,
             clause.as_slice(),
             ids.as_slice(),
@@ -91,18 +85,18 @@ fn judge_on(
 
 fn judge_infer(
     model: &Model,
-    state: &mut State,
+    sets: &mut Sets,
     has_empty: bool,
     constraint: u64,
     rule: &Rule,
     clause: &[Lit],
 ) -> Result<Option<Refusal>, Memory>
     requires model { IsWellFormed model.now }
-    requires state { state.old ≡ start (declared_sets model.now.vars) }
+    requires sets { sets.old ≡ start (declared_sets model.now.vars) }
     requires empty { has_empty ≡ is_some_empty (declared_sets model.now.vars) }
     requires bounds { All IsBound clause.now }
     ensures judged { IfOk result (λ fault. (past : Past) → IsJudged model.now past (Infer constraint rule.now clause.now) fault) }
-    ensures declared { state.new.declared ≡ state.old.declared }
+    ensures declared { sets.new.declared ≡ sets.old.declared }
 {
     if !has_variables(model.vars.len(), clause) {
         return Ok(Some(Refusal::NoSuchVariable));
@@ -110,13 +104,13 @@ fn judge_infer(
     if constraint == 0 || constraint > model.constraints.len() as u64 {
         return Ok(Some(Refusal::NoSuchConstraint));
     }
-    let emptied = deny(state, clause)?;
+    let emptied = deny(sets, clause)?;
     if has_empty || emptied {
         return Ok(None);
     }
     if refutes(
         &model.constraints.as_slice()[(constraint - 1) as usize],
-        state,
+        sets,
         rule,
     ) {
         Ok(None)
@@ -128,17 +122,17 @@ fn judge_infer(
 fn judge_resolve(
     model: &Model,
     history: &History,
-    state: &mut State,
+    sets: &mut Sets,
     has_empty: bool,
     clause: &[Lit],
     ids: &[u64],
 ) -> Result<Option<Refusal>, Memory>
     requires history { IsSound model.now history.now }
-    requires state { state.old ≡ start (declared_sets model.now.vars) }
+    requires sets { sets.old ≡ start (declared_sets model.now.vars) }
     requires empty { has_empty ≡ is_some_empty (declared_sets model.now.vars) }
     requires bounds { All IsBound clause.now }
     ensures judged { IfOk result (IsJudged model.now history.now (Resolve clause.now ids.now)) }
-    ensures declared { state.new.declared ≡ state.old.declared }
+    ensures declared { sets.new.declared ≡ sets.old.declared }
 {
     if !has_variables(model.vars.len(), clause) {
         return Ok(Some(Refusal::NoSuchVariable));
@@ -146,11 +140,11 @@ fn judge_resolve(
     if !are_held(history, ids) {
         return Ok(Some(Refusal::NoSuchClause));
     }
-    let emptied = deny(state, clause)?;
+    let emptied = deny(sets, clause)?;
     if has_empty || emptied {
         return Ok(None);
     }
-    follow(history, state, ids)
+    follow(history, sets, ids)
 }
 
 fn judge_solution(

@@ -13,7 +13,7 @@ use crate::solution::note;
 use fzn_cert::{Refusal, Step};
 use fzn_domain::Memory;
 use fzn_meaning::{Model, cut};
-use fzn_rules::State;
+use fzn_sets::Sets;
 use std::alloc::Global;
 
 /// Takes the next step: where it is accepted it goes into the history, and else what is wrong with it is answered.
@@ -22,20 +22,20 @@ pub fn take_step(
     model: &Model,
     history: &mut History,
     given: &mut Given,
-    state: &mut State,
+    sets: &mut Sets,
     has_empty: bool,
     step: Step,
 ) -> Result<Option<Refusal>, Memory>
-    requires ready { IsReady model.now history.old state.old has_empty }
+    requires ready { IsReady model.now history.old sets.old has_empty }
     requires given { AreGiven model.now history.old.solutions given.old }
     requires bounds { HasBounds step }
     ensures judged { IfOk result (IsJudged model.now history.old step) }
     ensures after { IfOk result (λ fault. fault ≡ None → history.new ≡ after model.now history.old step) }
     ensures sound { IfOk result (λ fault. fault ≡ None → IsSound model.now history.new) }
     ensures given { IfOk result (λ fault. fault ≡ None → AreGiven model.now history.new.solutions given.new) }
-    ensures same { state.new ≡ state.old }
+    ensures same { sets.new ≡ sets.old }
 {
-    if let Some(fault) = fault_of(alloc, model, history, given, state, has_empty, &step)? {
+    if let Some(fault) = fault_of(alloc, model, history, given, sets, has_empty, &step)? {
         return Ok(Some(fault));
     }
     accept(alloc, model, history, given, step)?;

@@ -10,8 +10,8 @@ use Rattle.fzn_meaning.specs.declared.term.Term.{Term}
 use Rattle.fzn_meaning.specs.declared.term.Term.TheVariants.{Constant}
 use Rattle.fzn_meaning.specs.Term.{IsTerm, term_value, values_of}
 use Rattle.fzn_meaning.proofs.CallerLemmas.{length-values_of, get_or-values_of}
-use Rattle.fzn_state.proofs.CallerLemmas.{MayBe-term_value}
-use Rattle.fzn_state.specs.Terms.{IsFixedTo, least_value}
+use Rattle.fzn_sets.proofs.CallerLemmas.{MayBe-term_value}
+use Rattle.fzn_sets.specs.Terms.{IsFixedTo, least_value}
 use Rattle.fzn_terms.proofs.LawLemmas.{fixed_to}
 use Rattle.fzn_circuit.specs.Circuits.{AreApart, AreDifferent, HasOpen, owner_of}
 

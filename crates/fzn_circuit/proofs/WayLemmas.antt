@@ -22,10 +22,10 @@ use Rattle.fzn_meaning.specs.declared.constraint.Constraint.TheVariants.{Circuit
 use Rattle.fzn_meaning.specs.Circuit.{reached_from}
 use Rattle.fzn_meaning.specs.Entries.{IsIndex, entry_at}
 use Rattle.fzn_meaning.specs.Term.{IsTerm}
-use Rattle.fzn_state.proofs.TermLemmas.{IsTerm-term_at}
+use Rattle.fzn_sets.proofs.TermLemmas.{IsTerm-term_at}
 use Rattle.fzn_rules.specs.declared.rule.Rule.TheVariants.{Cut}
 use Rattle.fzn_rules.specs.Rules.{IsMet}
-use Rattle.fzn_state.specs.Terms.{MayBe, IsFixedTo, term_at}
+use Rattle.fzn_sets.specs.Terms.{MayBe, IsFixedTo, term_at}
 use Rattle.fzn_global_rules.specs.Cut.{LeadsInto, IsCutMet}
 use Rattle.fzn_trail.specs.Levels.{Levels}
 use Rattle.fzn_propagator.specs.Inference.{IsHint, HasWritableHints}

@@ -7,7 +7,7 @@ use Rattle.fzn_domain.specs.declared.literal.VarId.{VarId}
 use Rattle.fzn_domain.specs.IntSet.{IntSet}
 use Rattle.fzn_meaning.specs.declared.term.Term.{Term}
 use Rattle.fzn_meaning.specs.declared.term.Term.TheVariants.{Variable}
-use Rattle.fzn_state.specs.Terms.{MayBe}
+use Rattle.fzn_sets.specs.Terms.{MayBe}
 use Rattle.fzn_trail.specs.Levels.{Levels}
 use Rattle.fzn_terms.specs.Denied.{AllAre, Says, Keeps, IsFalseClause}
 

@@ -13,14 +13,14 @@ ghost use Rattle.fzn_meaning.specs.Entries.{IsIndex};
 ghost use Rattle.fzn_meaning.specs.Meaning.{AreTerms};
 ghost use Rattle.fzn_rules.specs.declared.rule.Rule.TheVariants as rule;
 ghost use Rattle.fzn_propagator.specs.Inference.{HasWritableHints};
-ghost use Rattle.fzn_state.specs.Terms.{IsFixedTo, term_at};
+ghost use Rattle.fzn_sets.specs.Terms.{IsFixedTo, term_at};
 ghost use Rattle.fzn_terms.specs.Denied.{AllAre, NoneIs, IsFalseClause, IsInferred};
 ghost use Rattle.fzn_circuit.specs.Circuits.{IsWay, IsAtEnd, HasNoShortWay};
 
 use fzn_domain::{Lit, Memory, Op};
 use fzn_list::Items;
 use fzn_meaning::Term;
-use fzn_state::{is_index, term_at};
+use fzn_sets::{is_index, term_at};
 use fzn_sums::{greatest_value, least_value};
 use fzn_terms::{explain, force};
 use fzn_trail::Trail;

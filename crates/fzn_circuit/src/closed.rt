@@ -17,7 +17,7 @@ ghost use Rattle.fzn_circuit.specs.Closed.{IsGrown, IsFromTo, IsPlaceIf, LeadsIn
 use fzn_domain::{Domain, Lit, Memory, Op, VarId, place_of};
 use fzn_list::Items;
 use fzn_meaning::Term;
-use fzn_state::{is_index, term_at};
+use fzn_sets::{is_index, term_at};
 use fzn_terms::{explain, greatest_of, least_of, may_be};
 use fzn_trail::Trail;
 

@@ -8,7 +8,7 @@ ghost use Rattle.fzn_meaning.specs.declared.term.Term.{Term};
 ghost use Rattle.fzn_meaning.specs.Meaning.{AreTerms};
 ghost use Rattle.fzn_meaning.specs.Term.{IsTerm};
 ghost use Rattle.fzn_rules.specs.declared.rule.Rule.TheVariants as rule;
-ghost use Rattle.fzn_state.specs.Terms.{IsFixedTo};
+ghost use Rattle.fzn_sets.specs.Terms.{IsFixedTo};
 ghost use Rattle.fzn_terms.specs.Denied.{NoneIs, IsInferred};
 ghost use Rattle.fzn_circuit.specs.Circuits.{AreApart, AreDifferent, HasOpen, owner_of};
 

@@ -8,7 +8,7 @@ use crate::circuit::rising;
 use fzn_domain::Memory;
 use fzn_list::Items;
 use fzn_meaning::Term;
-use fzn_state::is_index;
+use fzn_sets::is_index;
 use fzn_terms::{may_be, next_value};
 use fzn_trail::Trail;
 use std::alloc::Global;

@@ -2,7 +2,7 @@
 ghost use Rattle.std.specs.Prelude.{◌≡◌, ◌++◌, ◌∷◌, [], IfOk, IfSome, OnOk, length};
 ghost use Rattle.std.specs.List.{All};
 ghost use Rattle.fzn_domain.specs.Limits.{IsLimited};
-ghost use Rattle.fzn_state.specs.State.{start};
+ghost use Rattle.fzn_sets.specs.Sets.{start};
 ghost use Rattle.fzn_conflict.specs.declared.analysis.Learn.TheVariants.{Plain};
 ghost use Rattle.fzn_learned.specs.Learned.{IsConflicting, IsDerived, IsLearned, IsPlain};
 ghost use Rattle.fzn_learned.specs.Reasoned.{known_of, AreOver, IsReasoned};
@@ -14,7 +14,7 @@ use fzn_clauses::Clauses;
 use fzn_domain::Memory;
 use fzn_inferences::Inferences;
 use fzn_learned::{Learned, Source, is_derived, is_sound, plain_learned};
-use fzn_state::State;
+use fzn_sets::Sets;
 use fzn_trail::Trail;
 use std::alloc::Global;
 
@@ -27,13 +27,13 @@ pub enum Learn {
     First,
 }
 
-/// What is learned from a known clause that is false on the trail. The state has the declared sets, and is restored.
+/// What is learned from a known clause that is false on the trail. The sets has the declared sets, and is restored.
 pub fn analyse(
     alloc: Global,
     trail: &Trail,
     clauses: &Clauses,
     inferences: &Inferences,
-    state: &mut State,
+    sets: &mut Sets,
     marks: &mut Marks,
     conflict: Source,
     learn: Learn,
@@ -42,10 +42,10 @@ pub fn analyse(
     requires limited { All IsLimited trail.now.declared }
     requires over { AreOver (length trail.now.declared) (known_of clauses.now inferences.now) }
     requires conflict { IsConflicting (known_of clauses.now inferences.now) trail.now.sets conflict }
-    requires fresh { state.old ≡ start trail.now.declared }
+    requires fresh { sets.old ≡ start trail.now.declared }
     ensures learned { IfOk result (IsLearned (known_of clauses.now inferences.now) trail.now) }
     ensures plain { learn ≡ Plain → IfOk result (IsPlain trail.now conflict) }
-    ensures fresh { OnOk result (state.new ≡ start trail.now.declared) }
+    ensures fresh { OnOk result (sets.new ≡ start trail.now.declared) }
 {
     match learn {
         Learn::Plain => {
@@ -53,9 +53,7 @@ pub fn analyse(
             Ok(learned)
         }
         Learn::First => {
-            let learned = first_or_plain(
-                alloc, trail, clauses, inferences, state, marks, conflict,
-            )?;
+            let learned = first_or_plain(alloc, trail, clauses, inferences, sets, marks, conflict)?;
             Ok(learned)
         }
     }
@@ -67,7 +65,7 @@ fn first_or_plain(
     trail: &Trail,
     clauses: &Clauses,
     inferences: &Inferences,
-    state: &mut State,
+    sets: &mut Sets,
     marks: &mut Marks,
     conflict: Source,
 ) -> Result<Learned, Memory>
@@ -75,18 +73,18 @@ fn first_or_plain(
     requires limited { All IsLimited trail.now.declared }
     requires over { AreOver (length trail.now.declared) (known_of clauses.now inferences.now) }
     requires conflict { IsConflicting (known_of clauses.now inferences.now) trail.now.sets conflict }
-    requires fresh { state.old ≡ start trail.now.declared }
+    requires fresh { sets.old ≡ start trail.now.declared }
     ensures learned { IfOk result (IsLearned (known_of clauses.now inferences.now) trail.now) }
-    ensures fresh { OnOk result (state.new ≡ start trail.now.declared) }
+    ensures fresh { OnOk result (sets.new ≡ start trail.now.declared) }
 {
     let graph = Implications {
         trail,
         clauses,
         inferences,
-        vars: state.len(),
+        vars: sets.len(),
     };
     let found = first_uip(alloc, graph, marks, conflict)?;
-    if is_sound(trail, clauses, inferences, state, &found)? {
+    if is_sound(trail, clauses, inferences, sets, &found)? {
         return Ok(found);
     }
     let learned = plain_learned(alloc, trail, clauses, inferences, conflict)?;
@@ -94,31 +92,31 @@ fn first_or_plain(
 }
 
 /// The literal of an entry of level 0 as a clause of its own, where it follows from what stands for the entries that it rests on, and
-/// its reason. The state has the declared sets, and is restored.
+/// its reason. The sets has the declared sets, and is restored.
 pub fn unit_of(
     alloc: Global,
     trail: &Trail,
     clauses: &Clauses,
     inferences: &Inferences,
-    state: &mut State,
+    sets: &mut Sets,
     marks: &mut Marks,
     place: usize,
 ) -> Result<Option<Learned>, Memory>
     requires over { AreOver (length trail.now.declared) (known_of clauses.now inferences.now) }
-    requires fresh { state.old ≡ start trail.now.declared }
+    requires fresh { sets.old ≡ start trail.now.declared }
     ensures derived { IfOk result (λ found. IfSome found (IsDerived (known_of clauses.now inferences.now) trail.now.declared)) }
-    ensures fresh { OnOk result (state.new ≡ start trail.now.declared) }
+    ensures fresh { OnOk result (sets.new ≡ start trail.now.declared) }
 {
     let graph = Implications {
         trail,
         clauses,
         inferences,
-        vars: state.len(),
+        vars: sets.len(),
     };
     let Some(unit) = wanted_clause(alloc, graph, marks, place)? else {
         return Ok(None);
     };
-    if is_derived(trail, clauses, inferences, state, &unit)? {
+    if is_derived(trail, clauses, inferences, sets, &unit)? {
         return Ok(Some(unit));
     }
     Ok(None)

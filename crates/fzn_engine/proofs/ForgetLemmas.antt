@@ -9,7 +9,7 @@ use Rattle.fzn_domain.specs.declared.literal.Lit.{Lit}
 use Rattle.fzn_domain.specs.Narrow.{IsClauseOver}
 use Rattle.fzn_meaning.specs.declared.model.Model.{Model}
 use Rattle.fzn_meaning.specs.Solutions.{declared_sets, cut_of}
-use Rattle.fzn_state.specs.State.{Sets, start}
+use Rattle.fzn_sets.specs.Sets.{Narrowed, start}
 use Rattle.fzn_cert.specs.declared.step.Step.{Step}
 use Rattle.fzn_cert.specs.Past.{Past, clause_held}
 use Rattle.fzn_cert.specs.Accepted.{past_of}
@@ -84,7 +84,7 @@ module _ (held : Held) (gone : ClauseId) where
 
 module _ (model : Model) (old : Solver) (steps : List Step) (h : IsAfter model old steps) where
   -- other notes are no change, nor are the sets on which learned clauses are tested, while they are the declared ones
-  pub noted-after : (scratch : Sets) → scratch ≡ start (declared_sets model.vars) → (notes : Notes) → IsAfter model (record old { scratch = scratch; notes = notes }) steps
+  pub noted-after : (scratch : Narrowed) → scratch ≡ start (declared_sets model.vars) → (notes : Notes) → IsAfter model (record old { scratch = scratch; notes = notes }) steps
   noted-after scratch fresh notes = record {
     state = h.state;
     watching = h.watching;
@@ -96,7 +96,7 @@ module _ (model : Model) (old : Solver) (steps : List Step) (h : IsAfter model o
     few_steps = h.few_steps;
   }
 
-  pub noted-tended : (scratch : Sets) → scratch ≡ start (declared_sets model.vars) → (notes : Notes) → IsTended model old (record old { scratch = scratch; notes = notes }) steps
+  pub noted-tended : (scratch : Narrowed) → scratch ≡ start (declared_sets model.vars) → (notes : Notes) → IsTended model old (record old { scratch = scratch; notes = notes }) steps
   noted-tended scratch fresh notes = record { state = noted-after scratch fresh notes; trail = refl; nodes = refl; found = refl; learn = refl }
 
   pub nothing-tended : (notes : Notes) → IsTended model old (record old { notes = notes }) steps

@@ -13,7 +13,7 @@ use Rattle.fzn_cert.specs.declared.step.Version.TheVariants.{Two}
 use Rattle.fzn_cert.specs.Past.{Past}
 use Rattle.fzn_cert.specs.Accepted.{IsAccepted, AllAccepted, after, past_of}
 use Rattle.fzn_cert.specs.Spelling.{IsSpelled}
-use Rattle.fzn_state.specs.State.{Sets}
+use Rattle.fzn_sets.specs.Sets.{Narrowed}
 use Rattle.fzn_inferences.specs.declared.inferences.Inferred.{Inferred}
 use Rattle.fzn_inferences.specs.Inferences.{inferred}
 use Rattle.fzn_search.specs.Fixed.{Searching}
@@ -57,7 +57,7 @@ abbrev pub solver_of : Levels → Clauses → List ℕ → List Inferred → Lis
 solver_of trail clauses numbers stack alive search scratch learn notes found steps =
     record { trail = trail; clauses = clauses; numbers = numbers; inferences = stack; alive = alive; search = search; scratch = scratch; learn = learn; notes = notes; found = found; steps = steps }
 
-pub solver-is : (new : Solver) (trail : Levels) (search : Searching) (scratch : Sets) (learn : Learn) (found steps : ℕ) → new.trail ≡ trail → new.search ≡ search → new.scratch ≡ scratch → new.learn ≡ learn → new.found ≡ found → new.steps ≡ steps → new ≡ solver_of trail new.clauses new.numbers new.inferences new.alive search scratch learn new.notes found steps
+pub solver-is : (new : Solver) (trail : Levels) (search : Searching) (scratch : Narrowed) (learn : Learn) (found steps : ℕ) → new.trail ≡ trail → new.search ≡ search → new.scratch ≡ scratch → new.learn ≡ learn → new.found ≡ found → new.steps ≡ steps → new ≡ solver_of trail new.clauses new.numbers new.inferences new.alive search scratch learn new.notes found steps
 solver-is new trail search scratch learn found steps a c d e f g =
     ap (λ (t : Levels). solver_of t new.clauses new.numbers new.inferences new.alive new.search new.scratch new.learn new.notes new.found new.steps) a
     ∙ ap (λ (s : Searching). solver_of trail new.clauses new.numbers new.inferences new.alive s new.scratch new.learn new.notes new.found new.steps) c
@@ -115,7 +115,7 @@ propagated-kept model steps old trail clauses same run watching h =
 -- ---- a learned clause
 
 -- inferences are written whatever the sets on which learned clauses are tested, and whatever is noted
-pub written-beside : (model : Model) (first : List Step) (old new : Solver) (scratch : Sets) (notes : Notes) (steps : List Step) → IsWritten model first (record old { scratch = scratch; notes = notes }) new steps → IsWritten model first old new steps
+pub written-beside : (model : Model) (first : List Step) (old new : Solver) (scratch : Narrowed) (notes : Notes) (steps : List Step) → IsWritten model first (record old { scratch = scratch; notes = notes }) new steps → IsWritten model first old new steps
 written-beside model first old new scratch notes steps w = record { state = w.state; kept = w.kept; known = w.known; trail = w.trail; nodes = w.nodes; found = w.found; learn = w.learn }
 
 pub learns : (model : Model) (first : List Step) (old new : Solver) (steps : List Step) (conflict : Source) (learned : Learned) (numbers : List ℕ) → IsWritten model first old new steps → IsLearned (known_in (stock_of old)) old.trail learned → (old.learn ≡ Plain → IsPlain old.trail conflict learned) → GiveSources (past_of model steps) (known_in (stock_of old)) numbers learned.sources → Learns model new steps conflict learned numbers

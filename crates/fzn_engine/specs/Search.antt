@@ -7,7 +7,7 @@ use Rattle.fzn_meaning.specs.Solutions.{declared_sets}
 use Rattle.fzn_cert.specs.declared.step.Step.{Step}
 use Rattle.fzn_cert.specs.Accepted.{past_of}
 use Rattle.fzn_cert.specs.Past.{Past, clause_held}
-use Rattle.fzn_state.specs.State.{start}
+use Rattle.fzn_sets.specs.Sets.{start}
 use Rattle.std.specs.List.{All}
 use Rattle.fzn_trail.specs.declared.trail.Entry.{Entry}
 use Rattle.fzn_trail.specs.declared.trail.ClauseId.{ClauseId}

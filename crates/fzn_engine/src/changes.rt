@@ -13,11 +13,11 @@ ghost use Rattle.fzn_engine.specs.Outcome.{IsReached};
 ghost use Rattle.fzn_engine.specs.Search.{IsAfter, IsWithinLimits, IsRecorded, Goes, Continues, IsOver, ending_of};
 
 use crate::fault::Fault;
-use fzn_constraints::Constraints;
 use crate::limits::{Ending, Limits};
 use crate::sink::Sink;
 use crate::solver::Solver;
 use fzn_cert::Step;
+use fzn_constraints::Constraints;
 use fzn_learned::Source;
 use fzn_meaning::{Goal, Model};
 use fzn_search::{cut, values_of};

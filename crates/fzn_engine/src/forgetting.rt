@@ -9,13 +9,13 @@ ghost use Rattle.fzn_clauses.specs.Watching.{held_by};
 ghost use Rattle.fzn_upkeep.specs.Forgetting.{IsFlagged};
 ghost use Rattle.fzn_engine.specs.Search.{IsAfter, IsTended};
 
-use fzn_upkeep::reasons_on;
 use crate::solver::Solver;
 use fzn_cert::Step;
 use fzn_domain::Memory;
 use fzn_meaning::{Goal, Model};
 use fzn_search::cut;
 use fzn_trail::ClauseId;
+use fzn_upkeep::reasons_on;
 use std::alloc::Global;
 
 impl Solver {

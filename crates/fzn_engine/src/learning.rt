@@ -11,11 +11,11 @@ ghost use Rattle.fzn_engine.specs.State.{known_in};
 ghost use Rattle.fzn_engine.specs.Search.{IsAfter, stock_of, IsWritten, Learns, Goes};
 
 use crate::fault::Fault;
-use fzn_constraints::Inference;
 use crate::sink::Sink;
 use crate::solver::Solver;
 use fzn_cert::Step;
 use fzn_conflict::{Learn, analyse};
+use fzn_constraints::Inference;
 use fzn_learned::{Learned, Source};
 use fzn_list::Items;
 use fzn_meaning::Model;

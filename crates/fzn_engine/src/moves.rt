@@ -15,14 +15,14 @@ ghost use Rattle.fzn_trail.specs.Levels.{level_of};
 ghost use Rattle.fzn_engine.specs.State.{known_in};
 ghost use Rattle.fzn_engine.specs.Search.{IsAfter, stock_of, IsBackAt, IsForcedBy, IsDecided, IsKeptBy, Goes};
 
-use fzn_constraints::Inference;
-use fzn_upkeep::Notes;
 use crate::solver::Solver;
 use fzn_cert::Step;
+use fzn_constraints::Inference;
 use fzn_domain::{Lit, Memory};
 use fzn_learned::{Source, clause_of};
 use fzn_meaning::Model;
 use fzn_trail::{ClauseId, Reason, Trail};
+use fzn_upkeep::Notes;
 
 /// How many inferences without an entry may stand beside those on which entries may rest: so many, and one for each so many entries.
 const SPARE: usize = 64;

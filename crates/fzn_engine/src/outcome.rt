@@ -8,12 +8,12 @@ ghost use Rattle.fzn_cert.specs.Accepted.{AllAccepted};
 ghost use Rattle.fzn_engine.specs.Outcome.{HasRoom, count, IsEnded, IsOutcome};
 
 use crate::fault::Fault;
-use fzn_constraints::Constraints;
 use crate::limits::{Ending, Limits};
 use crate::sink::Sink;
 use crate::solver::Solver;
 use fzn_cert::Step;
 use fzn_conflict::Learn;
+use fzn_constraints::Constraints;
 use fzn_list::Items;
 use fzn_meaning::{Model, Var};
 use fzn_search::{Annotation, Choice};

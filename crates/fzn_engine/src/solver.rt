@@ -5,7 +5,6 @@ ghost use Rattle.fzn_meaning.specs.declared.model.Model.{Model};
 ghost use Rattle.fzn_meaning.specs.Solutions.{declared_sets};
 ghost use Rattle.fzn_engine.specs.Search.{IsAfter};
 
-use fzn_upkeep::{Notes, Numbers};
 use fzn_clauses::Clauses;
 use fzn_conflict::Learn;
 use fzn_domain::{Domain, Memory};
@@ -13,8 +12,9 @@ use fzn_inferences::Inferences;
 use fzn_list::Items;
 use fzn_meaning::{Model, Var};
 use fzn_search::{Annotation, Choice, Search};
-use fzn_state::State;
+use fzn_sets::Sets;
 use fzn_trail::Trail;
+use fzn_upkeep::{Notes, Numbers};
 use std::alloc::Global;
 
 /// A search: the trail, the clauses that are held with the numbers of their steps, the inferences that stand, the numbers of the steps
@@ -28,7 +28,7 @@ pub struct Solver {
     pub alive: Items<u64>,
     pub search: Search,
     /// The declared sets, on which learned clauses are tested.
-    pub scratch: State,
+    pub scratch: Sets,
     pub learn: Learn,
     pub notes: Notes,
     pub found: u64,
@@ -51,7 +51,7 @@ impl Solver {
         ensures learn { IfOk result (λ solver. solver.learn ≡ learn) }
     {
         let trail = Trail::new(alloc, declared(alloc, model.vars.as_slice())?)?;
-        let scratch = State::new(alloc, declared(alloc, model.vars.as_slice())?);
+        let scratch = Sets::new(alloc, declared(alloc, model.vars.as_slice())?)?;
         let search = Search::new(alloc, model.vars.as_slice(), annotations, choice)?;
         Ok(Solver {
             trail,

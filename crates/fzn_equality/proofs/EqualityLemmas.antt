@@ -9,8 +9,8 @@ use Rattle.fzn_meaning.specs.declared.relation.Relation.TheVariants.{Equal, NotE
 use Rattle.fzn_meaning.specs.declared.constraint.Constraint.TheVariants as constraint
 use Rattle.fzn_meaning.specs.Meaning.{IsSwitch}
 use Rattle.fzn_meaning.specs.Term.{IsTerm}
-use Rattle.fzn_state.specs.Terms.{MayBe, IsFixedTo, least_value, greatest_value}
-use Rattle.fzn_state.proofs.ValueLemmas.{MayBe-ends}
+use Rattle.fzn_sets.specs.Terms.{MayBe, IsFixedTo, least_value, greatest_value}
+use Rattle.fzn_sets.proofs.ValueLemmas.{MayBe-ends}
 use Rattle.fzn_builtin_rules.specs.Rows.{AsksEquality, IsRowsMet}
 use Rattle.fzn_rules.specs.declared.rule.Rule.TheVariants as rule
 use Rattle.fzn_rules.specs.Rules.{IsMet}

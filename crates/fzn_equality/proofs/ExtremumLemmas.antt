@@ -9,8 +9,8 @@ use Rattle.fzn_meaning.specs.declared.term.Term.{Term}
 use Rattle.fzn_meaning.specs.declared.extremum.Extreme.{Extreme}
 use Rattle.fzn_meaning.specs.declared.constraint.Constraint.TheVariants as constraint
 use Rattle.fzn_meaning.specs.Term.{IsTerm}
-use Rattle.fzn_state.specs.Terms.{MayBe, least_value, greatest_value}
-use Rattle.fzn_state.proofs.ValueLemmas.{MayBe-ends}
+use Rattle.fzn_sets.specs.Terms.{MayBe, least_value, greatest_value}
+use Rattle.fzn_sets.proofs.ValueLemmas.{MayBe-ends}
 use Rattle.fzn_builtin_rules.specs.Rows.{ShareNone, Passes, IsRowsMet}
 use Rattle.fzn_rules.specs.declared.rule.Rule.TheVariants as rule
 use Rattle.fzn_rules.specs.Rules.{IsMet}

@@ -4,7 +4,7 @@ use Rattle.fzn_domain.specs.IntSet.{IntSet}
 use Rattle.fzn_meaning.specs.declared.term.Term.{Term}
 use Rattle.fzn_meaning.specs.declared.relation.Relation.{Relation}
 use Rattle.fzn_meaning.specs.declared.relation.Relation.TheVariants.{Equal, NotEqual}
-use Rattle.fzn_state.specs.Terms.{MayBe}
+use Rattle.fzn_sets.specs.Terms.{MayBe}
 
 abbrev pub IsAskedEqual : List IntSet → Relation → Option Term → Type 0
 IsAskedEqual sets Equal None = Unit {0}

@@ -4,7 +4,7 @@ ghost use Rattle.fzn_domain.specs.IntSet.{IntSet};
 ghost use Rattle.fzn_domain.specs.Limits.{IsInLimits};
 ghost use Rattle.fzn_domain.specs.Narrow.{NoneEmpty};
 ghost use Rattle.fzn_meaning.specs.Term.{IsTerm};
-ghost use Rattle.fzn_state.specs.Terms.{MayBe};
+ghost use Rattle.fzn_sets.specs.Terms.{MayBe};
 ghost use Rattle.fzn_explain.specs.Claims.{IsDenied};
 ghost use Rattle.fzn_equality.specs.Shared.{KeepApart};
 

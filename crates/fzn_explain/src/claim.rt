@@ -1,7 +1,7 @@
 // Claims of terms.
 ghost use Rattle.std.specs.Prelude.{◌≡◌, ◌<ℤ◌, ◌≤ℤ◌, ℤ, List, IfSome};
 ghost use Rattle.fzn_domain.specs.IntSet.{IntSet};
-ghost use Rattle.fzn_state.specs.Terms.{MayBe};
+ghost use Rattle.fzn_sets.specs.Terms.{MayBe};
 ghost use Rattle.fzn_explain.specs.Claims.{opposite, IsDenied};
 
 use fzn_domain::{Lit, Op, VarId};

@@ -15,7 +15,7 @@ use Rattle.fzn_domain.proofs.SetLemmas.{least_le, le_greatest, possible_when, im
 use Rattle.fzn_meaning.specs.declared.term.Term.{Term}
 use Rattle.fzn_meaning.specs.declared.term.Term.TheVariants.{Variable}
 use Rattle.fzn_meaning.specs.Term.{IsTerm}
-use Rattle.fzn_state.specs.Terms.{least_value}
+use Rattle.fzn_sets.specs.Terms.{least_value}
 use Rattle.fzn_trail.specs.Levels.{Levels}
 use Rattle.fzn_propagator.specs.Inference.{IsWritable}
 use Rattle.fzn_propagator.specs.Left.{IsLeft}

@@ -12,7 +12,7 @@ use Rattle.fzn_meaning.specs.declared.term.Term.{Term}
 use Rattle.fzn_meaning.specs.declared.term.Term.TheVariants.{Constant, Variable}
 use Rattle.fzn_meaning.specs.declared.constraint.Constraint.{Constraint}
 use Rattle.fzn_meaning.specs.Term.{IsTerm}
-use Rattle.fzn_state.specs.Terms.{MayBe, least_value}
+use Rattle.fzn_sets.specs.Terms.{MayBe, least_value}
 use Rattle.fzn_builtin_rules.specs.Choices.{inputs_of, result_of, Relates, NoneOf, count_of, choices, IsChoice, IsFixedMet}
 use Rattle.fzn_trail.specs.Levels.{Levels}
 use Rattle.fzn_propagator.specs.Left.{IsLeft}

@@ -9,8 +9,8 @@ use Rattle.fzn_domain.proofs.SetLemmas.{member_of_size, size_of_one}
 use Rattle.fzn_meaning.specs.declared.term.Term.{Term}
 use Rattle.fzn_meaning.specs.declared.term.Term.TheVariants.{Constant, Variable}
 use Rattle.fzn_meaning.specs.Term.{IsTerm}
-use Rattle.fzn_state.specs.Terms.{MayBe}
-use Rattle.fzn_state.proofs.ValueLemmas.{some_value}
+use Rattle.fzn_sets.specs.Terms.{MayBe}
+use Rattle.fzn_sets.proofs.ValueLemmas.{some_value}
 use Rattle.fzn_builtin_rules.specs.Choices.{inputs_of, result_of, Relates, NoneOf, count_of, choices, IsChoice}
 use Rattle.fzn_rules.specs.declared.rule.Rule.TheVariants as rule
 use Rattle.fzn_rules.specs.Rules.{IsMet}

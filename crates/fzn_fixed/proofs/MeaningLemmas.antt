@@ -12,7 +12,7 @@ use Rattle.fzn_meaning.specs.declared.constraint.Constraint.{Constraint}
 use Rattle.fzn_meaning.specs.declared.constraint.Constraint.TheVariants as constraint
 use Rattle.fzn_meaning.specs.Term.{IsTerm, term_value, values_of}
 use Rattle.fzn_meaning.specs.Meaning.{Meets, IsWellFormed, IsSwitch, switch_value}
-use Rattle.fzn_state.specs.Terms.{MayBe, least_value, greatest_value}
+use Rattle.fzn_sets.specs.Terms.{MayBe, least_value, greatest_value}
 use Rattle.fzn_builtin_rules.specs.Form.{form_of}
 use Rattle.fzn_builtin_rules.specs.Choices.{inputs_of, result_of, Relates}
 use Rattle.fzn_trail.specs.Levels.{Levels}

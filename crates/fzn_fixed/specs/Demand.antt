@@ -7,7 +7,7 @@ use Rattle.fzn_domain.specs.Narrow.{IsVariable, set_of}
 use Rattle.fzn_meaning.specs.declared.term.Term.{Term}
 use Rattle.fzn_meaning.specs.declared.term.Term.TheVariants.{Variable}
 use Rattle.fzn_builtin_rules.specs.Choices.{NoneOf}
-use Rattle.fzn_state.specs.Terms.{MayBe}
+use Rattle.fzn_sets.specs.Terms.{MayBe}
 use Rattle.fzn_propagator.specs.Inference.{IsWritable}
 use Rattle.fzn_fixed.specs.declared.demand.Demand.{Demand}
 use Rattle.fzn_fixed.specs.declared.demand.Demand.TheVariants.{Nothing, Impossible, Literal}

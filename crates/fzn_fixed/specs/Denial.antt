@@ -7,7 +7,7 @@ use Rattle.fzn_domain.specs.IntSet.{IntSet, contains, is_possible}
 use Rattle.fzn_domain.specs.Narrow.{IsClauseOver, set_of, possible_in}
 use Rattle.fzn_meaning.specs.declared.term.Term.{Term}
 use Rattle.fzn_meaning.specs.declared.term.Term.TheVariants.{Variable}
-use Rattle.fzn_state.specs.Terms.{least_value, greatest_value}
+use Rattle.fzn_sets.specs.Terms.{least_value, greatest_value}
 use Rattle.fzn_trail.specs.Levels.{Levels}
 use Rattle.fzn_trail.specs.Unit.{IsFalseOrUnit}
 use Rattle.fzn_propagator.specs.Inference.{IsWritable}

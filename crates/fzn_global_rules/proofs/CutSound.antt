@@ -12,10 +12,10 @@ use Rattle.fzn_meaning.specs.Entries.{IsIndex, entry_at}
 use Rattle.fzn_meaning.specs.Term.{values_of, IsTerm}
 use Rattle.fzn_meaning.specs.Meaning.{Meets, IsWellFormed}
 use Rattle.fzn_meaning.proofs.CallerLemmas.{circuit-no_cut}
-use Rattle.fzn_state.specs.Terms.{term_at}
+use Rattle.fzn_sets.specs.Terms.{term_at}
 use Rattle.fzn_global_rules.specs.Cut.{LeadsInto, IsClosed, IsCutMet}
 use Rattle.fzn_global_rules.proofs.PlacesLemmas.{index-length}
-use Rattle.fzn_state.proofs.CallerLemmas.{length-values_of, MayBe-entry_at}
+use Rattle.fzn_sets.proofs.CallerLemmas.{length-values_of, MayBe-entry_at}
 
 -- a step from one of the places leads to one of them
 stays : (sets : List IntSet) (values : List ℤ) (successors : List Term) (places : List ℤ) → All (IsTerm (length sets)) successors → IsClosed sets successors places → IsWithin sets values → (p : ℤ) → Contains places p → Contains places (entry_at (values_of values successors) p)

@@ -13,11 +13,11 @@ use Rattle.fzn_meaning.specs.Cumulative.{Task, runs_at, use_at, load_at}
 use Rattle.fzn_meaning.specs.Term.{term_value}
 use Rattle.fzn_meaning.specs.Meaning.{Meets}
 use Rattle.fzn_global_rules.specs.declared.task.TaskTerms.{TaskTerms}
-use Rattle.fzn_state.specs.Terms.{least_value, greatest_value}
+use Rattle.fzn_sets.specs.Terms.{least_value, greatest_value}
 use Rattle.fzn_global_rules.specs.Tasks.{task_terms, sum_over, least_use}
 use Rattle.fzn_global_rules.specs.Energy.{overlap, least_overlap, least_energy, IsEnergyMet}
 use Rattle.fzn_global_rules.proofs.TaskLemmas.{task_of, tasks-task_terms, IsNotNegative, AreNotNegative, chosen, plus_mono, sum_over-le}
-use Rattle.fzn_state.proofs.CallerLemmas.{term_between}
+use Rattle.fzn_sets.proofs.CallerLemmas.{term_between}
 
 -- ---- products
 

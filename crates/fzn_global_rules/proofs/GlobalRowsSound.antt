@@ -16,7 +16,7 @@ use Rattle.fzn_meaning.specs.Cumulative.{NoneNegative}
 use Rattle.fzn_meaning.specs.Term.{term_value, values_of, IsTerm}
 use Rattle.fzn_meaning.specs.Meaning.{Meets, IsWellFormed}
 use Rattle.fzn_global_rules.specs.GlobalRows.{AreRowsOut, HasNoIndex, IsBelowZero, IsGlobalRowsMet}
-use Rattle.fzn_state.proofs.CallerLemmas.{MayBe-term_value, length-values_of, term_between}
+use Rattle.fzn_sets.proofs.CallerLemmas.{MayBe-term_value, length-values_of, term_between}
 
 -- the value at a place is that of the term there
 value_at : (values : List ℤ) (terms : List Term) (k : ℕ) → get_or (values_of values terms) k (pos 0) ≡ term_value values (get_or terms k (Constant (pos 0)))

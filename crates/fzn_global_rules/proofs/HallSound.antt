@@ -12,10 +12,10 @@ use Rattle.fzn_meaning.specs.Term.{term_value, values_of}
 use Rattle.fzn_meaning.specs.AllDifferent.{IsAllDifferent}
 use Rattle.fzn_meaning.specs.Meaning.{Meets, IsWellFormed}
 use Rattle.fzn_meaning.proofs.CallerLemmas.{circuit-different}
-use Rattle.fzn_state.specs.Terms.{least_value, greatest_value}
+use Rattle.fzn_sets.specs.Terms.{least_value, greatest_value}
 use Rattle.fzn_global_rules.specs.Hall.{lies_within, HasExcess, IsHallMet}
 use Rattle.fzn_global_rules.proofs.PlacesLemmas.{is_from_to, different-from_to, inverse-different, inverse-flip}
-use Rattle.fzn_state.proofs.CallerLemmas.{length-values_of, term_between}
+use Rattle.fzn_sets.proofs.CallerLemmas.{length-values_of, term_between}
 
 value_within : (low high least greatest x : ℤ) → least ≤ℤ x → x ≤ℤ greatest → (int_le low least && int_le greatest high) ≡ true → is_from_to low high x ≡ true
 value_within low high least greatest x l g h = grind (arith, ints)

@@ -12,11 +12,11 @@ use Rattle.fzn_meaning.specs.Cumulative.{tasks, use_at, load_at, IsCumulative}
 use Rattle.fzn_meaning.specs.Term.{term_value, values_of}
 use Rattle.fzn_meaning.specs.Meaning.{Meets}
 use Rattle.fzn_global_rules.specs.declared.task.TaskTerms.{TaskTerms}
-use Rattle.fzn_state.specs.Terms.{least_value, greatest_value}
+use Rattle.fzn_sets.specs.Terms.{least_value, greatest_value}
 use Rattle.fzn_global_rules.specs.Tasks.{task_terms, sum_over}
 use Rattle.fzn_global_rules.specs.Load.{least_use_at, IsLoadMet}
 use Rattle.fzn_global_rules.proofs.TaskLemmas.{task_of, tasks-task_terms, IsNotNegative, chosen, sum_over-le}
-use Rattle.fzn_state.proofs.CallerLemmas.{term_between}
+use Rattle.fzn_sets.proofs.CallerLemmas.{term_between}
 
 use_bound : (low high shortest start duration lowest need t : ℤ) → low ≤ℤ start → start ≤ℤ high → shortest ≤ℤ duration → lowest ≤ℤ need → pos 0 ≤ℤ need → cond (int_le high t && int_lt t (low +ℤ shortest)) (int_max (pos 0) lowest) (pos 0) ≤ℤ cond (int_le start t && int_lt t (start +ℤ duration)) need (pos 0)
 use_bound low high shortest start duration lowest need t a b c d e = grind (arith, ints)

@@ -10,10 +10,10 @@ use Rattle.fzn_meaning.specs.Entries.{IsIndex, entry_at}
 use Rattle.fzn_meaning.specs.Inverse.{IsInverse}
 use Rattle.fzn_meaning.specs.Term.{values_of, IsTerm}
 use Rattle.fzn_meaning.specs.Meaning.{Meets, IsWellFormed}
-use Rattle.fzn_state.specs.Terms.{MayBe, term_at}
+use Rattle.fzn_sets.specs.Terms.{MayBe, term_at}
 use Rattle.fzn_global_rules.specs.Pair.{IsBroken, IsPairMet}
 use Rattle.fzn_global_rules.proofs.PlacesLemmas.{inverse-flip}
-use Rattle.fzn_state.proofs.CallerLemmas.{length-values_of, entry_at-values_of, MayBe-entry_at, fixed_value}
+use Rattle.fzn_sets.proofs.CallerLemmas.{length-values_of, entry_at-values_of, MayBe-entry_at, fixed_value}
 
 same_index : (values : List ℤ) (terms : List Term) (i : ℤ) → IsIndex (length terms) i → IsIndex (length (values_of values terms)) i
 same_index values terms i at = subst (λ n. IsIndex n i) (sym (length-values_of values terms)) at

@@ -7,7 +7,7 @@ use Rattle.fzn_meaning.specs.declared.term.Term.{Term}
 use Rattle.fzn_meaning.specs.declared.constraint.Constraint.{Constraint}
 use Rattle.fzn_meaning.specs.declared.constraint.Constraint.TheVariants.{Circuit}
 use Rattle.fzn_meaning.specs.Entries.{IsIndex}
-use Rattle.fzn_state.specs.Terms.{MayBe, term_at}
+use Rattle.fzn_sets.specs.Terms.{MayBe, term_at}
 
 -- each value of the term is one of the places
 abbrev pub LeadsInto : List IntSet → List ℤ → Term → Type 0

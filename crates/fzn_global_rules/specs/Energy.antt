@@ -6,7 +6,7 @@ use Rattle.fzn_meaning.specs.declared.term.Term.{Term}
 use Rattle.fzn_meaning.specs.declared.constraint.Constraint.{Constraint}
 use Rattle.fzn_meaning.specs.declared.constraint.Constraint.TheVariants.{Cumulative}
 use Rattle.fzn_global_rules.specs.declared.task.TaskTerms.{TaskTerms}
-use Rattle.fzn_state.specs.Terms.{least_value, greatest_value}
+use Rattle.fzn_sets.specs.Terms.{least_value, greatest_value}
 use Rattle.fzn_global_rules.specs.Tasks.{task_terms, sum_over, least_use}
 
 -- how much of the time between the two a task with this start and duration covers

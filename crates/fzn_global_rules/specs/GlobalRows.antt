@@ -7,7 +7,7 @@ use Rattle.fzn_meaning.specs.declared.term.Term.TheVariants.{Constant}
 use Rattle.fzn_meaning.specs.declared.constraint.Constraint.{Constraint}
 use Rattle.fzn_meaning.specs.declared.constraint.Constraint.TheVariants.{Table, Cumulative, Circuit, Inverse}
 use Rattle.fzn_meaning.specs.Entries.{IsIndex}
-use Rattle.fzn_state.specs.Terms.{greatest_value, MayBe}
+use Rattle.fzn_sets.specs.Terms.{greatest_value, MayBe}
 
 -- some value of row r, counted from 0, is not in its place's set
 abbrev pub IsRowOut : List IntSet → List Term → List ℤ → ℕ → Type 0

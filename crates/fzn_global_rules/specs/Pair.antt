@@ -5,7 +5,7 @@ use Rattle.fzn_meaning.specs.declared.term.Term.{Term}
 use Rattle.fzn_meaning.specs.declared.constraint.Constraint.{Constraint}
 use Rattle.fzn_meaning.specs.declared.constraint.Constraint.TheVariants.{Inverse}
 use Rattle.fzn_meaning.specs.Entries.{IsIndex}
-use Rattle.fzn_state.specs.Terms.{IsFixedTo, MayBe, term_at}
+use Rattle.fzn_sets.specs.Terms.{IsFixedTo, MayBe, term_at}
 
 -- one list has the value j at i, and the other cannot have i at j
 abbrev pub IsBroken : List IntSet → ℤ → ℤ → List Term → List Term → Type 0

@@ -5,7 +5,7 @@ use Rattle.fzn_domain.specs.IntSet.{IntSet}
 use Rattle.fzn_meaning.specs.declared.term.Term.{Term}
 use Rattle.fzn_meaning.specs.Term.{IsTerm}
 use Rattle.fzn_global_rules.specs.declared.task.TaskTerms.{TaskTerms}
-use Rattle.fzn_state.specs.Terms.{least_value}
+use Rattle.fzn_sets.specs.Terms.{least_value}
 
 -- its terms are constants within the limits, or some of this many variables
 pub record IsTask (count : ℕ) (task : TaskTerms) : Type 0 where

@@ -8,28 +8,28 @@ ghost use Rattle.fzn_meaning.specs.Term.{IsTerm};
 ghost use Rattle.fzn_meaning.specs.Meaning.{IsWellFormed};
 ghost use Rattle.fzn_global_rules.specs.Cut.{LeadsInto, IsClosed, IsCutMet};
 ghost use Rattle.fzn_global_rules.specs.Runs.{HasAll, HasRun};
-ghost use Rattle.fzn_state.specs.Terms.{term_at};
+ghost use Rattle.fzn_sets.specs.Terms.{term_at};
 
 use fzn_domain::{Domain, place_of};
 use fzn_meaning::{Constraint, Term};
-use fzn_state::{State, is_index, term_at};
+use fzn_sets::{Sets, is_index, term_at};
 
 /// Whether the places, in rising order, are some of a circuit's places, but not all, and lead only to one another. It looks
 /// for each run of values of their successors once.
 #[tactic(auto, unfolding(crate::specs::Cut::IsCutMet, fzn_meaning::specs::Meaning::IsWellFormed))]
-pub fn is_cut_met(constraint: &Constraint, state: &State, places: &[i64]) -> bool
-    requires { IsWellFormed (length state.now.sets) constraint.now }
-    ensures { IsTrue result ↔ IsCutMet constraint.now state.now.sets places.now }
+pub fn is_cut_met(constraint: &Constraint, sets: &Sets, places: &[i64]) -> bool
+    requires { IsWellFormed (length sets.now.present) constraint.now }
+    ensures { IsTrue result ↔ IsCutMet constraint.now sets.now.present places.now }
 {
     match constraint {
-        Constraint::Circuit { successors } => is_closed(state, successors.as_slice(), places),
+        Constraint::Circuit { successors } => is_closed(sets, successors.as_slice(), places),
         _ => false,
     }
 }
 
-fn is_closed(state: &State, successors: &[Term], places: &[i64]) -> bool
-    requires { All (IsTerm (length state.now.sets)) successors.now }
-    ensures { IsTrue result ↔ IsClosed state.now.sets successors.now places.now }
+fn is_closed(sets: &Sets, successors: &[Term], places: &[i64]) -> bool
+    requires { All (IsTerm (length sets.now.present)) successors.now }
+    ensures { IsTrue result ↔ IsClosed sets.now.present successors.now places.now }
 {
     if places.is_empty() || successors.len() <= places.len() {
         return false;
@@ -37,7 +37,7 @@ fn is_closed(state: &State, successors: &[Term], places: &[i64]) -> bool
     if !is_rising(places) || !are_indices(successors.len(), places) {
         return false;
     }
-    lead_into(state, successors, places)
+    lead_into(sets, successors, places)
 }
 
 fn is_rising(places: &[i64]) -> bool
@@ -58,28 +58,28 @@ fn are_indices(count: usize, places: &[i64]) -> bool
 }
 
 /// Whether the successors of the places lead into the places.
-fn lead_into(state: &State, successors: &[Term], places: &[i64]) -> bool
-    requires successors { All (IsTerm (length state.now.sets)) successors.now }
+fn lead_into(sets: &Sets, successors: &[Term], places: &[i64]) -> bool
+    requires successors { All (IsTerm (length sets.now.present)) successors.now }
     requires rising { IsAscending places.now }
     requires indices { All (IsIndex (length successors.now)) places.now }
-    ensures { IsTrue result ↔ All (λ place. LeadsInto state.now.sets places.now (term_at successors.now place)) places.now }
+    ensures { IsTrue result ↔ All (λ place. LeadsInto sets.now.present places.now (term_at successors.now place)) places.now }
 {
     for place in places {
-        if !leads_into(state, places, term_at(successors, place)) {
+        if !leads_into(sets, places, term_at(successors, place)) {
             return false;
         }
     }
     true
 }
 
-fn leads_into(state: &State, places: &[i64], term: Term) -> bool
-    requires term { IsTerm (length state.now.sets) term }
+fn leads_into(sets: &Sets, places: &[i64], term: Term) -> bool
+    requires term { IsTerm (length sets.now.present) term }
     requires rising { IsAscending places.now }
-    ensures { IsTrue result ↔ LeadsInto state.now.sets places.now term }
+    ensures { IsTrue result ↔ LeadsInto sets.now.present places.now term }
 {
     match term {
         Term::Constant(k) => has_run(places, k, k),
-        Term::Variable(var) => has_all(places, state.domain(var)),
+        Term::Variable(var) => has_all(places, sets.domain(var)),
     }
 }
 

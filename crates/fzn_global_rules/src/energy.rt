@@ -6,20 +6,20 @@ ghost use Rattle.fzn_domain.specs.Narrow.{is_some_empty};
 ghost use Rattle.fzn_list.specs.Limits.{longest};
 ghost use Rattle.fzn_meaning.specs.Term.{IsTerm};
 ghost use Rattle.fzn_meaning.specs.Meaning.{IsWellFormed};
-ghost use Rattle.fzn_state.specs.Terms.{greatest_value};
+ghost use Rattle.fzn_sets.specs.Terms.{greatest_value};
 ghost use Rattle.fzn_global_rules.specs.Tasks.{task_terms, sum_over, IsTask};
 ghost use Rattle.fzn_global_rules.specs.Energy.{overlap, least_overlap, least_energy, HasOverload, IsEnergyMet};
 
 use crate::task::{TaskTerms, least_use};
 use fzn_meaning::{Constraint, Term};
-use fzn_state::{State, greatest_value, least_value};
+use fzn_sets::{Sets, greatest_value, least_value};
 
 /// Whether the tasks, wherever they start, use more between the two times than the capacity gives. It looks at each task once.
 #[tactic(auto, unfolding(crate::specs::Energy::IsEnergyMet, fzn_meaning::specs::Meaning::IsWellFormed))]
-pub fn is_energy_met(constraint: &Constraint, state: &State, from: &i64, until: &i64) -> bool
-    requires constraint { IsWellFormed (length state.now.sets) constraint.now }
-    requires nonempty { is_some_empty state.now.sets ≡ false }
-    ensures { IsTrue result ↔ IsEnergyMet constraint.now state.now.sets from.now until.now }
+pub fn is_energy_met(constraint: &Constraint, sets: &Sets, from: &i64, until: &i64) -> bool
+    requires constraint { IsWellFormed (length sets.now.present) constraint.now }
+    requires nonempty { is_some_empty sets.now.present ≡ false }
+    ensures { IsTrue result ↔ IsEnergyMet constraint.now sets.now.present from.now until.now }
 {
     match constraint {
         Constraint::Cumulative {
@@ -32,27 +32,27 @@ pub fn is_energy_met(constraint: &Constraint, state: &State, from: &i64, until: 
                 return false;
             }
             let energy = energy_of(
-                state,
+                sets,
                 from,
                 until,
                 starts.as_slice(),
                 durations.as_slice(),
                 uses.as_slice(),
             );
-            capacity_between(state, from, until, *capacity) < energy
+            capacity_between(sets, from, until, *capacity) < energy
         }
         _ => false,
     }
 }
 
 /// What the capacity gives at most between the two times.
-fn capacity_between(state: &State, from: &i64, until: &i64, capacity: Term) -> i128
-    requires capacity { IsTerm (length state.now.sets) capacity }
-    requires nonempty { is_some_empty state.now.sets ≡ false }
-    ensures { result ≡ greatest_value state.now.sets capacity *ℤ (until.now -ℤ from.now) }
+fn capacity_between(sets: &Sets, from: &i64, until: &i64, capacity: Term) -> i128
+    requires capacity { IsTerm (length sets.now.present) capacity }
+    requires nonempty { is_some_empty sets.now.present ≡ false }
+    ensures { result ≡ greatest_value sets.now.present capacity *ℤ (until.now -ℤ from.now) }
 {
     product(
-        greatest_value(state, capacity),
+        greatest_value(sets, capacity),
         *until as i128 - *from as i128,
     )
 }
@@ -68,21 +68,21 @@ fn product(amount: i64, time: i128) -> i128
 
 /// The sum of the tasks' least energies.
 fn energy_of(
-    state: &State,
+    sets: &Sets,
     from: &i64,
     until: &i64,
     starts: &[Term],
     durations: &[Term],
     uses: &[Term],
 ) -> i128
-    requires starts { All (IsTerm (length state.now.sets)) starts.now }
-    requires durations { All (IsTerm (length state.now.sets)) durations.now }
-    requires uses { All (IsTerm (length state.now.sets)) uses.now }
+    requires starts { All (IsTerm (length sets.now.present)) starts.now }
+    requires durations { All (IsTerm (length sets.now.present)) durations.now }
+    requires uses { All (IsTerm (length sets.now.present)) uses.now }
     requires short { length starts.now ≤ longest }
     requires as_many_durations { length durations.now ≡ length starts.now }
     requires as_many_uses { length uses.now ≡ length starts.now }
-    requires nonempty { is_some_empty state.now.sets ≡ false }
-    ensures { result ≡ sum_over (least_energy state.now.sets from.now until.now) (task_terms starts.now durations.now uses.now) }
+    requires nonempty { is_some_empty sets.now.present ≡ false }
+    ensures { result ≡ sum_over (least_energy sets.now.present from.now until.now) (task_terms starts.now durations.now uses.now) }
 {
     let mut energy: i128 = 0;
     for k in 0..starts.len() {
@@ -91,34 +91,34 @@ fn energy_of(
             duration: durations[k],
             uses: uses[k],
         };
-        energy += least_energy(state, from, until, task);
+        energy += least_energy(sets, from, until, task);
     }
     energy
 }
 
 #[tactic(auto, unfolding(crate::specs::Energy::least_energy))]
-fn least_energy(state: &State, from: &i64, until: &i64, task: TaskTerms) -> i128
-    requires task { IsTask (length state.now.sets) task }
-    requires nonempty { is_some_empty state.now.sets ≡ false }
-    ensures value { result ≡ least_energy state.now.sets from.now until.now task }
+fn least_energy(sets: &Sets, from: &i64, until: &i64, task: TaskTerms) -> i128
+    requires task { IsTask (length sets.now.present) task }
+    requires nonempty { is_some_empty sets.now.present ≡ false }
+    ensures value { result ≡ least_energy sets.now.present from.now until.now task }
     ensures bounded { unsigned_abs result ≤ 1000000000000000000 }
 {
     product(
-        least_use(state, task),
-        least_overlap(state, from, until, task),
+        least_use(sets, task),
+        least_overlap(sets, from, until, task),
     )
 }
 
 /// The lesser of the overlaps at both ends of the starts.
-fn least_overlap(state: &State, from: &i64, until: &i64, task: TaskTerms) -> i128
-    requires task { IsTask (length state.now.sets) task }
-    requires nonempty { is_some_empty state.now.sets ≡ false }
-    ensures value { result ≡ least_overlap state.now.sets from.now until.now task }
+fn least_overlap(sets: &Sets, from: &i64, until: &i64, task: TaskTerms) -> i128
+    requires task { IsTask (length sets.now.present) task }
+    requires nonempty { is_some_empty sets.now.present ≡ false }
+    ensures value { result ≡ least_overlap sets.now.present from.now until.now task }
     ensures bounded { IsSmall result }
 {
-    let duration = least_value(state, task.duration);
-    let early = overlap(from, until, &least_value(state, task.start), &duration);
-    let late = overlap(from, until, &greatest_value(state, task.start), &duration);
+    let duration = least_value(sets, task.duration);
+    let early = overlap(from, until, &least_value(sets, task.start), &duration);
+    let late = overlap(from, until, &greatest_value(sets, task.start), &duration);
     early.min(late)
 }
 

@@ -8,49 +8,43 @@ ghost use Rattle.fzn_meaning.specs.Meaning.{IsWellFormed};
 ghost use Rattle.fzn_global_rules.specs.Pair.{HasBrokenPair, IsBroken, IsPairMet};
 
 use fzn_meaning::{Constraint, Term};
-use fzn_state::{State, is_fixed_to, is_index, may_be, term_at};
+use fzn_sets::{Sets, is_fixed_to, is_index, may_be, term_at};
 
 /// Whether one list has the second number at the first, and the other cannot have the first at the second, or the other way round.
 #[tactic(auto, unfolding(crate::specs::Pair::IsPairMet, fzn_meaning::specs::Meaning::IsWellFormed))]
-pub fn is_pair_met(constraint: &Constraint, state: &State, first: &i64, second: &i64) -> bool
-    requires constraint { IsWellFormed (length state.now.sets) constraint.now }
-    requires nonempty { is_some_empty state.now.sets ≡ false }
-    ensures { IsTrue result ↔ IsPairMet constraint.now state.now.sets first.now second.now }
+pub fn is_pair_met(constraint: &Constraint, sets: &Sets, first: &i64, second: &i64) -> bool
+    requires constraint { IsWellFormed (length sets.now.present) constraint.now }
+    requires nonempty { is_some_empty sets.now.present ≡ false }
+    ensures { IsTrue result ↔ IsPairMet constraint.now sets.now.present first.now second.now }
 {
     match constraint {
         Constraint::Inverse { forward, backward } => {
-            has_broken_pair(
-                state,
-                first,
-                second,
-                forward.as_slice(),
-                backward.as_slice(),
-            )
+            has_broken_pair(sets, first, second, forward.as_slice(), backward.as_slice())
         }
         _ => false,
     }
 }
 
-fn has_broken_pair(state: &State, i: &i64, j: &i64, forward: &[Term], backward: &[Term]) -> bool
-    requires forward { All (IsTerm (length state.now.sets)) forward.now }
-    requires backward { All (IsTerm (length state.now.sets)) backward.now }
-    requires nonempty { is_some_empty state.now.sets ≡ false }
-    ensures { IsTrue result ↔ HasBrokenPair state.now.sets i.now j.now forward.now backward.now }
+fn has_broken_pair(sets: &Sets, i: &i64, j: &i64, forward: &[Term], backward: &[Term]) -> bool
+    requires forward { All (IsTerm (length sets.now.present)) forward.now }
+    requires backward { All (IsTerm (length sets.now.present)) backward.now }
+    requires nonempty { is_some_empty sets.now.present ≡ false }
+    ensures { IsTrue result ↔ HasBrokenPair sets.now.present i.now j.now forward.now backward.now }
 {
     if !is_index(forward.len(), i) || !is_index(backward.len(), j) {
         return false;
     }
-    is_broken(state, i, j, forward, backward) || is_broken(state, j, i, backward, forward)
+    is_broken(sets, i, j, forward, backward) || is_broken(sets, j, i, backward, forward)
 }
 
 /// Whether one list has the value j at i, and the other cannot have i at j.
-fn is_broken(state: &State, i: &i64, j: &i64, there: &[Term], back: &[Term]) -> bool
-    requires there { All (IsTerm (length state.now.sets)) there.now }
-    requires back { All (IsTerm (length state.now.sets)) back.now }
-    requires nonempty { is_some_empty state.now.sets ≡ false }
+fn is_broken(sets: &Sets, i: &i64, j: &i64, there: &[Term], back: &[Term]) -> bool
+    requires there { All (IsTerm (length sets.now.present)) there.now }
+    requires back { All (IsTerm (length sets.now.present)) back.now }
+    requires nonempty { is_some_empty sets.now.present ≡ false }
     requires first { IsIndex (length there.now) i.now }
     requires second { IsIndex (length back.now) j.now }
-    ensures { IsTrue result ↔ IsBroken state.now.sets i.now j.now there.now back.now }
+    ensures { IsTrue result ↔ IsBroken sets.now.present i.now j.now there.now back.now }
 {
-    is_fixed_to(state, term_at(there, i), *j) && !may_be(state, term_at(back, j), i)
+    is_fixed_to(sets, term_at(there, i), *j) && !may_be(sets, term_at(back, j), i)
 }

@@ -5,7 +5,7 @@ ghost use Rattle.fzn_domain.specs.declared.domain.TheConstants.{GREATEST_VALUE};
 ghost use Rattle.fzn_global_rules.specs.Tasks.{least_use, IsTask};
 
 use fzn_meaning::Term;
-use fzn_state::{State, least_value};
+use fzn_sets::{Sets, least_value};
 
 /// The start, the duration and the uses of a task.
 #[derive(Clone, Copy)]
@@ -16,12 +16,12 @@ pub(crate) struct TaskTerms {
 }
 
 /// What the task uses at least while it runs.
-pub(crate) fn least_use(state: &State, task: TaskTerms) -> i64
-    requires task { IsTask (length state.now.sets) task }
-    requires nonempty { is_some_empty state.now.sets ≡ false }
-    ensures value { result ≡ least_use state.now.sets task }
+pub(crate) fn least_use(sets: &Sets, task: TaskTerms) -> i64
+    requires task { IsTask (length sets.now.present) task }
+    requires nonempty { is_some_empty sets.now.present ≡ false }
+    ensures value { result ≡ least_use sets.now.present task }
     ensures not_negative { pos 0 ≤ℤ result }
     ensures bounded { result ≤ℤ GREATEST_VALUE }
 {
-    least_value(state, task.uses).max(0)
+    least_value(sets, task.uses).max(0)
 }

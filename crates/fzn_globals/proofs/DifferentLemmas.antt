@@ -19,7 +19,7 @@ use Rattle.fzn_meaning.specs.AllDifferent.{IsAllDifferent}
 use Rattle.fzn_meaning.specs.Meaning.{Meets}
 use Rattle.fzn_meaning.specs.Term.{IsTerm, values_of}
 use Rattle.fzn_meaning.proofs.CallerLemmas.{length-values_of, get_or-values_of}
-use Rattle.fzn_state.specs.Terms.{MayBe}
+use Rattle.fzn_sets.specs.Terms.{MayBe}
 use Rattle.fzn_trail.specs.Levels.{Levels}
 use Rattle.fzn_terms.specs.Law.{HoldsWhereFixed}
 use Rattle.fzn_terms.specs.Claims.{place_at}

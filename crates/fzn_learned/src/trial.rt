@@ -5,7 +5,7 @@ ghost use Rattle.fzn_chain.specs.Link.{IsBound};
 ghost use Rattle.fzn_domain.specs.declared.literal.Lit.{Lit};
 ghost use Rattle.fzn_domain.specs.Limits.{IsInLimits};
 ghost use Rattle.fzn_domain.specs.Narrow.{IsVariable, IsClauseOver, IsAcceptedFrom, accepted, chain_outcome};
-ghost use Rattle.fzn_state.specs.State.{start, restored};
+ghost use Rattle.fzn_sets.specs.Sets.{start};
 ghost use Rattle.fzn_trail.specs.Levels.{level_of};
 ghost use Rattle.fzn_trail.specs.Replay.{replayed};
 ghost use Rattle.fzn_learned.specs.Learned.{IsDerived, IsLearned};
@@ -18,27 +18,27 @@ use fzn_chain::{Link, deny, follow};
 use fzn_clauses::Clauses;
 use fzn_domain::{GREATEST_VALUE, LEAST_VALUE, Lit, Memory};
 use fzn_inferences::Inferences;
-use fzn_state::State;
+use fzn_sets::Sets;
 use fzn_trail::Trail;
 
-/// Whether the clause may be learned. The state is used and restored.
+/// Whether the clause may be learned. The sets is used and restored.
 pub fn is_sound(
     trail: &Trail,
     clauses: &Clauses,
     inferences: &Inferences,
-    state: &mut State,
+    sets: &mut Sets,
     learned: &Learned,
 ) -> Result<bool, Memory>
     requires reasoned { IsReasoned (known_of clauses.now inferences.now) trail.now }
     requires over { AreOver (length trail.now.declared) (known_of clauses.now inferences.now) }
-    requires fresh { state.old ≡ start trail.now.declared }
+    requires fresh { sets.old ≡ start trail.now.declared }
     ensures learned { IfOk result (λ yes. IsTrue yes → IsLearned (known_of clauses.now inferences.now) trail.now learned.now) }
-    ensures fresh { OnOk result (state.new ≡ start trail.now.declared) }
+    ensures fresh { OnOk result (sets.new ≡ start trail.now.declared) }
 {
     if !goes_back(trail, learned) {
         return Ok(false);
     }
-    if !is_derived(trail, clauses, inferences, state, learned)? {
+    if !is_derived(trail, clauses, inferences, sets, learned)? {
         return Ok(false);
     }
     if trail.level() == 0 || learned.clause.len() == 0 {
@@ -51,26 +51,26 @@ pub fn is_sound(
     ))
 }
 
-/// Whether the clause follows from its sources. The state is used and restored.
+/// Whether the clause follows from its sources. The sets is used and restored.
 pub fn is_derived(
     trail: &Trail,
     clauses: &Clauses,
     inferences: &Inferences,
-    state: &mut State,
+    sets: &mut Sets,
     learned: &Learned,
 ) -> Result<bool, Memory>
     requires over { AreOver (length trail.now.declared) (known_of clauses.now inferences.now) }
-    requires fresh { state.old ≡ start trail.now.declared }
+    requires fresh { sets.old ≡ start trail.now.declared }
     ensures derived { IfOk result (λ yes. IsTrue yes → IsDerived (known_of clauses.now inferences.now) trail.now.declared learned.now) }
-    ensures fresh { OnOk result (state.new ≡ start trail.now.declared) }
+    ensures fresh { OnOk result (sets.new ≡ start trail.now.declared) }
 {
     let clause = learned.clause.as_slice();
     let sources = learned.sources.as_slice();
-    if !is_in_range(clause, state.len()) || !are_known(clauses, inferences, sources) {
+    if !is_in_range(clause, sets.len()) || !are_known(clauses, inferences, sources) {
         return Ok(false);
     }
-    let refuted = is_refuted(clauses, inferences, state, clause, sources)?;
-    state.restore();
+    let refuted = is_refuted(clauses, inferences, sets, clause, sources)?;
+    sets.restore();
     Ok(refuted)
 }
 
@@ -123,21 +123,21 @@ fn goes_back(trail: &Trail, learned: &Learned) -> bool
 fn is_refuted(
     clauses: &Clauses,
     inferences: &Inferences,
-    state: &mut State,
+    sets: &mut Sets,
     clause: &[Lit],
     sources: &[Source],
 ) -> Result<bool, Memory>
-    requires over { IsClauseOver (length state.old.sets) clause.now }
+    requires over { IsClauseOver (length sets.old.present) clause.now }
     requires bounds { All IsBound clause.now }
     requires known { All (IsKnown (known_of clauses.now inferences.now)) sources.now }
-    requires all_over { AreOver (length state.old.sets) (known_of clauses.now inferences.now) }
-    ensures accepted { IfOk result (λ yes. IsTrue yes → IsAcceptedFrom state.old.sets clause.now (map (clause_of (known_of clauses.now inferences.now)) sources.now)) }
-    ensures declared { state.new.declared ≡ state.old.declared }
+    requires all_over { AreOver (length sets.old.present) (known_of clauses.now inferences.now) }
+    ensures accepted { IfOk result (λ yes. IsTrue yes → IsAcceptedFrom sets.old.present clause.now (map (clause_of (known_of clauses.now inferences.now)) sources.now)) }
+    ensures declared { sets.new.declared ≡ sets.old.declared }
 {
-    if deny(state, clause)? {
+    if deny(sets, clause)? {
         return Ok(true);
     }
-    let ends = ends_well(clauses, inferences, state, sources)?;
+    let ends = ends_well(clauses, inferences, sets, sources)?;
     Ok(ends)
 }
 
@@ -145,16 +145,16 @@ fn is_refuted(
 fn ends_well(
     clauses: &Clauses,
     inferences: &Inferences,
-    state: &mut State,
+    sets: &mut Sets,
     sources: &[Source],
 ) -> Result<bool, Memory>
     requires known { All (IsKnown (known_of clauses.now inferences.now)) sources.now }
-    requires over { AreOver (length state.old.sets) (known_of clauses.now inferences.now) }
-    ensures accepted { IfOk result (λ yes. IsTrue yes → chain_outcome state.old.sets (map (clause_of (known_of clauses.now inferences.now)) sources.now) ≡ accepted) }
-    ensures declared { state.new.declared ≡ state.old.declared }
+    requires over { AreOver (length sets.old.present) (known_of clauses.now inferences.now) }
+    ensures accepted { IfOk result (λ yes. IsTrue yes → chain_outcome sets.old.present (map (clause_of (known_of clauses.now inferences.now)) sources.now) ≡ accepted) }
+    ensures declared { sets.new.declared ≡ sets.old.declared }
 {
     for source in sources {
-        match follow(state, clause_of(clauses, inferences, *source))? {
+        match follow(sets, clause_of(clauses, inferences, *source))? {
             Link::Refuted => return Ok(true),
             Link::Narrowed => {}
             Link::Open => return Ok(false),

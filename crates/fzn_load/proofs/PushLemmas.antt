@@ -9,8 +9,8 @@ use Rattle.fzn_meaning.specs.declared.term.Term.{Term}
 use Rattle.fzn_meaning.specs.Term.{IsTerm}
 use Rattle.fzn_rules.specs.declared.rule.Rule.TheVariants.{Load}
 use Rattle.fzn_rules.specs.Rules.{IsMet}
-use Rattle.fzn_state.specs.Terms.{least_value, greatest_value}
-use Rattle.fzn_state.proofs.ValueLemmas.{MayBe-ends}
+use Rattle.fzn_sets.specs.Terms.{least_value, greatest_value}
+use Rattle.fzn_sets.proofs.ValueLemmas.{MayBe-ends}
 use Rattle.fzn_global_rules.specs.Load.{IsLoadMet}
 use Rattle.fzn_trail.specs.Levels.{Levels}
 use Rattle.fzn_terms.specs.Denied.{AreLeft, AllAre, NoneIs, IsExplained, IsForced, IsInferred}

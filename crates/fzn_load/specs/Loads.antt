@@ -10,7 +10,7 @@ use Rattle.fzn_meaning.specs.declared.constraint.Constraint.{Constraint}
 use Rattle.fzn_meaning.specs.declared.constraint.Constraint.TheVariants.{Cumulative}
 use Rattle.fzn_meaning.specs.Term.{IsTerm}
 use Rattle.fzn_meaning.specs.Meaning.{AreTerms}
-use Rattle.fzn_state.specs.Terms.{least_value, greatest_value}
+use Rattle.fzn_sets.specs.Terms.{least_value, greatest_value}
 use Rattle.fzn_global_rules.specs.Tasks.{task_terms, sum_over}
 use Rattle.fzn_global_rules.specs.Load.{least_use_at}
 use Rattle.fzn_trail.specs.Levels.{Levels}

@@ -3,7 +3,7 @@ ghost use Rattle.std.specs.Prelude.{◌≡◌, ◌*◌, ◌<◌, ◌≤◌, ⊤,
 ghost use Rattle.fzn_domain.specs.Narrow.{NoneEmpty};
 ghost use Rattle.fzn_meaning.specs.Term.{IsTerm};
 ghost use Rattle.std.specs.Int.{int_max};
-ghost use Rattle.fzn_state.specs.Terms.{least_value};
+ghost use Rattle.fzn_sets.specs.Terms.{least_value};
 ghost use Rattle.fzn_rules.specs.declared.rule.Rule.TheVariants as rule;
 ghost use Rattle.fzn_terms.specs.Denied.{IsFalseClause, IsInferred};
 ghost use Rattle.fzn_load.specs.Loads.{AreReady, cumulative_of, IsTime, least_use_of, runs_surely, total_of, IsUseExplained, AreExplained, IsKeptAt};

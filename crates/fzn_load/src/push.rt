@@ -3,7 +3,7 @@ ghost use Rattle.std.specs.Prelude.{◌≡◌, ◌*◌, ◌<◌, pos, length, �
 ghost use Rattle.fzn_domain.specs.declared.literal.Op.TheVariants as op;
 ghost use Rattle.fzn_domain.specs.Narrow.{NoneEmpty};
 ghost use Rattle.fzn_meaning.specs.Term.{IsTerm};
-ghost use Rattle.fzn_state.specs.Terms.{least_value, greatest_value};
+ghost use Rattle.fzn_sets.specs.Terms.{least_value, greatest_value};
 ghost use Rattle.fzn_rules.specs.declared.rule.Rule.TheVariants as rule;
 ghost use Rattle.fzn_terms.specs.Denied.{NoneIs, IsFalseClause, IsInferred};
 ghost use Rattle.fzn_load.specs.Loads.{AreReady, cumulative_of, IsTime, IsAmount, others_of, least_amount, IsUseForced, AreOver, HasRoom, IsFreeAfter, IsFreeBefore};

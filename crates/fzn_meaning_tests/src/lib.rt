@@ -1,4 +1,4 @@
-//! Tests of domains, of states, of what models mean, and of the rules of certificates.
+//! Tests of domains, of sets that are narrowed, of what models mean, and of the rules of certificates.
 //!
 //! In: ranges and listed values, a small model for each goal, a constraint for each name. Out: the calls of `Domain`, of `is_solution`,
 //! `better` and `cut` of `fzn_meaning` on lists of values, against tables written by hand; each rule by its
@@ -17,6 +17,6 @@ mod rule_calls;
 #[cfg(test)]
 mod rules;
 #[cfg(test)]
-mod state;
+mod sets;
 #[cfg(test)]
 mod terms;

@@ -11,7 +11,7 @@ use fzn_global_rules::{
     is_cut_met, is_energy_met, is_global_rows_met, is_hall_met, is_load_met, is_pair_met,
 };
 use fzn_meaning::{Constraint, Model};
-use fzn_rules::State;
+use fzn_sets::Sets;
 use std::alloc::{AllocError, Global};
 use std::string::String;
 use std::test::*;
@@ -41,23 +41,23 @@ var 2..2: a; var 1..2: b; var 1..2: c; var 1..2: d; constraint fzn_inverse([a,b]
 ";
 
 /// A digit for each rule.
-fn digits(alloc: Global, constraint: &Constraint, state: &State) -> Result<String, AllocError>
-    requires constraint { IsWellFormedConstraint (length state.now.sets) constraint.now }
-    requires nonempty { is_some_empty state.now.sets ≡ false }
+fn digits(alloc: Global, constraint: &Constraint, sets: &Sets) -> Result<String, AllocError>
+    requires constraint { IsWellFormedConstraint (length sets.now.present) constraint.now }
+    requires nonempty { is_some_empty sets.now.present ≡ false }
 {
     format!(in alloc;
         "{}{}{}{}{} {}{}{}{}{}{}",
-        is_lin_met(constraint, state) as u8,
-        is_rows_met(constraint, state) as u8,
-        is_box_met(constraint, state) as u8,
-        is_fixed_met(constraint, state) as u8,
-        is_enum_met(constraint, state) as u8,
-        is_global_rows_met(constraint, state) as u8,
-        is_hall_met(constraint, state, &1, &2) as u8,
-        is_load_met(constraint, state, &1) as u8,
-        is_energy_met(constraint, state, &0, &2) as u8,
-        is_cut_met(constraint, state, &[1, 2]) as u8,
-        is_pair_met(constraint, state, &1, &2) as u8
+        is_lin_met(constraint, sets) as u8,
+        is_rows_met(constraint, sets) as u8,
+        is_box_met(constraint, sets) as u8,
+        is_fixed_met(constraint, sets) as u8,
+        is_enum_met(constraint, sets) as u8,
+        is_global_rows_met(constraint, sets) as u8,
+        is_hall_met(constraint, sets, &1, &2) as u8,
+        is_load_met(constraint, sets, &1) as u8,
+        is_energy_met(constraint, sets, &0, &2) as u8,
+        is_cut_met(constraint, sets, &[1, 2]) as u8,
+        is_pair_met(constraint, sets, &1, &2) as u8
     )
 }
 
@@ -65,14 +65,14 @@ fn digits(alloc: Global, constraint: &Constraint, state: &State) -> Result<Strin
 fn met_by(alloc: Global, model: &Model) -> Result<String, AllocError>
     requires { IsWellFormed model.now }
 {
-    let state = declared(alloc, model)?;
+    let sets = declared(alloc, model)?;
     let Some(constraint) = model.constraints.as_slice().first() else {
         return Ok(String::new(alloc));
     };
-    if state.len() != model.vars.len() || state.has_empty() {
+    if sets.len() != model.vars.len() || sets.has_empty() {
         return Ok(String::new(alloc));
     }
-    digits(alloc, constraint, &state)
+    digits(alloc, constraint, &sets)
 }
 
 /// Whether the rules that a row tells are met.

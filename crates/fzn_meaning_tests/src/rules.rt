@@ -9,7 +9,8 @@ use crate::kinds::{ROWS, advance, all_hold, first_values, model_of};
 use fzn_domain::{Lit, Op, VarId};
 use fzn_list::Items;
 use fzn_meaning::{Constraint, Model};
-use fzn_rules::{Rule, State, refutes};
+use fzn_rules::{Rule, refutes};
+use fzn_sets::Sets;
 use std::alloc::{AllocError, Global};
 use std::test::*;
 
@@ -94,21 +95,21 @@ fn exclusions(alloc: Global, model: &Model) -> Result<Vec<Lit>, AllocError> {
 }
 
 /// The declared sets.
-pub(crate) fn declared(alloc: Global, model: &Model) -> Result<State, AllocError> {
+pub(crate) fn declared(alloc: Global, model: &Model) -> Result<Sets, AllocError> {
     let mut domains = Vec::new(alloc);
     for var in model.vars.as_slice() {
         domains.push(var.domain.copy()?)?;
     }
-    Ok(State::new(alloc, domains))
+    Sets::new(alloc, domains)
 }
 
 /// Takes out the values whose bit is 1 in the number, and says whether it has no bit beyond them.
-fn narrow(state: &mut State, exclusions: &[Lit], number: usize) -> Result<bool, AllocError> {
-    state.restore();
+fn narrow(sets: &mut Sets, exclusions: &[Lit], number: usize) -> Result<bool, AllocError> {
+    sets.restore();
     let mut rest = number;
     for lit in exclusions {
-        if rest % 2 == 1 && 0 < lit.var.0 && lit.var.0 <= state.len() {
-            state.restrict(*lit)?;
+        if rest % 2 == 1 && 0 < lit.var.0 && lit.var.0 <= sets.len() {
+            sets.narrow(*lit)?;
         }
         rest /= 2;
     }
@@ -116,9 +117,9 @@ fn narrow(state: &mut State, exclusions: &[Lit], number: usize) -> Result<bool, 
 }
 
 /// Whether each of the values is in its variable's set.
-fn is_among(state: &State, values: &[i64]) -> bool {
+fn is_among(sets: &Sets, values: &[i64]) -> bool {
     for (place, value) in values.iter().enumerate() {
-        if place >= state.len() || !state.domain(VarId(place + 1)).contains(*value) {
+        if place >= sets.len() || !sets.domain(VarId(place + 1)).contains(*value) {
             return false;
         }
     }
@@ -126,12 +127,12 @@ fn is_among(state: &State, values: &[i64]) -> bool {
 }
 
 /// Whether some rule is met.
-fn is_refuted(constraint: &Constraint, state: &State, rules: &[Rule]) -> bool
-    requires constraint { IsWellFormedConstraint (length state.now.sets) constraint.now }
-    requires nonempty { is_some_empty state.now.sets ≡ false }
+fn is_refuted(constraint: &Constraint, sets: &Sets, rules: &[Rule]) -> bool
+    requires constraint { IsWellFormedConstraint (length sets.now.present) constraint.now }
+    requires nonempty { is_some_empty sets.now.present ≡ false }
 {
     for rule in rules {
-        if refutes(constraint, state, rule) {
+        if refutes(constraint, sets, rule) {
             return true;
         }
     }
@@ -151,16 +152,16 @@ enum Outcome {
 
 fn judged(
     constraint: &Constraint,
-    state: &State,
+    sets: &Sets,
     rules: &[Rule],
     has_values: bool,
     is_builtin: bool,
 ) -> Outcome
-    requires constraint { IsWellFormedConstraint (length state.now.sets) constraint.now }
-    requires nonempty { is_some_empty state.now.sets ≡ false }
+    requires constraint { IsWellFormedConstraint (length sets.now.present) constraint.now }
+    requires nonempty { is_some_empty sets.now.present ≡ false }
 {
-    let by_enum = refutes(constraint, state, &Rule::Enum);
-    match is_refuted(constraint, state, rules) {
+    let by_enum = refutes(constraint, sets, &Rule::Enum);
+    match is_refuted(constraint, sets, rules) {
         true if has_values => Outcome::Wrong,
         false if has_values => Outcome::Kept,
         _ if is_builtin && !by_enum => Outcome::Wrong,
@@ -176,7 +177,7 @@ fn are_right(
     is_builtin: bool,
     meeting: &[Vec<i64>],
     exclusions: &[Lit],
-    state: &mut State,
+    sets: &mut Sets,
 ) -> Result<bool, AllocError>
     requires { IsWellFormed model.now }
 {
@@ -185,14 +186,14 @@ fn are_right(
     };
     let mut refuted = false;
     for number in 0..1_000_000 {
-        if !narrow(state, exclusions, number)? {
+        if !narrow(sets, exclusions, number)? {
             return Ok(refuted);
         }
-        if state.len() != model.vars.len() || state.has_empty() {
+        if sets.len() != model.vars.len() || sets.has_empty() {
             continue;
         }
-        let has_values = meeting.iter().any(|values| is_among(state, values));
-        match judged(constraint, state, rules, has_values, is_builtin) {
+        let has_values = meeting.iter().any(|values| is_among(sets, values));
+        match judged(constraint, sets, rules, has_values, is_builtin) {
             Outcome::Kept => {}
             Outcome::Refuted => refuted = true,
             Outcome::Wrong => return Ok(false),
@@ -207,9 +208,9 @@ fn is_right(alloc: Global, rules: &[Rule], row: &str) -> Result<bool, Fail> {
     let model = model_of(alloc, file.as_str())?;
     let meeting = meeting(alloc, &model)?;
     let exclusions = exclusions(alloc, &model)?;
-    let mut state = declared(alloc, &model)?;
+    let mut sets = declared(alloc, &model)?;
     let is_builtin = !row.contains("fzn_");
-    Ok(are_right(&model, rules, is_builtin, &meeting, &exclusions, &mut state)?)
+    Ok(are_right(&model, rules, is_builtin, &meeting, &exclusions, &mut sets)?)
 }
 
 #[test]

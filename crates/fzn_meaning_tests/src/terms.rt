@@ -6,64 +6,64 @@ use fzn_builtin_rules::{Places, form_is_meant, form_of, outcome_of, relation_is_
 use fzn_domain::{Memory, VarId};
 use fzn_list::{Items, Shared};
 use fzn_meaning::{Model, Operation, Place, Rows, Term};
-use fzn_state::{State, greatest_value, is_fixed_to, is_index, least_value, may_be, term_at};
+use fzn_sets::{Sets, greatest_value, is_fixed_to, is_index, least_value, may_be, term_at};
 use std::alloc::Global;
 use std::test::*;
 
 /// Whether the first variable may be 5 and 6, and 4 may be 4 and 5.
-fn may_be_so(state: &State) -> Option<[bool; 4]> {
-    if state.len() != 2 {
+fn may_be_so(sets: &Sets) -> Option<[bool; 4]> {
+    if sets.len() != 2 {
         return None;
     }
     let x = Term::Variable(VarId(1));
     let four = Term::Constant(4);
     Some([
-        may_be(state, x, &5),
-        may_be(state, x, &6),
-        may_be(state, four, &4),
-        may_be(state, four, &5),
+        may_be(sets, x, &5),
+        may_be(sets, x, &6),
+        may_be(sets, four, &4),
+        may_be(sets, four, &5),
     ])
 }
 
 /// The least and the greatest value of the first variable and of 4.
-fn ends(state: &State) -> Option<[i64; 4]> {
-    if state.len() != 2 || state.has_empty() {
+fn ends(sets: &Sets) -> Option<[i64; 4]> {
+    if sets.len() != 2 || sets.has_empty() {
         return None;
     }
     let x = Term::Variable(VarId(1));
     let four = Term::Constant(4);
     Some([
-        least_value(state, x),
-        greatest_value(state, x),
-        least_value(state, four),
-        greatest_value(state, four),
+        least_value(sets, x),
+        greatest_value(sets, x),
+        least_value(sets, four),
+        greatest_value(sets, four),
     ])
 }
 
 /// Whether the second variable is fixed to 7 and to 6, and the first to 2.
-fn are_fixed(state: &State) -> Option<[bool; 3]> {
-    if state.len() != 2 || state.has_empty() {
+fn are_fixed(sets: &Sets) -> Option<[bool; 3]> {
+    if sets.len() != 2 || sets.has_empty() {
         return None;
     }
     let y = Term::Variable(VarId(2));
     Some([
-        is_fixed_to(state, y, 7),
-        is_fixed_to(state, y, 6),
-        is_fixed_to(state, Term::Variable(VarId(1)), 2),
+        is_fixed_to(sets, y, 7),
+        is_fixed_to(sets, y, 6),
+        is_fixed_to(sets, Term::Variable(VarId(1)), 2),
     ])
 }
 
 /// Whether terms are told of the sets of x, which is 2, 5 or 9, and of y, which is 7.
-fn are_told(state: &State) -> bool {
-    may_be_so(state) == Some([true, false, true, false])
-        && ends(state) == Some([2, 9, 4, 4])
-        && are_fixed(state) == Some([true, false, false])
+fn are_told(sets: &Sets) -> bool {
+    may_be_so(sets) == Some([true, false, true, false])
+        && ends(sets) == Some([2, 9, 4, 4])
+        && are_fixed(sets) == Some([true, false, false])
 }
 
 fn are_terms_told(alloc: Global) -> Result<bool, Fail> {
     let model = model_of(alloc, "var {2,5,9}: x; var 7..7: y; solve satisfy;")?;
-    let state = declared(alloc, &model)?;
-    Ok(are_told(&state))
+    let sets = declared(alloc, &model)?;
+    Ok(are_told(&sets))
 }
 
 #[test]

@@ -14,7 +14,7 @@ use Rattle.fzn_domain.proofs.NarrowLemmas.{length-narrowed, set_of-narrowed, oth
 use Rattle.fzn_meaning.specs.declared.term.Term.{Term}
 use Rattle.fzn_meaning.specs.declared.term.Term.TheVariants.{Constant, Variable}
 use Rattle.fzn_meaning.specs.Term.{IsTerm}
-use Rattle.fzn_state.specs.Terms.{least_value, greatest_value}
+use Rattle.fzn_sets.specs.Terms.{least_value, greatest_value}
 use Rattle.fzn_trail.specs.Levels.{IsNarrower}
 use Rattle.fzn_propagator.specs.Left.{IsLeft}
 

@@ -5,7 +5,7 @@ use Rattle.fzn_domain.specs.Narrow.{IsWithin}
 use Rattle.fzn_meaning.specs.declared.term.Place.{Place}
 use Rattle.fzn_meaning.specs.declared.relation.Comparison.TheVariants.{Equal, NotEqual}
 use Rattle.fzn_meaning.specs.Term.{sum_at}
-use Rattle.fzn_state.specs.Terms.{IsFixedTo}
+use Rattle.fzn_sets.specs.Terms.{IsFixedTo}
 use Rattle.fzn_builtin_rules.specs.Linear.{low_product, high_product}
 use Rattle.fzn_builtin_rules.specs.Form.{Form}
 

@@ -15,7 +15,7 @@ use Rattle.fzn_meaning.specs.Meaning.{Meets, IsWellFormed, HasBooleanValues}
 use Rattle.fzn_rules.specs.declared.rule.Rule.{Rule}
 use Rattle.fzn_rules.specs.Rules.{IsAcceptedBy}
 use Rattle.fzn_rules.proofs.RuleSound.{rule_sound}
-use Rattle.fzn_state.proofs.CallerLemmas.{nonempty_at}
+use Rattle.fzn_sets.proofs.CallerLemmas.{nonempty_at}
 
 -- A clause that is accepted from a constraint is true at each assignment within the declared sets that meets the constraint.
 pub accepted_by_sound : (constraint : Constraint) (rule : Rule) (declared : List IntSet) (clause : List Lit) → IsWellFormed (length declared) constraint → IsClauseOver (length declared) clause → IsAcceptedBy constraint rule declared clause → (assignment : List ℤ) → IsWithin declared assignment → HasBooleanValues assignment constraint → Meets constraint assignment → is_clause_true assignment clause ≡ true

@@ -4,7 +4,6 @@
 //! (when a rule is met) and against the meaning of constraints: where a rule is met, no choice of values meets the constraint.
 #![tactic(auto)]
 
-pub use fzn_state::{Possible, State};
 pub use refutation::refutes;
 pub use rule::{GREATEST_HINT, LEAST_HINT, Rule};
 

@@ -10,35 +10,35 @@ use fzn_global_rules::{
     is_cut_met, is_energy_met, is_global_rows_met, is_hall_met, is_load_met, is_pair_met,
 };
 use fzn_meaning::Constraint;
-use fzn_state::State;
+use fzn_sets::Sets;
 
 /// Whether the rule is met for the constraint on the present sets. A yes means that no choice of one value from each set meets the
 /// constraint.
-pub fn refutes(constraint: &Constraint, state: &State, rule: &Rule) -> bool
-    requires constraint { IsWellFormed (length state.now.sets) constraint.now }
-    requires nonempty { is_some_empty state.now.sets ≡ false }
-    ensures met { IsTrue result ↔ IsMet constraint.now state.now.sets rule.now }
-    ensures sound { IsTrue result → (values : List ℤ) → IsWithin state.now.sets values → HasBooleanValues values constraint.now → Meets constraint.now values → ⊥ }
+pub fn refutes(constraint: &Constraint, sets: &Sets, rule: &Rule) -> bool
+    requires constraint { IsWellFormed (length sets.now.present) constraint.now }
+    requires nonempty { is_some_empty sets.now.present ≡ false }
+    ensures met { IsTrue result ↔ IsMet constraint.now sets.now.present rule.now }
+    ensures sound { IsTrue result → (values : List ℤ) → IsWithin sets.now.present values → HasBooleanValues values constraint.now → Meets constraint.now values → ⊥ }
 {
-    is_met(constraint, state, rule)
+    is_met(constraint, sets, rule)
 }
 
 #[tactic(auto, unfolding(crate::specs::Rules::IsMet))]
-fn is_met(constraint: &Constraint, state: &State, rule: &Rule) -> bool
-    requires constraint { IsWellFormed (length state.now.sets) constraint.now }
-    requires nonempty { is_some_empty state.now.sets ≡ false }
-    ensures { IsTrue result ↔ IsMet constraint.now state.now.sets rule.now }
+fn is_met(constraint: &Constraint, sets: &Sets, rule: &Rule) -> bool
+    requires constraint { IsWellFormed (length sets.now.present) constraint.now }
+    requires nonempty { is_some_empty sets.now.present ≡ false }
+    ensures { IsTrue result ↔ IsMet constraint.now sets.now.present rule.now }
 {
     match rule {
-        Rule::Lin => is_lin_met(constraint, state),
-        Rule::Rows => { is_rows_met(constraint, state) || is_global_rows_met(constraint, state) }
-        Rule::Box => is_box_met(constraint, state),
-        Rule::Fixed => is_fixed_met(constraint, state),
-        Rule::Enum => is_enum_met(constraint, state),
-        Rule::Hall(low, high) => is_hall_met(constraint, state, low, high),
-        Rule::Load(time) => is_load_met(constraint, state, time),
-        Rule::Energy(from, until) => is_energy_met(constraint, state, from, until),
-        Rule::Cut(places) => is_cut_met(constraint, state, places.as_slice()),
-        Rule::Pair(first, second) => is_pair_met(constraint, state, first, second),
+        Rule::Lin => is_lin_met(constraint, sets),
+        Rule::Rows => { is_rows_met(constraint, sets) || is_global_rows_met(constraint, sets) }
+        Rule::Box => is_box_met(constraint, sets),
+        Rule::Fixed => is_fixed_met(constraint, sets),
+        Rule::Enum => is_enum_met(constraint, sets),
+        Rule::Hall(low, high) => is_hall_met(constraint, sets, low, high),
+        Rule::Load(time) => is_load_met(constraint, sets, time),
+        Rule::Energy(from, until) => is_energy_met(constraint, sets, from, until),
+        Rule::Cut(places) => is_cut_met(constraint, sets, places.as_slice()),
+        Rule::Pair(first, second) => is_pair_met(constraint, sets, first, second),
     }
 }

@@ -22,9 +22,9 @@ use Rattle.fzn_meaning.specs.Term.{IsTerm, IsNotNegative, term_value, values_of}
 use Rattle.fzn_meaning.specs.Meaning.{Meets, IsWellFormed}
 use Rattle.fzn_meaning.proofs.CallerLemmas.{All-values_of}
 use Rattle.fzn_meaning.proofs.CumulativeLemmas.{cumulative_from}
-use Rattle.fzn_state.proofs.CallerLemmas.{MayBe-term_value}
-use Rattle.fzn_state.proofs.ValueLemmas.{MayBe-ends}
-use Rattle.fzn_state.specs.Terms.{MayBe, least_value, greatest_value}
+use Rattle.fzn_sets.proofs.CallerLemmas.{MayBe-term_value}
+use Rattle.fzn_sets.proofs.ValueLemmas.{MayBe-ends}
+use Rattle.fzn_sets.specs.Terms.{MayBe, least_value, greatest_value}
 use Rattle.fzn_rules.specs.declared.rule.Rule.TheVariants.{Rows}
 use Rattle.fzn_rules.specs.Rules.{IsMet}
 use Rattle.fzn_global_rules.specs.GlobalRows.{IsBelowZero, IsGlobalRowsMet}

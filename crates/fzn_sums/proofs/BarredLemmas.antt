@@ -12,7 +12,7 @@ use Rattle.fzn_meaning.specs.declared.term.Term.TheVariants.{Constant, Variable}
 use Rattle.fzn_meaning.specs.declared.term.Place.{Place}
 use Rattle.fzn_meaning.specs.declared.relation.Comparison.TheVariants.{NotEqual}
 use Rattle.fzn_meaning.specs.Term.{IsTerm, IsPlace, term_value, product_at}
-use Rattle.fzn_state.specs.Terms.{least_value, greatest_value}
+use Rattle.fzn_sets.specs.Terms.{least_value, greatest_value}
 use Rattle.fzn_builtin_rules.specs.Linear.{low_product, high_product, least_sum, greatest_sum}
 use Rattle.fzn_propagator.specs.Barred.{GivesOne, LeavesNoBarred}
 use Rattle.fzn_sums.specs.Opposite.{opposite, opposites}

@@ -19,7 +19,7 @@ use Rattle.fzn_meaning.specs.declared.term.Term.TheVariants.{Constant, Variable}
 use Rattle.fzn_meaning.specs.declared.term.Place.{Place}
 use Rattle.fzn_meaning.specs.declared.relation.Comparison.TheVariants.{NotEqual}
 use Rattle.fzn_meaning.specs.Term.{IsTerm, IsPlace, total_by}
-use Rattle.fzn_state.specs.Terms.{least_value, greatest_value}
+use Rattle.fzn_sets.specs.Terms.{least_value, greatest_value}
 use Rattle.fzn_builtin_rules.specs.Linear.{low_end, high_end, low_product, high_product, least_sum}
 use Rattle.fzn_trail.specs.Levels.{Levels}
 use Rattle.fzn_propagator.specs.Inference.{IsWritable}

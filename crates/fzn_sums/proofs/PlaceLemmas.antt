@@ -10,7 +10,7 @@ use Rattle.fzn_domain.proofs.SetLemmas.{member_of_size, size_above_zero, least_l
 use Rattle.fzn_meaning.specs.declared.term.Term.{Term}
 use Rattle.fzn_meaning.specs.declared.term.Term.TheVariants.{Constant, Variable}
 use Rattle.fzn_meaning.specs.declared.term.Place.{Place}
-use Rattle.fzn_state.specs.Terms.{least_value, greatest_value}
+use Rattle.fzn_sets.specs.Terms.{least_value, greatest_value}
 use Rattle.fzn_builtin_rules.specs.Linear.{low_product, high_product}
 use Rattle.fzn_trail.specs.Levels.{Levels}
 use Rattle.fzn_propagator.specs.Inference.{spread}

@@ -4,7 +4,7 @@ ghost use Rattle.std.specs.List.{All, Contains};
 ghost use Rattle.fzn_domain.specs.Limits.{IsInLimits, IsNearLimits};
 ghost use Rattle.fzn_domain.specs.Narrow.{NoneEmpty};
 ghost use Rattle.fzn_meaning.specs.Term.{IsTerm, numbers_in};
-ghost use Rattle.fzn_state.specs.Terms.{MayBe};
+ghost use Rattle.fzn_sets.specs.Terms.{MayBe};
 ghost use Rattle.fzn_propagator.specs.Left.{IsLeft};
 ghost use Rattle.fzn_terms.specs.Claims.{IsJustifiedBy, LeavesNoMore, place_at};
 ghost use Rattle.fzn_terms.specs.Denied.{IsFalseClause};

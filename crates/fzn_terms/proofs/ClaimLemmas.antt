@@ -16,8 +16,8 @@ use Rattle.fzn_domain.specs.Limits.{IsNearLimits}
 use Rattle.fzn_meaning.specs.declared.term.Term.{Term}
 use Rattle.fzn_meaning.specs.declared.term.Term.TheVariants.{Constant, Variable}
 use Rattle.fzn_meaning.specs.Term.{IsTerm}
-use Rattle.fzn_state.specs.Terms.{MayBe, IsFixedTo}
-use Rattle.fzn_state.proofs.CallerLemmas.{only_value}
+use Rattle.fzn_sets.specs.Terms.{MayBe, IsFixedTo}
+use Rattle.fzn_sets.proofs.CallerLemmas.{only_value}
 use Rattle.fzn_trail.specs.Levels.{Levels}
 use Rattle.fzn_trail.specs.Unit.{IsFalseOrUnit}
 use Rattle.fzn_propagator.specs.Inference.{IsWritable}

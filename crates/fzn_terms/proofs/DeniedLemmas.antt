@@ -14,7 +14,7 @@ use Rattle.fzn_domain.specs.Narrow.{IsVariable, IsClauseOver, NoneEmpty, set_of,
 use Rattle.fzn_domain.proofs.SetLemmas.{is_true_at-negated, possible_when, impossible_when, witness, member_of_size}
 use Rattle.fzn_meaning.specs.declared.term.Term.{Term}
 use Rattle.fzn_meaning.specs.declared.term.Term.TheVariants.{Constant, Variable}
-use Rattle.fzn_state.specs.Terms.{MayBe}
+use Rattle.fzn_sets.specs.Terms.{MayBe}
 use Rattle.fzn_trail.specs.Levels.{Levels, IsNarrower}
 use Rattle.fzn_propagator.specs.Inference.{IsWritable, HasWritableHints, IsInference}
 use Rattle.fzn_domain.proofs.NarrowLemmas.{length-denied}

@@ -6,7 +6,7 @@ use Rattle.fzn_domain.proofs.SetLemmas.{member_of_size, contains-least, contains
 use Rattle.fzn_meaning.specs.declared.term.Term.{Term}
 use Rattle.fzn_meaning.specs.declared.term.Term.TheVariants.{Constant, Variable}
 use Rattle.fzn_meaning.specs.Term.{IsTerm}
-use Rattle.fzn_state.specs.Terms.{MayBe, least_value, greatest_value}
+use Rattle.fzn_sets.specs.Terms.{MayBe, least_value, greatest_value}
 use Rattle.fzn_trail.specs.Levels.{IsNarrower}
 use Rattle.fzn_propagator.proofs.CallerLemmas.{some_value}
 

@@ -12,8 +12,8 @@ use Rattle.fzn_meaning.specs.declared.term.Term.{Term}
 use Rattle.fzn_meaning.specs.declared.term.Term.TheVariants.{Constant, Variable}
 use Rattle.fzn_meaning.specs.declared.constraint.Constraint.{Constraint}
 use Rattle.fzn_meaning.specs.Term.{IsTerm, term_value}
-use Rattle.fzn_state.specs.Terms.{IsFixedTo}
-use Rattle.fzn_state.proofs.CallerLemmas.{MayBe-term_value}
+use Rattle.fzn_sets.specs.Terms.{IsFixedTo}
+use Rattle.fzn_sets.proofs.CallerLemmas.{MayBe-term_value}
 use Rattle.fzn_builtin_rules.specs.Form.{form_of}
 use Rattle.fzn_rules.specs.declared.rule.Rule.{Rule}
 use Rattle.fzn_trail.specs.Levels.{Levels}

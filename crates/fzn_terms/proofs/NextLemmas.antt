@@ -5,7 +5,7 @@ use Rattle.std.specs.Ordering.{int_eq}
 use Rattle.std.proofs.lemmas.Bool.{cases_Bool}
 use Rattle.fzn_domain.specs.IntSet.{IntSet}
 use Rattle.fzn_meaning.specs.declared.term.Term.{Term}
-use Rattle.fzn_state.specs.Terms.{MayBe}
+use Rattle.fzn_sets.specs.Terms.{MayBe}
 use Rattle.fzn_terms.specs.Claims.{IsNextValue}
 
 same_of : (v k : ℤ) → int_eq v k ≡ true → k ≡ v

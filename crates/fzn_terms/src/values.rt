@@ -3,7 +3,7 @@ ghost use Rattle.std.specs.Prelude.{◌≡◌, ◌↔◌, ◌≤ℤ◌, ℤ, fal
 ghost use Rattle.fzn_domain.specs.Limits.{IsInLimits};
 ghost use Rattle.fzn_domain.specs.Narrow.{NoneEmpty};
 ghost use Rattle.fzn_meaning.specs.Term.{IsTerm};
-ghost use Rattle.fzn_state.specs.Terms.{MayBe, least_value, greatest_value};
+ghost use Rattle.fzn_sets.specs.Terms.{MayBe, least_value, greatest_value};
 ghost use Rattle.fzn_terms.specs.Claims.{IsNextValue, HasOther, IsOnly};
 
 use fzn_meaning::Term;

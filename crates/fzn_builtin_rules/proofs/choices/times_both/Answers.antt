@@ -9,7 +9,7 @@ whole count front back all is split = ap (λ (n : ℕ). n * back) (is ∙ omega 
 
 pub returns-in_err-count-clause-none : goal.returns-in_err-count-clause-none
 returns-in_err-count-clause-none c =
-    let sets = c.args.state.now.sets in
+    let sets = c.args.sets.now.present in
     let front = c.args.front.now in
     let back = c.args.back.now in
     let many = too_many_parts (choices sets front) (choices sets back) (omega (arith, c.in_err-count.ensures.none)) (some_choice sets back c.requires.nonempty c.requires.back) in
@@ -17,12 +17,12 @@ returns-in_err-count-clause-none c =
 
 pub returns-clause-value : goal.returns-clause-value
 returns-clause-value c =
-    let sets = c.args.state.now.sets in
+    let sets = c.args.sets.now.present in
     let same = whole c.in_ok-count.count (choices sets c.args.front.now) (choices sets c.args.back.now) _ c.in_ok-count.ensures.value (choices-append sets c.args.front.now c.args.back.now) in
     subst (λ (n : ℕ). IfSome c.times_each-2.result (λ product. product ≡ n)) same c.times_each-2.ensures.value
 
 pub returns-clause-none : goal.returns-clause-none
 returns-clause-none c =
-    let sets = c.args.state.now.sets in
+    let sets = c.args.sets.now.present in
     let same = whole c.in_ok-count.count (choices sets c.args.front.now) (choices sets c.args.back.now) _ c.in_ok-count.ensures.value (choices-append sets c.args.front.now c.args.back.now) in
     subst (λ (n : ℕ). IfNone c.times_each-2.result (4096 < n)) same c.times_each-2.ensures.none

@@ -8,7 +8,7 @@ use Rattle.fzn_builtin_rules.proofs.choices.times_each.Goals as goal
 
 pub returns-in_err-product-clause-none : goal.returns-in_err-product-clause-none
 returns-in_err-product-clause-none c =
-    let sets = c.args.state.now.sets in
+    let sets = c.args.sets.now.present in
     let terms = c.args.terms.now in
     let i = c.loop-term.term-index in
     if_none c.from_residual.result _
@@ -17,7 +17,7 @@ returns-in_err-product-clause-none c =
 
 pub loop-term-preserved : goal.loop-term-preserved
 loop-term-preserved c =
-    let sets = c.args.state.now.sets in
+    let sets = c.args.sets.now.present in
     let terms = c.args.terms.now in
     let i = c.loop-term.term-index in
     record {

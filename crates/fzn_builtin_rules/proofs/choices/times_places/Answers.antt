@@ -17,7 +17,7 @@ terms places = map (λ (place : Place). place.term) places
 
 pub returns-in_err-product-clause-none : goal.returns-in_err-product-clause-none
 returns-in_err-product-clause-none c =
-    let sets = c.args.state.now.sets in
+    let sets = c.args.sets.now.present in
     let places = c.args.places.now in
     let i = c.loop-i.i in
     let next : terms (drop i places) ≡ c.place.result.term ∷ terms (drop (i + 1) places) =
@@ -28,7 +28,7 @@ returns-in_err-product-clause-none c =
 
 pub loop-i-preserved : goal.loop-i-preserved
 loop-i-preserved c =
-    let sets = c.args.state.now.sets in
+    let sets = c.args.sets.now.present in
     let places = c.args.places.now in
     let i = c.loop-i.i in
     let next : terms (drop i places) ≡ c.place.result.term ∷ terms (drop (i + 1) places) =

@@ -6,7 +6,7 @@ use Rattle.fzn_builtin_rules.proofs.choices.times_places.Given as goal
 -- what is left of the places makes up for what is left of the product
 abbrev pub invariant-loop-i : goal.invariant-loop-i
 invariant-loop-i l = record {
-  product : l.product * choices l.state.sets (map (λ (place : Place). place.term) (drop l.i l.places)) ≡ choices l.state.sets (map (λ (place : Place). place.term) l.places);
+  product : l.product * choices l.sets.present (map (λ (place : Place). place.term) (drop l.i l.places)) ≡ choices l.sets.present (map (λ (place : Place). place.term) l.places);
   some : 0 < l.product;
   few : l.product ≤ 4096;
 }

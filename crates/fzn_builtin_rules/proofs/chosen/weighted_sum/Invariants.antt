@@ -7,6 +7,6 @@ use Rattle.fzn_builtin_rules.proofs.chosen.weighted_sum.Given as goal
 -- the sum so far and that of the places left
 abbrev pub invariant-loop-i : goal.invariant-loop-i
 invariant-loop-i l = record {
-  summed : weighted_sum l.places (choice_at l.state.sets (map (λ (place : Place). place.term) l.places) l.fn.number) ≡ l.sum +ℤ weighted_sum (drop l.i l.places) (choice_at l.state.sets (map (λ (place : Place). place.term) (drop l.i l.places)) l.left);
+  summed : weighted_sum l.places (choice_at l.sets.present (map (λ (place : Place). place.term) l.places) l.fn.number) ≡ l.sum +ℤ weighted_sum (drop l.i l.places) (choice_at l.sets.present (map (λ (place : Place). place.term) (drop l.i l.places)) l.left);
   bounded : unsigned_abs l.sum ≤ l.i * 1000000000000000000;
 }

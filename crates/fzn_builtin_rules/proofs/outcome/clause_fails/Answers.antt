@@ -7,11 +7,11 @@ use Rattle.fzn_builtin_rules.proofs.outcome.clause_fails.Goals as goal
 
 pub returns-then-count_value-eq0 : goal.returns-then-count_value-eq0
 returns-then-count_value-eq0 c =
-    let sets = c.args.state.now.sets in
+    let sets = c.args.sets.now.present in
     let negative = c.args.negative.now in
     clause_open sets c.args.positive.now negative c.args.number c.count_value.result c.count_value-then-count_value-eq0.result c.count_value.ensures c.if-count_value-eq0.true
     (subst (λ (n : ℕ). c.count_value-then-count_value-eq0.result ≡ count_by (λ (x : ℤ). int_eq x (pos 0)) (choice_at sets negative n)) c.rest_after-rest.ensures c.count_value-then-count_value-eq0.ensures)
 
 pub returns-else-count_value-eq0 : goal.returns-else-count_value-eq0
 returns-else-count_value-eq0 c =
-    clause_true c.args.state.now.sets c.args.positive.now c.args.negative.now c.args.number c.count_value.result c.count_value.ensures c.if-count_value-eq0.false
+    clause_true c.args.sets.now.present c.args.positive.now c.args.negative.now c.args.number c.count_value.result c.count_value.ensures c.if-count_value-eq0.false

@@ -3,7 +3,7 @@ use Rattle.std.proofs.lemmas.Int.{ints}
 use Rattle.std.proofs.lemmas.Bool.{false≢true}
 use Rattle.fzn_meaning.specs.Entries.{IsIndex}
 use Rattle.fzn_meaning.specs.Elements.{IsElement}
-use Rattle.fzn_state.specs.Terms.{MayBe}
+use Rattle.fzn_sets.specs.Terms.{MayBe}
 use Rattle.fzn_builtin_rules.specs.Numbered.{value_in, rest_in, choice_at}
 use Rattle.fzn_builtin_rules.proofs.ChosenLemmas.{length-choice_at}
 use Rattle.fzn_builtin_rules.proofs.OutcomeLemmas.{one_result, element_is}
@@ -14,7 +14,7 @@ use mir.Val.{to_z, of_z}
 -- the value of the index is none
 pub returns-then-not-is_index : goal.returns-then-not-is_index
 returns-then-not-is_index c =
-    let sets = c.args.state.now.sets in
+    let sets = c.args.sets.now.present in
     let rest = rest_in sets c.args.index c.args.number in (
       λ yes value may is.
           let low = is.0.0 in
@@ -26,7 +26,7 @@ returns-then-not-is_index c =
 
 pub returns : goal.returns
 returns c =
-    let sets = c.args.state.now.sets in
+    let sets = c.args.sets.now.present in
     let rest = rest_in sets c.args.index c.args.number in
     let xs = choice_at sets c.args.entries.now rest in
     let i = value_in sets c.args.index c.args.number in

@@ -4,4 +4,4 @@ use Rattle.fzn_builtin_rules.specs.Rows.{Passes}
 use Rattle.fzn_builtin_rules.proofs.rows.some_passes.Given as goal
 
 abbrev pub invariant-loop-entry : goal.invariant-loop-entry
-invariant-loop-entry l = All (λ entry. Passes l.state.sets l.extreme l.bound entry → ⊥) (take l.entry-index l.entries)
+invariant-loop-entry l = All (λ entry. Passes l.sets.present l.extreme l.bound entry → ⊥) (take l.entry-index l.entries)

@@ -1,6 +1,6 @@
 use Rattle.std.proofs.Common.{◌≡◌, ◌+◌, ◌-◌}
 use Rattle.fzn_meaning.specs.Solutions.{declared_sets}
-use Rattle.fzn_state.specs.State.{start}
+use Rattle.fzn_sets.specs.Sets.{start}
 use Rattle.fzn_cert.specs.declared.limits.TheConstants.{LAST_STEP}
 use Rattle.fzn_cert_reader.specs.Reader.{progress}
 use Rattle.fzn_cert.specs.Sound.{IsSound}
@@ -16,7 +16,7 @@ invariant-loop-given g l = record {
   goes_on : (outcome : Outcome) → Standing l.model l.history (progress g.C.Read.remaining l.reader) outcome → VerdictOn l.model (g.C.Read.remaining l.fn.cert) outcome;
   sound : IsSound l.model l.history;
   given : AreGiven l.model l.history.solutions l.given;
-  state : l.state ≡ start (declared_sets l.model.vars);
+  sets : l.sets ≡ start (declared_sets l.model.vars);
 }
 
 abbrev pub decreases-loop-given : goal.decreases-loop-given

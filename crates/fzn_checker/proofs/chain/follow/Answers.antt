@@ -9,7 +9,7 @@ use Rattle.fzn_checker.proofs.chain.follow.Goals as goal
 
 pub follow-requires : goal.follow-requires
 follow-requires c =
-    let sets = c.loop-id.state.sets in
+    let sets = c.loop-id.sets.present in
     record {
       over = subst (IsClauseOver (length sets)) (sym c.as_slice.ensures)
           (held_over (length sets) c.args.history.now _ c.in-Some.clause.now
@@ -18,11 +18,11 @@ follow-requires c =
 
 pub loop-id-preserved : goal.loop-id-preserved
 loop-id-preserved c =
-    let sets = c.loop-id.state.sets in
-    let L : Link → Type 0 = λ it. IsLink sets c.as_slice.result.now c.follow.new.state.sets it in
+    let sets = c.loop-id.sets.present in
+    let L : Link → Type 0 = λ it. IsLink sets c.as_slice.result.now c.follow.new.sets.present it in
     let link : L Narrowed = subst L c.in-Narrowed.is c.in_ok-follow.ensures.link in
     record {
-      rest = chain-more c.args.history.now sets c.follow.new.state.sets c.args.ids.now c.loop-id.id-index c.in-Some.clause.now link.0 _ c.loop-id-test.true c.in-Some.ensures
+      rest = chain-more c.args.history.now sets c.follow.new.sets.present c.args.ids.now c.loop-id.id-index c.in-Some.clause.now link.0 _ c.loop-id-test.true c.in-Some.ensures
           (ap (possible_in sets) (sym c.as_slice.ensures) ∙ link.1) link.2 c.loop-id.invariant.rest;
       same_length = ap length link.2 ∙ length-narrowed sets link.0 ∙ c.loop-id.invariant.same_length;
       declared = c.in_ok-follow.ensures.declared ∙ c.loop-id.invariant.declared;

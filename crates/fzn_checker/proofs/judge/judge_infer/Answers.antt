@@ -5,8 +5,8 @@ use Rattle.fzn_checker.proofs.judge.judge_infer.Goals as goal
 
 pub refutes-requires-clause-constraint : goal.refutes-requires-clause-constraint
 refutes-requires-clause-constraint c =
-    constraint_fits c.args.model.now c.deny.new.state.sets c.args.clause.now (c.args.constraint - 1) c.index-as_slice-constraint.result c.requires.model
-    (denied_from c.args.model.now c.args.state.now c.deny.new.state.sets c.args.clause.now c.requires.state c.in_ok-emptied.ensures.sets)
+    constraint_fits c.args.model.now c.deny.new.sets.present c.args.clause.now (c.args.constraint - 1) c.index-as_slice-constraint.result c.requires.model
+    (denied_from c.args.model.now c.args.sets.now c.deny.new.sets.present c.args.clause.now c.requires.sets c.in_ok-emptied.ensures.sets)
     (omega (arith, c.if-constraint-eq0.false, c.if-constraint-len.false, c.len-else-constraint-eq0.ensures))
     (rw c.as_slice.ensures at c.index-as_slice-constraint.is)
 
@@ -15,8 +15,8 @@ returns-then-refutes-clause-judged c =
     λ past. (
       subst (λ n. IsClauseOver n c.args.clause.now) c.len.ensures (c.if-not-has_variables.ensures.0 refl),
       (omega (arith, c.if-constraint-eq0.false), omega (arith, c.if-constraint-len.false, c.len-else-constraint-eq0.ensures)),
-      inr (rule_met c.args.model.now c.deny.new.state.sets c.args.constraint c.args.rule.now c.args.clause.now c.index-as_slice-constraint.result
-          (denied_from c.args.model.now c.args.state.now c.deny.new.state.sets c.args.clause.now c.requires.state c.in_ok-emptied.ensures.sets)
+      inr (rule_met c.args.model.now c.deny.new.sets.present c.args.constraint c.args.rule.now c.args.clause.now c.index-as_slice-constraint.result
+          (denied_from c.args.model.now c.args.sets.now c.deny.new.sets.present c.args.clause.now c.requires.sets c.in_ok-emptied.ensures.sets)
           (omega (arith, c.if-constraint-eq0.false, c.if-constraint-len.false, c.len-else-constraint-eq0.ensures))
           (rw c.as_slice.ensures at c.index-as_slice-constraint.is)
           (c.if-refutes.ensures.met.0 refl)),
@@ -24,12 +24,12 @@ returns-then-refutes-clause-judged c =
 
 pub returns-else-refutes-clause-judged : goal.returns-else-refutes-clause-judged
 returns-else-refutes-clause-judged c =
-    let now = denied_from c.args.model.now c.args.state.now c.deny.new.state.sets c.args.clause.now c.requires.state c.in_ok-emptied.ensures.sets in
+    let now = denied_from c.args.model.now c.args.sets.now c.deny.new.sets.present c.args.clause.now c.requires.sets c.in_ok-emptied.ensures.sets in
     λ past. (
       subst (λ n. IsClauseOver n c.args.clause.now) c.len.ensures (c.if-not-has_variables.ensures.0 refl),
       (omega (arith, c.if-constraint-eq0.false), omega (arith, c.if-constraint-len.false, c.len-else-constraint-eq0.ensures)),
-      not_trivial c.args.model.now c.args.state.now c.deny.new.state.sets c.args.clause.now c.args.has_empty c.in_ok-emptied.emptied c.requires.state now c.in_ok-emptied.ensures.emptied c.requires.empty c.if-has_empty.false c.if-emptied.false,
-      rule_not_met c.args.model.now c.deny.new.state.sets c.args.constraint c.args.rule.now c.args.clause.now c.index-as_slice-constraint.result now
+      not_trivial c.args.model.now c.args.sets.now c.deny.new.sets.present c.args.clause.now c.args.has_empty c.in_ok-emptied.emptied c.requires.sets now c.in_ok-emptied.ensures.emptied c.requires.empty c.if-has_empty.false c.if-emptied.false,
+      rule_not_met c.args.model.now c.deny.new.sets.present c.args.constraint c.args.rule.now c.args.clause.now c.index-as_slice-constraint.result now
           (omega (arith, c.if-constraint-eq0.false, c.if-constraint-len.false, c.len-else-constraint-eq0.ensures))
           (rw c.as_slice.ensures at c.index-as_slice-constraint.is)
           (λ met. let e = c.if-refutes.ensures.met.1 met in cc),

@@ -2,7 +2,7 @@ use Rattle.std.proofs.Common.{rules, ◌≡◌, ◌<◌, length, arith, ap, sym,
 use Rattle.std.proofs.lemmas.Int.{to_z-of_z}
 use Rattle.fzn_domain.specs.declared.literal.Op.TheVariants.{Equal}
 use Rattle.fzn_meaning.specs.declared.term.Term.{Term}
-use Rattle.fzn_state.specs.Terms.{term_at}
+use Rattle.fzn_sets.specs.Terms.{term_at}
 use Rattle.fzn_terms.specs.Denied.{IsForced, NoneIs}
 use Rattle.fzn_terms.proofs.CaseLemmas.{if_true, if_false}
 use Rattle.fzn_circuit.specs.Circuits.{IsWay, IsAtEnd}

@@ -3,7 +3,7 @@ use Rattle.std.proofs.lemmas.Int.{to_z-of_z}
 use Rattle.std.proofs.lemmas.List.{length-append}
 use Rattle.fzn_domain.specs.declared.literal.Op.TheVariants.{Equal}
 use Rattle.fzn_meaning.specs.declared.term.Term.{Term}
-use Rattle.fzn_state.specs.Terms.{term_at}
+use Rattle.fzn_sets.specs.Terms.{term_at}
 use Rattle.fzn_terms.specs.Denied.{AllAre, IsExplained}
 use Rattle.fzn_terms.proofs.CaseLemmas.{same_of}
 use Rattle.fzn_circuit.specs.Circuits.{IsWay}

@@ -7,7 +7,7 @@ use Rattle.fzn_meaning.specs.declared.term.Term.{Term}
 use Rattle.fzn_meaning.specs.declared.term.Term.TheVariants.{Constant}
 use Rattle.fzn_meaning.specs.declared.constraint.Constraint.TheVariants.{Circuit}
 use Rattle.fzn_rules.specs.declared.rule.Rule.TheVariants.{Hall}
-use Rattle.fzn_state.specs.Terms.{IsFixedTo}
+use Rattle.fzn_sets.specs.Terms.{IsFixedTo}
 use Rattle.fzn_terms.specs.Denied.{NoneIs, IsInferred}
 use Rattle.fzn_terms.proofs.CaseLemmas.{if_false}
 use Rattle.fzn_circuit.proofs.same.first_compared.Goals as goal

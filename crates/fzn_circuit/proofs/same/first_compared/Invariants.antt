@@ -1,7 +1,7 @@
 use Rattle.std.proofs.Common.{ℕ, ℤ, ◌≢◌, ◌<◌, length, get_or}
 use Rattle.fzn_domain.specs.declared.literal.Op.TheVariants.{Equal}
 use Rattle.fzn_meaning.specs.declared.term.Term.{Term}
-use Rattle.fzn_state.specs.Terms.{IsFixedTo}
+use Rattle.fzn_sets.specs.Terms.{IsFixedTo}
 use Rattle.fzn_terms.specs.Denied.{NoneIs}
 use Rattle.fzn_circuit.proofs.same.first_compared.Given as goal
 

@@ -4,7 +4,7 @@ use Rattle.std.proofs.lemmas.Bool.{false≢true}
 use Rattle.std.proofs.lemmas.Option.{IfSome_then}
 use Rattle.fzn_meaning.specs.declared.term.Term.{Term}
 use Rattle.fzn_meaning.specs.Term.{IsTerm}
-use Rattle.fzn_state.specs.Terms.{least_value}
+use Rattle.fzn_sets.specs.Terms.{least_value}
 use Rattle.fzn_fixed.specs.Denial.{IsFixed, IsDenial, IsForcing, IsTrueOn}
 use Rattle.fzn_fixed.specs.Fixed.{HoldsWhereFixed}
 use Rattle.fzn_fixed.specs.Outcome.{IsOutcome}

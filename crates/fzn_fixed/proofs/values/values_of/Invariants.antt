@@ -1,7 +1,7 @@
 use Rattle.std.proofs.Common.{◌≡◌, map, take}
 use Rattle.std.specs.List.{All}
 use Rattle.fzn_domain.specs.Limits.{IsInLimits}
-use Rattle.fzn_state.specs.Terms.{least_value}
+use Rattle.fzn_sets.specs.Terms.{least_value}
 use Rattle.fzn_fixed.proofs.values.values_of.Given as goal
 
 abbrev pub invariant-loop-term : goal.invariant-loop-term

@@ -5,6 +5,6 @@ use Rattle.fzn_global_rules.proofs.energy.energy_of.Given as goal
 
 abbrev pub invariant-loop-k : goal.invariant-loop-k
 invariant-loop-k l = record {
-  so_far : l.energy ≡ sum_over (least_energy l.state.sets l.from l.until) (take l.k (task_terms l.starts l.durations l.uses));
+  so_far : l.energy ≡ sum_over (least_energy l.sets.present l.from l.until) (take l.k (task_terms l.starts l.durations l.uses));
   bounded : unsigned_abs l.energy ≤ l.k * 1000000000000000000;
 }

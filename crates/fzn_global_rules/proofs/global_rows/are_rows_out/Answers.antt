@@ -5,7 +5,7 @@ use Rattle.fzn_global_rules.specs.GlobalRows.{IsRowOut}
 use Rattle.fzn_global_rules.proofs.global_rows.are_rows_out.Goals as goal
 
 pub loop-r-preserved : goal.loop-r-preserved
-loop-r-preserved c = below_more (λ k. IsRowOut c.args.state.now.sets c.args.places.now (numbers_in c.args.rows.now) k) c.loop-r.r c.loop-r.invariant (c.is_row_out.ensures.0 c.if-not-is_row_out.false)
+loop-r-preserved c = below_more (λ k. IsRowOut c.args.sets.now.present c.args.places.now (numbers_in c.args.rows.now) k) c.loop-r.r c.loop-r.invariant (c.is_row_out.ensures.0 c.if-not-is_row_out.false)
 
 pub returns-then-not-is_row_out : goal.returns-then-not-is_row_out
 returns-then-not-is_row_out c =

@@ -12,4 +12,4 @@ returns c =
     let in_order : c.args.low.now ≤ℤ c.args.high.now = search rules in
     let numbers : to_z w128 (of_z w128 (to_z w128 (of_z w128 (to_z w128 (of_z w128 (to_z w64 (of_z w64 c.args.high.now))) -ℤ to_z w128 (of_z w128 (to_z w64 (of_z w64 c.args.low.now))))) +ℤ pos 1)) ≡ (c.args.high.now -ℤ c.args.low.now) +ℤ pos 1 = omega (arith, ints) in
     let count : to_z w128 c.count_within.result ≡ pos c.count_within.result = omega (arith, ints) in
-    excess_test c.args.state.now.sets c.args.low.now c.args.high.now c.args.places.now _ _ in_order numbers (count ∙ ap pos c.count_within.ensures)
+    excess_test c.args.sets.now.present c.args.low.now c.args.high.now c.args.places.now _ _ in_order numbers (count ∙ ap pos c.count_within.ensures)

@@ -11,11 +11,11 @@ pub loop-k-preserved : goal.loop-k-preserved
 loop-k-preserved c =
     let added : to_z w128 (of_z w128 (to_z w128 c.loop-k.load-bits +ℤ to_z w128 (of_z w128 (to_z w64 (of_z w64 c.least_use_at.result))))) ≡ to_z w128 c.loop-k.load-bits +ℤ c.least_use_at.result = omega (arith, ints) in
     record {
-      so_far = added ∙ sum_over-more (least_use_at c.args.state.now.sets c.args.time.now) c.args.starts.now c.args.durations.now c.args.uses.now c.loop-k.k (Constant (pos 0)) (to_z w128 c.loop-k.load-bits) c.least_use_at.result c.requires.as_many_durations c.requires.as_many_uses c.loop-k-test.true c.loop-k.invariant.so_far c.least_use_at.ensures.value;
+      so_far = added ∙ sum_over-more (least_use_at c.args.sets.now.present c.args.time.now) c.args.starts.now c.args.durations.now c.args.uses.now c.loop-k.k (Constant (pos 0)) (to_z w128 c.loop-k.load-bits) c.least_use_at.result c.requires.as_many_durations c.requires.as_many_uses c.loop-k-test.true c.loop-k.invariant.so_far c.least_use_at.ensures.value;
       bounded = omega (arith, ints);
     }
 
 pub returns : goal.returns
 returns c =
     c.loop-k.invariant.so_far
-    ∙ sum_over-all (least_use_at c.args.state.now.sets c.args.time.now) c.args.starts.now c.args.durations.now c.args.uses.now c.loop-k.k c.requires.as_many_durations c.requires.as_many_uses c.loop-k-test.false
+    ∙ sum_over-all (least_use_at c.args.sets.now.present c.args.time.now) c.args.starts.now c.args.durations.now c.args.uses.now c.loop-k.k c.requires.as_many_durations c.requires.as_many_uses c.loop-k-test.false

@@ -5,6 +5,6 @@ use Rattle.fzn_global_rules.proofs.load.least_load.Given as goal
 
 abbrev pub invariant-loop-k : goal.invariant-loop-k
 invariant-loop-k l = record {
-  so_far : l.load ≡ sum_over (least_use_at l.state.sets l.time) (take l.k (task_terms l.starts l.durations l.uses));
+  so_far : l.load ≡ sum_over (least_use_at l.sets.present l.time) (take l.k (task_terms l.starts l.durations l.uses));
   bounded : unsigned_abs l.load ≤ l.k * 1000000000;
 }

@@ -5,7 +5,7 @@ use Rattle.fzn_learned.proofs.trial.ends_well.Given as goal
 
 abbrev pub invariant-loop-source : goal.invariant-loop-source
 invariant-loop-source l = record {
-  rest : chain_outcome l.state.sets (map (clause_of (known_of l.clauses l.inferences)) (drop l.source-index l.sources)) ≡ chain_outcome l.fn.state.sets (map (clause_of (known_of l.clauses l.inferences)) l.sources);
-  same_length : length l.state.sets ≡ length l.fn.state.sets;
-  declared : l.state.declared ≡ l.fn.state.declared;
+  rest : chain_outcome l.sets.present (map (clause_of (known_of l.clauses l.inferences)) (drop l.source-index l.sources)) ≡ chain_outcome l.fn.sets.present (map (clause_of (known_of l.clauses l.inferences)) l.sources);
+  same_length : length l.sets.present ≡ length l.fn.sets.present;
+  declared : l.sets.declared ≡ l.fn.sets.declared;
 }

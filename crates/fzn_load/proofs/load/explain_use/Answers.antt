@@ -2,7 +2,7 @@ use Rattle.std.proofs.Common.{rules, ◌≡◌, ◌≤ℤ◌, arith, sym, subst,
 use Rattle.std.proofs.lemmas.Int.{ints, to_z-of_z}
 use Rattle.fzn_domain.specs.Limits.{IsInLimits}
 use Rattle.fzn_domain.specs.declared.literal.Op.TheVariants.{AtMost, AtLeast}
-use Rattle.fzn_state.specs.Terms.{least_value}
+use Rattle.fzn_sets.specs.Terms.{least_value}
 use Rattle.fzn_terms.specs.Denied.{AllAre, IsExplained}
 use Rattle.fzn_load.specs.Loads.{IsTime}
 use Rattle.fzn_load.proofs.LoadLemmas.{all_least, run_most, run_least, use_explained}

@@ -1,7 +1,7 @@
 use Rattle.std.proofs.Common.{rules, ◌≡◌, ◌*◌, ◌∙◌, arith, ℤ, pos, ◌+ℤ◌, ◌-ℤ◌, ◌≤ℤ◌, w64, to_z, of_z, FitsSigned}
 use Rattle.std.proofs.lemmas.Int.{ints, to_z-of_z}
 use Rattle.fzn_domain.specs.Limits.{IsInLimits}
-use Rattle.fzn_state.specs.Terms.{greatest_value}
+use Rattle.fzn_sets.specs.Terms.{greatest_value}
 use Rattle.fzn_terms.proofs.DeniedLemmas.{false_of_none}
 use Rattle.fzn_load.specs.Loads.{IsAmount, total_but}
 use Rattle.fzn_load.proofs.LoadLemmas.{all_most}

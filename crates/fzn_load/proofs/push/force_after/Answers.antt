@@ -3,7 +3,7 @@ use Rattle.std.proofs.lemmas.Int.{ints, to_z-of_z}
 use Rattle.std.proofs.lemmas.Result.{IfOk-weaker}
 use Rattle.fzn_domain.specs.Limits.{IsInLimits}
 use Rattle.fzn_domain.specs.declared.literal.Op.TheVariants.{AtMost, AtLeast}
-use Rattle.fzn_state.specs.Terms.{least_value}
+use Rattle.fzn_sets.specs.Terms.{least_value}
 use Rattle.fzn_terms.specs.Denied.{AllAre, NoneIs, IsExplained, IsForced}
 use Rattle.fzn_terms.proofs.CaseLemmas.{either}
 use Rattle.fzn_load.specs.Loads.{IsTime}

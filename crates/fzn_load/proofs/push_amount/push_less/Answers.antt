@@ -5,7 +5,7 @@ use Rattle.fzn_domain.specs.Limits.{IsInLimits}
 use Rattle.fzn_domain.specs.declared.literal.Op.TheVariants.{AtLeast}
 use Rattle.fzn_meaning.specs.declared.term.Term.{Term}
 use Rattle.fzn_meaning.specs.declared.term.Term.TheVariants.{Constant}
-use Rattle.fzn_state.specs.Terms.{greatest_value}
+use Rattle.fzn_sets.specs.Terms.{greatest_value}
 use Rattle.fzn_terms.specs.Denied.{NoneIs}
 use Rattle.fzn_terms.proofs.CaseLemmas.{if_false}
 use Rattle.fzn_load.specs.Loads.{AreOver, HasRoom, others_of}

@@ -1,7 +1,7 @@
 use Rattle.std.proofs.Common.{ℕ, ℤ}
 use borrow.Author.Count.{below_more}
 use Rattle.fzn_meaning.specs.Term.{numbers_in}
-use Rattle.fzn_state.specs.Terms.{MayBe}
+use Rattle.fzn_sets.specs.Terms.{MayBe}
 use Rattle.fzn_terms.specs.Claims.{place_at}
 use Rattle.fzn_table.specs.Supports.{IsSupported}
 use Rattle.fzn_table.proofs.table.first_unsupported.Goals as goal

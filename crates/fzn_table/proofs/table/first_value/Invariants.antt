@@ -2,7 +2,7 @@ use Rattle.std.proofs.Common.{ℤ, pos, ◌<ℤ◌}
 use Rattle.fzn_domain.specs.IntSet.{width}
 use Rattle.fzn_domain.specs.Limits.{IsInLimits}
 use Rattle.fzn_meaning.specs.Term.{numbers_in}
-use Rattle.fzn_state.specs.Terms.{MayBe}
+use Rattle.fzn_sets.specs.Terms.{MayBe}
 use Rattle.fzn_terms.specs.Claims.{place_at}
 use Rattle.fzn_table.specs.Supports.{AreOpen, IsSupported}
 use Rattle.fzn_table.proofs.table.first_value.Given as goal

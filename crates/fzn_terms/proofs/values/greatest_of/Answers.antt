@@ -1,5 +1,5 @@
 use Rattle.fzn_domain.proofs.DomainLemmas.{real}
-use Rattle.fzn_state.proofs.CallerLemmas.{MayBe-between}
+use Rattle.fzn_sets.proofs.CallerLemmas.{MayBe-between}
 use Rattle.fzn_terms.proofs.EndLemmas.{ends_may}
 use Rattle.fzn_terms.proofs.values.greatest_of.Goals as goal
 

@@ -1,6 +1,0 @@
-use Rattle.std.proofs.Common.{length, take}
-use Rattle.fzn_domain.specs.Narrow.{IsClauseOver}
-use Rattle.fzn_meaning_tests.proofs.state.which_possible.Given as goal
-
-abbrev pub invariant-loop-lit : goal.invariant-loop-lit
-invariant-loop-lit l = IsClauseOver (length l.state.sets) (take l.lit-index l.clause)

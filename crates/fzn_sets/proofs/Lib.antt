@@ -1,0 +1,4 @@
+pub mod CallerLemmas
+pub mod SetsLemmas
+pub mod TermLemmas
+pub mod ValueLemmas

@@ -1,3 +1,0 @@
--- What callers may cite: values of terms on the sets.
-pub use Rattle.fzn_state.proofs.TermLemmas.{length-values_of, MayBe-term_value, entry_at-values_of, MayBe-entry_at}
-pub use Rattle.fzn_state.proofs.ValueLemmas.{nonempty_at, some_value, IsBetween, term_between, fixed_value, MayBe-between, only_value}

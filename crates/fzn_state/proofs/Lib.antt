@@ -1,4 +1,0 @@
-pub mod CallerLemmas
-mod StateLemmas
-pub mod TermLemmas
-pub mod ValueLemmas
