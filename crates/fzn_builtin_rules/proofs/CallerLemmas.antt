@@ -5,3 +5,5 @@ pub use Rattle.fzn_builtin_rules.proofs.ProductSound.{box_sound}
 pub use Rattle.fzn_builtin_rules.proofs.RowsSound.{rows_sound}
 pub use Rattle.fzn_builtin_rules.proofs.FitLemmas.{form_fits}
 pub use Rattle.fzn_builtin_rules.proofs.FormLemmas.{form_meets}
+pub use Rattle.fzn_builtin_rules.proofs.EndLemmas.{low_up, low_down, high_up, high_down, sum_more, bounded_more}
+pub use Rattle.fzn_builtin_rules.proofs.SumLemmas.{total_by-cons, total_by-append}

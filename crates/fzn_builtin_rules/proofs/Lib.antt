@@ -5,6 +5,7 @@ mod ChoiceLemmas
 pub mod ChoicesSound
 mod ChosenLemmas
 mod CountLemmas
+pub mod EndLemmas
 pub mod FitLemmas
 pub mod FormLemmas
 pub mod LinSound
@@ -14,4 +15,4 @@ mod ProductLemmas
 pub mod ProductSound
 mod RowLemmas
 pub mod RowsSound
-mod SumLemmas
+pub mod SumLemmas

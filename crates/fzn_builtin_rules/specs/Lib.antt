@@ -1,5 +1,6 @@
 pub mod Borrowed
 pub mod Choices
+pub mod Ends
 pub mod Form
 pub mod Linear
 pub mod Numbered

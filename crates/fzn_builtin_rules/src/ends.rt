@@ -1,89 +1,87 @@
-// The ends of sums on the present sets.
-ghost use Rattle.std.specs.Prelude.{◌≡◌, ◌+◌, ◌*◌, ◌≤◌, ◌+ℤ◌, false, length, unsigned_abs};
+// What places and sums give at least and at most on the present sets.
+ghost use Rattle.std.specs.Prelude.{◌≡◌, ◌*◌, ◌≤◌, ◌≤ℤ◌, ◌+ℤ◌, ◌-ℤ◌, pos, false, length, unsigned_abs};
 ghost use Rattle.std.specs.List.{All};
 ghost use Rattle.fzn_list.specs.Limits.{longest};
-ghost use Rattle.fzn_domain.specs.Limits.{IsInLimits};
 ghost use Rattle.fzn_domain.specs.Narrow.{is_some_empty};
-ghost use Rattle.fzn_meaning.specs.Term.{IsTerm, IsPlace};
-ghost use Rattle.fzn_builtin_rules.specs.Linear.{low_end, high_end, low_product, high_product, least_sum, greatest_sum};
+ghost use Rattle.fzn_meaning.specs.Term.{IsPlace};
+ghost use Rattle.fzn_builtin_rules.specs.Linear.{least_sum, greatest_sum};
+ghost use Rattle.fzn_builtin_rules.specs.Ends.{HasSmallEnds, AreProducts};
 ghost use Rattle.fzn_builtin_rules.specs.Borrowed.{places_in};
 
 use crate::form::Places;
 use fzn_meaning::Place;
 use fzn_sets::{Sets, greatest_value, least_value};
 
-/// The least and the greatest value of a sum.
+/// What a place gives at least and at most.
 #[derive(Clone, Copy, Debug)]
-pub(crate) struct Ends {
+pub struct Products {
+    pub least: i64,
+    pub greatest: i64,
+}
+
+/// What the place gives at least and at most on the present sets, each of which has a value.
+#[tactic(auto, unfolding(crate::specs::Linear::low_product, crate::specs::Linear::high_product))]
+pub fn products_of(sets: &Sets, place: Place) -> Products
+    requires place { IsPlace (length sets.now.present) place }
+    requires nonempty { is_some_empty sets.now.present ≡ false }
+    ensures { AreProducts sets.now.present place result }
+{
+    let low = place.coefficient * least_value(sets, place.term);
+    let high = place.coefficient * greatest_value(sets, place.term);
+    if place.coefficient < 0 {
+        Products {
+            least: high,
+            greatest: low,
+        }
+    } else {
+        Products {
+            least: low,
+            greatest: high,
+        }
+    }
+}
+
+/// The least and the greatest value of a sum, and how much more than its least any one place may give.
+#[derive(Clone, Copy, Debug)]
+pub struct Ends {
     pub least: i128,
     pub greatest: i128,
-}
-
-/// The value at which the place gives least.
-fn low_end(sets: &Sets, place: Place) -> i64
-    requires term { IsTerm (length sets.now.present) place.term }
-    requires nonempty { is_some_empty sets.now.present ≡ false }
-    ensures value { result ≡ low_end sets.now.present place }
-    ensures in_limits { IsInLimits result }
-{
-    if place.coefficient < 0 {
-        greatest_value(sets, place.term)
-    } else {
-        least_value(sets, place.term)
-    }
-}
-
-/// The value at which the place gives most.
-fn high_end(sets: &Sets, place: Place) -> i64
-    requires term { IsTerm (length sets.now.present) place.term }
-    requires nonempty { is_some_empty sets.now.present ≡ false }
-    ensures value { result ≡ high_end sets.now.present place }
-    ensures in_limits { IsInLimits result }
-{
-    if place.coefficient < 0 {
-        least_value(sets, place.term)
-    } else {
-        greatest_value(sets, place.term)
-    }
-}
-
-/// The least that the place gives.
-#[tactic(auto, unfolding(crate::specs::Linear::low_product))]
-fn low_product(sets: &Sets, place: Place) -> i128
-    requires place { IsPlace (length sets.now.present) place }
-    requires nonempty { is_some_empty sets.now.present ≡ false }
-    ensures value { result ≡ low_product sets.now.present place }
-    ensures bounded { unsigned_abs result ≤ 1000000000000000000 }
-{
-    place.coefficient as i128 * low_end(sets, place) as i128
-}
-
-/// The most that the place gives.
-#[tactic(auto, unfolding(crate::specs::Linear::high_product))]
-fn high_product(sets: &Sets, place: Place) -> i128
-    requires place { IsPlace (length sets.now.present) place }
-    requires nonempty { is_some_empty sets.now.present ≡ false }
-    ensures value { result ≡ high_product sets.now.present place }
-    ensures bounded { unsigned_abs result ≤ 1000000000000000000 }
-{
-    place.coefficient as i128 * high_end(sets, place) as i128
+    pub widest: i64,
 }
 
 impl Ends {
-    /// The ends of the sum with one more place.
-    fn plus(self, sets: &Sets, place: Place) -> Ends
-        requires least { unsigned_abs self.least ≤ 1000000 * 1000000000000000000 }
-        requires greatest { unsigned_abs self.greatest ≤ 1000000 * 1000000000000000000 }
-        requires place { IsPlace (length sets.now.present) place }
-        requires nonempty { is_some_empty sets.now.present ≡ false }
-        ensures least { result.least ≡ self.least +ℤ low_product sets.now.present place }
-        ensures greatest { result.greatest ≡ self.greatest +ℤ high_product sets.now.present place }
-        ensures bounded { unsigned_abs result.least ≤ unsigned_abs self.least + 1000000000000000000 }
-        ensures bounded_above { unsigned_abs result.greatest ≤ unsigned_abs self.greatest + 1000000000000000000 }
+    /// The ends of a sum without places.
+    pub fn of_none() -> Ends
+        ensures least { result.least ≡ pos 0 }
+        ensures greatest { result.greatest ≡ pos 0 }
+        ensures widest { result.widest ≡ pos 0 }
     {
         Ends {
-            least: self.least + low_product(sets, place),
-            greatest: self.greatest + high_product(sets, place),
+            least: 0,
+            greatest: 0,
+            widest: 0,
+        }
+    }
+
+    /// The ends of the sum with one more place.
+    pub fn plus(self, given: Products) -> Ends
+        requires least { unsigned_abs self.least ≤ 200000 * 1000000000000000000 }
+        requires greatest { unsigned_abs self.greatest ≤ 200000 * 1000000000000000000 }
+        requires given { HasSmallEnds given }
+        ensures least { result.least ≡ self.least +ℤ given.least }
+        ensures greatest { result.greatest ≡ self.greatest +ℤ given.greatest }
+        ensures wider { self.widest ≤ℤ result.widest }
+        ensures covers { (given.greatest -ℤ given.least) ≤ℤ result.widest }
+    {
+        let spread = given.greatest - given.least;
+        Ends {
+            least: self.least + i128::from(given.least),
+            greatest: self.greatest + i128::from(given.greatest),
+            widest: if self.widest < spread {
+                spread
+            } else {
+                self.widest
+            },
         }
     }
 }
@@ -96,12 +94,9 @@ pub(crate) fn ends_of(sets: &Sets, places: &Places<'_>) -> Ends
     ensures least { result.least ≡ least_sum sets.now.present (places_in places.now) }
     ensures greatest { result.greatest ≡ greatest_sum sets.now.present (places_in places.now) }
 {
-    let mut ends = Ends {
-        least: 0,
-        greatest: 0,
-    };
+    let mut ends = Ends::of_none();
     for i in 0..places.len() {
-        ends = ends.plus(sets, places.place(i));
+        ends = ends.plus(products_of(sets, places.place(i)));
     }
     ends
 }

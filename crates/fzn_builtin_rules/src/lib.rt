@@ -6,6 +6,7 @@
 #![tactic(auto)]
 
 pub use choices::{is_enum_met, is_fixed_met};
+pub use ends::{Ends, Products, products_of};
 pub use form::{Form, Places, form_of};
 pub use law::{form_is_meant, relation_is_meant};
 pub use linear::is_lin_met;

@@ -91,12 +91,9 @@ pub fn of_operation(operation: Operation, left: &i64, right: &i64) -> Outcome
     requires right { IsInLimits right.now }
     ensures { (r : ℤ) → IsArithmetic operation left.now right.now r ↔ Admits result (Some r) }
 {
-    match operation {
-        Operation::Plus => Outcome::Only(*left + *right),
-        Operation::Times => Outcome::Only(*left * *right),
-        Operation::Quotient if *right != 0 => Outcome::Only(*left / *right),
-        Operation::Remainder if *right != 0 => Outcome::Only(*left % *right),
-        _ => Outcome::Fails,
+    match fzn_builtin_rules::outcome_of(operation, left, right) {
+        Some(value) => Outcome::Only(value),
+        None => Outcome::Fails,
     }
 }
 

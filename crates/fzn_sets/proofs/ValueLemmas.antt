@@ -4,12 +4,13 @@ use Rattle.std.proofs.lemmas.Int.{ints}
 use Rattle.std.specs.List.{list_any}
 use Rattle.std.specs.Ordering.{int_cmp, eq_by_cmp, int_eq}
 use Rattle.std.specs.FinSet as set
-use Rattle.std.proofs.lemmas.Bool.{or_parts, cases_lt, cases_Bool, false≢true}
+use Rattle.std.proofs.lemmas.Bool.{or_parts, cases_lt, cases_Bool, false≢true, ne_eqb}
+use Rattle.std.proofs.lemmas.List.Elements.{All-head, All-tail}
 use Rattle.std.proofs.lemmas.Bool.Decides.{Decides-int_eq}
 use Rattle.std.proofs.lemmas.List.{get_or_past}
 use Rattle.fzn_domain.specs.declared.literal.VarId.{VarId}
 use Rattle.fzn_domain.specs.IntSet.{IntSet, size, no_values, least, greatest, least_in, greatest_in}
-use Rattle.fzn_domain.specs.Narrow.{IsVariable, IsWithin, set_of, value_of, is_some_empty}
+use Rattle.fzn_domain.specs.Narrow.{IsVariable, IsWithin, NoneEmpty, set_of, value_of, is_some_empty}
 use Rattle.fzn_domain.proofs.SetLemmas.{contains-no_values, contains-least, contains-greatest, member_of_size, least_le, le_greatest}
 use Rattle.fzn_meaning.specs.declared.term.Term.{Term}
 use Rattle.fzn_meaning.specs.declared.term.Term.TheVariants.{Constant, Variable}
@@ -25,6 +26,15 @@ pub nonempty_at : (sets : List IntSet) (k : ℕ) → is_some_empty sets ≡ fals
 nonempty_at [] k none below = absurd (omega arith)
 nonempty_at (s ∷ sets) zero none below = not_zero (size s) (or_parts (nat_eq (size s) 0) (is_some_empty sets) none).0
 nonempty_at (s ∷ sets) (suc k) none below = nonempty_at sets k (or_parts (nat_eq (size s) 0) (is_some_empty sets) none).1 (omega arith)
+
+-- the same in other words
+pub none_empty : (sets : List IntSet) → NoneEmpty sets → is_some_empty sets ≡ false
+none_empty [] h = refl
+none_empty (s ∷ sets) h =
+    one (nat_eq (size s) 0) (is_some_empty sets) (ne_eqb (size s) 0 (λ e. let some = All-head (λ (t : IntSet). 0 < size t) s sets h in omega arith)) (none_empty sets (All-tail (λ (t : IntSet). 0 < size t) s sets h))
+  where
+    one : (a b : Bool) → a ≡ false → b ≡ false → (a || b) ≡ false
+    one a b p q = ap (λ x. x || b) p ∙ q
 
 pub some_value : (sets : List IntSet) (var : VarId) → is_some_empty sets ≡ false → IsVariable (length sets) var → 0 < size (set_of sets var)
 some_value sets var none in_range = nonempty_at sets (var.0 - 1) none (omega arith)

@@ -20,7 +20,8 @@ use Rattle.fzn_sums.specs.Refuted.{LeavesSome}
 use Rattle.fzn_sums.specs.Pinned.{IsOpenFrom, IsOnlyOpen, IsValueOf, NoneIsBarred}
 use Rattle.fzn_sums.proofs.OppositeLemmas.{low_product-opposite, opposite-twice, least_sum-opposites, sum_at-opposites}
 use Rattle.fzn_sums.proofs.PinLemmas.{term_ordered}
-use Rattle.fzn_sums.proofs.PlaceLemmas.{low_up, low_down, high_up, high_down, both_signs}
+use Rattle.fzn_builtin_rules.proofs.CallerLemmas.{low_up, low_down, high_up, high_down}
+use Rattle.fzn_sums.proofs.PlaceLemmas.{both_signs}
 use Rattle.fzn_sums.proofs.ProductLemmas.{mono_up, mono_down}
 use Rattle.fzn_sums.proofs.SumLemmas.{total_lt_at, total_same, total_but}
 

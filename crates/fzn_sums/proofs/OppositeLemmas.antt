@@ -10,7 +10,7 @@ use Rattle.fzn_meaning.specs.Term.{term_value, IsPlace, product_at, sum_at, tota
 use Rattle.fzn_sets.specs.Terms.{least_value, greatest_value}
 use Rattle.fzn_builtin_rules.specs.Linear.{low_product, high_product, least_sum, greatest_sum}
 use Rattle.fzn_sums.specs.Opposite.{opposite, opposites}
-use Rattle.fzn_sums.proofs.SumLemmas.{total_by-cons}
+use Rattle.fzn_builtin_rules.proofs.CallerLemmas.{total_by-cons}
 
 -- ---- products
 

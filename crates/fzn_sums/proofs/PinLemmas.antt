@@ -30,7 +30,8 @@ use Rattle.fzn_sums.specs.Opposite.{opposite, opposites}
 use Rattle.fzn_sums.specs.Refuted.{RulesOut, IsConflict, IsRefutation}
 use Rattle.fzn_sums.specs.Pinned.{IsPinned, IsPin, ArePinned, IsBarring}
 use Rattle.fzn_sums.proofs.OppositeLemmas.{neg_times, total-opposites}
-use Rattle.fzn_sums.proofs.PlaceLemmas.{low_up, low_down, high_up, high_down, both_signs}
+use Rattle.fzn_builtin_rules.proofs.CallerLemmas.{low_up, low_down, high_up, high_down}
+use Rattle.fzn_sums.proofs.PlaceLemmas.{both_signs}
 use Rattle.fzn_sums.proofs.ProductLemmas.{cancel}
 use Rattle.fzn_sums.proofs.SumLemmas.{total_same, total_but}
 

@@ -12,35 +12,12 @@ use Rattle.fzn_meaning.specs.declared.term.Term.TheVariants.{Constant, Variable}
 use Rattle.fzn_meaning.specs.declared.term.Place.{Place}
 use Rattle.fzn_sets.specs.Terms.{least_value, greatest_value}
 use Rattle.fzn_builtin_rules.specs.Linear.{low_product, high_product}
+use Rattle.fzn_builtin_rules.proofs.CallerLemmas.{low_up, low_down, high_up, high_down}
 use Rattle.fzn_trail.specs.Levels.{Levels}
 use Rattle.fzn_propagator.specs.Inference.{spread}
 use Rattle.fzn_propagator.specs.Left.{IsLeft}
 use Rattle.fzn_sums.specs.Explained.{IsExplained, IsFloor, IsForced}
 use Rattle.fzn_sums.proofs.ProductLemmas.{mono_up, mono_down, past_up, past_down, near_up, near_down}
-
-not_below : (c : ℤ) → pos 0 ≤ℤ c → int_lt c (pos 0) ≡ false
-not_below c h = grind (arith, ints)
-
-below_zero : (c : ℤ) → c <ℤ pos 0 → int_lt c (pos 0) ≡ true
-below_zero c h = grind (arith, ints)
-
--- ---- the ends of a place
-
-pub low_up : (sets : List IntSet) (place : Place) → pos 0 ≤ℤ place.coefficient → low_product sets place ≡ place.coefficient *ℤ least_value sets place.term
-unfolding low_product
-low_up sets place sign = ap (λ (b : Bool). place.coefficient *ℤ cond b (greatest_value sets place.term) (least_value sets place.term)) (not_below place.coefficient sign)
-
-pub low_down : (sets : List IntSet) (place : Place) → place.coefficient <ℤ pos 0 → low_product sets place ≡ place.coefficient *ℤ greatest_value sets place.term
-unfolding low_product
-low_down sets place sign = ap (λ (b : Bool). place.coefficient *ℤ cond b (greatest_value sets place.term) (least_value sets place.term)) (below_zero place.coefficient sign)
-
-pub high_up : (sets : List IntSet) (place : Place) → pos 0 ≤ℤ place.coefficient → high_product sets place ≡ place.coefficient *ℤ greatest_value sets place.term
-unfolding high_product
-high_up sets place sign = ap (λ (b : Bool). place.coefficient *ℤ cond b (least_value sets place.term) (greatest_value sets place.term)) (not_below place.coefficient sign)
-
-pub high_down : (sets : List IntSet) (place : Place) → place.coefficient <ℤ pos 0 → high_product sets place ≡ place.coefficient *ℤ least_value sets place.term
-unfolding high_product
-high_down sets place sign = ap (λ (b : Bool). place.coefficient *ℤ cond b (least_value sets place.term) (greatest_value sets place.term)) (below_zero place.coefficient sign)
 
 least_at : (sets : List IntSet) (place : Place) (var : VarId) (low : ℤ) → place.term ≡ Variable var → low ≡ least (set_of sets var) → least_value sets place.term ≡ low
 least_at sets place var low of is = ap (least_value sets) of ∙ sym is

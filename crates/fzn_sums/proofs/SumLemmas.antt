@@ -1,11 +1,11 @@
 -- Sums over places, compared place by place.
-use Rattle.std.proofs.Common.{◌≡◌, ◌≢◌, ℕ, zero, suc, ◌<◌, List, [], ◌∷◌, ◌++◌, length, get_or, refl, ◌∙◌, arith, ℤ, pos, ◌+ℤ◌, ◌-ℤ◌, ◌≤ℤ◌, ◌<ℤ◌, All}
+use Rattle.std.proofs.Common.{◌≡◌, ◌≢◌, ℕ, zero, suc, ◌<◌, List, [], ◌∷◌, length, get_or, refl, arith, ℤ, pos, ◌+ℤ◌, ◌-ℤ◌, ◌≤ℤ◌, ◌<ℤ◌, All}
 use Rattle.std.specs.List.{fold}
 use Rattle.std.proofs.lemmas.Int.{ints}
 use Rattle.std.proofs.lemmas.List.Elements.{All-head, All-tail}
-use Rattle.std.proofs.lemmas.List.Sums.{fold-append}
 use Rattle.fzn_meaning.specs.declared.term.Place.{Place}
 use Rattle.fzn_meaning.specs.Term.{total_by}
+use Rattle.fzn_builtin_rules.proofs.CallerLemmas.{total_by-cons}
 
 from : (Place → ℤ) → ℤ → List Place → ℤ
 from f a places = fold (λ sum place. sum +ℤ f place) a places
@@ -45,22 +45,6 @@ total_le f g places each = sum_le f g places (pos 0) (pos 0) zero_le each
 pub total_lt_at : (f g : Place → ℤ) (places : List Place) (k : ℕ) (d : Place) (more : ℤ) → k < length places → All (λ (p : Place). f p ≤ℤ g p) places → (f (get_or places k d) +ℤ more) <ℤ g (get_or places k d) → (total_by f places +ℤ more) <ℤ total_by g places
 unfolding from
 total_lt_at f g places k d more in_places each far = sum_lt_at f g places k d (pos 0) (pos 0) more zero_le in_places each far
-
--- ---- a sum of parts
-
-module _ (f : Place → ℤ) where
-  total_from : (a : ℤ) (places : List Place) → fold (λ (sum : ℤ) (place : Place). sum +ℤ f place) a places ≡ a +ℤ total_by f places
-  total_from a [] = omega (arith, ints)
-  total_from a (p ∷ places) =
-      let here = total_from (a +ℤ f p) places in
-      let there = total_from (pos 0 +ℤ f p) places in
-      omega (arith, ints)
-
-  pub total_by-cons : (p : Place) (places : List Place) → total_by f (p ∷ places) ≡ f p +ℤ total_by f places
-  total_by-cons p places = let e = total_from (pos 0 +ℤ f p) places in omega (arith, ints)
-
-  pub total_by-append : (front back : List Place) → total_by f (front ++ back) ≡ total_by f front +ℤ total_by f back
-  total_by-append front back = fold-append (λ (sum : ℤ) (place : Place). sum +ℤ f place) (pos 0) front back ∙ total_from (total_by f front) back
 
 -- ---- sums that differ at one place
 

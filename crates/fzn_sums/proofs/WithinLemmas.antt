@@ -12,7 +12,7 @@ use Rattle.fzn_meaning.specs.Term.{IsPlace}
 use Rattle.fzn_builtin_rules.specs.Linear.{least_sum, greatest_sum}
 use Rattle.fzn_trail.specs.Levels.{Levels}
 use Rattle.fzn_propagator.specs.Inference.{IsTight, spread}
-use Rattle.fzn_sums.specs.declared.ends.Ends.{Ends}
+use Rattle.fzn_builtin_rules.specs.declared.ends.Ends.{Ends}
 use Rattle.fzn_sums.specs.Ends.{AreEnds}
 use Rattle.fzn_sums.specs.Explained.{IsForced, IsExplanation}
 use Rattle.fzn_sums.specs.Opposite.{opposites}

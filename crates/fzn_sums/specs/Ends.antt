@@ -1,22 +1,11 @@
--- The ends of what a place and a sum give.
+-- The ends of a sum.
 use Rattle.std.specs.Prelude.{◌≡◌, ◌*◌, ◌≤◌, pos, ◌≤ℤ◌, List, unsigned_abs}
 use Rattle.std.specs.List.{All}
 use Rattle.fzn_domain.specs.IntSet.{IntSet}
 use Rattle.fzn_meaning.specs.declared.term.Place.{Place}
-use Rattle.fzn_builtin_rules.specs.Linear.{low_product, high_product, least_sum, greatest_sum}
+use Rattle.fzn_builtin_rules.specs.Linear.{least_sum, greatest_sum}
 use Rattle.fzn_propagator.specs.Inference.{spread}
-use Rattle.fzn_sums.specs.declared.ends.Products.{Products}
-use Rattle.fzn_sums.specs.declared.ends.Ends.{Ends}
-
-pub record HasSmallEnds (given : Products) : Type 0 where
-  pub least_bounded : unsigned_abs given.least ≤ 1000000000000000000
-  pub greatest_bounded : unsigned_abs given.greatest ≤ 1000000000000000000
-
--- what the place gives at least and at most
-pub record AreProducts (sets : List IntSet) (place : Place) (given : Products) : Type 0 where
-  pub least_is : given.least ≡ low_product sets place
-  pub greatest_is : given.greatest ≡ high_product sets place
-  pub small : HasSmallEnds given
+use Rattle.fzn_builtin_rules.specs.declared.ends.Ends.{Ends}
 
 -- the least and the greatest sum, and no place gives more above its least than the widest
 pub record AreEnds (sets : List IntSet) (places : List Place) (ends : Ends) : Type 0 where

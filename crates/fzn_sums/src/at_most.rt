@@ -9,7 +9,7 @@ ghost use Rattle.fzn_sums.specs.Explained.{IsExplained, IsFloor, IsForced, IsFor
 ghost use Rattle.fzn_sums.specs.Refuted.{IsConflict, IsRefutation};
 ghost use Rattle.fzn_meaning.specs.declared.relation.Comparison.TheVariants as sum;
 
-use crate::ends::{ends_of, least_sum};
+use crate::ends::{ends_of, is_within, least_sum, rise_to};
 use fzn_domain::{Lit, Memory, Op};
 use fzn_list::Items;
 use fzn_meaning::{Place, Term};
@@ -189,8 +189,8 @@ pub fn refute_at_most(
     ensures none { IfOk result (λ found. IfNone found (IsTight trail.now.sets places.now bound)) }
 {
     let ends = ends_of(trail, places);
-    let slack = ends.rise_to(bound);
-    if ends.is_within(slack) {
+    let slack = rise_to(ends, bound);
+    if is_within(ends, slack) {
         return Ok(None);
     }
     refute_within(alloc, trail, places, slack)

@@ -6,7 +6,7 @@ ghost use Rattle.fzn_sums.specs.Opposite.{AreOpposite};
 ghost use Rattle.fzn_sums.specs.Refuted.{IsRefutation, LeavesEach};
 
 use crate::at_most::refute_within;
-use crate::ends::ends_of;
+use crate::ends::{ends_of, fall_to, is_within, rise_to};
 use fzn_domain::{Lit, Memory};
 use fzn_list::Items;
 use fzn_meaning::Place;
@@ -27,10 +27,10 @@ pub fn refute_equal(
     ensures none { IfOk result (λ found. IfNone found (LeavesEach trail.now.sets Equal places.now number)) }
 {
     let ends = ends_of(trail, places);
-    let rise = ends.rise_to(number);
-    let fall = ends.fall_to(number);
-    if ends.is_within(rise) {
-        if ends.is_within(fall) {
+    let rise = rise_to(ends, number);
+    let fall = fall_to(ends, number);
+    if is_within(ends, rise) {
+        if is_within(ends, fall) {
             return Ok(None);
         }
         return refute_within(alloc, trail, opposite, fall);

@@ -6,7 +6,7 @@
 #![tactic(auto)]
 
 pub use at_most::{conflict_at_most, refute_at_most};
-pub use ends::{Ends, ends_of, greatest_value, least_value};
+pub use ends::{ends_of, greatest_value, least_value};
 pub use equal::refute_equal;
 pub use not_equal::{conflict_not_equal, refute_not_equal};
 

@@ -15,10 +15,7 @@ pub fn may_be(trail: &Trail, term: Term, value: &i64) -> bool
     requires term { IsTerm (length trail.now.declared) term }
     ensures { IsTrue result ↔ MayBe trail.now.sets term value.now }
 {
-    match term {
-        Term::Constant(k) => k == *value,
-        Term::Variable(var) => trail.domain(var).contains(*value),
-    }
+    fzn_sets::may_be(trail.sets(), term, value)
 }
 
 /// The least value of the term.

@@ -1,5 +1,6 @@
 use Rattle.fzn_builtin_rules.specs.Linear.{low_product, high_product}
-use Rattle.fzn_sums.proofs.EndLemmas.{sum_more, bounded_more, still_above, none_wider-more, spread_by}
+use Rattle.fzn_builtin_rules.proofs.CallerLemmas.{sum_more, bounded_more}
+use Rattle.fzn_sums.proofs.EndLemmas.{still_above, none_wider-more, spread_by, products_on}
 use Rattle.fzn_sums.proofs.ends.ends_of.Goals as goal
 
 pub loop-place-preserved : goal.loop-place-preserved
@@ -7,7 +8,7 @@ loop-place-preserved c =
     let sets = c.args.trail.now.sets in
     let places = c.args.places.now in
     let before = c.loop-place.invariant in
-    let given = c.products_of.ensures in
+    let given = products_on c.sets-sets.result.now.present sets c.products_of.result c.sets-sets.ensures.present c.products_of.ensures in
     let after = c.plus-ends.ensures in
     record {
       least = sum_more (low_product sets) places c.loop-place.place-index _ _ _ _ c.loop-place-test.true before.least given.least_is after.least;
