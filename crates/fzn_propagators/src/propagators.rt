@@ -11,8 +11,8 @@ ghost use Rattle.fzn_propagators.specs.Propagators.{AreFor, StandFor};
 
 use crate::agenda::Agenda;
 use crate::kinds::{AnyPropagator, propagator_of};
-use fzn_domain::Memory;
 use fzn_constraints::{Constraints, Inference};
+use fzn_domain::Memory;
 use fzn_list::Items;
 use fzn_meaning::Model;
 use fzn_propagator::Propagator;

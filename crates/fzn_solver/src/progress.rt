@@ -7,8 +7,8 @@ ghost use Rattle.fzn_engine.specs.Outcome.{HasRoom, count, IsOutcome};
 
 use fzn_cert::Step;
 use fzn_conflict::Learn;
-use fzn_domain::VarId;
 use fzn_constraints::Constraints;
+use fzn_domain::VarId;
 use fzn_engine::{Fault, Limits, Outcome, Sink, solve};
 use fzn_meaning::{Goal, Model};
 use fzn_search::{Annotation, Choice};
