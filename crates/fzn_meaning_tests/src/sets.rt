@@ -1,4 +1,5 @@
 // Sets narrowed for a while, on two variables x and y.
+ghost use Rattle.std.specs.Prelude.{◌≡◌};
 
 use fzn_domain::{Domain, Lit, Memory, Op, VarId};
 use fzn_sets::{Possible, Sets};
@@ -13,7 +14,9 @@ fn two_sets(alloc: Global) -> Result<Sets, Memory> {
     Sets::new(alloc, domains)
 }
 
-fn lit(number: usize, op: Op, value: i64) -> Lit {
+fn lit(number: usize, op: Op, value: i64) -> Lit
+    ensures { result.var.0 ≡ number }
+{
     Lit {
         var: VarId(number),
         op,
@@ -67,6 +70,29 @@ fn narrowed_for_a_while(rt: HostRuntime) -> Result<(), Fail> {
     let mut sets = two_sets(rt.alloc())?;
     assert!(rt; is_narrowed(&mut sets)?);
     assert!(rt; is_put_back(&mut sets));
+    Ok(())
+}
+
+/// Whether the second of two narrowings is undone, after which x has 7 values as before it.
+fn is_undone(alloc: Global) -> Result<bool, Memory> {
+    let mut sets = two_sets(alloc)?;
+    if sets.len() != 2 {
+        return Ok(false);
+    }
+    sets.narrow(lit(1, Op::AtLeast, 3))?;
+    if sets.len() != 2 {
+        return Ok(false);
+    }
+    sets.narrow(lit(1, Op::AtMost, 5))?;
+    let (first, second) = (sets.before(0).len(), sets.before(1).len());
+    sets.undo();
+    let is_declared = sets.len() == 2 && sets.declared(VarId(1)).len() == 10;
+    Ok(is_declared && (first, second) == (10, 7) && values_of(&sets) == (7, 10))
+}
+
+#[test]
+fn the_last_narrowing_undone(rt: HostRuntime) -> Result<(), Fail> {
+    assert!(rt; is_undone(rt.alloc())?);
     Ok(())
 }
 

@@ -1,8 +1,11 @@
 // Terms by their values, on sets and in lists.
+ghost use Rattle.std.specs.Prelude.{◌≡◌};
 
 use crate::kinds::model_of;
 use crate::rules::declared;
-use fzn_builtin_rules::{Places, form_is_meant, form_of, outcome_of, relation_is_meant};
+use fzn_builtin_rules::{
+    Ends, Places, form_is_meant, form_of, outcome_of, products_of, relation_is_meant,
+};
 use fzn_domain::{Memory, VarId};
 use fzn_list::{Items, Shared};
 use fzn_meaning::{Model, Operation, Place, Rows, Term};
@@ -53,11 +56,23 @@ fn are_fixed(sets: &Sets) -> Option<[bool; 3]> {
     ])
 }
 
+/// What three times the first variable less the second gives at least and at most, and the widest of these two.
+fn ends_of_sum(sets: &Sets) -> Option<(i128, i128, i64)> {
+    if sets.len() != 2 || sets.has_empty() {
+        return None;
+    }
+    let first = products_of(sets, place(3, Term::Variable(VarId(1))));
+    let second = products_of(sets, place(-1, Term::Variable(VarId(2))));
+    let ends = Ends::of_none().plus(first).plus(second);
+    Some((ends.least, ends.greatest, ends.widest))
+}
+
 /// Whether terms are told of the sets of x, which is 2, 5 or 9, and of y, which is 7.
 fn are_told(sets: &Sets) -> bool {
     may_be_so(sets) == Some([true, false, true, false])
         && ends(sets) == Some([2, 9, 4, 4])
         && are_fixed(sets) == Some([true, false, false])
+        && ends_of_sum(sets) == Some((-1, 20, 21))
 }
 
 fn are_terms_told(alloc: Global) -> Result<bool, Fail> {
@@ -97,7 +112,9 @@ fn rows_are_their_constants(rt: HostRuntime) -> Result<(), Fail> {
     Ok(())
 }
 
-fn place(coefficient: i64, term: Term) -> Place {
+fn place(coefficient: i64, term: Term) -> Place
+    ensures { result ≡ record { coefficient = coefficient; term = term } }
+{
     Place { coefficient, term }
 }
 

@@ -9,6 +9,7 @@ ghost use Rattle.fzn_symbols.specs.Types.{sets_in};
 
 use crate::annotation::{array_mark_fault, mark_fault};
 use fzn_lexer::{Fault, FaultKind, Place};
+use fzn_list::LONGEST;
 use fzn_meaning::Kind;
 use fzn_registry::Argument;
 use fzn_symbols::{
@@ -49,7 +50,7 @@ fn passes(before: usize, more: usize) -> bool
     requires more { more ≤ longest }
     ensures { result ≡ passes before more }
 {
-    before + more > 100_000
+    before + more > LONGEST
 }
 
 // ---- single variables

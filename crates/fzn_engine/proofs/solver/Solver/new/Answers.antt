@@ -21,8 +21,8 @@ returns-clause-fresh c = record {
     plain = λ is. search rules;
   };
   watching =
-      let F : Levels → Type 0 = λ trail. IsWatching c.new-3.result trail in
-      subst F (sym c.in_ok-trail.ensures) (c.new-3.ensures.watching _);
+      let F : Levels → Type 0 = λ trail. IsWatching c.new-4.result trail in
+      subst F (sym c.in_ok-trail.ensures) (c.new-4.ensures.watching _);
   scratch = search rules;
   vars = search rules;
   found_is = search rules;
