@@ -53,7 +53,7 @@ use Rattle.fzn_engine.proofs.TakenLemmas.{Leads-length}
 use Rattle.fzn_engine.proofs.VariableLemmas.{variable-of}
 
 -- a search from its parts
-abbrev pub solver_of : Levels → Clauses → List ℕ → List Inferred → List ℕ → Searching → Sets → Learn → Notes → ℕ → ℕ → Solver
+abbrev pub solver_of : Levels → Clauses → List ℕ → List Inferred → List ℕ → Searching → Narrowed → Learn → Notes → ℕ → ℕ → Solver
 solver_of trail clauses numbers stack alive search scratch learn notes found steps =
     record { trail = trail; clauses = clauses; numbers = numbers; inferences = stack; alive = alive; search = search; scratch = scratch; learn = learn; notes = notes; found = found; steps = steps }
 
@@ -61,7 +61,7 @@ pub solver-is : (new : Solver) (trail : Levels) (search : Searching) (scratch : 
 solver-is new trail search scratch learn found steps a c d e f g =
     ap (λ (t : Levels). solver_of t new.clauses new.numbers new.inferences new.alive new.search new.scratch new.learn new.notes new.found new.steps) a
     ∙ ap (λ (s : Searching). solver_of trail new.clauses new.numbers new.inferences new.alive s new.scratch new.learn new.notes new.found new.steps) c
-    ∙ ap (λ (s : Sets). solver_of trail new.clauses new.numbers new.inferences new.alive search s new.learn new.notes new.found new.steps) d
+    ∙ ap (λ (s : Narrowed). solver_of trail new.clauses new.numbers new.inferences new.alive search s new.learn new.notes new.found new.steps) d
     ∙ ap (λ (l : Learn). solver_of trail new.clauses new.numbers new.inferences new.alive search scratch l new.notes new.found new.steps) e
     ∙ ap (λ (n : ℕ). solver_of trail new.clauses new.numbers new.inferences new.alive search scratch learn new.notes n new.steps) f
     ∙ ap (λ (n : ℕ). solver_of trail new.clauses new.numbers new.inferences new.alive search scratch learn new.notes found n) g
