@@ -1,5 +1,5 @@
 -- Values of sets of which none is empty, and values between the ends.
-use Rattle.std.proofs.Common.{◌≡◌, ℕ, zero, suc, ◌-◌, ◌<◌, List, [], ◌∷◌, Bool, false, ◌||◌, cond, length, get_or, refl, sym, ap, ◌∙◌, inl, inr, arith, nat_eq, ℤ, pos, negsuc, ◌*ℤ◌, ◌≤ℤ◌, int_lt}
+use Rattle.std.proofs.Common.{◌≡◌, ℕ, zero, suc, ◌-◌, ◌<◌, List, [], ◌∷◌, Bool, false, ◌||◌, length, get_or, refl, sym, ap, ◌∙◌, inl, inr, arith, nat_eq, ℤ, pos, ◌≤ℤ◌}
 use Rattle.std.proofs.lemmas.Int.{ints}
 use Rattle.std.specs.List.{list_any}
 use Rattle.std.specs.Ordering.{int_cmp, eq_by_cmp, int_eq}

@@ -1,6 +1,5 @@
-use Rattle.std.proofs.Common.{◌≡◌, ◌-◌, length, get_or, subst, sym, ◌∙◌, arith}
+use Rattle.std.proofs.Common.{◌≡◌, ◌-◌, length, subst, sym, ◌∙◌, arith}
 use Rattle.std.proofs.lemmas.List.{get_or_default}
-use Rattle.fzn_domain.specs.IntSet.{kept}
 use Rattle.fzn_domain.specs.Narrow.{IsVariable}
 use Rattle.fzn_sets.specs.Sets.{Narrowed}
 use Rattle.fzn_sets.proofs.SetsLemmas.{IsSets-push, pushed_is}

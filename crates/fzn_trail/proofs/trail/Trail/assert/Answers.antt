@@ -1,4 +1,4 @@
-use Rattle.std.proofs.Common.{arith, rules, ◌≡◌, [], ◌∷◌, ◌++◌, ap, ◌∙◌, length, ℕ}
+use Rattle.std.proofs.Common.{rules, ◌≡◌, ap, ◌∙◌, length}
 use Rattle.std.proofs.lemmas.Result.{on_ok_weaker}
 use Rattle.fzn_trail.specs.Levels.{Levels, asserted}
 use Rattle.fzn_trail.specs.Replay.{Past}

@@ -1,6 +1,6 @@
-use Rattle.std.proofs.Common.{length, List, ap, sym, subst, ◌∙◌}
+use Rattle.std.proofs.Common.{length, List, ap, subst, ◌∙◌}
 use Rattle.fzn_domain.specs.IntSet.{IntSet}
-use Rattle.fzn_domain.specs.Narrow.{NoneEmpty, is_some_empty}
+use Rattle.fzn_domain.specs.Narrow.{is_some_empty}
 use Rattle.fzn_sets.proofs.CallerLemmas.{none_empty}
 use Rattle.fzn_trail.specs.Levels.{Levels, IsNarrower}
 use Rattle.fzn_trail.proofs.HistoryLemmas.{length-replayed}

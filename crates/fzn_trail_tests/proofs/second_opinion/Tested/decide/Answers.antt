@@ -1,6 +1,6 @@
 use Rattle.std.proofs.Common.{◌≡◌, length, ap, subst, sym, ◌∙◌, arith}
 use Rattle.fzn_trail.specs.declared.trail.Reason.TheVariants.{Decision}
-use Rattle.fzn_trail.specs.Levels.{Levels, asserted}
+use Rattle.fzn_trail.specs.Levels.{asserted}
 use Rattle.fzn_trail_tests.specs.Carried.{IsCarried}
 use Rattle.fzn_trail_tests.proofs.CarriedLemmas.{IsCarried-decided}
 use Rattle.fzn_trail_tests.proofs.second_opinion.Tested.decide.Goals as goal
