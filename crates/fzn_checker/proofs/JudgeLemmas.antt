@@ -16,7 +16,7 @@ use Rattle.fzn_rules.specs.Rules.{IsMet}
 use Rattle.fzn_sets.specs.Sets.{Narrowed, start}
 use Rattle.fzn_cert.specs.Accepted.{denying, IsTrivial, IsRuleMet}
 
--- the sets of a sets that began with the declared ones, after a clause was denied
+-- the present sets that began with the declared ones, after a clause was denied
 pub denied_from : (model : Model) (old : Narrowed) (new : List IntSet) (clause : List Lit) → old ≡ start (declared_sets model.vars) → new ≡ denied old.present clause → new ≡ denying model clause
 denied_from model old new clause old_is new_is = new_is ∙ ap (λ (s : Narrowed). denied s.present clause) old_is
 

@@ -12,7 +12,7 @@ use Rattle.fzn_checker.specs.declared.certificate.Verdict.{Verdict}
 use Rattle.fzn_checker.specs.declared.fault.CheckFault.{CheckFault}
 use Rattle.fzn_checker.specs.declared.fault.CheckFault.TheVariants.{File, Refused, NotVersionOne, Memory, Read, WriteOutput, WriteCert}
 
--- a file's bytes, where the reader tells them, sets this model
+-- a file's bytes, where the reader tells them, state this model
 abbrev pub States : Option (List ℕ) → Model → Type 0
 States file model = IfSome file (λ bytes. Reads bytes (Ok model))
 

@@ -26,7 +26,7 @@ use fzn_rules::{Rule, refutes};
 use fzn_sets::Sets;
 use std::alloc::Global;
 
-/// What is wrong with a step after those before it, and none where it is accepted. The sets has the declared sets before and after;
+/// What is wrong with a step after those before it, and none where it is accepted. The present sets are the declared ones before and after;
 /// `has_empty` tells whether one of them is empty.
 pub fn fault_of(
     alloc: Global,

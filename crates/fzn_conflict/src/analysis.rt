@@ -27,7 +27,7 @@ pub enum Learn {
     First,
 }
 
-/// What is learned from a known clause that is false on the trail. The sets has the declared sets, and is restored.
+/// What is learned from a known clause that is false on the trail. The sets are the declared ones, and are restored.
 pub fn analyse(
     alloc: Global,
     trail: &Trail,
@@ -92,7 +92,7 @@ fn first_or_plain(
 }
 
 /// The literal of an entry of level 0 as a clause of its own, where it follows from what stands for the entries that it rests on, and
-/// its reason. The sets has the declared sets, and is restored.
+/// its reason. The sets are the declared ones, and are restored.
 pub fn unit_of(
     alloc: Global,
     trail: &Trail,

@@ -21,7 +21,7 @@ use fzn_inferences::Inferences;
 use fzn_sets::Sets;
 use fzn_trail::Trail;
 
-/// Whether the clause may be learned. The sets is used and restored.
+/// Whether the clause may be learned. The sets are used and restored.
 pub fn is_sound(
     trail: &Trail,
     clauses: &Clauses,
@@ -51,7 +51,7 @@ pub fn is_sound(
     ))
 }
 
-/// Whether the clause follows from its sources. The sets is used and restored.
+/// Whether the clause follows from its sources. The sets are used and restored.
 pub fn is_derived(
     trail: &Trail,
     clauses: &Clauses,
