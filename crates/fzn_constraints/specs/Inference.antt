@@ -10,7 +10,7 @@ use Rattle.fzn_cert.specs.Spelling.{IsSpelled}
 use Rattle.fzn_domain.specs.Narrow.{AllFixed, IsClauseOver, IsWithin}
 use Rattle.fzn_trail.specs.Levels.{Levels}
 use Rattle.fzn_trail.specs.Unit.{IsFalseOrUnit}
-use Rattle.fzn_constraints.specs.declared.inference.Inference.{Inference}
+use Rattle.fzn_propagator.specs.declared.propagator.Inference.{Inference}
 
 -- the clause is justified by the rule, and is false or forces one literal on the trail
 pub record IsInference (model : Model) (trail : Levels) (inference : Inference) : Type 0 where

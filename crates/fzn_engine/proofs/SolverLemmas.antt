@@ -37,7 +37,7 @@ use Rattle.fzn_learned.specs.declared.source.Source.TheVariants.{Held, Stacked}
 use Rattle.fzn_learned.specs.Learned.{IsConflicting, IsLearned, IsPlain}
 use Rattle.fzn_learned.specs.Reasoned.{Known, AreOver, IsKnown, IsBelow, IsReasoned, clause_of, reason_of, IsForced}
 use Rattle.fzn_learned.proofs.CallerLemmas.{IsReasoned-grown, IsReasoned-returned}
-use Rattle.fzn_constraints.specs.declared.inference.Inference.{Inference}
+use Rattle.fzn_propagator.specs.declared.propagator.Inference.{Inference}
 use Rattle.fzn_upkeep.specs.declared.notes.Notes.{Notes}
 use Rattle.fzn_engine.specs.declared.solver.Solver.{Solver}
 use Rattle.fzn_constraints.specs.Inference.{IsInference}

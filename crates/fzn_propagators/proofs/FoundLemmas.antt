@@ -16,7 +16,7 @@ use Rattle.fzn_rules.specs.Rules.{IsMet, IsAcceptedBy}
 use Rattle.fzn_cert.specs.Accepted.{IsTrivial, IsRuleMet}
 use Rattle.fzn_trail.specs.Levels.{Levels, IsNarrower}
 use Rattle.fzn_propagators.specs.declared.kinds.AnyPropagator.{AnyPropagator}
-use Rattle.fzn_propagator.specs.declared.propagator.Inference.{Inference as Found}
+use Rattle.fzn_propagator.specs.declared.propagator.Inference.{Inference}
 use Rattle.fzn_propagators.specs.AnyCrate.{any_number, AnyIsFor, AnyFits}
 use Rattle.fzn_propagator.specs.Inference.{IsInferenceOf, AreExhausted, IsInference as IsFound}
 use Rattle.fzn_constraints.specs.Inference.{IsInference, IsQuiet}
@@ -44,7 +44,7 @@ module _ (model : Model) (trail : Levels) (declared : trail.declared ≡ declare
         | inr met ↦ inr (subst P (sym here) met)
       ]
 
-  inference-at : (k : ℕ) (constraint : Constraint) (found : Found) → length model.vars ≤ 100000 → length model.constraints ≤ 100000 → k < length model.constraints → IsFound (k + 1) (get_or model.constraints k constraint) trail found → IsInference model trail (record { constraint = found.constraint; rule = found.rule; clause = found.clause })
+  inference-at : (k : ℕ) (constraint : Constraint) (found : Inference) → length model.vars ≤ 100000 → length model.constraints ≤ 100000 → k < length model.constraints → IsFound (k + 1) (get_or model.constraints k constraint) trail found → IsInference model trail found
   inference-at k constraint found few_vars few_constraints inside h =
       let number = h.of_constraint in
       let over = subst (λ (n : ℕ). IsClauseOver n found.clause) as-many h.over in
@@ -79,7 +79,7 @@ module _ (model : Model) (trail : Levels) (declared : trail.declared ≡ declare
       pub fits-trail : AnyFits p trail.declared
       fits-trail = subst (AnyFits p) (sym declared) (it-is some_constraint).fits
 
-      pub found-inference : (found : Found) → IsInferenceOf (any_number p) (AnyIsFor p) trail found → IsInference model trail (record { constraint = found.constraint; rule = found.rule; clause = found.clause })
+      pub found-inference : (found : Inference) → IsInferenceOf (any_number p) (AnyIsFor p) trail found → IsInference model trail found
       found-inference found h =
           let here = it-is some_constraint in
           let constraint = get_or model.constraints k some_constraint in

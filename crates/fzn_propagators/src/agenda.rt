@@ -59,7 +59,7 @@ impl Agenda {
         let (start, end) = self.watchers.span(var.0);
         for i in start..end {
             if let Some(watch) = self.watchers.get(i)
-                && watch.least <= change
+                && watch.wanted.is(change)
             {
                 self.queue.push(watch.propagator)?;
             }

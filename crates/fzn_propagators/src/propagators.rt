@@ -111,14 +111,7 @@ fn ask(
     ensures none { IfOk result (λ found. IfNone found (HoldsAt (λ p. AreExhausted (AnyIsFor p) trail.now) items.now place)) }
 {
     let propagator = &items.as_slice()[place];
-    match propagator.propagate(alloc, trail)? {
-        Some(found) => Ok(Some(Inference {
-            constraint: found.constraint,
-            rule: found.rule,
-            clause: found.clause,
-        })),
-        None => Ok(None),
-    }
+    propagator.propagate(alloc, trail)
 }
 
 /// What the first propagator finds that finds anything.

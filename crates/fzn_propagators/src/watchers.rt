@@ -1,5 +1,5 @@
 // Which propagators look at a variable, and which of its changes wakes them.
-use crate::change::Change;
+use crate::change::Wanted;
 use fzn_domain::Memory;
 use fzn_list::Shared;
 use fzn_meaning::{Comparison, Constraint, Model, Relation, Sum, Term};
@@ -11,8 +11,8 @@ pub struct Watch {
     /// From 1 up.
     variable: usize,
     pub propagator: usize,
-    /// The least change that wakes it.
-    pub least: Change,
+    /// The changes that wake it.
+    pub wanted: Wanted,
 }
 
 /// The watches of each variable.
@@ -95,13 +95,13 @@ fn watch_term(
     list: &mut Vec<Watch>,
     place: usize,
     term: Term,
-    least: Change,
+    wanted: Wanted,
 ) -> Result<(), Memory> {
     if let Term::Variable(var) = term {
         list.push(Watch {
             variable: var.0,
             propagator: place,
-            least,
+            wanted,
         })?;
     }
     Ok(())
@@ -111,10 +111,10 @@ fn watch_terms(
     list: &mut Vec<Watch>,
     place: usize,
     terms: &[Term],
-    least: Change,
+    wanted: Wanted,
 ) -> Result<(), Memory> {
     for term in terms {
-        watch_term(list, place, *term, least)?;
+        watch_term(list, place, *term, wanted)?;
     }
     Ok(())
 }
@@ -123,35 +123,49 @@ fn watch_lists(
     list: &mut Vec<Watch>,
     place: usize,
     lists: &[&Shared<Term>],
-    least: Change,
+    wanted: Wanted,
 ) -> Result<(), Memory> {
     for terms in lists {
-        watch_terms(list, place, terms.as_slice(), least)?;
+        watch_terms(list, place, terms.as_slice(), wanted)?;
     }
     Ok(())
 }
 
-fn watch_sum(list: &mut Vec<Watch>, place: usize, sum: &Sum, least: Change) -> Result<(), Memory> {
+fn watch_sum(list: &mut Vec<Watch>, place: usize, sum: &Sum, wanted: Wanted) -> Result<(), Memory> {
     for i in 0..sum.len() {
-        watch_term(list, place, sum.place(i).term, least)?;
+        watch_term(list, place, sum.place(i).term, wanted)?;
+    }
+    Ok(())
+}
+
+/// The same of a sum that is at most a number: only what makes its least value rise matters.
+fn watch_rising(list: &mut Vec<Watch>, place: usize, sum: &Sum) -> Result<(), Memory> {
+    for i in 0..sum.len() {
+        let part = sum.place(i);
+        let wanted = if part.coefficient < 0 {
+            Wanted::High
+        } else {
+            Wanted::Low
+        };
+        watch_term(list, place, part.term, wanted)?;
     }
     Ok(())
 }
 
 fn watch_switch(list: &mut Vec<Watch>, place: usize, switch: Option<Term>) -> Result<(), Memory> {
     match switch {
-        Some(term) => watch_term(list, place, term, Change::Inside),
+        Some(term) => watch_term(list, place, term, Wanted::Any),
         None => Ok(()),
     }
 }
 
 /// The least change of a place that matters to a sum: where nothing switches it, a bound, and one value where it is to differ.
-fn least_for(comparison: Comparison, switch: Option<Term>) -> Change {
+fn wanted_for(comparison: Comparison, switch: Option<Term>) -> Wanted {
     match (comparison, switch) {
-        (Comparison::AtMost, _) => Change::Bound,
-        (Comparison::Equal, None) => Change::Bound,
-        (Comparison::NotEqual, None) => Change::Fixed,
-        _ => Change::Inside,
+        (Comparison::AtMost, _) => Wanted::Bound,
+        (Comparison::Equal, None) => Wanted::Bound,
+        (Comparison::NotEqual, None) => Wanted::Fixed,
+        _ => Wanted::Any,
     }
 }
 
@@ -177,11 +191,15 @@ fn watch_constraint(
             right,
             switch,
         } => {
-            let least = match relation {
-                Relation::Equal => Change::Inside,
-                _ => least_for(comparison_of(*relation), *switch),
+            let wanted = match relation {
+                Relation::Equal => Wanted::Any,
+                _ => wanted_for(comparison_of(*relation), *switch),
             };
-            watch_terms(list, place, &[*left, *right], least)?;
+            if switch.is_none() && comparison_of(*relation) == Comparison::AtMost {
+                watch_term(list, place, *left, Wanted::Low)?;
+                return watch_term(list, place, *right, Wanted::High);
+            }
+            watch_terms(list, place, &[*left, *right], wanted)?;
             watch_switch(list, place, *switch)
         }
         Constraint::Linear {
@@ -190,22 +208,25 @@ fn watch_constraint(
             bound: _,
             switch,
         } => {
-            watch_sum(list, place, sum, least_for(*comparison, *switch))?;
+            if switch.is_none() && *comparison == Comparison::AtMost {
+                return watch_rising(list, place, sum);
+            }
+            watch_sum(list, place, sum, wanted_for(*comparison, *switch))?;
             watch_switch(list, place, *switch)
         }
         Constraint::BoolLinEq { sum, total } => {
-            watch_sum(list, place, sum, Change::Bound)?;
-            watch_term(list, place, *total, Change::Bound)
+            watch_sum(list, place, sum, Wanted::Bound)?;
+            watch_term(list, place, *total, Wanted::Bound)
         }
-        Constraint::AllDifferent { places } => watch_lists(list, place, &[places], Change::Bound),
+        Constraint::AllDifferent { places } => watch_lists(list, place, &[places], Wanted::Bound),
         Constraint::Cumulative {
             starts,
             durations,
             uses,
             capacity,
         } => {
-            watch_lists(list, place, &[starts, durations, uses], Change::Bound)?;
-            watch_term(list, place, *capacity, Change::Bound)
+            watch_lists(list, place, &[starts, durations, uses], Wanted::Bound)?;
+            watch_term(list, place, *capacity, Wanted::Bound)
         }
         other => watch_others(list, place, other),
     }
@@ -217,46 +238,46 @@ fn watch_others(
     place: usize,
     constraint: &Constraint,
 ) -> Result<(), Memory> {
-    let least = Change::Inside;
+    let wanted = Wanted::Any;
     match constraint {
-        Constraint::BoolNot { left, right } => watch_terms(list, place, &[*left, *right], least),
+        Constraint::BoolNot { left, right } => watch_terms(list, place, &[*left, *right], wanted),
         Constraint::BoolToInt { boolean, integer } => {
-            watch_terms(list, place, &[*boolean, *integer], least)
+            watch_terms(list, place, &[*boolean, *integer], wanted)
         }
         Constraint::Arithmetic {
             operation: _,
             left,
             right,
             result,
-        } => watch_terms(list, place, &[*left, *right, *result], least),
+        } => watch_terms(list, place, &[*left, *right, *result], wanted),
         Constraint::BoolXor {
             left,
             right,
             result,
-        } => watch_terms(list, place, &[*left, *right, *result], least),
-        Constraint::IntAbs { of, result } => watch_terms(list, place, &[*of, *result], least),
+        } => watch_terms(list, place, &[*left, *right, *result], wanted),
+        Constraint::IntAbs { of, result } => watch_terms(list, place, &[*of, *result], wanted),
         Constraint::Extremum {
             extreme: _,
             entries,
             result,
         } => {
-            watch_term(list, place, *result, least)?;
-            watch_lists(list, place, &[entries], least)
+            watch_term(list, place, *result, wanted)?;
+            watch_lists(list, place, &[entries], wanted)
         }
         Constraint::Element {
             index,
             entries,
             value,
         } => {
-            watch_terms(list, place, &[*index, *value], least)?;
-            watch_lists(list, place, &[entries], least)
+            watch_terms(list, place, &[*index, *value], wanted)?;
+            watch_lists(list, place, &[entries], wanted)
         }
         Constraint::SetIn {
             term,
             set: _,
             switch,
         } => {
-            watch_term(list, place, *term, least)?;
+            watch_term(list, place, *term, wanted)?;
             watch_switch(list, place, *switch)
         }
         Constraint::Gated {
@@ -264,17 +285,18 @@ fn watch_others(
             inputs,
             result,
         } => {
-            watch_term(list, place, *result, least)?;
-            watch_lists(list, place, &[inputs], least)
+            watch_term(list, place, *result, wanted)?;
+            watch_lists(list, place, &[inputs], wanted)
         }
-        Constraint::ArrayBoolXor { inputs } => watch_lists(list, place, &[inputs], least),
+        Constraint::ArrayBoolXor { inputs } => watch_lists(list, place, &[inputs], wanted),
         Constraint::BoolClause { positive, negative } => {
-            watch_lists(list, place, &[positive, negative], least)
+            watch_lists(list, place, &[positive], Wanted::High)?;
+            watch_lists(list, place, &[negative], Wanted::Low)
         }
-        Constraint::Table { places, rows: _ } => watch_lists(list, place, &[places], least),
-        Constraint::Circuit { successors } => watch_lists(list, place, &[successors], least),
+        Constraint::Table { places, rows: _ } => watch_lists(list, place, &[places], wanted),
+        Constraint::Circuit { successors } => watch_lists(list, place, &[successors], wanted),
         Constraint::Inverse { forward, backward } => {
-            watch_lists(list, place, &[forward, backward], least)
+            watch_lists(list, place, &[forward, backward], wanted)
         }
         _ => Ok(()), // The others are above.
     }

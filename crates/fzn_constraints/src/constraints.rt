@@ -5,20 +5,11 @@ ghost use Rattle.fzn_meaning.specs.Solutions.{declared_sets};
 ghost use Rattle.fzn_trail.specs.Levels.{NoneEmpty};
 ghost use Rattle.fzn_constraints.specs.Inference.{IsInference, IsQuiet};
 
-use fzn_domain::{Lit, Memory};
-use fzn_list::Items;
+use fzn_domain::Memory;
 use fzn_meaning::Model;
-use fzn_rules::Rule;
+use fzn_propagator::Inference;
 use fzn_trail::Trail;
 use std::alloc::Global;
-
-/// A clause that the rule justifies from the constraint of this number.
-#[derive(Drop)]
-pub struct Inference {
-    pub constraint: u64,
-    pub rule: Rule,
-    pub clause: Items<Lit>,
-}
 
 /// What reasons for all constraints of a model.
 pub trait Constraints {
