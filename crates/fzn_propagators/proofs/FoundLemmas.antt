@@ -1,5 +1,5 @@
 -- What a propagator finds is what the search wants, and so is it where none finds anything.
-use Rattle.std.proofs.Common.{◌≡◌, ℕ, ◌+◌, ◌-◌, ◌<◌, ◌≤◌, ℤ, pos, List, length, get_or, slice_get, Option, Some, IfSome, ◌⊎◌, sym, ap, ◌∙◌, subst, inl, inr, arith}
+use Rattle.std.proofs.Common.{◌≡◌, ℕ, ◌+◌, ◌-◌, ◌<◌, ◌≤◌, ℤ, pos, List, length, get_or, slice_get, Option, None, Some, IfSome, ◌⊎◌, sym, ap, ◌∙◌, subst, inl, inr, arith}
 use Rattle.std.specs.List.{AllWithin, HoldsAt}
 use Rattle.std.proofs.lemmas.List.{length-map, get_or_default}
 use Rattle.std.proofs.lemmas.Option.{slice_get-get_or}
@@ -27,6 +27,10 @@ use Rattle.fzn_propagators.proofs.SpelledLemmas.{rule-spelled, few-number, liter
 -- what holds of the item at a place holds at the place
 pub HoldsAt-item : {X : Type 0} (P : X → Type 0) (xs : List X) (i : ℕ) (x : X) → x ≡ get_or xs i x → i < length xs → P x → HoldsAt P xs i
 HoldsAt-item P xs i x at below h d = subst P (at ∙ get_or_default xs i x d below) h
+
+some_weaker : {X : Type 0} (found : Option X) (P Q : X → Type 0) → ((x : X) → P x → Q x) → IfSome found P → IfSome found Q
+some_weaker None P Q weaker h = h
+some_weaker (Some x) P Q weaker h = weaker x h
 
 module _ (model : Model) (trail : Levels) (declared : trail.declared ≡ declared_sets model.vars) where
   as-many : length trail.declared ≡ length model.vars
@@ -79,12 +83,16 @@ module _ (model : Model) (trail : Levels) (declared : trail.declared ≡ declare
       pub fits-trail : AnyFits p trail.declared
       fits-trail = subst (AnyFits p) (sym declared) (it-is some_constraint).fits
 
-      pub found-inference : (found : Inference) → IsInferenceOf (any_number p) (AnyIsFor p) trail found → IsInference model trail found
+      found-inference : (found : Inference) → IsInferenceOf (any_number p) (AnyIsFor p) trail found → IsInference model trail found
       found-inference found h =
           let here = it-is some_constraint in
           let constraint = get_or model.constraints k some_constraint in
           inference-at k some_constraint found are.few_vars are.few_constraints inside
           (subst (λ (n : ℕ). IsFound n constraint trail found) here.numbered (h constraint here.is_for))
+
+      -- so whatever it answers
+      pub found-some : (found : Option Inference) → IfSome found (IsInferenceOf (any_number p) (AnyIsFor p) trail) → IfSome found (IsInference model trail)
+      found-some found h = some_weaker found (IsInferenceOf (any_number p) (AnyIsFor p) trail) (IsInference model trail) found-inference h
 
     pub none-quiet : IsNarrower trail.sets trail.declared → (i : ℕ) → length items ≤ i → AllWithin (λ (p : AnyPropagator). AreExhausted (AnyIsFor p) trail) items 0 i → IsQuiet model trail
     none-quiet narrower i past exhausted fixed values within k constraint inside =
