@@ -159,7 +159,7 @@ fn watch_switch(list: &mut Vec<Watch>, place: usize, switch: Option<Term>) -> Re
     }
 }
 
-/// The least change of a place that matters to a sum: where nothing switches it, a bound, and one value where it is to differ.
+/// Which change of a place matters to a sum: either bound, or one value where it is to differ and nothing switches it.
 fn wanted_for(comparison: Comparison, switch: Option<Term>) -> Wanted {
     match (comparison, switch) {
         (Comparison::AtMost, _) => Wanted::Bound,
