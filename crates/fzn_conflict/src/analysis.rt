@@ -1,5 +1,5 @@
 // What is learned, in both ways.
-ghost use Rattle.std.specs.Prelude.{◌≡◌, ◌++◌, ◌∷◌, [], IfOk, IfSome, OnOk, length};
+ghost use Rattle.std.specs.Prelude.{◌≡◌, IfOk, IfSome, OnOk, length};
 ghost use Rattle.std.specs.List.{All};
 ghost use Rattle.fzn_domain.specs.Limits.{IsLimited};
 ghost use Rattle.fzn_sets.specs.Sets.{start};
@@ -48,14 +48,8 @@ pub fn analyse(
     ensures fresh { OnOk result (sets.new ≡ start trail.now.declared) }
 {
     match learn {
-        Learn::Plain => {
-            let learned = plain_learned(alloc, trail, clauses, inferences, conflict)?;
-            Ok(learned)
-        }
-        Learn::First => {
-            let learned = first_or_plain(alloc, trail, clauses, inferences, sets, marks, conflict)?;
-            Ok(learned)
-        }
+        Learn::Plain => plain_learned(alloc, trail, clauses, inferences, conflict),
+        Learn::First => first_or_plain(alloc, trail, clauses, inferences, sets, marks, conflict),
     }
 }
 
@@ -87,8 +81,7 @@ fn first_or_plain(
     if is_sound(trail, clauses, inferences, sets, &found)? {
         return Ok(found);
     }
-    let learned = plain_learned(alloc, trail, clauses, inferences, conflict)?;
-    Ok(learned)
+    plain_learned(alloc, trail, clauses, inferences, conflict)
 }
 
 /// The literal of an entry of level 0 as a clause of its own, where it follows from what stands for the entries that it rests on, and

@@ -1,5 +1,5 @@
 -- Going on and ending.
-use Rattle.std.proofs.Common.{◌≡◌, ◌≢◌, ℕ, ◌+◌, ◌-◌, ◌^◌, ◌<◌, ◌≤◌, ◌⊎◌, inl, true, ℤ, List, [], ◌∷◌, ◌++◌, length, All, Option, refl, sym, ap, ◌∙◌, subst, arith}
+use Rattle.std.proofs.Common.{◌≡◌, ◌≢◌, ℕ, ◌+◌, ◌-◌, ◌^◌, ◌<◌, ◌≤◌, ◌⊎◌, inl, Bool, true, false, ℤ, List, [], ◌∷◌, ◌++◌, length, All, Option, None, Some, refl, sym, ap, ◌∙◌, subst, arith}
 use Rattle.std.proofs.lemmas.List.Elements.{All-nil}
 use Rattle.std.proofs.lemmas.List.{length_push}
 use Rattle.fzn_domain.specs.declared.literal.Lit.{Lit}
@@ -38,7 +38,7 @@ use Rattle.fzn_engine.specs.declared.solver.Solver.{Solver}
 use Rattle.fzn_constraints.specs.Inference.{IsQuiet}
 use Rattle.fzn_engine.specs.Volume.{volume}
 use Rattle.fzn_engine.specs.Outcome.{HasRoom, IsReached, count, IsCertified, IsEnded, IsExhaustedIf, IsOutcome}
-use Rattle.fzn_engine.specs.Search.{IsAfter, stock_of, work_of, IsWithinLimits, IsRecorded, IsDecided, IsOngoing, IsOver, Holds}
+use Rattle.fzn_engine.specs.Search.{IsAfter, stock_of, work_of, IsWithinLimits, IsRecorded, IsDecided, IsKeptBy, Goes, Continues, IsOngoing, IsOver, ending_of, Holds}
 use Rattle.fzn_engine.specs.State.{Stock, known_in, with_held, StateOf, work}
 use Rattle.fzn_engine.proofs.AcceptedLemmas.{past_of-push, logged-accepted}
 use Rattle.fzn_engine.proofs.ChangeLemmas.{State-length, State-within, State-decided, work-decided, State-certified}
@@ -54,6 +54,33 @@ room-at : (goal : Goal) (limit : Option ℕ) (n m : ℕ) → m ≡ n → HasRoom
 room-at goal limit n m e h = let P : ℕ → Type 0 = λ k. HasRoom goal limit k in subst P (sym e) h
 
 -- ---- a decision
+
+-- what the held clauses force, and then one change of the search
+module _ (model : Model) (limits : Limits) (old mid : Solver) (before : List Step) (within : IsWithinLimits model limits old) (kept : IsKeptBy model before old mid) where
+  pub kept-goes : (new : Solver) (steps : List Step) (goes_on : Bool) → Goes model mid new steps goes_on → Continues model limits old new steps (ending_of goes_on)
+  kept-goes new steps true goes =
+      let behind = goes limits.nodes in
+      let less = kept.less limits.nodes in
+      record {
+        state = behind.state;
+        less = omega (arith, behind.less);
+        within = (subst (λ (n : ℕ). n ≤ limits.nodes) (sym (behind.nodes ∙ kept.nodes)) within.0, room-at model.goal limits.solutions old.found new.found (behind.found ∙ kept.found) within.1);
+        learn = behind.learn ∙ kept.learn;
+      }
+  kept-goes new steps false closed = record {
+    ended = record {
+      certified = subst (λ (l : Learn). IsCertified model l steps new.search.nodes) kept.learn closed.certified;
+      truly = (closed.refuted, subst (λ (n : ℕ). HasRoom model.goal limits.solutions n) closed.found_is (room-at model.goal limits.solutions old.found new.found (closed.found ∙ kept.found) within.1));
+      few_nodes = subst (λ (n : ℕ). n ≤ limits.nodes) (sym (closed.nodes ∙ kept.nodes)) within.0;
+    };
+    found_is = closed.found_is;
+  }
+
+  pub kept-continues : (new : Solver) (steps : List Step) (ending : Option Ending) → Continues model limits mid new steps ending → Continues model limits old new steps ending
+  kept-continues new steps None on =
+      let less = kept.less limits.nodes in
+      record { state = on.state; less = omega (arith, on.less); within = on.within; learn = on.learn ∙ kept.learn }
+  kept-continues new steps (Some ending) over = subst (λ (l : Learn). IsOver model l limits new steps ending) kept.learn over
 
 pub decided-ongoing : (model : Model) (limits : Limits) (old new : Solver) (steps : List Step) → IsAfter model old steps → old.trail.mark ≡ length old.trail.entries → IsWithinLimits model limits old → old.search.nodes ≢ limits.nodes → IsDecided old new → IsOngoing model limits old new steps
 decided-ongoing model limits old new steps h seen within room d =

@@ -133,15 +133,12 @@ impl Solver {
         ensures kept { S.keeps model.now sink.new × (S.origin sink.new ≡ S.origin sink.old) }
         ensures is_for { C.is_for constraints.new model.now }
     {
-        match self.propagate()? {
+        match self.clauses.propagate(&mut self.trail)? {
             Some(id) => {
                 let goes_on = self.learn(alloc, model, sink, Source::Held(id))?;
                 Ok(ending_of(goes_on))
             }
-            None => {
-                let ending = self.extend(alloc, model, limits, constraints, sink)?;
-                Ok(ending)
-            }
+            None => self.extend(alloc, model, limits, constraints, sink),
         }
     }
 

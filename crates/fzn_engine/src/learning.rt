@@ -136,7 +136,6 @@ impl Solver {
         if self.force(source)? {
             return Ok(true);
         }
-        let goes_on = self.learn(alloc, model, sink, source)?;
-        Ok(goes_on)
+        self.learn(alloc, model, sink, source)
     }
 }

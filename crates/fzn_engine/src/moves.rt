@@ -1,19 +1,16 @@
 // What changes the trail of a search.
-ghost use Rattle.std.specs.Prelude.{◌≡◌, ◌≢◌, ◌+◌, ◌<◌, ◌≤◌, [], ◌∷◌, List, length, IfOk, IfSome, IfNone, OnOk, MatchOption, IsTrue, IsFalse, Some, false};
+ghost use Rattle.std.specs.Prelude.{◌≡◌, ◌+◌, ◌<◌, ◌≤◌, [], ◌∷◌, List, length, IfOk, OnOk, MatchOption, IsTrue, IsFalse, Some, false};
 ghost use Rattle.std.specs.List.{All};
 ghost use Rattle.fzn_domain.specs.declared.literal.Lit.{Lit};
 ghost use Rattle.fzn_domain.specs.Narrow.{IsClauseOver, NoneEmpty, possible_in};
 ghost use Rattle.fzn_meaning.specs.declared.model.Model.{Model};
 ghost use Rattle.fzn_cert.specs.declared.step.Step.{Step};
-ghost use Rattle.fzn_clauses.specs.Held.{AllHeld};
-ghost use Rattle.fzn_clauses.specs.Watching.{held_by, IsWatching};
 ghost use Rattle.fzn_learned.specs.declared.source.Source.TheVariants.{Held};
-ghost use Rattle.fzn_learned.specs.Learned.{IsConflicting};
 ghost use Rattle.fzn_learned.specs.Reasoned.{IsKnown, IsBelow, IsReasoned, reason_of, clause_of};
 ghost use Rattle.fzn_search.specs.Fixed.{AllFixed, HasMany};
 ghost use Rattle.fzn_trail.specs.Levels.{level_of};
 ghost use Rattle.fzn_engine.specs.State.{known_in};
-ghost use Rattle.fzn_engine.specs.Search.{IsAfter, stock_of, IsBackAt, IsForcedBy, IsDecided, IsKeptBy, Goes};
+ghost use Rattle.fzn_engine.specs.Search.{stock_of, IsBackAt, IsForcedBy, IsDecided, Goes};
 
 use crate::solver::Solver;
 use fzn_cert::Step;
@@ -21,7 +18,7 @@ use fzn_constraints::Inference;
 use fzn_domain::{Lit, Memory};
 use fzn_learned::{Source, clause_of};
 use fzn_meaning::Model;
-use fzn_trail::{ClauseId, Reason, Trail};
+use fzn_trail::{Reason, Trail};
 use fzn_upkeep::Notes;
 
 /// How many inferences without an entry may stand beside those on which entries may rest: so many, and one for each so many entries.
@@ -30,22 +27,6 @@ const SPARE: usize = 64;
 const SHARE: usize = 16;
 
 impl Solver {
-    /// Asserts what the held clauses force, and gives one that is false.
-    pub fn propagate(&mut self) -> Result<Option<ClauseId>, Memory>
-        requires over { AllHeld (IsClauseOver (length self.old.trail.declared)) (held_by self.old.clauses) }
-        requires filled { NoneEmpty self.old.trail.sets }
-        requires watching { IsWatching self.old.clauses self.old.trail }
-        ensures kept { IfOk result (λ _. (model : Model) (steps : List Step) → IsAfter model self.old steps → IsKeptBy model steps self.old self.new) }
-        ensures conflict { IfOk result (λ found. IfSome found (λ id. IsConflicting (known_in (stock_of self.new)) self.new.trail.sets (Held id))) }
-        ensures quiet { IfOk result (λ found. IfNone found (AllHeld (λ clause. possible_in self.new.trail.sets clause ≢ []) (held_by self.new.clauses))) }
-        ensures seen { IfOk result (λ found. IfNone found (self.new.trail.mark ≡ length self.new.trail.entries)) }
-    {
-        match self.clauses.propagate(&mut self.trail)? {
-            Some(id) => Ok(Some(id)),
-            None => Ok(None),
-        }
-    }
-
     /// Asserts what the clause of a source forces, and answers whether it has a possible literal.
     pub fn force(&mut self, source: Source) -> Result<bool, Memory>
         requires known { IsKnown (known_in (stock_of self.old)) source }

@@ -1,5 +1,5 @@
 // A whole run.
-ghost use Rattle.std.specs.Prelude.{◌≡◌, ◌⊎◌, ◌∷◌, ◌++◌, [], true, length, IfOk, OnOk, IsTrue, IsFalse};
+ghost use Rattle.std.specs.Prelude.{◌≡◌, [], true, IfOk, OnOk, IsTrue, IsFalse};
 ghost use Rattle.fzn_domain.specs.Narrow.{NoneEmpty, is_some_empty};
 ghost use Rattle.fzn_meaning.specs.Solutions.{declared_sets};
 ghost use Rattle.fzn_meaning.specs.WellFormed.{IsWellFormed};
@@ -45,39 +45,6 @@ pub fn solve<S: Sink, C: Constraints>(
     requires fresh { S.written sink.old ≡ [] }
     requires kept { S.keeps model.now sink.old }
     ensures outcome { IfOk result (λ outcome. IsOutcome model.now learn limits (S.written sink.new) outcome.nodes outcome.ending) }
-    ensures solutions { IfOk result (λ outcome. outcome.solutions ≡ count model.now (S.written sink.new)) }
-    ensures accepted { AllAccepted model.now (S.written sink.new) }
-    ensures kept { S.keeps model.now sink.new × (S.origin sink.new ≡ S.origin sink.old) }
-{
-    let outcome = search(
-        alloc,
-        model,
-        limits,
-        learn,
-        choice,
-        annotations,
-        constraints,
-        sink,
-    )?;
-    Ok(outcome)
-}
-
-fn search<S: Sink, C: Constraints>(
-    alloc: Global,
-    model: &Model,
-    limits: Limits,
-    learn: Learn,
-    choice: Choice,
-    annotations: &[Annotation],
-    constraints: &mut C,
-    sink: &mut S,
-) -> Result<Outcome, Fault>
-    requires model { IsWellFormed model.now }
-    requires is_for { C.is_for constraints.old model.now }
-    requires room { HasRoom model.now.goal limits.solutions 0 }
-    requires fresh { S.written sink.old ≡ [] }
-    requires kept { S.keeps model.now sink.old }
-    ensures ended { IfOk result (λ outcome. IsEnded model.now learn limits (S.written sink.new) outcome.nodes outcome.ending) }
     ensures solutions { IfOk result (λ outcome. outcome.solutions ≡ count model.now (S.written sink.new)) }
     ensures accepted { AllAccepted model.now (S.written sink.new) }
     ensures kept { S.keeps model.now sink.new × (S.origin sink.new ≡ S.origin sink.old) }

@@ -68,10 +68,7 @@ impl Solver {
             Source::Held(id) => Ok(self.numbers.as_slice()[id.0 as usize]),
             Source::Stacked(place) => match self.inferences.get(place).number {
                 Some(number) => Ok(number),
-                None => {
-                    let number = self.write_inference(alloc, model, sink, place)?;
-                    Ok(number)
-                }
+                None => self.write_inference(alloc, model, sink, place),
             },
         }
     }

@@ -42,10 +42,7 @@ pub fn refute_fixed(
             let clause = denial(alloc, trail, inputs)?;
             Ok(Some(clause))
         }
-        Demand::Literal(lit) => {
-            let found = force(alloc, trail, inputs, lit)?;
-            Ok(found)
-        }
+        Demand::Literal(lit) => force(alloc, trail, inputs, lit),
     }
 }
 

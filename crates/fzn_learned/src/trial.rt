@@ -1,5 +1,5 @@
 // Whether a clause that was found keeps what every learned clause promises.
-ghost use Rattle.std.specs.Prelude.{◌≡◌, ◌<◌, ◌≤◌, true, [], map, take, length, IfOk, OnOk, IsTrue};
+ghost use Rattle.std.specs.Prelude.{◌≡◌, ◌<◌, true, [], map, length, IfOk, OnOk, IsTrue};
 ghost use Rattle.std.specs.List.{All};
 ghost use Rattle.fzn_chain.specs.Link.{IsBound};
 ghost use Rattle.fzn_domain.specs.declared.literal.Lit.{Lit};
@@ -7,9 +7,8 @@ ghost use Rattle.fzn_domain.specs.Limits.{IsInLimits};
 ghost use Rattle.fzn_domain.specs.Narrow.{IsVariable, IsClauseOver, IsAcceptedFrom, accepted, chain_outcome};
 ghost use Rattle.fzn_sets.specs.Sets.{start};
 ghost use Rattle.fzn_trail.specs.Levels.{level_of};
-ghost use Rattle.fzn_trail.specs.Replay.{replayed};
 ghost use Rattle.fzn_learned.specs.Learned.{IsDerived, IsLearned};
-ghost use Rattle.fzn_learned.specs.Reasoned.{known_of, AreOver, IsKnown, IsForced, IsReasoned, clause_of};
+ghost use Rattle.fzn_learned.specs.Reasoned.{known_of, AreOver, IsKnown, IsReasoned, clause_of};
 
 use crate::learned::Learned;
 use crate::source::{Source, clause_of, is_known};
@@ -137,8 +136,7 @@ fn is_refuted(
     if deny(sets, clause)? {
         return Ok(true);
     }
-    let ends = ends_well(clauses, inferences, sets, sources)?;
-    Ok(ends)
+    ends_well(clauses, inferences, sets, sources)
 }
 
 /// Whether the chain of the sources' clauses ends well.

@@ -1,6 +1,5 @@
 // Which propagators are to be asked next: those that watch what was narrowed.
-ghost use Rattle.std.specs.Prelude.{◌≡◌, ◌≢◌, ◌<◌, ◌≤◌, length, slice_index_or, IfOk, IfSome, IsFalse};
-ghost use Rattle.fzn_domain.specs.IntSet.{no_values, size};
+ghost use Rattle.std.specs.Prelude.{◌≡◌, ◌<◌, ◌≤◌, length, IfOk, IfSome, IsFalse};
 ghost use Rattle.fzn_domain.specs.Narrow.{AllFixed};
 
 use crate::change::change_since;

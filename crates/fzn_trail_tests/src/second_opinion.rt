@@ -117,8 +117,7 @@ impl Tested {
             return Ok(false);
         }
         self.trail.push_level()?;
-        let is_left = self.trail.assert(lit, Reason::Decision)?;
-        Ok(is_left)
+        self.trail.assert(lit, Reason::Decision)
     }
 
     fn go_back(&mut self, level: usize)

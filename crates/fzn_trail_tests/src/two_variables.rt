@@ -14,6 +14,5 @@ pub(crate) fn trail_of(alloc: Global) -> Result<Trail, Memory>
     let mut declared = Vec::new(alloc);
     declared.push(Domain::range(alloc, 0, 9)?)?;
     declared.push(Domain::range(alloc, 0, 9)?)?;
-    let trail = Trail::new(alloc, declared)?;
-    Ok(trail)
+    Trail::new(alloc, declared)
 }

@@ -2,6 +2,7 @@
 use Rattle.std.proofs.Common.{◌≡◌, List, length, map, sym, ap, subst, ◌∙◌, ℤ, All}
 use Rattle.std.proofs.lemmas.Bool.{false≢true}
 use Rattle.std.proofs.lemmas.Option.{IfSome_then}
+use Rattle.std.proofs.lemmas.Result.{IfOk-weaker}
 use Rattle.fzn_meaning.specs.declared.term.Term.{Term}
 use Rattle.fzn_meaning.specs.Term.{IsTerm}
 use Rattle.fzn_sets.specs.Terms.{least_value}
@@ -61,9 +62,10 @@ returns-clause-found c =
     let parts = c.args.parts.now in
     let values : c.as_slice-chosen.result.now ≡ values_on trail parts.inputs = c.as_slice-chosen.ensures ∙ c.in_ok-values.ensures.values ∙ ap (map (least_value trail.sets)) c.as_slice-inputs.ensures in
     let is = subst (λ (xs : List ℤ). IsOutcome parts.constraint xs c.outcome_of-outcome.result) values c.outcome_of-outcome.ensures in
-    IfSome_then c.in_ok-found-in-Literal.found c.in_ok-found-in-Literal.ensures.found (λ clause forcing.
+    IfOk-weaker c.force.result _ _ (λ found h. IfSome_then found h (λ clause forcing.
     fixed_forced trail parts c.outcome_of-outcome.result clause c.requires.ready (inputs_fit (length trail.declared) parts c.requires.ready) is c.in-Literal.lit c.in-Literal.ensures
-    (subst (λ (ts : List Term). IsForcing trail ts c.in-Literal.lit clause) c.as_slice-inputs.ensures forcing))
+    (subst (λ (ts : List Term). IsForcing trail ts c.in-Literal.lit clause) c.as_slice-inputs.ensures forcing)))
+    c.force.ensures.found
 
 pub returns-clause-none : goal.returns-clause-none
 returns-clause-none c =
@@ -71,5 +73,6 @@ returns-clause-none c =
     let parts = c.args.parts.now in
     let values : c.as_slice-chosen.result.now ≡ values_on trail parts.inputs = c.as_slice-chosen.ensures ∙ c.in_ok-values.ensures.values ∙ ap (map (least_value trail.sets)) c.as_slice-inputs.ensures in
     let is = subst (λ (xs : List ℤ). IsOutcome parts.constraint xs c.outcome_of-outcome.result) values c.outcome_of-outcome.ensures in
-    none_then c.in_ok-found-in-Literal.found (IsTrueOn trail.sets c.in-Literal.lit) (HoldsWhereFixed trail parts.constraint) c.in_ok-found-in-Literal.ensures.none
-    (λ holds. holds_of_literal trail parts c.outcome_of-outcome.result c.requires.ready (inputs_fit (length trail.declared) parts c.requires.ready) is c.in-Literal.lit c.in-Literal.ensures holds)
+    IfOk-weaker c.force.result _ _ (λ found h. none_then found (IsTrueOn trail.sets c.in-Literal.lit) (HoldsWhereFixed trail parts.constraint) h
+    (λ holds. holds_of_literal trail parts c.outcome_of-outcome.result c.requires.ready (inputs_fit (length trail.declared) parts c.requires.ready) is c.in-Literal.lit c.in-Literal.ensures holds))
+    c.force.ensures.none
