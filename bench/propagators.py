@@ -69,7 +69,7 @@ def copies(kinds, constraint, choice='indomain_min'):
 
 
 def lin_le(n):
-    return Model(variables(['0..9'] * n), f'int_lin_le({listed([1] * n)},{listed(names(n))},{9 * n - 1})', names(n))
+    return Model(variables(['0..9'] * n), f'int_lin_le({listed([-1] * n)},{listed(names(n))},-1)', names(n))
 
 
 def lin_eq(n):
@@ -97,7 +97,7 @@ def bool_lin_eq(n):
 
 
 def bool_lin_le(n):
-    return booleans(n, f'bool_lin_le({listed([1] * n)},{listed(names(n))},{n - 1})')
+    return booleans(n, f'bool_lin_le({listed([-1] * n)},{listed(names(n))},-1)')
 
 
 def clause(n):
