@@ -32,5 +32,6 @@ fn declared(alloc: Global, vars: &[Var]) -> Result<Vec<Domain>, Memory>
 pub(crate) fn trail_of(alloc: Global, model: &Model) -> Result<Trail, Memory>
     ensures { IfOk result (λ trail. trail ≡ fresh (declared_sets model.now.vars)) }
 {
-    Trail::new(alloc, declared(alloc, model.vars.as_slice())?)
+    let trail = Trail::new(alloc, declared(alloc, model.vars.as_slice())?)?;
+    Ok(trail)
 }

@@ -117,7 +117,8 @@ impl Tested {
             return Ok(false);
         }
         self.trail.push_level()?;
-        self.trail.assert(lit, Reason::Decision)
+        let is_left = self.trail.assert(lit, Reason::Decision)?;
+        Ok(is_left)
     }
 
     fn go_back(&mut self, level: usize)

@@ -14,5 +14,6 @@ pub(crate) fn trail_of(alloc: Global) -> Result<Trail, Memory>
     let mut declared = Vec::new(alloc);
     declared.push(Domain::range(alloc, 0, 9)?)?;
     declared.push(Domain::range(alloc, 0, 9)?)?;
-    Trail::new(alloc, declared)
+    let trail = Trail::new(alloc, declared)?;
+    Ok(trail)
 }
