@@ -8,7 +8,7 @@ use Rattle.fzn_meaning.specs.declared.relation.Comparison.TheVariants.{AtMost, E
 use Rattle.fzn_meaning.specs.declared.constraint.Constraint.{Constraint}
 use Rattle.fzn_meaning.specs.Term.{IsPlace}
 use Rattle.fzn_meaning.specs.Meaning.{IsWellFormed}
-use Rattle.fzn_builtin_rules.specs.Form.{Form, form_of, Fits}
+use Rattle.fzn_builtin_rules.specs.Form.{Form, Fits}
 use Rattle.fzn_builtin_rules.proofs.CallerLemmas.{form_fits}
 use Rattle.fzn_sums.specs.Opposite.{opposites}
 use Rattle.fzn_sums.proofs.CallerLemmas.{opposites_fit, opposites-twice, length-opposites}

@@ -3,3 +3,4 @@ mod FormLemmas
 mod GuardLemmas
 mod MadeLemmas
 mod RefuteLemmas
+mod RestLemmas

@@ -1,10 +1,8 @@
 -- Which constraint a propagator stands for.
-use Rattle.std.specs.Prelude.{◌≡◌, ℕ, ◌≤◌, length, unsigned_abs, Some}
-use Rattle.std.specs.List.{All}
+use Rattle.std.specs.Prelude.{◌≡◌, ℕ, Some}
 use Rattle.fzn_meaning.specs.declared.constraint.Constraint.{Constraint}
-use Rattle.fzn_meaning.specs.Term.{IsPlace}
 use Rattle.fzn_meaning.specs.Meaning.{IsSwitch}
-use Rattle.fzn_builtin_rules.specs.Form.{Form, form, form_of, Fits}
+use Rattle.fzn_builtin_rules.specs.Form.{Form, form, form_of}
 use Rattle.fzn_arith.specs.declared.form.SumForm.{SumForm}
 use Rattle.fzn_arith.specs.Opposite.{opposite_form}
 use Rattle.fzn_arith.specs.Sum.{IsSum}

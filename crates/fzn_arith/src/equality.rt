@@ -9,7 +9,7 @@ use crate::sum::SumPropagator;
 use fzn_domain::Memory;
 use fzn_equality::infer_equal;
 use fzn_meaning::{Relation, Term};
-use fzn_propagator::{Inference, Propagator};
+use fzn_propagator::{Findings, Inference, Propagator};
 use fzn_rules::Rule;
 use fzn_trail::Trail;
 use std::alloc::Global;
@@ -31,18 +31,20 @@ impl Propagator for EqualityPropagator {
 
     ghost fits = { EqualityFits };
 
-    fn propagate(&self, alloc: Global, trail: &Trail) -> Result<Option<Inference>, Memory> {
-        if let Some(found) = self.sum.propagate(alloc, trail)? {
-            return Ok(Some(found));
+    fn propagate(&self, alloc: Global, trail: &Trail, found: &mut Findings) -> Result<(), Memory> {
+        self.sum.infer(alloc, trail, found)?;
+        if !found.is_empty() {
+            return Ok(());
         }
         let (left, right, switch) = (self.left, self.right, self.switch);
         let Some(clause) = infer_equal(alloc, trail, self.relation, left, right, switch)? else {
-            return Ok(None);
+            return Ok(());
         };
-        Ok(Some(Inference {
+        found.push(Inference {
             constraint: self.sum.number,
             rule: Rule::Rows,
             clause,
-        }))
+        })?;
+        Ok(())
     }
 }

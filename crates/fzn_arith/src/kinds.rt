@@ -15,7 +15,7 @@ use crate::opposite::opposite_of;
 use crate::sum::SumPropagator;
 use fzn_domain::Memory;
 use fzn_meaning::{Constraint, Model};
-use fzn_propagator::{Inference, Propagator};
+use fzn_propagator::{Findings, Propagator};
 use fzn_trail::Trail;
 use std::alloc::Global;
 
@@ -34,10 +34,10 @@ impl Propagator for ArithPropagator {
 
     ghost fits = { KindFits };
 
-    fn propagate(&self, alloc: Global, trail: &Trail) -> Result<Option<Inference>, Memory> {
+    fn propagate(&self, alloc: Global, trail: &Trail, found: &mut Findings) -> Result<(), Memory> {
         match self {
-            ArithPropagator::Sum(propagator) => propagator.propagate(alloc, trail),
-            ArithPropagator::Equality(propagator) => propagator.propagate(alloc, trail),
+            ArithPropagator::Sum(propagator) => propagator.propagate(alloc, trail, found),
+            ArithPropagator::Equality(propagator) => propagator.propagate(alloc, trail, found),
         }
     }
 }

@@ -1,20 +1,28 @@
 // The propagator of a sum.
-ghost use Rattle.std.specs.Prelude.{◌≢◌, length, IsTrue, IfOk, IfSome, IfNone};
+ghost use Rattle.std.specs.Prelude.{◌≡◌, ◌≢◌, ◌≤◌, ◌++◌, [], length, IsTrue, IfOk, IfSome, IfNone, OnOk};
+ghost use Rattle.std.specs.List.{All};
 ghost use Rattle.fzn_domain.specs.Narrow.{NoneEmpty};
-ghost use Rattle.fzn_meaning.specs.Term.{IsTerm};
+ghost use Rattle.fzn_meaning.specs.declared.relation.Comparison.TheVariants.{AtMost};
+ghost use Rattle.fzn_meaning.specs.Meaning.{IsSwitch};
+ghost use Rattle.fzn_meaning.specs.Term.{IsTerm, IsPlace};
+ghost use Rattle.fzn_rules.specs.declared.rule.Rule.TheVariants.{Lin};
 ghost use Rattle.fzn_sets.specs.Terms.{least_value, greatest_value};
+ghost use Rattle.fzn_propagator.specs.Inference.{AreExhausted};
 ghost use Rattle.fzn_arith.specs.Kinds.{form_in, IsFormOf, IsReady};
-ghost use Rattle.fzn_arith.specs.Sum.{IsFound, IsLeftAlone};
+ghost use Rattle.fzn_arith.specs.Rest.{guard_of, IsAsked, AddsInferences};
+ghost use Rattle.fzn_arith.specs.Sum.{IsSum, IsFound, IsLeftAlone};
 
 use crate::form::SumForm;
 use crate::guard::guarded;
 use crate::refute::refute;
-use fzn_domain::{Lit, Memory};
+use fzn_domain::{Lit, Memory, Op};
 use fzn_list::Items;
-use fzn_meaning::{Comparison, Term};
-use fzn_propagator::{Inference, Propagator};
+use fzn_meaning::{Comparison, Place, Term};
+use fzn_propagator::{Findings, Inference, Propagator};
 use fzn_rules::Rule;
-use fzn_sums::{ends_of, greatest_value, least_value};
+use fzn_sums::{
+    ends_of, floors_of, greatest_value, least_value, next_forced, refute_place, slack_within,
+};
 use fzn_trail::Trail;
 use std::alloc::Global;
 
@@ -67,6 +75,141 @@ impl SumPropagator {
             }
         }
     }
+
+    /// One pass: what it infers goes behind what was found.
+    pub fn infer(&self, alloc: Global, trail: &Trail, found: &mut Findings) -> Result<(), Memory>
+        requires ready { IsReady (length trail.now.declared) self.now.form self.now.opposite }
+        requires filled { NoneEmpty trail.now.sets }
+        ensures adds { AddsInferences self.now.number self.now.form trail.now found.old found.new }
+        ensures none { OnOk result (found.new ≡ [] → AreExhausted (λ constraint. IsFormOf constraint self.now.form) trail.now) }
+    {
+        let Some(clause) = self.find(alloc, trail)? else {
+            return Ok(());
+        };
+        found.push(self.inference(clause))?;
+        self.rest(alloc, trail, found)
+    }
+
+    /// The inference of a clause.
+    fn inference(&self, clause: Items<Lit>) -> Inference
+        ensures { result ≡ record { constraint = self.now.number; rule = Lin; clause = clause } }
+    {
+        Inference {
+            constraint: self.number,
+            rule: Rule::Lin,
+            clause,
+        }
+    }
+
+    /// Where places are forced, the inferences of all but the first.
+    fn rest(&self, alloc: Global, trail: &Trail, found: &mut Findings) -> Result<(), Memory>
+        requires ready { IsReady (length trail.now.declared) self.now.form self.now.opposite }
+        requires filled { NoneEmpty trail.now.sets }
+        ensures { AddsInferences self.now.number self.now.form trail.now found.old found.new }
+    {
+        let on = self.form.places.as_slice();
+        let off = self.opposite.places.as_slice();
+        let Some(switch) = self.form.switch else {
+            return self.rest_of(alloc, trail, &self.form, off, found);
+        };
+        let value = least_value(trail, switch);
+        if value != greatest_value(trail, switch) {
+            return Ok(());
+        }
+        match value {
+            0 => self.rest_of(alloc, trail, &self.opposite, on, found),
+            1 => self.rest_of(alloc, trail, &self.form, off, found),
+            _ => Ok(()),
+        }
+    }
+
+    /// Those of a sum that has to compare so with its bound.
+    fn rest_of(
+        &self,
+        alloc: Global,
+        trail: &Trail,
+        sum: &SumForm,
+        opposite: &[Place],
+        found: &mut Findings,
+    ) -> Result<(), Memory>
+        requires switch { IsSwitch (length trail.now.declared) self.now.form.switch }
+        requires sum { IsSum (length trail.now.declared) sum.now opposite.now }
+        requires filled { NoneEmpty trail.now.sets }
+        requires asked { IsAsked trail.now (form_in self.now.form) sum.now.comparison sum.now.places sum.now.bound }
+        ensures { AddsInferences self.now.number self.now.form trail.now found.old found.new }
+    {
+        let places = sum.places.as_slice();
+        match sum.comparison {
+            Comparison::AtMost => {
+                self.push_forced(alloc, trail, places, sum.bound, true, found)?;
+                Ok(())
+            }
+            Comparison::Equal => {
+                let some = self.push_forced(alloc, trail, places, sum.bound, true, found)?;
+                self.push_forced(alloc, trail, opposite, -sum.bound, !some, found)?;
+                Ok(())
+            }
+            Comparison::NotEqual => Ok(()),
+        }
+    }
+
+    /// The inferences of the places that are forced where the sum has to be at most the bound, or of all but the first of them. Says
+    /// whether there is any.
+    fn push_forced(
+        &self,
+        alloc: Global,
+        trail: &Trail,
+        places: &[Place],
+        bound: i64,
+        but_first: bool,
+        found: &mut Findings,
+    ) -> Result<bool, Memory>
+        requires switch { IsSwitch (length trail.now.declared) self.now.form.switch }
+        requires places { All (IsPlace (length trail.now.declared)) places.now }
+        requires short { length places.now ≤ 200000 }
+        requires filled { NoneEmpty trail.now.sets }
+        requires asked { IsAsked trail.now (form_in self.now.form) AtMost places.now bound }
+        ensures { AddsInferences self.now.number self.now.form trail.now found.old found.new }
+    {
+        let Some(slack) = slack_within(trail, places, bound) else {
+            return Ok(false);
+        };
+        let Some(first) = next_forced(trail, places, slack, 0) else {
+            return Ok(false);
+        };
+        let from = first.place + usize::from(but_first);
+        let Some(next) = next_forced(trail, places, slack, from) else {
+            return Ok(true);
+        };
+        let floors = floors_of(alloc, trail, places)?;
+        let floors = floors.as_slice();
+        for place in next.place..places.len() {
+            if let Some(clause) = refute_place(alloc, trail, places, floors, slack, place)? {
+                let clause = self.with_guard(trail, clause)?;
+                found.push(self.inference(clause))?;
+            }
+        }
+        Ok(true)
+    }
+
+    /// The clause with the literal that the switch has another value than its one.
+    fn with_guard(&self, trail: &Trail, clause: Items<Lit>) -> Result<Items<Lit>, Memory>
+        requires switch { IsSwitch (length trail.now.declared) self.now.form.switch }
+        requires filled { NoneEmpty trail.now.sets }
+        ensures { IfOk result (λ all. all ≡ clause ++ guard_of trail.now.sets self.now.form.switch) }
+    {
+        let Some(Term::Variable(var)) = self.form.switch else {
+            return Ok(clause);
+        };
+        let value = trail.domain(var).min();
+        let mut clause = clause;
+        clause.push(Lit {
+            var,
+            op: Op::NotEqual,
+            value,
+        })?;
+        Ok(clause)
+    }
 }
 
 impl Propagator for SumPropagator {
@@ -76,14 +219,7 @@ impl Propagator for SumPropagator {
 
     ghost fits = { λ propagator declared. IsReady (length declared) propagator.form propagator.opposite };
 
-    fn propagate(&self, alloc: Global, trail: &Trail) -> Result<Option<Inference>, Memory> {
-        let Some(clause) = self.find(alloc, trail)? else {
-            return Ok(None);
-        };
-        Ok(Some(Inference {
-            constraint: self.number,
-            rule: Rule::Lin,
-            clause,
-        }))
+    fn propagate(&self, alloc: Global, trail: &Trail, found: &mut Findings) -> Result<(), Memory> {
+        self.infer(alloc, trail, found)
     }
 }

@@ -2,11 +2,7 @@
 use Rattle.std.specs.Prelude.{◌≡◌, ℕ, List, length}
 use Rattle.fzn_domain.specs.IntSet.{IntSet}
 use Rattle.fzn_meaning.specs.declared.constraint.Constraint.{Constraint}
-use Rattle.fzn_trail.specs.Levels.{Levels}
-use Rattle.fzn_propagator.specs.Inference.{HasWritableHints}
-use Rattle.fzn_explain.specs.Claims.{IsJustified}
 use Rattle.fzn_builtin.specs.declared.kinds.BuiltinPropagator.{BuiltinPropagator}
-use Rattle.fzn_builtin.specs.declared.narrow.Found.{Found}
 use Rattle.fzn_fixed.specs.Parts.{IsReady}
 
 abbrev pub builtin_number : BuiltinPropagator → ℕ
@@ -17,8 +13,3 @@ BuiltinIsFor propagator constraint = propagator.parts.constraint ≡ constraint
 
 abbrev pub BuiltinFits : BuiltinPropagator → List IntSet → Type 0
 BuiltinFits propagator declared = IsReady (length declared) propagator.parts
-
--- a clause that is false or forces one literal, and from the constraint by the rule with it
-pub record IsFound (trail : Levels) (constraint : Constraint) (found : Found) : Type 0 where
-  pub hints : HasWritableHints found.rule
-  pub justified : IsJustified trail constraint found.rule found.clause

@@ -5,81 +5,74 @@ ghost use Rattle.fzn_meaning.specs.declared.constraint.Constraint.TheVariants as
 ghost use Rattle.fzn_meaning.specs.Term.{IsTerm};
 ghost use Rattle.fzn_rules.specs.declared.rule.Rule.TheVariants as rule;
 ghost use Rattle.fzn_explain.specs.Claims.{IsJustified};
+ghost use Rattle.fzn_equality.specs.Found.{AreFoundOf};
 
 use crate::excluded::Shape;
 use crate::exclusion::infer_ends;
 use fzn_domain::{GREATEST_VALUE, LEAST_VALUE, Lit, Memory};
-use fzn_equality::{SMALL, may_be};
+use fzn_equality::{SMALL, hand_over, may_be};
 use fzn_explain::{Claim, explain};
 use fzn_list::Items;
 use fzn_meaning::Term;
+use fzn_propagator::Findings;
+use fzn_rules::Rule;
 use fzn_sums::{greatest_value, least_value};
 use fzn_trail::Trail;
 use std::alloc::Global;
 
-/// A clause that is false or forces a literal, where the ends or small sets of the two terms show one.
+/// Clauses that are false or force a literal each, where the ends of the two terms show some, else the values of the first, else those of
+/// the second. They go behind what was found.
 pub fn infer_amount(
     alloc: Global,
     trail: &Trail,
+    number: u64,
     of: Term,
     amount: Term,
-) -> Result<Option<Items<Lit>>, Memory>
+    found: &mut Findings,
+) -> Result<(), Memory>
     requires of { IsTerm (length trail.now.declared) of }
     requires amount { IsTerm (length trail.now.declared) amount }
     requires filled { NoneEmpty trail.now.sets }
-    ensures { IfOk result (λ found. IfSome found (IsJustified trail.now (constraint.IntAbs of amount) rule.Rows)) }
+    requires before { AreFoundOf number (constraint.IntAbs of amount) trail.now found.old }
+    ensures { AreFoundOf number (constraint.IntAbs of amount) trail.now found.new }
 {
-    if let Some(found) = infer_ends(alloc, trail, Shape::Amount, of, Term::Constant(0), amount)? {
-        return Ok(Some(found));
+    let before = found.len();
+    infer_ends(
+        alloc,
+        trail,
+        number,
+        Shape::Amount,
+        of,
+        Term::Constant(0),
+        amount,
+        found,
+    )?;
+    if before < found.len() {
+        return Ok(());
     }
-    if let Some(value) = value_without_amount(trail, of, amount) {
-        return other_value_or_amount(alloc, trail, of, amount, value);
+    part_values(alloc, trail, number, of, amount, found)?;
+    if before < found.len() {
+        return Ok(());
     }
-    match amount_of_none(trail, of, amount) {
-        Some(value) => value_or_other_amount(alloc, trail, of, amount, value),
-        None => Ok(None),
-    }
+    part_amounts(alloc, trail, number, of, amount, found)
 }
 
 // ---- what is found
 
-/// A value of the term, where it has few, whose amount the other has not.
-fn value_without_amount(trail: &Trail, of: Term, amount: Term) -> Option<i64>
+/// Whether the first term may be this value, whose amount the other may not be.
+fn is_without_amount(trail: &Trail, of: Term, amount: Term, value: i64) -> bool
     requires of { IsTerm (length trail.now.declared) of }
     requires amount { IsTerm (length trail.now.declared) amount }
-    requires filled { NoneEmpty trail.now.sets }
 {
-    let (low, high) = (least_value(trail, of), greatest_value(trail, of));
-    if high - low >= SMALL {
-        return None;
-    }
-    for value in low..high + 1 {
-        if may_be(trail, of, value) && !may_be(trail, amount, amount_of(value)) {
-            return Some(value);
-        }
-    }
-    None
+    may_be(trail, of, value) && !may_be(trail, amount, amount_of(value))
 }
 
-/// A value of the amount, where it has few, that no value of the other has.
-fn amount_of_none(trail: &Trail, of: Term, amount: Term) -> Option<i64>
+/// Whether the amount may be this value, which no value of the first term has.
+fn is_amount_of_none(trail: &Trail, of: Term, amount: Term, value: i64) -> bool
     requires of { IsTerm (length trail.now.declared) of }
     requires amount { IsTerm (length trail.now.declared) amount }
-    requires filled { NoneEmpty trail.now.sets }
 {
-    let (low, high) = (least_value(trail, amount), greatest_value(trail, amount));
-    if high - low >= SMALL {
-        return None;
-    }
-    for value in low..high + 1 {
-        if may_be(trail, amount, value)
-            && !may_be(trail, of, value)
-            && !may_be(trail, of, opposite(value))
-        {
-            return Some(value);
-        }
-    }
-    None
+    may_be(trail, amount, value) && !may_be(trail, of, value) && !may_be(trail, of, opposite(value))
 }
 
 fn opposite(value: i64) -> i64 {
@@ -88,6 +81,64 @@ fn opposite(value: i64) -> i64 {
 
 fn amount_of(value: i64) -> i64 {
     if value < 0 { opposite(value) } else { value }
+}
+
+// ---- what is handed over
+
+/// The clauses that the first term has not a value whose amount the other has not, where it has few values.
+fn part_values(
+    alloc: Global,
+    trail: &Trail,
+    number: u64,
+    of: Term,
+    amount: Term,
+    found: &mut Findings,
+) -> Result<(), Memory>
+    requires of { IsTerm (length trail.now.declared) of }
+    requires amount { IsTerm (length trail.now.declared) amount }
+    requires filled { NoneEmpty trail.now.sets }
+    requires before { AreFoundOf number (constraint.IntAbs of amount) trail.now found.old }
+    ensures { AreFoundOf number (constraint.IntAbs of amount) trail.now found.new }
+{
+    let (low, high) = (least_value(trail, of), greatest_value(trail, of));
+    if high - low >= SMALL {
+        return Ok(());
+    }
+    for value in low..high + 1 {
+        if is_without_amount(trail, of, amount, value) {
+            let clause = other_value_or_amount(alloc, trail, of, amount, value)?;
+            hand_over(number, Rule::Rows, clause, found)?;
+        }
+    }
+    Ok(())
+}
+
+/// The clauses that the amount is not one that no value of the other term has, where it has few values.
+fn part_amounts(
+    alloc: Global,
+    trail: &Trail,
+    number: u64,
+    of: Term,
+    amount: Term,
+    found: &mut Findings,
+) -> Result<(), Memory>
+    requires of { IsTerm (length trail.now.declared) of }
+    requires amount { IsTerm (length trail.now.declared) amount }
+    requires filled { NoneEmpty trail.now.sets }
+    requires before { AreFoundOf number (constraint.IntAbs of amount) trail.now found.old }
+    ensures { AreFoundOf number (constraint.IntAbs of amount) trail.now found.new }
+{
+    let (low, high) = (least_value(trail, amount), greatest_value(trail, amount));
+    if high - low >= SMALL {
+        return Ok(());
+    }
+    for value in low..high + 1 {
+        if is_amount_of_none(trail, of, amount, value) {
+            let clause = value_or_other_amount(alloc, trail, of, amount, value)?;
+            hand_over(number, Rule::Rows, clause, found)?;
+        }
+    }
+    Ok(())
 }
 
 // ---- what refutes

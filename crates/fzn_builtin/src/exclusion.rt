@@ -1,16 +1,21 @@
 // Products, quotients, remainders and amounts by intervals of their places.
-ghost use Rattle.std.specs.Prelude.{◌<◌, length, IfOk, IfSome};
+ghost use Rattle.std.specs.Prelude.{◌≡◌, length, IfOk, IfSome};
 ghost use Rattle.fzn_domain.specs.Narrow.{NoneEmpty};
 ghost use Rattle.fzn_meaning.specs.Term.{IsTerm};
+ghost use Rattle.fzn_propagator.specs.Inference.{HasWritableHints};
 ghost use Rattle.fzn_explain.specs.Claims.{IsJustified};
+ghost use Rattle.fzn_equality.specs.Found.{AreFoundOf};
 ghost use Rattle.fzn_builtin.specs.Intervals.{shaped, rule_of};
 
 use crate::excluded::{Shape, is_excluded};
 use crate::interval::{Interval, declared_interval_of, interval_of};
 use fzn_domain::{Lit, Memory};
+use fzn_equality::hand_over;
 use fzn_explain::explain;
 use fzn_list::Items;
 use fzn_meaning::Term;
+use fzn_propagator::Findings;
+use fzn_rules::Rule;
 use fzn_trail::Trail;
 use std::alloc::Global;
 
@@ -68,60 +73,75 @@ enum End {
     High,
 }
 
-/// A clause that a place has no value at one end of its interval, from where none meets the constraint.
+/// The clauses that a place has no value at an end of its interval, from where none meets the constraint. They go behind what was found.
 pub fn infer_ends(
     alloc: Global,
     trail: &Trail,
+    number: u64,
     shape: Shape,
     left: Term,
     right: Term,
     of: Term,
-) -> Result<Option<Items<Lit>>, Memory>
+    found: &mut Findings,
+) -> Result<(), Memory>
     requires left { IsTerm (length trail.now.declared) left }
     requires right { IsTerm (length trail.now.declared) right }
     requires of { IsTerm (length trail.now.declared) of }
     requires filled { NoneEmpty trail.now.sets }
-    ensures { IfOk result (λ found. IfSome found (IsJustified trail.now (shaped shape left right of) (rule_of shape))) }
+    requires before { AreFoundOf number (shaped shape left right of) trail.now found.old }
+    ensures { AreFoundOf number (shaped shape left right of) trail.now found.new }
 {
     let now = Intervals {
         left: interval_of(trail, left),
         right: interval_of(trail, right),
         of: interval_of(trail, of),
     };
-    match excluded_in(shape, now) {
-        Some(found) => refute(alloc, trail, shape, left, right, of, found),
-        None => Ok(None),
-    }
+    let all = all_excluded(alloc, shape, now)?;
+    refute_each(
+        alloc,
+        trail,
+        number,
+        shape,
+        left,
+        right,
+        of,
+        all.as_slice(),
+        found,
+    )
 }
 
 // ---- what is found
 
-/// Intervals that are excluded: these, or with one of them cut down to a part at one of its ends.
-fn excluded_in(shape: Shape, now: Intervals) -> Option<Intervals> {
+/// All intervals that are excluded with one of these cut down to a part at one of its ends; or these alone, where they are.
+fn all_excluded(alloc: Global, shape: Shape, now: Intervals) -> Result<Items<Intervals>, Memory> {
+    let mut all = Items::new(alloc);
     if are_excluded(shape, now) {
-        return Some(now);
+        all.push(now)?;
+        return Ok(all);
     }
-    if let Some(found) = excluded_at(shape, now, Place::Left) {
-        return Some(found);
-    }
-    if let Some(found) = excluded_at(shape, now, Place::Right) {
-        return Some(found);
-    }
-    excluded_at(shape, now, Place::Result)
+    add_excluded(shape, now, Place::Left, &mut all)?;
+    add_excluded(shape, now, Place::Right, &mut all)?;
+    add_excluded(shape, now, Place::Result, &mut all)?;
+    Ok(all)
 }
 
-/// The same with the interval of this place cut down.
-fn excluded_at(shape: Shape, now: Intervals, place: Place) -> Option<Intervals> {
+/// Adds the same with the interval of this place cut down.
+fn add_excluded(
+    shape: Shape,
+    now: Intervals,
+    place: Place,
+    all: &mut Items<Intervals>,
+) -> Result<(), Memory> {
     let whole = now.at(place);
     let lowest = moved(now, place, End::High, whole.low);
     if are_excluded(shape, lowest) {
-        return Some(widened(shape, lowest, place, End::High, whole.high));
+        all.push(widened(shape, lowest, place, End::High, whole.high))?;
     }
     let highest = moved(now, place, End::Low, whole.high);
     if are_excluded(shape, highest) {
-        return Some(widened(shape, highest, place, End::Low, whole.low));
+        all.push(widened(shape, highest, place, End::Low, whole.low))?;
     }
-    None
+    Ok(())
 }
 
 /// The intervals, each end moved towards the declared one as far as they are excluded.
@@ -184,34 +204,99 @@ fn are_excluded(shape: Shape, intervals: Intervals) -> bool {
 
 // ---- what refutes
 
-/// The clause that some place has a value outside of its interval, these widened as far as they are excluded. Nothing where they are not.
-fn refute(
+/// The rule by which it follows that intervals of this shape are excluded.
+fn rule_of(shape: Shape) -> Rule
+    ensures rule { result ≡ rule_of shape }
+    ensures hints { HasWritableHints result }
+{
+    match shape {
+        Shape::Product => Rule::Box,
+        Shape::Quotient | Shape::Remainder => Rule::Enum,
+        Shape::Amount => Rule::Rows,
+    }
+}
+
+/// For each of these: the clause that some place has a value outside of its interval.
+fn refute_each(
     alloc: Global,
     trail: &Trail,
+    number: u64,
     shape: Shape,
     left: Term,
     right: Term,
     of: Term,
-    found: Intervals,
-) -> Result<Option<Items<Lit>>, Memory>
+    all: &[Intervals],
+    found: &mut Findings,
+) -> Result<(), Memory>
     requires left { IsTerm (length trail.now.declared) left }
     requires right { IsTerm (length trail.now.declared) right }
     requires of { IsTerm (length trail.now.declared) of }
-    ensures { IfOk result (λ found. IfSome found (IsJustified trail.now (shaped shape left right of) (rule_of shape))) }
+    requires before { AreFoundOf number (shaped shape left right of) trail.now found.old }
+    ensures { AreFoundOf number (shaped shape left right of) trail.now found.new }
+{
+    for k in 0..all.len() {
+        refute(alloc, trail, number, shape, left, right, of, all[k], found)?;
+    }
+    Ok(())
+}
+
+/// The clause that some place has a value outside of its interval, these widened as far as they are excluded. Nothing where they are not.
+fn refute(
+    alloc: Global,
+    trail: &Trail,
+    number: u64,
+    shape: Shape,
+    left: Term,
+    right: Term,
+    of: Term,
+    excluded: Intervals,
+    found: &mut Findings,
+) -> Result<(), Memory>
+    requires left { IsTerm (length trail.now.declared) left }
+    requires right { IsTerm (length trail.now.declared) right }
+    requires of { IsTerm (length trail.now.declared) of }
+    requires before { AreFoundOf number (shaped shape left right of) trail.now found.old }
+    ensures { AreFoundOf number (shaped shape left right of) trail.now found.new }
 {
     let declared = Intervals {
         left: declared_interval_of(trail, left),
         right: declared_interval_of(trail, right),
         of: declared_interval_of(trail, of),
     };
-    let weak = weakened(shape, found, declared);
-    outside_of(
-        alloc, trail, shape, left, right, of, weak.left, weak.right, weak.of,
+    let weak = weakened(shape, excluded, declared);
+    hand_over_outside(
+        alloc, trail, number, shape, left, right, of, weak.left, weak.right, weak.of, found,
     )
 }
 
+/// Puts the clause behind what was found that some place has a value outside of its interval, where these are excluded.
+pub fn hand_over_outside(
+    alloc: Global,
+    trail: &Trail,
+    number: u64,
+    shape: Shape,
+    left: Term,
+    right: Term,
+    of: Term,
+    in_left: Interval,
+    in_right: Interval,
+    in_of: Interval,
+    found: &mut Findings,
+) -> Result<(), Memory>
+    requires left { IsTerm (length trail.now.declared) left }
+    requires right { IsTerm (length trail.now.declared) right }
+    requires of { IsTerm (length trail.now.declared) of }
+    requires before { AreFoundOf number (shaped shape left right of) trail.now found.old }
+    ensures { AreFoundOf number (shaped shape left right of) trail.now found.new }
+{
+    let clause = outside_of(
+        alloc, trail, shape, left, right, of, in_left, in_right, in_of,
+    )?;
+    hand_over(number, rule_of(shape), clause, found)
+}
+
 /// The clause that the left, the right or the third place has a value outside of its interval, where these are excluded.
-pub fn outside_of(
+fn outside_of(
     alloc: Global,
     trail: &Trail,
     shape: Shape,

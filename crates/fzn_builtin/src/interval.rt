@@ -22,6 +22,14 @@ pub struct Interval {
 }
 
 impl Interval {
+    /// This number alone.
+    pub fn only(number: i64) -> Interval {
+        Interval {
+            low: number,
+            high: number,
+        }
+    }
+
     /// What a value outside of it fulfils: it is below, or above; or another than the one number of the interval.
     pub fn outside(self, term: Term) -> (Claim, Claim)
         requires limited { IsLimitedInterval self }

@@ -11,7 +11,7 @@ use crate::narrow::narrow;
 use fzn_domain::Memory;
 use fzn_fixed::{Parts, parts_of, refute_fixed};
 use fzn_meaning::Model;
-use fzn_propagator::{Inference, Propagator};
+use fzn_propagator::{Findings, Inference, Propagator};
 use fzn_rules::Rule;
 use fzn_trail::Trail;
 use std::alloc::Global;
@@ -30,22 +30,20 @@ impl Propagator for BuiltinPropagator {
 
     ghost fits = { BuiltinFits };
 
-    fn propagate(&self, alloc: Global, trail: &Trail) -> Result<Option<Inference>, Memory> {
-        if let Some(found) = narrow(alloc, trail, &self.parts)? {
-            return Ok(Some(Inference {
-                constraint: self.number,
-                rule: found.rule,
-                clause: found.clause,
-            }));
+    fn propagate(&self, alloc: Global, trail: &Trail, found: &mut Findings) -> Result<(), Memory> {
+        narrow(alloc, trail, self.number, &self.parts, found)?;
+        if !found.is_empty() {
+            return Ok(());
         }
         let Some(clause) = refute_fixed(alloc, trail, &self.parts)? else {
-            return Ok(None);
+            return Ok(());
         };
-        Ok(Some(Inference {
+        found.push(Inference {
             constraint: self.number,
             rule: Rule::Fixed,
             clause,
-        }))
+        })?;
+        Ok(())
     }
 }
 

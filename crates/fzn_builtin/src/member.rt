@@ -10,46 +10,56 @@ ghost use Rattle.fzn_meaning.specs.Term.{IsTerm};
 ghost use Rattle.fzn_rules.specs.declared.rule.Rule.TheVariants as rule;
 ghost use Rattle.fzn_sets.specs.Terms.{MayBe};
 ghost use Rattle.fzn_explain.specs.Claims.{IsDenied, IsJustified};
+ghost use Rattle.fzn_equality.specs.Found.{AreFoundOf};
 ghost use Rattle.fzn_builtin.specs.Intervals.{IsLimitedInterval};
 ghost use Rattle.fzn_builtin.specs.Members.{AreAsked, IsNextAsked, NoneAsked, IsSwitchedTo};
 
 use crate::interval::{Interval, interval_of};
 use fzn_domain::{Domain, GREATEST_VALUE, LEAST_VALUE, Lit, Memory};
-use fzn_equality::{SMALL, is_fixed, may_be, never};
+use fzn_equality::{SMALL, hand_over, is_fixed, may_be, never};
 use fzn_explain::{Claim, explain};
 use fzn_list::Items;
 use fzn_meaning::Term;
+use fzn_propagator::Findings;
+use fzn_rules::Rule;
 use fzn_sums::{greatest_value, least_value};
 use fzn_trail::Trail;
 use std::alloc::Global;
 
-/// A clause that is false or forces a literal, where the values of the term or the switch show one.
+/// Clauses that are false or force a literal each, where the values of the term or the switch show some. They go behind what was found.
 pub fn infer_member(
     alloc: Global,
     trail: &Trail,
+    number: u64,
     term: Term,
     set: &Domain,
     switch: Option<Term>,
-) -> Result<Option<Items<Lit>>, Memory>
+    found: &mut Findings,
+) -> Result<(), Memory>
     requires term { IsTerm (length trail.now.declared) term }
     requires switch { IsSwitch (length trail.now.declared) switch }
     requires filled { NoneEmpty trail.now.sets }
-    ensures { IfOk result (λ found. IfSome found (IsJustified trail.now (constraint.SetIn term set.now switch) rule.Rows)) }
+    requires before { AreFoundOf number (constraint.SetIn term set.now switch) trail.now found.old }
+    ensures { AreFoundOf number (constraint.SetIn term set.now switch) trail.now found.new }
 {
     match asked(trail, switch) {
-        Some(within) => match misfit(trail, term, set, within) {
-            Some(interval) => elsewhere(alloc, trail, term, set, switch, within, interval),
-            None => Ok(None),
-        },
+        Some(within) => {
+            let all = misfits(alloc, trail, term, set, within)?;
+            part_each(
+                alloc,
+                trail,
+                number,
+                term,
+                set,
+                switch,
+                within,
+                all.as_slice(),
+                found,
+            )
+        }
         None => {
-            let all = interval_of(trail, term);
-            if are_all(trail, term, set, false) {
-                elsewhere(alloc, trail, term, set, switch, true, all)
-            } else if are_all(trail, term, set, true) {
-                elsewhere(alloc, trail, term, set, switch, false, all)
-            } else {
-                Ok(None)
-            }
+            let clause = switched(alloc, trail, term, set, switch)?;
+            hand_over(number, Rule::Rows, clause, found)
         }
     }
 }
@@ -85,30 +95,56 @@ fn are_all(trail: &Trail, term: Term, set: &Domain, within: bool) -> bool
     true
 }
 
-/// An interval around an end of the term's values, or around one of few values, in which the set has not what is asked for.
-fn misfit(trail: &Trail, term: Term, set: &Domain, within: bool) -> Option<Interval>
+/// The intervals around each end of the term's values, and around each between them where they are few, in which the set has not what is
+/// asked for.
+fn misfits(
+    alloc: Global,
+    trail: &Trail,
+    term: Term,
+    set: &Domain,
+    within: bool,
+) -> Result<Items<Interval>, Memory>
     requires term { IsTerm (length trail.now.declared) term }
     requires filled { NoneEmpty trail.now.sets }
 {
+    let mut all = Items::new(alloc);
     let (low, high) = (least_value(trail, term), greatest_value(trail, term));
+    let mut from = low.saturating_add(1);
+    let mut until = high.saturating_sub(1);
     if set.contains(low) != within {
-        return Some(stretch(set, within, low));
+        let interval = stretch(set, within, low);
+        all.push(interval)?;
+        from = interval.high.saturating_add(1);
     }
-    if set.contains(high) != within {
-        return Some(stretch(set, within, high));
+    if from <= high && set.contains(high) != within {
+        let interval = stretch(set, within, high);
+        all.push(interval)?;
+        until = interval.low.saturating_sub(1);
     }
-    if high - low >= SMALL {
-        return None;
+    if high - low < SMALL {
+        add_misfits(trail, term, set, within, from, until, &mut all)?;
     }
-    for value in low..high {
+    Ok(all)
+}
+
+/// Adds each of the term's values from one number up to another at which the set has not what is asked for.
+fn add_misfits(
+    trail: &Trail,
+    term: Term,
+    set: &Domain,
+    within: bool,
+    from: i64,
+    until: i64,
+    all: &mut Items<Interval>,
+) -> Result<(), Memory>
+    requires term { IsTerm (length trail.now.declared) term }
+{
+    for value in from..until.saturating_add(1) {
         if may_be(trail, term, value) && set.contains(value) != within {
-            return Some(Interval {
-                low: value,
-                high: value,
-            });
+            all.push(Interval::only(value))?;
         }
     }
-    None
+    Ok(())
 }
 
 /// The numbers around a misfit that are misfits too: those up to the next members, or its run of members.
@@ -152,6 +188,53 @@ fn run_start(set: &Domain, value: i64) -> i64
 }
 
 // ---- what refutes
+
+/// For each of these intervals: the clause that the switch says otherwise, or the term has a value elsewhere.
+fn part_each(
+    alloc: Global,
+    trail: &Trail,
+    number: u64,
+    term: Term,
+    set: &Domain,
+    switch: Option<Term>,
+    within: bool,
+    all: &[Interval],
+    found: &mut Findings,
+) -> Result<(), Memory>
+    requires term { IsTerm (length trail.now.declared) term }
+    requires switch { IsSwitch (length trail.now.declared) switch }
+    requires before { AreFoundOf number (constraint.SetIn term set.now switch) trail.now found.old }
+    ensures { AreFoundOf number (constraint.SetIn term set.now switch) trail.now found.new }
+{
+    for k in 0..all.len() {
+        let clause = elsewhere(alloc, trail, term, set, switch, within, all[k])?;
+        hand_over(number, Rule::Rows, clause, found)?;
+    }
+    Ok(())
+}
+
+/// The clause that the switch says whether the term is a member, where all of its values are, or none is.
+fn switched(
+    alloc: Global,
+    trail: &Trail,
+    term: Term,
+    set: &Domain,
+    switch: Option<Term>,
+) -> Result<Option<Items<Lit>>, Memory>
+    requires term { IsTerm (length trail.now.declared) term }
+    requires switch { IsSwitch (length trail.now.declared) switch }
+    requires filled { NoneEmpty trail.now.sets }
+    ensures { IfOk result (λ found. IfSome found (IsJustified trail.now (constraint.SetIn term set.now switch) rule.Rows)) }
+{
+    let all = interval_of(trail, term);
+    if are_all(trail, term, set, false) {
+        elsewhere(alloc, trail, term, set, switch, true, all)
+    } else if are_all(trail, term, set, true) {
+        elsewhere(alloc, trail, term, set, switch, false, all)
+    } else {
+        Ok(None)
+    }
+}
 
 /// The clause that the switch says otherwise, or the term has a value outside of the interval or one of the few in it that are asked for.
 fn elsewhere(

@@ -1,63 +1,105 @@
 // Quotients and remainders of few pairs: by the rule `enum`.
-ghost use Rattle.std.specs.Prelude.{length, IfOk, IfSome};
+ghost use Rattle.std.specs.Prelude.{length};
 ghost use Rattle.fzn_domain.specs.Narrow.{NoneEmpty};
 ghost use Rattle.fzn_meaning.specs.Term.{IsTerm};
-ghost use Rattle.fzn_explain.specs.Claims.{IsJustified};
-ghost use Rattle.fzn_builtin.specs.Intervals.{IsLimitedInterval, shaped, rule_of};
+ghost use Rattle.fzn_equality.specs.Found.{AreFoundOf};
+ghost use Rattle.fzn_builtin.specs.Intervals.{IsLimitedInterval, shaped};
 
 use crate::excluded::{Shape, are_few};
-use crate::exclusion::{infer_ends, outside_of};
+use crate::exclusion::{hand_over_outside, infer_ends};
 use crate::interval::{Interval, interval_of};
 use fzn_domain::{Domain, GREATEST_VALUE, LEAST_VALUE, Lit, Memory, Op, VarId};
 use fzn_equality::SMALL;
 use fzn_fixed::{Outcome, of_operation};
 use fzn_list::Items;
 use fzn_meaning::{Operation, Term};
+use fzn_propagator::Findings;
 use fzn_sums::{greatest_value, least_value};
 use fzn_trail::Trail;
 use std::alloc::Global;
 
-/// A clause that is false or forces a literal, where the ends of the places show one, or a value of the result that no pair gives.
+/// Clauses that are false or force a literal each, where the ends of the places show some, else where values of the result are given by no
+/// pair. They go behind what was found.
 pub fn infer_quotient(
     alloc: Global,
     trail: &Trail,
+    number: u64,
     shape: Shape,
     left: Term,
     right: Term,
     of: Term,
-) -> Result<Option<Items<Lit>>, Memory>
+    found: &mut Findings,
+) -> Result<(), Memory>
     requires left { IsTerm (length trail.now.declared) left }
     requires right { IsTerm (length trail.now.declared) right }
     requires of { IsTerm (length trail.now.declared) of }
     requires filled { NoneEmpty trail.now.sets }
-    ensures { IfOk result (λ found. IfSome found (IsJustified trail.now (shaped shape left right of) (rule_of shape))) }
+    requires before { AreFoundOf number (shaped shape left right of) trail.now found.old }
+    ensures { AreFoundOf number (shaped shape left right of) trail.now found.new }
 {
     let (dividends, divisors) = (interval_of(trail, left), interval_of(trail, right));
     if !are_pairs_few(dividends, divisors)
         && !is_last_open(dividends, divisors, interval_of(trail, of))
     {
-        return Ok(None);
+        return Ok(());
     }
-    if let Some(found) = infer_ends(alloc, trail, shape, left, right, of)? {
-        return Ok(Some(found));
+    let before = found.len();
+    infer_ends(alloc, trail, number, shape, left, right, of, found)?;
+    if before < found.len() {
+        return Ok(());
     }
-    match value_of_none(trail, shape, dividends, divisors, of)? {
-        Some(value) => outside_of(
+    let values = values_of_none(alloc, trail, shape, dividends, divisors, of)?;
+    part_values(
+        alloc,
+        trail,
+        number,
+        shape,
+        left,
+        right,
+        of,
+        dividends,
+        divisors,
+        values.as_slice(),
+        found,
+    )
+}
+
+/// For each of these values: the clause that the result has another, or one of the others a value outside of its interval.
+fn part_values(
+    alloc: Global,
+    trail: &Trail,
+    number: u64,
+    shape: Shape,
+    left: Term,
+    right: Term,
+    of: Term,
+    dividends: Interval,
+    divisors: Interval,
+    values: &[i64],
+    found: &mut Findings,
+) -> Result<(), Memory>
+    requires left { IsTerm (length trail.now.declared) left }
+    requires right { IsTerm (length trail.now.declared) right }
+    requires of { IsTerm (length trail.now.declared) of }
+    requires before { AreFoundOf number (shaped shape left right of) trail.now found.old }
+    ensures { AreFoundOf number (shaped shape left right of) trail.now found.new }
+{
+    for k in 0..values.len() {
+        hand_over_outside(
             alloc,
             trail,
+            number,
             shape,
             left,
             right,
             of,
             dividends,
             divisors,
-            Interval {
-                low: value,
-                high: value,
-            },
-        ),
-        None => Ok(None),
+            Interval::only(values[k]),
+            found,
+        )?;
     }
+    Ok(())
 }
 
 /// Whether there are at most 4,096 pairs.
@@ -73,35 +115,51 @@ fn is_last_open(left: Interval, right: Interval, of: Interval) -> bool {
     }
 }
 
-/// A value of the result, where it and the pairs are few, that no pair gives.
-fn value_of_none(
+/// The values of the result, where it and the pairs are few, that no pair gives: so many that the pairs which rule them out are about as few.
+fn values_of_none(
+    alloc: Global,
     trail: &Trail,
     shape: Shape,
     left: Interval,
     right: Interval,
     of: Term,
-) -> Result<Option<i64>, Memory>
+) -> Result<Items<i64>, Memory>
     requires of { IsTerm (length trail.now.declared) of }
     requires filled { NoneEmpty trail.now.sets }
 {
+    let mut values = Items::new(alloc);
     let Term::Variable(var) = of else {
-        return Ok(None);
+        return Ok(values);
     };
     let (low, high) = (least_value(trail, of), greatest_value(trail, of));
     if high - low >= SMALL || !left.is_limited() || !right.is_limited() || !are_few(left, right) {
-        return Ok(None);
+        return Ok(values);
     }
     let mut rest = trail.domain(var).copy()?;
     for number in left.low..left.high + 1 {
         take_given(operation_of(shape), number, right, var, &mut rest)?;
         if rest.is_empty() {
-            return Ok(None);
+            return Ok(values);
         }
     }
-    if rest.is_empty() {
-        return Ok(None);
+    let mut passed = i64::MIN;
+    for _ in 0..values_a_pass(left, right) {
+        let Some(value) = rest.above(passed) else {
+            return Ok(values);
+        };
+        values.push(value)?;
+        passed = value;
     }
-    Ok(Some(rest.min()))
+    Ok(values)
+}
+
+/// How many values are ruled out in one pass at most, by all pairs each.
+fn values_a_pass(left: Interval, right: Interval) -> i64
+    requires left { IsLimitedInterval left }
+    requires right { IsLimitedInterval right }
+{
+    let pairs = (left.high - left.low + 1).saturating_mul(right.high - right.low + 1);
+    if pairs < 1 { 1 } else { (SMALL / pairs).max(1) }
 }
 
 /// Takes what this number gives with those of the interval out of the set.

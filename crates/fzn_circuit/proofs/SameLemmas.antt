@@ -1,19 +1,27 @@
 -- When no two successors are the same.
-use Rattle.std.proofs.Common.{◌≡◌, ◌≢◌, ℕ, ◌<◌, List, length, get_or, ap, sym, subst, ◌∙◌, arith, false, ℤ, pos, All}
+use Rattle.std.proofs.Common.{◌≡◌, ◌≢◌, ℕ, ◌<◌, List, [], ◌∷◌, length, get_or, ap, sym, subst, ◌∙◌, arith, false, ℤ, pos, All}
 use Rattle.std.proofs.lemmas.Int.{ints}
 use Rattle.std.proofs.lemmas.List.{get_or_default}
-use Rattle.std.proofs.lemmas.List.Elements.{All-get_or}
+use Rattle.std.proofs.lemmas.List.Elements.{All-get_or, All-cons, All-nil}
 use Rattle.std.specs.Ordering.{int_eq}
 use Rattle.fzn_domain.specs.IntSet.{IntSet}
+use Rattle.fzn_domain.specs.Limits.{IsInLimits}
 use Rattle.fzn_domain.specs.Narrow.{IsWithin, AllFixed}
 use Rattle.fzn_meaning.specs.declared.term.Term.{Term}
 use Rattle.fzn_meaning.specs.declared.term.Term.TheVariants.{Constant}
 use Rattle.fzn_meaning.specs.Term.{IsTerm, term_value, values_of}
 use Rattle.fzn_meaning.proofs.CallerLemmas.{length-values_of, get_or-values_of}
+use Rattle.fzn_rules.specs.declared.rule.Rule.TheVariants.{Hall}
+use Rattle.fzn_propagator.specs.Inference.{IsHint, HasWritableHints}
 use Rattle.fzn_sets.proofs.CallerLemmas.{MayBe-term_value}
 use Rattle.fzn_sets.specs.Terms.{IsFixedTo, least_value}
 use Rattle.fzn_terms.proofs.LawLemmas.{fixed_to}
 use Rattle.fzn_circuit.specs.Circuits.{AreApart, AreDifferent, HasOpen, owner_of}
+
+pub hall_hints : (v : ℤ) → IsInLimits v → HasWritableHints (Hall v v)
+hall_hints v limits =
+    let hint : IsHint v = (omega (arith, ints, limits.0), omega (arith, ints, limits.1)) in
+    All-cons IsHint v (v ∷ []) hint (All-cons IsHint v [] hint (All-nil IsHint))
 
 int_eq_of : (x y : ℤ) → y ≡ x → int_eq y x ≡ false → ⊥
 int_eq_of x y e h = grind (arith, ints)

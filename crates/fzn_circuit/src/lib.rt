@@ -1,6 +1,6 @@
 //! The propagator of a circuit.
 //!
-//! In: a circuit of a model, then a trail. Out: an inference, or none, by the law of the trait `Propagator`. Each call `explain_..` is for
+//! In: a circuit of a model, then a trail. Out: inferences, or none, by the law of the trait `Propagator`. Each call `explain_..` is for
 //! one place, two places, one way through fixed successors, or places that lead only to one another: it fills a clause, which is an
 //! inference of its rule where it says so. Proved against `specs/Circuits.antt` and `specs/Closed.antt`, and `Denied` of `fzn_terms`: what
 //! holds of the sets on which a clause is denied.
@@ -12,6 +12,7 @@ pub use propagator::{CircuitPropagator, propagator_of};
 
 mod circuit;
 mod closed;
+mod found;
 mod propagator;
 mod same;
 mod walk;

@@ -1,27 +1,29 @@
-// The propagator of a circuit: the first of its clauses; and which constraint gets one.
-ghost use Rattle.std.specs.Prelude.{◌≡◌, ◌-◌, ◌<◌, ◌≤◌, pos, List, length, IfOk, IfSome, IfNone, MatchBool, slice_index_or};
+// The propagator of a circuit: the clauses of the first kind of which there are any; and which constraint gets one.
+ghost use Rattle.std.specs.Prelude.{◌≡◌, ◌+◌, ◌-◌, ◌<◌, ◌≤◌, pos, List, [], length, IfOk, IfSome, IfNone, OnOk, slice_index_or};
+ghost use Rattle.fzn_domain.specs.declared.literal.Op.TheVariants as op;
 ghost use Rattle.fzn_domain.specs.Narrow.{NoneEmpty};
 ghost use Rattle.fzn_meaning.specs.declared.constraint.Constraint.{Constraint};
 ghost use Rattle.fzn_meaning.specs.declared.constraint.Constraint.TheVariants as constraint;
 ghost use Rattle.fzn_meaning.specs.declared.term.Term.{Term};
+ghost use Rattle.fzn_meaning.specs.Entries.{IsIndex};
 ghost use Rattle.fzn_meaning.specs.Meaning.{AreTerms};
 ghost use Rattle.fzn_meaning.specs.Solutions.{declared_sets};
 ghost use Rattle.fzn_meaning.specs.WellFormed.{IsWellFormed};
-ghost use Rattle.fzn_propagator.specs.Inference.{HasWritableHints};
-ghost use Rattle.fzn_rules.specs.declared.rule.Rule.TheVariants as rule;
-ghost use Rattle.fzn_terms.specs.Denied.{IsInferred};
-ghost use Rattle.fzn_circuit.specs.Propagator.{circuit_number, CircuitIsFor, CircuitFits};
+ghost use Rattle.fzn_propagator.specs.Inference.{AreExhausted};
+ghost use Rattle.fzn_terms.specs.Denied.{NoneIs};
+ghost use Rattle.fzn_circuit.specs.Propagator.{circuit_number, CircuitIsFor, CircuitFits, AreOfCircuit};
 ghost use Rattle.fzn_circuit.specs.Circuits.{AreInside, HasNoShortWay};
 
 use crate::circuit::{explain_above, explain_below, explain_cut};
 use crate::closed::explain_closed;
-use crate::same::{first_same, has_open};
+use crate::found::hand_over;
+use crate::same::{find_same, has_open};
 use crate::walk::closed_places;
-use crate::ways::first_start;
-use fzn_domain::{Lit, Memory};
+use crate::ways::starts_of;
+use fzn_domain::Memory;
 use fzn_list::{Items, Shared};
 use fzn_meaning::{Constraint, Model, Term};
-use fzn_propagator::{Inference, Propagator};
+use fzn_propagator::{Findings, Propagator};
 use fzn_rules::Rule;
 use fzn_trail::Trail;
 use std::alloc::Global;
@@ -40,43 +42,8 @@ impl Propagator for CircuitPropagator {
 
     ghost fits = { CircuitFits };
 
-    fn propagate(&self, alloc: Global, trail: &Trail) -> Result<Option<Inference>, Memory> {
-        let successors = self.successors.as_slice();
-        let constraint = self.number;
-        let mut clause = Items::new(alloc);
-        if first_outside(trail, successors, &mut clause)? {
-            let rule = Rule::Rows;
-            return Ok(Some(Inference {
-                constraint,
-                rule,
-                clause,
-            }));
-        }
-        if let Some(value) = first_same(alloc, trail, successors, &mut clause)? {
-            let rule = Rule::Hall(value, value);
-            return Ok(Some(Inference {
-                constraint,
-                rule,
-                clause,
-            }));
-        }
-        if let Some(places) = first_cut(alloc, trail, successors, &mut clause)? {
-            let rule = Rule::Cut(places);
-            return Ok(Some(Inference {
-                constraint,
-                rule,
-                clause,
-            }));
-        }
-        if let Some(places) = first_closed(alloc, trail, successors, &mut clause)? {
-            let rule = Rule::Cut(places);
-            return Ok(Some(Inference {
-                constraint,
-                rule,
-                clause,
-            }));
-        }
-        Ok(None)
+    fn propagate(&self, alloc: Global, trail: &Trail, found: &mut Findings) -> Result<(), Memory> {
+        find_all(alloc, trail, self.number, self.successors.as_slice(), found)
     }
 }
 
@@ -107,68 +74,174 @@ fn propagator_for(number: u64, given: &Constraint) -> Result<Option<CircuitPropa
     }
 }
 
-/// The first clause that a successor is a place.
-fn first_outside(
+/// Finds all of the first kind of which there is anything to be found.
+fn find_all(
+    alloc: Global,
     trail: &Trail,
+    number: u64,
     successors: &[Term],
-    clause: &mut Items<Lit>,
-) -> Result<bool, Memory>
+    found: &mut Findings,
+) -> Result<(), Memory>
     requires terms { AreTerms (length trail.now.declared) successors.now }
     requires filled { NoneEmpty trail.now.sets }
-    ensures { IfOk result (λ found. MatchBool found (IsInferred trail.now (constraint.Circuit successors.now) rule.Rows clause.new) (AreInside trail.now.sets successors.now)) }
+    requires before { AreOfCircuit number successors.now trail.now found.old }
+    ensures found { AreOfCircuit number successors.now trail.now found.new }
+    ensures none { OnOk result (found.new ≡ [] → AreExhausted (λ given. constraint.Circuit successors.now ≡ given) trail.now) }
+{
+    find_outside(alloc, trail, number, successors, found)?;
+    if !found.is_empty() {
+        return Ok(());
+    }
+    find_same(alloc, trail, number, successors, found)?;
+    if !found.is_empty() {
+        return Ok(());
+    }
+    find_cuts(alloc, trail, number, successors, found)?;
+    if !found.is_empty() {
+        return Ok(());
+    }
+    find_closed(alloc, trail, number, successors, found)
+}
+
+/// Finds for each successor that it is a place.
+fn find_outside(
+    alloc: Global,
+    trail: &Trail,
+    number: u64,
+    successors: &[Term],
+    found: &mut Findings,
+) -> Result<(), Memory>
+    requires terms { AreTerms (length trail.now.declared) successors.now }
+    requires filled { NoneEmpty trail.now.sets }
+    requires before { AreOfCircuit number successors.now trail.now found.old }
+    ensures found { AreOfCircuit number successors.now trail.now found.new }
+    ensures none { OnOk result (found.new ≡ [] → AreInside trail.now.sets successors.now) }
 {
     for k in 0..successors.len() {
-        if explain_below(trail, successors, k, clause)? {
-            return Ok(true);
-        }
-        if explain_above(trail, successors, k, clause)? {
-            return Ok(true);
-        }
+        find_below(alloc, trail, number, successors, k, found)?;
+        find_above(alloc, trail, number, successors, k, found)?;
     }
-    Ok(false)
+    Ok(())
 }
 
-/// The first clause that a way does not come back too soon, with its places.
-fn first_cut(
+/// Finds that the successor at place k, counted from 0, is at least 1.
+fn find_below(
     alloc: Global,
     trail: &Trail,
+    number: u64,
     successors: &[Term],
-    clause: &mut Items<Lit>,
-) -> Result<Option<Items<i64>>, Memory>
+    k: usize,
+    found: &mut Findings,
+) -> Result<(), Memory>
     requires terms { AreTerms (length trail.now.declared) successors.now }
     requires filled { NoneEmpty trail.now.sets }
-    ensures found { IfOk result (λ found. IfSome found (λ places. IsInferred trail.now (constraint.Circuit successors.now) (rule.Cut places) clause.new)) }
-    ensures hints { IfOk result (λ found. IfSome found (λ places. HasWritableHints (rule.Cut places))) }
-    ensures none { IfOk result (λ found. IfNone found (0 < length successors.now → HasNoShortWay trail.now.sets successors.now (pos 1))) }
+    requires place { k < length successors.now }
+    requires before { AreOfCircuit number successors.now trail.now found.old }
+    ensures found { AreOfCircuit number successors.now trail.now found.new }
+    ensures kept { OnOk result (found.new ≡ [] → found.old ≡ []) }
+    ensures none { OnOk result (found.new ≡ [] → (default : Term) → NoneIs op.AtMost (pos 0) (slice_index_or successors.now k default) trail.now.sets) }
 {
-    if let Some(start) = first_start(alloc, trail, successors)? {
-        if let Some(places) = explain_cut(alloc, trail, successors, start, clause)? {
-            return Ok(Some(places));
-        }
+    let mut below = Items::new(alloc);
+    if explain_below(trail, successors, k, &mut below)? {
+        hand_over(trail, number, successors, Rule::Rows, below, found)?;
+    }
+    Ok(())
+}
+
+/// Finds that the successor at place k, counted from 0, is no more than there are.
+fn find_above(
+    alloc: Global,
+    trail: &Trail,
+    number: u64,
+    successors: &[Term],
+    k: usize,
+    found: &mut Findings,
+) -> Result<(), Memory>
+    requires terms { AreTerms (length trail.now.declared) successors.now }
+    requires filled { NoneEmpty trail.now.sets }
+    requires place { k < length successors.now }
+    requires before { AreOfCircuit number successors.now trail.now found.old }
+    ensures found { AreOfCircuit number successors.now trail.now found.new }
+    ensures kept { OnOk result (found.new ≡ [] → found.old ≡ []) }
+    ensures none { OnOk result (found.new ≡ [] → (default : Term) → NoneIs op.AtLeast (pos (length successors.now + 1)) (slice_index_or successors.now k default) trail.now.sets) }
+{
+    let mut above = Items::new(alloc);
+    if explain_above(trail, successors, k, &mut above)? {
+        hand_over(trail, number, successors, Rule::Rows, above, found)?;
+    }
+    Ok(())
+}
+
+/// Finds for each way through fixed successors that it does not come back too soon.
+fn find_cuts(
+    alloc: Global,
+    trail: &Trail,
+    number: u64,
+    successors: &[Term],
+    found: &mut Findings,
+) -> Result<(), Memory>
+    requires terms { AreTerms (length trail.now.declared) successors.now }
+    requires filled { NoneEmpty trail.now.sets }
+    requires before { AreOfCircuit number successors.now trail.now found.old }
+    ensures found { AreOfCircuit number successors.now trail.now found.new }
+    ensures none { OnOk result (found.new ≡ [] → 0 < length successors.now → HasNoShortWay trail.now.sets successors.now (pos 1)) }
+{
+    let list = starts_of(alloc, trail, successors)?;
+    let starts = list.as_slice();
+    for k in 0..starts.len() {
+        find_cut(alloc, trail, number, successors, starts[k], found)?;
+    }
+    if !found.is_empty() {
+        return Ok(());
     }
     if successors.is_empty() || has_open(trail, successors) {
-        return Ok(None);
+        return Ok(());
     }
-    explain_cut(alloc, trail, successors, 1, clause)
+    find_cut(alloc, trail, number, successors, 1, found)
 }
 
-/// The clause that places which lead only to one another do not, with these places.
-fn first_closed(
+/// Finds that the way from the start through fixed successors does not come back before it has been at all places.
+fn find_cut(
     alloc: Global,
     trail: &Trail,
+    number: u64,
     successors: &[Term],
-    clause: &mut Items<Lit>,
-) -> Result<Option<Items<i64>>, Memory>
+    start: i64,
+    found: &mut Findings,
+) -> Result<(), Memory>
     requires terms { AreTerms (length trail.now.declared) successors.now }
     requires filled { NoneEmpty trail.now.sets }
-    ensures found { IfOk result (λ found. IfSome found (λ places. IsInferred trail.now (constraint.Circuit successors.now) (rule.Cut places) clause.new)) }
-    ensures hints { IfOk result (λ found. IfSome found (λ places. HasWritableHints (rule.Cut places))) }
+    requires start { IsIndex (length successors.now) start }
+    requires before { AreOfCircuit number successors.now trail.now found.old }
+    ensures found { AreOfCircuit number successors.now trail.now found.new }
+    ensures none { OnOk result (found.new ≡ [] → HasNoShortWay trail.now.sets successors.now start) }
+{
+    let mut clause = Items::new(alloc);
+    if let Some(places) = explain_cut(alloc, trail, successors, start, &mut clause)? {
+        hand_over(trail, number, successors, Rule::Cut(places), clause, found)?;
+    }
+    Ok(())
+}
+
+/// Finds that places which lead only to one another do not.
+fn find_closed(
+    alloc: Global,
+    trail: &Trail,
+    number: u64,
+    successors: &[Term],
+    found: &mut Findings,
+) -> Result<(), Memory>
+    requires terms { AreTerms (length trail.now.declared) successors.now }
+    requires filled { NoneEmpty trail.now.sets }
+    requires before { AreOfCircuit number successors.now trail.now found.old }
+    ensures { AreOfCircuit number successors.now trail.now found.new }
 {
     let Some(places) = closed_places(alloc, trail, successors)? else {
-        return Ok(None);
+        return Ok(());
     };
-    if explain_closed(trail, successors, places.as_slice(), clause)? {
-        return Ok(Some(places));
+    let mut clause = Items::new(alloc);
+    if explain_closed(trail, successors, places.as_slice(), &mut clause)? {
+        hand_over(trail, number, successors, Rule::Cut(places), clause, found)?;
     }
-    Ok(None)
+    Ok(())
 }

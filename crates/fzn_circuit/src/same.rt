@@ -1,5 +1,5 @@
 // Two successors that are the same: by the rule `hall`.
-ghost use Rattle.std.specs.Prelude.{◌≡◌, ◌≢◌, ◌<◌, ℕ, length, IsTrue, IfOk, IfSome, IfNone, MatchBool, slice_index_or};
+ghost use Rattle.std.specs.Prelude.{◌≡◌, ◌≢◌, ◌<◌, ℕ, [], length, IsTrue, IfOk, IfSome, IfNone, OnOk, MatchBool, slice_index_or};
 ghost use Rattle.fzn_domain.specs.Limits.{IsInLimits};
 ghost use Rattle.fzn_domain.specs.Narrow.{NoneEmpty};
 ghost use Rattle.fzn_domain.specs.declared.literal.Op.TheVariants as op;
@@ -11,40 +11,46 @@ ghost use Rattle.fzn_rules.specs.declared.rule.Rule.TheVariants as rule;
 ghost use Rattle.fzn_sets.specs.Terms.{IsFixedTo};
 ghost use Rattle.fzn_terms.specs.Denied.{NoneIs, IsInferred};
 ghost use Rattle.fzn_circuit.specs.Circuits.{AreApart, AreDifferent, HasOpen, owner_of};
+ghost use Rattle.fzn_circuit.specs.Propagator.{AreOfCircuit};
 
 use crate::circuit::explain_same;
+use crate::found::hand_over;
 use fzn_domain::{Lit, Memory};
 use fzn_list::Items;
 use fzn_meaning::Term;
+use fzn_propagator::Findings;
+use fzn_rules::Rule;
 use fzn_sums::{greatest_value, least_value};
 use fzn_terms::{may_be, next_value};
 use fzn_trail::Trail;
 use std::alloc::Global;
 
-/// The first clause that two successors are not the same, with their value.
-pub(crate) fn first_same(
+/// Finds for each successor that has one value since the last level began that no other has it.
+pub(crate) fn find_same(
     alloc: Global,
     trail: &Trail,
+    number: u64,
     successors: &[Term],
-    clause: &mut Items<Lit>,
-) -> Result<Option<i64>, Memory>
+    found: &mut Findings,
+) -> Result<(), Memory>
     requires terms { AreTerms (length trail.now.declared) successors.now }
     requires filled { NoneEmpty trail.now.sets }
-    ensures found { IfOk result (λ found. IfSome found (λ value. IsInferred trail.now (constraint.Circuit successors.now) (rule.Hall value value) clause.new)) }
-    ensures limits { IfOk result (λ found. IfSome found IsInLimits) }
-    ensures none { IfOk result (λ found. IfNone found (AreDifferent trail.now.sets successors.now)) }
+    requires before { AreOfCircuit number successors.now trail.now found.old }
+    ensures found { AreOfCircuit number successors.now trail.now found.new }
+    ensures none { OnOk result (found.new ≡ [] → AreDifferent trail.now.sets successors.now) }
 {
-    if let Some(value) = some_same(alloc, trail, successors, clause)? {
-        return Ok(Some(value));
+    find_new(alloc, trail, number, successors, found)?;
+    if !found.is_empty() {
+        return Ok(());
     }
     if has_open(trail, successors) {
-        return Ok(None);
+        return Ok(());
     }
     let owners = owners_of(alloc, trail, successors)?;
     if are_owned(trail, successors, &owners) {
-        return Ok(None);
+        return Ok(());
     }
-    first_compared(trail, successors, clause) // Not reached: two places with one successor were found.
+    find_any(alloc, trail, number, successors, found) // Not reached: two places with one successor were found.
 }
 
 /// How many entries of the trail stood when its last level began: what these say has been told, since a level begins only where no
@@ -89,120 +95,138 @@ fn fixed_of(alloc: Global, trail: &Trail, successors: &[Term]) -> Result<Vec<usi
 /// Up to how many places the successor of each is compared with all others.
 const FEW: usize = 8;
 
-/// A clause that two successors are not the same, with their value. Only successors that have one value since the last level began are
-/// compared with others.
-fn some_same(
+/// Finds the same, but promises nothing where it finds nothing.
+fn find_new(
     alloc: Global,
     trail: &Trail,
+    number: u64,
     successors: &[Term],
-    clause: &mut Items<Lit>,
-) -> Result<Option<i64>, Memory>
+    found: &mut Findings,
+) -> Result<(), Memory>
     requires terms { AreTerms (length trail.now.declared) successors.now }
     requires filled { NoneEmpty trail.now.sets }
-    ensures found { IfOk result (λ found. IfSome found (λ value. IsInferred trail.now (constraint.Circuit successors.now) (rule.Hall value value) clause.new)) }
-    ensures limits { IfOk result (λ found. IfSome found IsInLimits) }
+    requires before { AreOfCircuit number successors.now trail.now found.old }
+    ensures { AreOfCircuit number successors.now trail.now found.new }
 {
     let fixed = fixed_of(alloc, trail, successors)?;
     if FEW < fixed.len() {
         let owners = owners_of(alloc, trail, successors)?;
-        return first_owned(trail, successors, &owners, clause);
+        return find_owned(alloc, trail, number, successors, &owners, found);
     }
     for k in 0..fixed.len() {
-        if let Some(value) = first_like(trail, successors, fixed[k], clause)? {
-            return Ok(Some(value));
-        }
+        find_like(alloc, trail, number, successors, fixed[k], found)?;
     }
-    Ok(None)
+    Ok(())
 }
 
-/// The first clause that a successor is not the same as the one at place i, where there is one, with their value.
-fn first_like(
+/// Finds for each successor that it is not the same as the one at place i, where there is one and it may be.
+fn find_like(
+    alloc: Global,
     trail: &Trail,
+    number: u64,
     successors: &[Term],
     i: usize,
-    clause: &mut Items<Lit>,
-) -> Result<Option<i64>, Memory>
+    found: &mut Findings,
+) -> Result<(), Memory>
     requires terms { AreTerms (length trail.now.declared) successors.now }
     requires filled { NoneEmpty trail.now.sets }
-    ensures found { IfOk result (λ found. IfSome found (λ value. IsInferred trail.now (constraint.Circuit successors.now) (rule.Hall value value) clause.new)) }
-    ensures limits { IfOk result (λ found. IfSome found IsInLimits) }
+    requires before { AreOfCircuit number successors.now trail.now found.old }
+    ensures { AreOfCircuit number successors.now trail.now found.new }
 {
     if i >= successors.len() {
-        return Ok(None);
+        return Ok(());
     }
     let value = least_value(trail, successors[i]);
     for j in 0..successors.len() {
         if j != i && may_be(trail, successors[j], &value) {
-            if let Some(value) = from_pair(trail, successors, i, j, clause)? {
-                return Ok(Some(value));
-            }
+            find_pair(alloc, trail, number, successors, i, j, found)?;
         }
     }
-    Ok(None)
+    Ok(())
 }
 
-/// The clause that the successor at place j is not the one value of that at place i, where it is an inference, with this value.
-fn from_pair(
+/// Finds that the successor at place j is not the one value of that at place i, where it has one.
+fn find_pair(
+    alloc: Global,
     trail: &Trail,
+    number: u64,
     successors: &[Term],
     i: usize,
     j: usize,
-    clause: &mut Items<Lit>,
-) -> Result<Option<i64>, Memory>
+    found: &mut Findings,
+) -> Result<(), Memory>
     requires terms { AreTerms (length trail.now.declared) successors.now }
     requires filled { NoneEmpty trail.now.sets }
-    ensures found { IfOk result (λ found. IfSome found (λ value. IsInferred trail.now (constraint.Circuit successors.now) (rule.Hall value value) clause.new)) }
-    ensures limits { IfOk result (λ found. IfSome found IsInLimits) }
+    requires before { AreOfCircuit number successors.now trail.now found.old }
+    ensures { AreOfCircuit number successors.now trail.now found.new }
 {
     if i >= successors.len() || j >= successors.len() || j == i {
-        return Ok(None);
+        return Ok(());
     }
     let value = least_value(trail, successors[i]);
     if greatest_value(trail, successors[i]) == value {
-        if explain_same(trail, successors, i, j, value, clause)? {
-            return Ok(Some(value));
+        let mut clause = Items::new(alloc);
+        if explain_same(trail, successors, i, j, value, &mut clause)? {
+            hand_over(
+                trail,
+                number,
+                successors,
+                Rule::Hall(value, value),
+                clause,
+                found,
+            )?;
         }
     }
-    Ok(None)
+    Ok(())
 }
 
-/// The first clause that a successor is not the one value of another, with this value, by places that have the values. About as many
-/// steps as all successors have values.
-fn first_owned(
+/// Finds for each successor that it is not the one value of another, by places that have the values. About as many steps as all successors
+/// have values.
+fn find_owned(
+    alloc: Global,
     trail: &Trail,
+    number: u64,
     successors: &[Term],
     owners: &[usize],
-    clause: &mut Items<Lit>,
-) -> Result<Option<i64>, Memory>
+    found: &mut Findings,
+) -> Result<(), Memory>
     requires terms { AreTerms (length trail.now.declared) successors.now }
     requires filled { NoneEmpty trail.now.sets }
-    ensures found { IfOk result (λ found. IfSome found (λ value. IsInferred trail.now (constraint.Circuit successors.now) (rule.Hall value value) clause.new)) }
-    ensures limits { IfOk result (λ found. IfSome found IsInLimits) }
+    requires before { AreOfCircuit number successors.now trail.now found.old }
+    ensures { AreOfCircuit number successors.now trail.now found.new }
 {
     for j in 0..successors.len() {
-        if let Some(i) = owner_among(trail, successors[j], owners, j) {
-            if let Some(value) = from_pair(trail, successors, i, j, clause)? {
-                return Ok(Some(value));
-            }
-        }
+        find_owners(alloc, trail, number, successors, owners, j, found)?;
     }
-    Ok(None)
+    Ok(())
 }
 
-/// A place, other than this one, that has one of the values of the term.
-fn owner_among(trail: &Trail, term: Term, owners: &[usize], except: usize) -> Option<usize>
-    requires { IsTerm (length trail.now.declared) term }
+/// Finds that the successor at place j has none of the values that other places have.
+fn find_owners(
+    alloc: Global,
+    trail: &Trail,
+    number: u64,
+    successors: &[Term],
+    owners: &[usize],
+    j: usize,
+    found: &mut Findings,
+) -> Result<(), Memory>
+    requires terms { AreTerms (length trail.now.declared) successors.now }
+    requires filled { NoneEmpty trail.now.sets }
+    requires place { j < length successors.now }
+    requires before { AreOfCircuit number successors.now trail.now found.old }
+    ensures { AreOfCircuit number successors.now trail.now found.new }
 {
     let mut upto = 0;
     for _ in 0..owners.len() {
-        let value = next_value(trail, term, &upto)?;
+        let Some(value) = next_value(trail, successors[j], &upto) else {
+            return Ok(());
+        };
         let owner = owner_of(owners, &value);
-        if owner != except && owner < owners.len() {
-            return Some(owner);
-        }
+        find_pair(alloc, trail, number, successors, owner, j, found)?;
         upto = value;
     }
-    None
+    Ok(())
 }
 
 /// A place, counted from 0, whose successor has each number, from 0, as its one value; `usize::MAX` where there is none.
@@ -259,6 +283,34 @@ pub(crate) fn has_open(trail: &Trail, successors: &[Term]) -> bool
         }
     }
     false
+}
+
+/// Finds that two successors are not the same, where each is compared with all others.
+fn find_any(
+    alloc: Global,
+    trail: &Trail,
+    number: u64,
+    successors: &[Term],
+    found: &mut Findings,
+) -> Result<(), Memory>
+    requires terms { AreTerms (length trail.now.declared) successors.now }
+    requires filled { NoneEmpty trail.now.sets }
+    requires before { AreOfCircuit number successors.now trail.now found.old }
+    ensures found { AreOfCircuit number successors.now trail.now found.new }
+    ensures none { OnOk result (found.new ≡ [] → AreDifferent trail.now.sets successors.now) }
+{
+    let mut clause = Items::new(alloc);
+    if let Some(value) = first_compared(trail, successors, &mut clause)? {
+        hand_over(
+            trail,
+            number,
+            successors,
+            Rule::Hall(value, value),
+            clause,
+            found,
+        )?;
+    }
+    Ok(())
 }
 
 /// The first clause that two successors are not the same, each compared with all others, with their value.

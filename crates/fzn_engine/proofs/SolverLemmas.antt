@@ -323,7 +323,7 @@ module _ (model : Model) (old : Solver) (before : List Step) (h : IsAfter model 
   pub stacked-state : IsAfter model stacked before
   stacked-state = record {
     watching = h.watching;
-    state = State-stacked model old.learn (stock_of old) before old.trail old.search.nodes h.state it (record { over = is.over; numbered = is.numbered; justified = is.justified; spelled = is.spelled; written = tt });
+    state = State-stacked model old.learn (stock_of old) before old.trail old.search.nodes h.state it (record { over = is.stands.over; numbered = is.stands.numbered; justified = is.stands.justified; spelled = is.stands.spelled; written = tt });
     scratch = h.scratch;
     vars = h.vars;
     found_is = h.found_is;
@@ -349,7 +349,7 @@ module _ (model : Model) (old : Solver) (before : List Step) (h : IsAfter model 
         let sizes : length old.trail.declared ≡ length model.vars = ap length h.state.core.declared ∙ length-map model.vars (λ var. var.domain) in
         let O : ℕ → Type 0 = λ n. IsClauseOver n inference.clause in
         let C : List Lit → Type 0 = λ c. IsClauseOver (length old.trail.declared) c in
-        subst C (sym clause_in) (subst O (sym sizes) is.over)
+        subst C (sym clause_in) (subst O (sym sizes) is.stands.over)
 
     forces_there : IsFalseOrUnit old.trail.sets (clause_of (known_in (stock_of stacked)) (Stacked place))
     forces_there = let C : List Lit → Type 0 = λ c. IsFalseOrUnit old.trail.sets c in subst C (sym clause_in) is.forces

@@ -2,5 +2,6 @@ pub mod CallerLemmas
 mod ElementLemmas
 mod EqualityLemmas
 mod ExtremumLemmas
+mod FoundLemmas
 mod ListLemmas
 mod SharedLemmas

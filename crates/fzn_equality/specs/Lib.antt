@@ -1,3 +1,4 @@
 pub mod Equality
+pub mod Found
 pub mod Rows
 pub mod Shared

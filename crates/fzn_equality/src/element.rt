@@ -8,129 +8,107 @@ ghost use Rattle.fzn_meaning.specs.Term.{IsTerm};
 ghost use Rattle.fzn_rules.specs.declared.rule.Rule.TheVariants as rule;
 ghost use Rattle.fzn_domain.specs.IntSet.{IntSet};
 ghost use Rattle.fzn_explain.specs.Claims.{IsDenied, IsJustified};
+ghost use Rattle.fzn_equality.specs.Found.{AreFoundOf};
 ghost use Rattle.fzn_equality.specs.Rows.{IsRuledOut, LeavesNoIndex};
 
+use crate::found::hand_over;
 use crate::shared::{share_none, shared_values};
 use crate::terms::{
-    Bound, SMALL, apart, claim_of, is_fixed, is_never, may_be, narrowing, take_out,
+    Bound, SMALL, apart, claim_of, is_fixed, is_never, may_be, narrowings, other_than_each,
+    take_out,
 };
 use fzn_domain::{Lit, Memory, Op};
 use fzn_explain::{Claim, explain};
 use fzn_list::Items;
 use fzn_meaning::Term;
+use fzn_propagator::Findings;
+use fzn_rules::Rule;
 use fzn_sums::{greatest_value, least_value};
 use fzn_trail::Trail;
 use std::alloc::Global;
 
-/// A clause that is false or forces a literal, where the ends and small sets of the places show one.
+/// Clauses that are false or force a literal each, where the ends and small sets of the places show some. They go behind what was found.
+/// What shows one ends the pass: that the index may lie outside of the list, an entry and the result that have no value in common, an end
+/// of the result, or a value of it. Where the index leads to one place, all that is left to show is that the entry there is the result.
 pub fn infer_element(
+    alloc: Global,
+    trail: &Trail,
+    number: u64,
+    index: Term,
+    entries: &[Term],
+    value: Term,
+    found: &mut Findings,
+) -> Result<(), Memory>
+    requires index { IsTerm (length trail.now.declared) index }
+    requires entries { All (IsTerm (length trail.now.declared)) entries.now }
+    requires short { length entries.now ≤ 100000 }
+    requires value { IsTerm (length trail.now.declared) value }
+    requires filled { NoneEmpty trail.now.sets }
+    requires before { AreFoundOf number (constraint.Element index entries.now value) trail.now found.old }
+    ensures { AreFoundOf number (constraint.Element index entries.now value) trail.now found.new }
+{
+    let before = found.len();
+    hold_index(alloc, trail, number, index, entries, value, found)?;
+    if before < found.len() {
+        return Ok(());
+    }
+    if is_fixed(trail, index) {
+        return equate_entry(alloc, trail, number, index, entries, value, found);
+    }
+    part_entries(alloc, trail, number, index, entries, value, found)?;
+    if before < found.len() {
+        return Ok(());
+    }
+    let ends = ends_of_all(alloc, trail, index, entries, value)?;
+    bound_value(
+        alloc,
+        trail,
+        number,
+        index,
+        entries,
+        value,
+        ends.as_slice(),
+        found,
+    )?;
+    if before < found.len() {
+        return Ok(());
+    }
+    let others = values_of_none(alloc, trail, index, entries, value)?;
+    bound_value(
+        alloc,
+        trail,
+        number,
+        index,
+        entries,
+        value,
+        others.as_slice(),
+        found,
+    )
+}
+
+// ---- what is found
+
+/// Whether the index may lie before the list, or behind it.
+fn is_outside(trail: &Trail, index: Term, count: usize, at_start: bool) -> bool
+    requires index { IsTerm (length trail.now.declared) index }
+    requires filled { NoneEmpty trail.now.sets }
+    requires short { count ≤ 100000 }
+{
+    if at_start {
+        least_value(trail, index) < 1
+    } else {
+        greatest_value(trail, index) > count as i64
+    }
+}
+
+/// The greatest and the least value of the entries to which the index may lead, where the result may be beyond it.
+fn ends_of_all(
     alloc: Global,
     trail: &Trail,
     index: Term,
     entries: &[Term],
     value: Term,
-) -> Result<Option<Items<Lit>>, Memory>
-    requires index { IsTerm (length trail.now.declared) index }
-    requires entries { All (IsTerm (length trail.now.declared)) entries.now }
-    requires short { length entries.now ≤ 100000 }
-    requires value { IsTerm (length trail.now.declared) value }
-    requires filled { NoneEmpty trail.now.sets }
-    ensures { IfOk result (λ found. IfSome found (IsJustified trail.now (constraint.Element index entries.now value) rule.Rows)) }
-{
-    if let Some(at_start) = outside(trail, index, entries.len()) {
-        return index_within(alloc, trail, index, entries, value, at_start);
-    }
-    if let Some((place, bound)) = part_at(trail, index, entries, value) {
-        return index_or_apart(
-            alloc,
-            trail,
-            index,
-            entries,
-            value,
-            place,
-            claim_of(value, bound),
-        );
-    }
-    if let Some(place) = parted_at(trail, index, entries, value) {
-        return index_or_shared(alloc, trail, index, entries, value, place, entries[place]);
-    }
-    if let Some(bound) = end_of_all(trail, index, entries, value) {
-        return value_or_entries(alloc, trail, index, entries, value, claim_of(value, bound));
-    }
-    match value_of_none(trail, index, entries, value)? {
-        Some(bound) => value_or_entries(
-            alloc,
-            trail,
-            index,
-            entries,
-            value,
-            claim_of(value, bound),
-        ),
-        None => Ok(None),
-    }
-}
-
-// ---- what is found
-
-/// Whether the index may lie before the list, else whether behind it.
-fn outside(trail: &Trail, index: Term, count: usize) -> Option<bool>
-    requires index { IsTerm (length trail.now.declared) index }
-    requires filled { NoneEmpty trail.now.sets }
-    requires short { count ≤ 100000 }
-{
-    if least_value(trail, index) < 1 {
-        Some(true)
-    } else if greatest_value(trail, index) > count as i64 {
-        Some(false)
-    } else {
-        None
-    }
-}
-
-/// A place, from 0, to which the index may lead and whose entry has no value in common with the result; or the only place to which it
-/// leads, where entry and result narrow each other.
-fn part_at(trail: &Trail, index: Term, entries: &[Term], value: Term) -> Option<(usize, Bound)>
-    requires index { IsTerm (length trail.now.declared) index }
-    requires entries { All (IsTerm (length trail.now.declared)) entries.now }
-    requires short { length entries.now ≤ 100000 }
-    requires value { IsTerm (length trail.now.declared) value }
-    requires filled { NoneEmpty trail.now.sets }
-    ensures { IfSome result (λ found. found.0 < length entries.now) }
-{
-    let alone = is_fixed(trail, index);
-    for k in 0..entries.len() {
-        if may_be(trail, index, k as i64 + 1) {
-            let bound = if alone {
-                narrowing(trail, value, entries[k])
-            } else {
-                apart(trail, value, entries[k])
-            };
-            if let Some(bound) = bound {
-                return Some((k, bound));
-            }
-        }
-    }
-    None
-}
-
-/// A place, from 0, to which the index may lead and whose entry shares no value with the result, though the ends of both overlap.
-fn parted_at(trail: &Trail, index: Term, entries: &[Term], value: Term) -> Option<usize>
-    requires index { IsTerm (length trail.now.declared) index }
-    requires entries { All (IsTerm (length trail.now.declared)) entries.now }
-    requires short { length entries.now ≤ 100000 }
-    requires value { IsTerm (length trail.now.declared) value }
-    ensures { IfSome result (λ place. place < length entries.now) }
-{
-    for k in 0..entries.len() {
-        if may_be(trail, index, k as i64 + 1) && share_none(trail, entries[k], value) {
-            return Some(k);
-        }
-    }
-    None
-}
-
-/// The greatest, else the least value of the entries to which the index may lead, where the result may be beyond it.
-fn end_of_all(trail: &Trail, index: Term, entries: &[Term], value: Term) -> Option<Bound>
+) -> Result<Items<Bound>, Memory>
     requires index { IsTerm (length trail.now.declared) index }
     requires entries { All (IsTerm (length trail.now.declared)) entries.now }
     requires short { length entries.now ≤ 100000 }
@@ -145,22 +123,24 @@ fn end_of_all(trail: &Trail, index: Term, entries: &[Term], value: Term) -> Opti
             greatest = greatest.max(greatest_value(trail, entries[k]));
         }
     }
+    let mut ends = Items::new(alloc);
     if greatest < greatest_value(trail, value) {
-        Some((Op::AtMost, greatest))
-    } else if least_value(trail, value) < least {
-        Some((Op::AtLeast, least))
-    } else {
-        None
+        ends.push((Op::AtMost, greatest))?;
     }
+    if least_value(trail, value) < least {
+        ends.push((Op::AtLeast, least))?;
+    }
+    Ok(ends)
 }
 
-/// A value of the result, where it has few, that no entry has to which the index may lead.
-fn value_of_none(
+/// That the result is another than each of its values, where it has few, that no entry has to which the index may lead.
+fn values_of_none(
+    alloc: Global,
     trail: &Trail,
     index: Term,
     entries: &[Term],
     value: Term,
-) -> Result<Option<Bound>, Memory>
+) -> Result<Items<Bound>, Memory>
     requires index { IsTerm (length trail.now.declared) index }
     requires entries { All (IsTerm (length trail.now.declared)) entries.now }
     requires short { length entries.now ≤ 100000 }
@@ -168,30 +148,169 @@ fn value_of_none(
     requires filled { NoneEmpty trail.now.sets }
 {
     let Term::Variable(var) = value else {
-        return Ok(None);
+        return Ok(Items::new(alloc));
     };
     let (low, high) = (least_value(trail, value), greatest_value(trail, value));
     if high - low >= SMALL {
-        return Ok(None);
+        return Ok(Items::new(alloc));
     }
     let mut left = trail.domain(var).copy()?;
     for k in 0..entries.len() {
         if may_be(trail, index, k as i64 + 1) {
             take_out(trail, entries[k], low, high, var, &mut left)?;
             if left.is_empty() {
-                return Ok(None);
+                return Ok(Items::new(alloc));
             }
         }
     }
-    if left.is_empty() {
-        return Ok(None);
+    other_than_each(alloc, &left)
+}
+
+// ---- what is handed over
+
+/// The clauses that the index lies within the list, at its beginning and at its end, where it may lie outside.
+fn hold_index(
+    alloc: Global,
+    trail: &Trail,
+    number: u64,
+    index: Term,
+    entries: &[Term],
+    value: Term,
+    found: &mut Findings,
+) -> Result<(), Memory>
+    requires index { IsTerm (length trail.now.declared) index }
+    requires short { length entries.now ≤ 100000 }
+    requires filled { NoneEmpty trail.now.sets }
+    requires before { AreFoundOf number (constraint.Element index entries.now value) trail.now found.old }
+    ensures { AreFoundOf number (constraint.Element index entries.now value) trail.now found.new }
+{
+    let from_start = index_within(alloc, trail, index, entries, value, true)?;
+    hand_over(number, Rule::Rows, from_start, found)?;
+    let up_to_end = index_within(alloc, trail, index, entries, value, false)?;
+    hand_over(number, Rule::Rows, up_to_end, found)
+}
+
+/// Where the index leads to one place: what the entry there and the result have to be, since the other is.
+fn equate_entry(
+    alloc: Global,
+    trail: &Trail,
+    number: u64,
+    index: Term,
+    entries: &[Term],
+    value: Term,
+    found: &mut Findings,
+) -> Result<(), Memory>
+    requires index { IsTerm (length trail.now.declared) index }
+    requires entries { All (IsTerm (length trail.now.declared)) entries.now }
+    requires short { length entries.now ≤ 100000 }
+    requires value { IsTerm (length trail.now.declared) value }
+    requires filled { NoneEmpty trail.now.sets }
+    requires before { AreFoundOf number (constraint.Element index entries.now value) trail.now found.old }
+    ensures { AreFoundOf number (constraint.Element index entries.now value) trail.now found.new }
+{
+    let first = least_value(trail, index);
+    if first < 1 || first > entries.len() as i64 {
+        return Ok(());
     }
-    Ok(Some((Op::NotEqual, left.min())))
+    let place = first as usize - 1;
+    let bounds = narrowings(alloc, trail, value, entries[place])?;
+    for k in 0..bounds.len() {
+        let claim = claim_of(value, bounds.as_slice()[k]);
+        let clause = index_or_apart(alloc, trail, index, entries, value, place, claim)?;
+        hand_over(number, Rule::Rows, clause, found)?;
+    }
+    Ok(())
+}
+
+/// For each place to which the index may lead and whose entry has no value in common with the result: the clause that it leads elsewhere,
+/// or they share one.
+fn part_entries(
+    alloc: Global,
+    trail: &Trail,
+    number: u64,
+    index: Term,
+    entries: &[Term],
+    value: Term,
+    found: &mut Findings,
+) -> Result<(), Memory>
+    requires index { IsTerm (length trail.now.declared) index }
+    requires entries { All (IsTerm (length trail.now.declared)) entries.now }
+    requires short { length entries.now ≤ 100000 }
+    requires value { IsTerm (length trail.now.declared) value }
+    requires filled { NoneEmpty trail.now.sets }
+    requires before { AreFoundOf number (constraint.Element index entries.now value) trail.now found.old }
+    ensures { AreFoundOf number (constraint.Element index entries.now value) trail.now found.new }
+{
+    for k in 0..entries.len() {
+        if may_be(trail, index, k as i64 + 1) {
+            part_entry(alloc, trail, number, index, entries, value, k, found)?;
+        }
+    }
+    Ok(())
+}
+
+/// The same of one place, by the ends or the one value of one of the two, else by all that both may be.
+fn part_entry(
+    alloc: Global,
+    trail: &Trail,
+    number: u64,
+    index: Term,
+    entries: &[Term],
+    value: Term,
+    place: usize,
+    found: &mut Findings,
+) -> Result<(), Memory>
+    requires index { IsTerm (length trail.now.declared) index }
+    requires entries { All (IsTerm (length trail.now.declared)) entries.now }
+    requires short { length entries.now ≤ 100000 }
+    requires value { IsTerm (length trail.now.declared) value }
+    requires filled { NoneEmpty trail.now.sets }
+    requires place { place < length entries.now }
+    requires before { AreFoundOf number (constraint.Element index entries.now value) trail.now found.old }
+    ensures { AreFoundOf number (constraint.Element index entries.now value) trail.now found.new }
+{
+    if let Some(bound) = apart(trail, value, entries[place]) {
+        let claim = claim_of(value, bound);
+        let clause = index_or_apart(alloc, trail, index, entries, value, place, claim)?;
+        return hand_over(number, Rule::Rows, clause, found);
+    }
+    if share_none(trail, entries[place], value) {
+        let clause = index_or_shared(alloc, trail, index, entries, value, place, entries[place])?;
+        return hand_over(number, Rule::Rows, clause, found);
+    }
+    Ok(())
+}
+
+/// For each of these: the clause that the result stands so to the number, or the index leads to an entry that does not.
+fn bound_value(
+    alloc: Global,
+    trail: &Trail,
+    number: u64,
+    index: Term,
+    entries: &[Term],
+    value: Term,
+    bounds: &[Bound],
+    found: &mut Findings,
+) -> Result<(), Memory>
+    requires index { IsTerm (length trail.now.declared) index }
+    requires entries { All (IsTerm (length trail.now.declared)) entries.now }
+    requires short { length entries.now ≤ 100000 }
+    requires value { IsTerm (length trail.now.declared) value }
+    requires filled { NoneEmpty trail.now.sets }
+    requires before { AreFoundOf number (constraint.Element index entries.now value) trail.now found.old }
+    ensures { AreFoundOf number (constraint.Element index entries.now value) trail.now found.new }
+{
+    for k in 0..bounds.len() {
+        let claim = claim_of(value, bounds[k]);
+        let clause = value_or_entries(alloc, trail, index, entries, value, claim)?;
+        hand_over(number, Rule::Rows, clause, found)?;
+    }
+    Ok(())
 }
 
 // ---- what refutes
 
-/// The clause that the index lies within the list, at its beginning or at its end.
+/// The clause that the index lies within the list, at its beginning or at its end, where it may lie outside there.
 fn index_within(
     alloc: Global,
     trail: &Trail,
@@ -202,8 +321,12 @@ fn index_within(
 ) -> Result<Option<Items<Lit>>, Memory>
     requires index { IsTerm (length trail.now.declared) index }
     requires short { length entries.now ≤ 100000 }
+    requires filled { NoneEmpty trail.now.sets }
     ensures { IfOk result (λ found. IfSome found (IsJustified trail.now (constraint.Element index entries.now value) rule.Rows)) }
 {
+    if !is_outside(trail, index, entries.len(), at_start) {
+        return Ok(None);
+    }
     explain(alloc, trail, &[within(index, entries.len(), at_start)])
 }
 

@@ -9,77 +9,174 @@ ghost use Rattle.fzn_sets.specs.Terms.{least_value, greatest_value};
 ghost use Rattle.fzn_builtin_rules.specs.Rows.{Passes};
 ghost use Rattle.fzn_rules.specs.declared.rule.Rule.TheVariants as rule;
 ghost use Rattle.fzn_explain.specs.Claims.{IsJustified};
+ghost use Rattle.fzn_equality.specs.Found.{AreFoundOf};
 
-use crate::terms::{Bound, SMALL, claim_of, take_out};
+use crate::found::hand_over;
+use crate::terms::{Bound, SMALL, claim_of, other_than_each, take_out};
 use fzn_domain::{Lit, Memory, Op};
 use fzn_explain::{Claim, explain};
 use fzn_list::Items;
 use fzn_meaning::{Extreme, Term};
+use fzn_propagator::Findings;
+use fzn_rules::Rule;
 use fzn_sums::{greatest_value, least_value};
 use fzn_trail::Trail;
 use std::alloc::Global;
 
-/// A clause that is false or forces a literal, where the ends and small sets of the places show one.
+/// Clauses that are false or force a literal each, where the ends and small sets of the places show some. They go behind what was found.
+/// The values of the result are looked at only where the ends show nothing.
 pub fn infer_extremum(
     alloc: Global,
     trail: &Trail,
+    number: u64,
     extreme: Extreme,
     entries: &[Term],
     of: Term,
-) -> Result<Option<Items<Lit>>, Memory>
+    found: &mut Findings,
+) -> Result<(), Memory>
     requires entries { All (IsTerm (length trail.now.declared)) entries.now }
     requires of { IsTerm (length trail.now.declared) of }
     requires filled { NoneEmpty trail.now.sets }
-    ensures { IfOk result (λ found. IfSome found (IsJustified trail.now (constraint.Extremum extreme entries.now of) rule.Rows)) }
+    requires before { AreFoundOf number (constraint.Extremum extreme entries.now of) trail.now found.old }
+    ensures { AreFoundOf number (constraint.Extremum extreme entries.now of) trail.now found.new }
 {
-    if let Some((place, number)) = passing(trail, extreme, entries, of) {
-        return entry_or_extremum(alloc, trail, extreme, entries, of, place, number);
+    let before = found.len();
+    hold_extremum(alloc, trail, number, extreme, entries, of, found)?;
+    let (ends, is_passed) = ends_of_all(alloc, trail, extreme, entries, of)?;
+    if is_passed {
+        hold_entries(alloc, trail, number, extreme, entries, of, found)?;
     }
-    let bound = match extreme {
-        Extreme::Greatest => end_of_greatest(trail, entries, of),
-        Extreme::Least => end_of_least(trail, entries, of),
-    };
-    if let Some(bound) = bound {
-        return extremum_or_entries(alloc, trail, extreme, entries, of, claim_of(of, bound));
+    bound_extremum(
+        alloc,
+        trail,
+        number,
+        extreme,
+        entries,
+        of,
+        ends.as_slice(),
+        found,
+    )?;
+    if before < found.len() {
+        return Ok(());
     }
-    match value_of_none(trail, entries, of)? {
-        Some(bound) => {
-            extremum_or_entries(alloc, trail, extreme, entries, of, claim_of(of, bound))
-        }
-        None => Ok(None),
-    }
+    let others = values_of_none(alloc, trail, entries, of)?;
+    bound_extremum(
+        alloc,
+        trail,
+        number,
+        extreme,
+        entries,
+        of,
+        others.as_slice(),
+        found,
+    )
 }
 
 // ---- what is found
 
-/// The place of an entry that the result has to be beyond, or that has to be within the result's last value, and the first number that
-/// the entry may not pass.
-fn passing(trail: &Trail, extreme: Extreme, entries: &[Term], of: Term) -> Option<(usize, i64)>
+/// The place of the entry that the result has to be beyond, so far that each other one follows, and the first number that the entry may
+/// not pass.
+fn foremost(trail: &Trail, extreme: Extreme, entries: &[Term], of: Term) -> Option<(usize, i64)>
     requires entries { All (IsTerm (length trail.now.declared)) entries.now }
     requires of { IsTerm (length trail.now.declared) of }
     requires filled { NoneEmpty trail.now.sets }
     ensures place { IfSome result (λ found. found.0 < length entries.now) }
     ensures number { IfSome result (λ found. (negsuc 1000000000 ≤ℤ found.1) × (found.1 ≤ℤ pos 1000000001)) }
 {
-    let (low, high) = (least_value(trail, of), greatest_value(trail, of));
-    for k in 0..entries.len() {
-        let (least, greatest) = (
-            least_value(trail, entries[k]),
-            greatest_value(trail, entries[k]),
-        );
-        match extreme {
-            Extreme::Greatest if low < least => return Some((k, least)),
-            Extreme::Greatest if high < greatest => return Some((k, high + 1)),
-            Extreme::Least if greatest < high => return Some((k, greatest + 1)),
-            Extreme::Least if least < low => return Some((k, low)),
-            _ => {}
-        }
+    match extreme {
+        Extreme::Greatest => greatest_least(trail, entries, least_value(trail, of)),
+        Extreme::Least => least_greatest(trail, entries, greatest_value(trail, of)),
     }
-    None
 }
 
-/// What the greatest entry is at most; or the value below which it is not, where one entry alone may have such a value.
-fn end_of_greatest(trail: &Trail, entries: &[Term], of: Term) -> Option<Bound>
+/// The place of the entry whose least value is the greatest one, and that value, where it is greater than the number.
+fn greatest_least(trail: &Trail, entries: &[Term], low: i64) -> Option<(usize, i64)>
+    requires entries { All (IsTerm (length trail.now.declared)) entries.now }
+    requires filled { NoneEmpty trail.now.sets }
+    ensures place { IfSome result (λ found. found.0 < length entries.now) }
+    ensures number { IfSome result (λ found. (negsuc 1000000000 ≤ℤ found.1) × (found.1 ≤ℤ pos 1000000001)) }
+{
+    let mut found = None;
+    let mut passed = low;
+    for k in 0..entries.len() {
+        let least = least_value(trail, entries[k]);
+        if passed < least {
+            passed = least;
+            found = Some((k, least));
+        }
+    }
+    found
+}
+
+/// The place of the entry whose greatest value is the least one, and the number above that value, where it is less than the number.
+fn least_greatest(trail: &Trail, entries: &[Term], high: i64) -> Option<(usize, i64)>
+    requires entries { All (IsTerm (length trail.now.declared)) entries.now }
+    requires filled { NoneEmpty trail.now.sets }
+    ensures place { IfSome result (λ found. found.0 < length entries.now) }
+    ensures number { IfSome result (λ found. (negsuc 1000000000 ≤ℤ found.1) × (found.1 ≤ℤ pos 1000000001)) }
+{
+    let mut found = None;
+    let mut passed = high;
+    for k in 0..entries.len() {
+        let greatest = greatest_value(trail, entries[k]);
+        if greatest < passed {
+            passed = greatest;
+            found = Some((k, greatest + 1));
+        }
+    }
+    found
+}
+
+/// The first number that no entry may pass, by the result's last value.
+fn first_beyond(trail: &Trail, extreme: Extreme, of: Term) -> i64
+    requires of { IsTerm (length trail.now.declared) of }
+    requires filled { NoneEmpty trail.now.sets }
+    ensures least { negsuc 1000000000 ≤ℤ result }
+    ensures greatest { result ≤ℤ pos 1000000001 }
+{
+    match extreme {
+        Extreme::Greatest => greatest_value(trail, of) + 1,
+        Extreme::Least => least_value(trail, of),
+    }
+}
+
+/// Whether an entry may have a value that passes the number.
+fn may_pass(trail: &Trail, extreme: Extreme, entry: Term, number: i64) -> bool
+    requires entry { IsTerm (length trail.now.declared) entry }
+    requires filled { NoneEmpty trail.now.sets }
+{
+    match extreme {
+        Extreme::Greatest => number <= greatest_value(trail, entry),
+        Extreme::Least => least_value(trail, entry) < number,
+    }
+}
+
+/// What the result is at most or at least by all entries, and by the one that alone may be it; and whether an entry may pass its last value.
+fn ends_of_all(
+    alloc: Global,
+    trail: &Trail,
+    extreme: Extreme,
+    entries: &[Term],
+    of: Term,
+) -> Result<(Items<Bound>, bool), Memory>
+    requires entries { All (IsTerm (length trail.now.declared)) entries.now }
+    requires of { IsTerm (length trail.now.declared) of }
+    requires filled { NoneEmpty trail.now.sets }
+{
+    match extreme {
+        Extreme::Greatest => ends_of_greatest(alloc, trail, entries, of),
+        Extreme::Least => ends_of_least(alloc, trail, entries, of),
+    }
+}
+
+/// What the greatest entry is at most; and the value below which it is not, where one entry alone may have such a value. Whether an entry
+/// may be greater than the result.
+fn ends_of_greatest(
+    alloc: Global,
+    trail: &Trail,
+    entries: &[Term],
+    of: Term,
+) -> Result<(Items<Bound>, bool), Memory>
     requires entries { All (IsTerm (length trail.now.declared)) entries.now }
     requires of { IsTerm (length trail.now.declared) of }
     requires filled { NoneEmpty trail.now.sets }
@@ -96,17 +193,27 @@ fn end_of_greatest(trail: &Trail, entries: &[Term], of: Term) -> Option<Bound>
             alone = Some(least_value(trail, *entry));
         }
     }
+    let mut ends = Items::new(alloc);
     if all < high {
-        return Some((Op::AtMost, all));
+        ends.push((Op::AtMost, all))?;
     }
-    match alone {
-        Some(least) if !several && least < low => Some((Op::AtMost, low - 1)),
-        _ => None,
+    if let Some(least) = alone
+        && !several
+        && least < low
+    {
+        ends.push((Op::AtMost, low - 1))?;
     }
+    Ok((ends, high < all))
 }
 
-/// What the least entry is at least; or the value above which it is not, where one entry alone may have such a value.
-fn end_of_least(trail: &Trail, entries: &[Term], of: Term) -> Option<Bound>
+/// What the least entry is at least; and the value above which it is not, where one entry alone may have such a value. Whether an entry may
+/// be less than the result.
+fn ends_of_least(
+    alloc: Global,
+    trail: &Trail,
+    entries: &[Term],
+    of: Term,
+) -> Result<(Items<Bound>, bool), Memory>
     requires entries { All (IsTerm (length trail.now.declared)) entries.now }
     requires of { IsTerm (length trail.now.declared) of }
     requires filled { NoneEmpty trail.now.sets }
@@ -123,39 +230,120 @@ fn end_of_least(trail: &Trail, entries: &[Term], of: Term) -> Option<Bound>
             alone = Some(greatest_value(trail, *entry));
         }
     }
+    let mut ends = Items::new(alloc);
     if low < all {
-        return Some((Op::AtLeast, all));
+        ends.push((Op::AtLeast, all))?;
     }
-    match alone {
-        Some(greatest) if !several && high < greatest => Some((Op::AtLeast, high + 1)),
-        _ => None,
+    if let Some(greatest) = alone
+        && !several
+        && high < greatest
+    {
+        ends.push((Op::AtLeast, high + 1))?;
     }
+    Ok((ends, all < low))
 }
 
-/// A value of the result, where it has few, that no entry has.
-fn value_of_none(trail: &Trail, entries: &[Term], of: Term) -> Result<Option<Bound>, Memory>
+/// That the result is another than each of its values, where it has few, that no entry has.
+fn values_of_none(
+    alloc: Global,
+    trail: &Trail,
+    entries: &[Term],
+    of: Term,
+) -> Result<Items<Bound>, Memory>
     requires entries { All (IsTerm (length trail.now.declared)) entries.now }
     requires of { IsTerm (length trail.now.declared) of }
     requires filled { NoneEmpty trail.now.sets }
 {
     let Term::Variable(var) = of else {
-        return Ok(None);
+        return Ok(Items::new(alloc));
     };
     let (low, high) = (least_value(trail, of), greatest_value(trail, of));
     if high - low >= SMALL {
-        return Ok(None);
+        return Ok(Items::new(alloc));
     }
     let mut left = trail.domain(var).copy()?;
     for entry in entries {
         take_out(trail, *entry, low, high, var, &mut left)?;
         if left.is_empty() {
-            return Ok(None);
+            return Ok(Items::new(alloc));
         }
     }
-    if left.is_empty() {
-        return Ok(None);
+    other_than_each(alloc, &left)
+}
+
+// ---- what is handed over
+
+/// The clause that the result is beyond the entry from which each other one follows, where it may be short of it.
+fn hold_extremum(
+    alloc: Global,
+    trail: &Trail,
+    number: u64,
+    extreme: Extreme,
+    entries: &[Term],
+    of: Term,
+    found: &mut Findings,
+) -> Result<(), Memory>
+    requires entries { All (IsTerm (length trail.now.declared)) entries.now }
+    requires of { IsTerm (length trail.now.declared) of }
+    requires filled { NoneEmpty trail.now.sets }
+    requires before { AreFoundOf number (constraint.Extremum extreme entries.now of) trail.now found.old }
+    ensures { AreFoundOf number (constraint.Extremum extreme entries.now of) trail.now found.new }
+{
+    let Some((place, bound)) = foremost(trail, extreme, entries, of) else {
+        return Ok(());
+    };
+    let clause = entry_or_extremum(alloc, trail, extreme, entries, of, place, bound)?;
+    hand_over(number, Rule::Rows, clause, found)
+}
+
+/// The clauses that each entry is within the result's last value, where it may be beyond.
+fn hold_entries(
+    alloc: Global,
+    trail: &Trail,
+    number: u64,
+    extreme: Extreme,
+    entries: &[Term],
+    of: Term,
+    found: &mut Findings,
+) -> Result<(), Memory>
+    requires entries { All (IsTerm (length trail.now.declared)) entries.now }
+    requires of { IsTerm (length trail.now.declared) of }
+    requires filled { NoneEmpty trail.now.sets }
+    requires before { AreFoundOf number (constraint.Extremum extreme entries.now of) trail.now found.old }
+    ensures { AreFoundOf number (constraint.Extremum extreme entries.now of) trail.now found.new }
+{
+    let bound = first_beyond(trail, extreme, of);
+    for k in 0..entries.len() {
+        if may_pass(trail, extreme, entries[k], bound) {
+            let clause = entry_or_extremum(alloc, trail, extreme, entries, of, k, bound)?;
+            hand_over(number, Rule::Rows, clause, found)?;
+        }
     }
-    Ok(Some((Op::NotEqual, left.min())))
+    Ok(())
+}
+
+/// For each of these: the clause that the result stands so to the number, or an entry does not.
+fn bound_extremum(
+    alloc: Global,
+    trail: &Trail,
+    number: u64,
+    extreme: Extreme,
+    entries: &[Term],
+    of: Term,
+    bounds: &[Bound],
+    found: &mut Findings,
+) -> Result<(), Memory>
+    requires entries { All (IsTerm (length trail.now.declared)) entries.now }
+    requires of { IsTerm (length trail.now.declared) of }
+    requires before { AreFoundOf number (constraint.Extremum extreme entries.now of) trail.now found.old }
+    ensures { AreFoundOf number (constraint.Extremum extreme entries.now of) trail.now found.new }
+{
+    for k in 0..bounds.len() {
+        let claim = claim_of(of, bounds[k]);
+        let clause = extremum_or_entries(alloc, trail, extreme, entries, of, claim)?;
+        hand_over(number, Rule::Rows, clause, found)?;
+    }
+    Ok(())
 }
 
 // ---- what refutes

@@ -1,17 +1,19 @@
 //! Terms that have to be equal: two that are compared, a value and the entry at an index, a result and the least or greatest entry.
 //!
-//! In: the terms of such a constraint, and a trail. Out: a clause that follows from the constraint by the rule `rows`, and is false or
-//! forces one literal, or none, which is no promise. Proved against `specs/Shared.antt` and `specs/Rows.antt`: what the claims of a
-//! clause leave to the terms where they are denied.
+//! In: the terms of such a constraint, and a trail. Out: clauses that follow from the constraint by the rule `rows`, and are false or
+//! force one literal each; none is no promise. Proved against `specs/Shared.antt` and `specs/Rows.antt`: what the claims of a clause
+//! leave to the terms where they are denied.
 #![tactic(auto)]
 
 pub use element::infer_element;
 pub use equality::infer_equal;
 pub use extremum::infer_extremum;
+pub use found::hand_over;
 pub use terms::{SMALL, is_fixed, may_be, never};
 
 mod element;
 mod equality;
 mod extremum;
+mod found;
 mod shared;
 mod terms;

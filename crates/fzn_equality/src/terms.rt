@@ -7,9 +7,11 @@ ghost use Rattle.fzn_meaning.specs.Term.{IsTerm};
 
 use fzn_domain::{Domain, Lit, Memory, Op, VarId};
 use fzn_explain::Claim;
+use fzn_list::Items;
 use fzn_meaning::Term;
 use fzn_sums::{greatest_value, least_value};
 use fzn_trail::Trail;
+use std::alloc::Global;
 
 /// A number that a term is compared with.
 pub type Bound = (Op, i64);
@@ -117,24 +119,90 @@ pub fn narrowing(trail: &Trail, one: Term, other: Term) -> Option<Bound>
     requires other { IsTerm (length trail.now.declared) other }
     requires filled { NoneEmpty trail.now.sets }
 {
+    for bound in &narrowed_ends(trail, one, other) {
+        if bound.is_some() {
+            return *bound;
+        }
+    }
+    let value = difference(trail, one, other, least_value(trail, one))?;
+    Some(difference_at(trail, one, value))
+}
+
+/// All of the same that the ends show; where they show nothing, all that the numbers do, where these are few.
+pub fn narrowings(
+    alloc: Global,
+    trail: &Trail,
+    one: Term,
+    other: Term,
+) -> Result<Items<Bound>, Memory>
+    requires one { IsTerm (length trail.now.declared) one }
+    requires other { IsTerm (length trail.now.declared) other }
+    requires filled { NoneEmpty trail.now.sets }
+{
+    let mut bounds = Items::new(alloc);
+    for bound in &narrowed_ends(trail, one, other) {
+        if let Some(bound) = bound {
+            bounds.push(*bound)?;
+        }
+    }
+    if bounds.len() == 0 {
+        add_differences(trail, one, other, &mut bounds)?;
+    }
+    Ok(bounds)
+}
+
+/// The same by each end: the second's greatest and least value, and the first's.
+fn narrowed_ends(trail: &Trail, one: Term, other: Term) -> [Option<Bound>; 4]
+    requires one { IsTerm (length trail.now.declared) one }
+    requires other { IsTerm (length trail.now.declared) other }
+    requires filled { NoneEmpty trail.now.sets }
+{
     let (low, high) = (least_value(trail, one), greatest_value(trail, one));
     let (other_low, other_high) = (least_value(trail, other), greatest_value(trail, other));
-    if other_high < high {
-        return Some((Op::AtMost, other_high));
+    [
+        bound_where(other_high < high, Op::AtMost, other_high),
+        bound_where(low < other_low, Op::AtLeast, other_low),
+        bound_where(high < other_high, Op::AtLeast, high + 1),
+        bound_where(other_low < low, Op::AtMost, low - 1),
+    ]
+}
+
+fn bound_where(holds: bool, op: Op, number: i64) -> Option<Bound> {
+    if holds { Some((op, number)) } else { None }
+}
+
+/// Adds what each number shows that one of two terms may be and the other may not, where they have the same ends: from the least such
+/// number up, as far as few.
+fn add_differences(
+    trail: &Trail,
+    one: Term,
+    other: Term,
+    bounds: &mut Items<Bound>,
+) -> Result<(), Memory>
+    requires one { IsTerm (length trail.now.declared) one }
+    requires other { IsTerm (length trail.now.declared) other }
+    requires filled { NoneEmpty trail.now.sets }
+{
+    let Some(first) = difference(trail, one, other, least_value(trail, one)) else {
+        return Ok(());
+    };
+    let last = greatest_value(trail, one).min(first.saturating_add(SMALL));
+    for value in first..last + 1 {
+        if may_be(trail, one, value) != may_be(trail, other, value) {
+            bounds.push(difference_at(trail, one, value))?;
+        }
     }
-    if low < other_low {
-        return Some((Op::AtLeast, other_low));
-    }
-    if high < other_high {
-        return Some((Op::AtLeast, high + 1));
-    }
-    if other_low < low {
-        return Some((Op::AtMost, low - 1));
-    }
-    match difference(trail, one, other, low) {
-        Some(value) if may_be(trail, one, value) => Some((Op::NotEqual, value)),
-        Some(value) => Some((Op::Equal, value)),
-        None => None,
+    Ok(())
+}
+
+/// What a number shows that the first of two equal terms may be and the second may not, or the other way round.
+fn difference_at(trail: &Trail, one: Term, value: i64) -> Bound
+    requires { IsTerm (length trail.now.declared) one }
+{
+    if may_be(trail, one, value) {
+        (Op::NotEqual, value)
+    } else {
+        (Op::Equal, value)
     }
 }
 
@@ -177,6 +245,20 @@ fn first_difference(set: &Domain, other: &Domain, common: i64) -> Option<i64>
         }
     }
     None
+}
+
+/// That a term is another than each of these values, if they are few.
+pub fn other_than_each(alloc: Global, values: &Domain) -> Result<Items<Bound>, Memory> {
+    let mut bounds = Items::new(alloc);
+    let mut passed = i64::MIN;
+    for _ in 0..SMALL {
+        let Some(value) = values.above(passed) else {
+            return Ok(bounds);
+        };
+        bounds.push((Op::NotEqual, value))?;
+        passed = value;
+    }
+    Ok(bounds)
 }
 
 /// Takes the term's values, which count from the lower number up to the upper one, out of the set.

@@ -43,6 +43,10 @@ pub record IsInference (number : ℕ) (constraint : Constraint) (trail : Levels)
 abbrev pub IsInferenceOf : ℕ → (Constraint → Type 0) → Levels → Inference → Type 0
 IsInferenceOf number is_for trail inference = (constraint : Constraint) → is_for constraint → IsInference number constraint trail inference
 
+-- so is each of these
+abbrev pub AreInferencesOf : ℕ → (Constraint → Type 0) → Levels → List Inference → Type 0
+AreInferencesOf number is_for trail found = All (IsInferenceOf number is_for trail) found
+
 -- how much more a place may give than its least
 abbrev pub spread : List IntSet → Place → ℤ
 spread sets place = high_product sets place -ℤ low_product sets place

@@ -1,10 +1,11 @@
 // What every propagator promises.
-ghost use Rattle.std.specs.Prelude.{ℕ, List, IfOk, IfSome, IfNone};
+ghost use Rattle.std.specs.Prelude.{◌≡◌, ℕ, List, [], OnOk};
 ghost use Rattle.fzn_domain.specs.IntSet.{IntSet};
 ghost use Rattle.fzn_domain.specs.Narrow.{NoneEmpty};
 ghost use Rattle.fzn_meaning.specs.declared.constraint.Constraint.{Constraint};
-ghost use Rattle.fzn_propagator.specs.Inference.{IsInferenceOf, AreExhausted};
+ghost use Rattle.fzn_propagator.specs.Inference.{AreInferencesOf, AreExhausted};
 
+use crate::findings::Findings;
 use fzn_domain::{Lit, Memory};
 use fzn_list::Items;
 use fzn_rules::Rule;
@@ -32,10 +33,12 @@ pub trait Propagator {
     /// Its terms are variables of the declared sets, and its numbers lie within the limits.
     ghost fits: { Self → List IntSet → Type 0 };
 
-    /// What an inference finds, if anything. `Err` where memory runs out.
-    fn propagate(&self, alloc: Global, trail: &Trail) -> Result<Option<Inference>, Memory>
+    /// One pass: what it infers goes behind what was found. Each inference is one of the trail as it stands, so that one may force what
+    /// another has forced. `Err` where memory runs out.
+    fn propagate(&self, alloc: Global, trail: &Trail, found: &mut Findings) -> Result<(), Memory>
         requires fits { fits self.now trail.now.declared }
         requires filled { NoneEmpty trail.now.sets }
-        ensures found { IfOk result (λ found. IfSome found (IsInferenceOf (number self.now) (is_for self.now) trail.now)) }
-        ensures none { IfOk result (λ found. IfNone found (AreExhausted (is_for self.now) trail.now)) };
+        requires before { AreInferencesOf (number self.now) (is_for self.now) trail.now found.old }
+        ensures found { AreInferencesOf (number self.now) (is_for self.now) trail.now found.new }
+        ensures none { OnOk result (found.new ≡ [] → AreExhausted (is_for self.now) trail.now) };
 }

@@ -1,6 +1,6 @@
 -- What a propagator finds is what the search wants, and so is it where none finds anything.
 use Rattle.std.proofs.Common.{◌≡◌, ℕ, ◌+◌, ◌-◌, ◌<◌, ◌≤◌, ℤ, pos, List, length, get_or, slice_get, Option, None, Some, IfSome, ◌⊎◌, sym, ap, ◌∙◌, subst, inl, inr, arith}
-use Rattle.std.specs.List.{AllWithin, HoldsAt}
+use Rattle.std.specs.List.{All, AllWithin, HoldsAt}
 use Rattle.std.proofs.lemmas.List.{length-map, get_or_default}
 use Rattle.std.proofs.lemmas.Option.{slice_get-get_or}
 use Rattle.fzn_domain.specs.declared.literal.Lit.{Lit}
@@ -18,8 +18,8 @@ use Rattle.fzn_trail.specs.Levels.{Levels, IsNarrower}
 use Rattle.fzn_propagators.specs.declared.kinds.AnyPropagator.{AnyPropagator}
 use Rattle.fzn_propagator.specs.declared.propagator.Inference.{Inference}
 use Rattle.fzn_propagators.specs.AnyCrate.{any_number, AnyIsFor, AnyFits}
-use Rattle.fzn_propagator.specs.Inference.{IsInferenceOf, AreExhausted, IsInference as IsFound}
-use Rattle.fzn_constraints.specs.Inference.{IsInference, IsQuiet}
+use Rattle.fzn_propagator.specs.Inference.{IsInferenceOf, AreInferencesOf, AreExhausted, IsInference as IsFound}
+use Rattle.fzn_constraints.specs.Inference.{IsInference, IsJustified, IsQuiet}
 use Rattle.fzn_propagators.specs.Propagators.{IsPropagatorOf, AreFor}
 use Rattle.fzn_propagators.proofs.MadeLemmas.{some_member}
 use Rattle.fzn_propagators.proofs.SpelledLemmas.{rule-spelled, few-number, literals-spelled}
@@ -28,12 +28,8 @@ use Rattle.fzn_propagators.proofs.SpelledLemmas.{rule-spelled, few-number, liter
 pub HoldsAt-item : {X : Type 0} (P : X → Type 0) (xs : List X) (i : ℕ) (x : X) → x ≡ get_or xs i x → i < length xs → P x → HoldsAt P xs i
 HoldsAt-item P xs i x at below h d = subst P (at ∙ get_or_default xs i x d below) h
 
-some_weaker : {X : Type 0} (found : Option X) (P Q : X → Type 0) → ((x : X) → P x → Q x) → IfSome found P → IfSome found Q
-some_weaker None P Q weaker h = h
-some_weaker (Some x) P Q weaker h = weaker x h
-
 module _ (model : Model) (trail : Levels) (declared : trail.declared ≡ declared_sets model.vars) where
-  as-many : length trail.declared ≡ length model.vars
+  pub as-many : length trail.declared ≡ length model.vars
   as-many = ap length declared ∙ length-map model.vars (λ (var : Var). var.domain)
 
   -- it is justified from the constraint at place k, whose number is k + 1
@@ -48,8 +44,8 @@ module _ (model : Model) (trail : Levels) (declared : trail.declared ≡ declare
         | inr met ↦ inr (subst P (sym here) met)
       ]
 
-  inference-at : (k : ℕ) (constraint : Constraint) (found : Inference) → length model.vars ≤ 100000 → length model.constraints ≤ 100000 → k < length model.constraints → IsFound (k + 1) (get_or model.constraints k constraint) trail found → IsInference model trail found
-  inference-at k constraint found few_vars few_constraints inside h =
+  justified-by : (k : ℕ) (constraint : Constraint) (found : Inference) → length model.vars ≤ 100000 → length model.constraints ≤ 100000 → k < length model.constraints → IsFound (k + 1) (get_or model.constraints k constraint) trail found → IsJustified model found
+  justified-by k constraint found few_vars few_constraints inside h =
       let number = h.of_constraint in
       let over = subst (λ (n : ℕ). IsClauseOver n found.clause) as-many h.over in
       let one : 1 ≤ found.constraint = omega arith in
@@ -59,7 +55,6 @@ module _ (model : Model) (trail : Levels) (declared : trail.declared ≡ declare
         numbered = (one, within);
         justified = justified-at k constraint found.constraint found.rule found.clause inside number h.accepted;
         spelled = (few-number (length model.constraints) found.constraint few_constraints one within, rule-spelled found.rule h.hints, literals-spelled (length model.vars) found.clause few_vars over h.writable);
-        forces = h.forces;
       }
 
   within-declared : (values : List ℤ) → IsNarrower trail.sets trail.declared → IsWithin trail.sets values → IsWithin trail.declared values
@@ -83,16 +78,25 @@ module _ (model : Model) (trail : Levels) (declared : trail.declared ≡ declare
       pub fits-trail : AnyFits p trail.declared
       fits-trail = subst (AnyFits p) (sym declared) (it-is some_constraint).fits
 
-      found-inference : (found : Inference) → IsInferenceOf (any_number p) (AnyIsFor p) trail found → IsInference model trail found
-      found-inference found h =
+      -- what is found of this constraint
+      found-at : (found : Inference) → IsInferenceOf (any_number p) (AnyIsFor p) trail found → IsFound (k + 1) (get_or model.constraints k some_constraint) trail found
+      found-at found h =
           let here = it-is some_constraint in
           let constraint = get_or model.constraints k some_constraint in
-          inference-at k some_constraint found are.few_vars are.few_constraints inside
-          (subst (λ (n : ℕ). IsFound n constraint trail found) here.numbered (h constraint here.is_for))
+          subst (λ (n : ℕ). IsFound n constraint trail found) here.numbered (h constraint here.is_for)
 
-      -- so whatever it answers
-      pub found-some : (found : Option Inference) → IfSome found (IsInferenceOf (any_number p) (AnyIsFor p) trail) → IfSome found (IsInference model trail)
-      found-some found h = some_weaker found (IsInferenceOf (any_number p) (AnyIsFor p) trail) (IsInference model trail) found-inference h
+      found-justified : (found : Inference) → IsInferenceOf (any_number p) (AnyIsFor p) trail found → IsJustified model found
+      found-justified found h = justified-by k some_constraint found are.few_vars are.few_constraints inside (found-at found h)
+
+      found-inference : (found : Inference) → IsInferenceOf (any_number p) (AnyIsFor p) trail found → IsInference model trail found
+      found-inference found h = record { stands = found-justified found h; forces = (found-at found h).forces }
+
+      -- so is each of several
+      pub all-found : (found : List Inference) → AreInferencesOf (any_number p) (AnyIsFor p) trail found → All (IsInference model trail) found
+      all-found found h = λ i d below. found-inference (get_or found i d) (h i d below)
+
+      pub all-justified : (found : List Inference) → AreInferencesOf (any_number p) (AnyIsFor p) trail found → All (IsJustified model) found
+      all-justified found h = λ i d below. found-justified (get_or found i d) (h i d below)
 
     pub none-quiet : IsNarrower trail.sets trail.declared → (i : ℕ) → length items ≤ i → AllWithin (λ (p : AnyPropagator). AreExhausted (AnyIsFor p) trail) items 0 i → IsQuiet model trail
     none-quiet narrower i past exhausted fixed values within k constraint inside =

@@ -1,4 +1,6 @@
+mod ForcingLemmas
 mod FoundLemmas
 mod KindLemmas
 mod MadeLemmas
 mod SpelledLemmas
+mod TakenLemmas

@@ -5,6 +5,7 @@ use Rattle.fzn_meaning.specs.declared.constraint.Constraint.{Constraint}
 use Rattle.fzn_meaning.specs.declared.model.Model.{Model}
 use Rattle.fzn_meaning.specs.Meaning.{HasBooleanSets, longest}
 use Rattle.fzn_meaning.specs.Solutions.{declared_sets}
+use Rattle.fzn_constraints.specs.Inference.{IsJustified}
 use Rattle.fzn_propagators.specs.declared.kinds.AnyPropagator.{AnyPropagator}
 use Rattle.fzn_propagators.specs.declared.propagators.Propagators.{Propagators}
 use Rattle.fzn_propagators.specs.AnyCrate.{any_number, AnyIsFor, AnyFits}
@@ -26,6 +27,7 @@ pub record AreFor (propagators : List AnyPropagator) (model : Model) : Type 0 wh
   pub few_vars : length model.vars ≤ longest
   pub few_constraints : length model.constraints ≤ longest
 
--- those propagators of a search, whichever of them are to be asked next
-abbrev pub StandFor : Propagators → Model → Type 0
-StandFor propagators model = AreFor propagators.items model
+-- those propagators of a search, whichever of them are to be asked next, and what they found that is not handed over yet
+pub record StandFor (propagators : Propagators) (model : Model) : Type 0 where
+  pub items : AreFor propagators.items model
+  pub found : All (IsJustified model) propagators.found

@@ -81,13 +81,19 @@ impl Agenda {
         self.queue.pop();
     }
 
-    /// Only so many entries, the first, are sure to be those that were looked at. What is queued is dropped where there were more:
-    /// before each decision all that was queued had been asked.
-    pub fn rewind(&mut self, entries: usize) {
-        if entries < self.seen {
-            self.seen = entries;
-            self.queue.clear();
+    /// Only so many entries, the first, are sure to be those that were looked at. Whether there were more: then what is queued is
+    /// dropped, since before each decision all that was queued had been asked.
+    pub fn rewind(&mut self, entries: usize) -> bool {
+        self.rewind_opens(entries);
+        if self.seen <= entries {
+            return false;
         }
+        self.seen = entries;
+        self.queue.clear();
+        true
+    }
+
+    fn rewind_opens(&mut self, entries: usize) {
         for _ in 0..self.opens.len() {
             match self.opens.last() {
                 Some((stood, _)) if entries < *stood => {}

@@ -11,7 +11,7 @@ use fzn_circuit::CircuitPropagator;
 use fzn_domain::Memory;
 use fzn_globals::GlobalPropagator;
 use fzn_meaning::Model;
-use fzn_propagator::{Inference, Propagator};
+use fzn_propagator::{Findings, Propagator};
 use fzn_schedule::CumulativePropagator;
 use fzn_table::TablePropagator;
 use fzn_trail::Trail;
@@ -38,14 +38,14 @@ impl Propagator for AnyPropagator {
 
     ghost fits = { AnyFits };
 
-    fn propagate(&self, alloc: Global, trail: &Trail) -> Result<Option<Inference>, Memory> {
+    fn propagate(&self, alloc: Global, trail: &Trail, found: &mut Findings) -> Result<(), Memory> {
         match self {
-            AnyPropagator::Arith(propagator) => propagator.propagate(alloc, trail),
-            AnyPropagator::Builtin(propagator) => propagator.propagate(alloc, trail),
-            AnyPropagator::Global(propagator) => propagator.propagate(alloc, trail),
-            AnyPropagator::Table(propagator) => propagator.propagate(alloc, trail),
-            AnyPropagator::Circuit(propagator) => propagator.propagate(alloc, trail),
-            AnyPropagator::Cumulative(propagator) => propagator.propagate(alloc, trail),
+            AnyPropagator::Arith(propagator) => propagator.propagate(alloc, trail, found),
+            AnyPropagator::Builtin(propagator) => propagator.propagate(alloc, trail, found),
+            AnyPropagator::Global(propagator) => propagator.propagate(alloc, trail, found),
+            AnyPropagator::Table(propagator) => propagator.propagate(alloc, trail, found),
+            AnyPropagator::Circuit(propagator) => propagator.propagate(alloc, trail, found),
+            AnyPropagator::Cumulative(propagator) => propagator.propagate(alloc, trail, found),
         }
     }
 }

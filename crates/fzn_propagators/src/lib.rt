@@ -1,8 +1,9 @@
 //! A propagator for each constraint of a model, and which of them are asked.
 //!
-//! In: a model, and then a trail of its declared sets. Out: an inference that some propagator finds, or none; a propagator is asked
-//! once a variable that it watches was narrowed, and all are asked where each variable has one value. Proved against
-//! `specs/Propagators.antt`: `AreFor` says which propagators stand for a model, and the search's trait `Constraints` what they owe.
+//! In: a model, and then a trail of its declared sets. Out: what the passes of propagators find, one inference after the other, each
+//! looked at again on the trail as it stands then; or none. A propagator is asked once a variable that it watches was narrowed, and all
+//! are asked where each variable has one value. Proved against `specs/Propagators.antt`: `AreFor` says which propagators stand for a
+//! model, and the search's trait `Constraints` what they owe.
 #![tactic(auto)]
 
 pub use kinds::AnyPropagator;
@@ -10,6 +11,7 @@ pub use propagators::Propagators;
 
 mod agenda;
 mod change;
+mod forcing;
 mod kinds;
 mod propagators;
 mod queue;

@@ -1,21 +1,22 @@
 // All propagators of a model.
 ghost use Rattle.std.specs.Prelude.{◌≡◌, ◌<◌, length, IfOk, IfSome, IfNone};
-ghost use Rattle.std.specs.List.{HoldsAt};
+ghost use Rattle.std.specs.List.{All, HoldsAt};
 ghost use Rattle.fzn_meaning.specs.Solutions.{declared_sets};
 ghost use Rattle.fzn_meaning.specs.WellFormed.{IsWellFormed};
 ghost use Rattle.fzn_trail.specs.Levels.{NoneEmpty};
 ghost use Rattle.fzn_propagator.specs.Inference.{AreExhausted};
-ghost use Rattle.fzn_constraints.specs.Inference.{IsInference, IsQuiet};
+ghost use Rattle.fzn_constraints.specs.Inference.{IsInference, IsJustified, IsQuiet};
 ghost use Rattle.fzn_propagators.specs.AnyCrate.{AnyIsFor};
 ghost use Rattle.fzn_propagators.specs.Propagators.{AreFor, StandFor};
 
 use crate::agenda::Agenda;
+use crate::forcing::take_forcing;
 use crate::kinds::{AnyPropagator, propagator_of};
 use fzn_constraints::{Constraints, Inference};
 use fzn_domain::Memory;
 use fzn_list::Items;
 use fzn_meaning::Model;
-use fzn_propagator::Propagator;
+use fzn_propagator::{Findings, Propagator};
 use fzn_trail::Trail;
 use std::alloc::Global;
 
@@ -23,6 +24,8 @@ use std::alloc::Global;
 #[derive(Drop)]
 pub struct Propagators {
     items: Items<AnyPropagator>,
+    /// What the last pass found, and is not handed over yet.
+    found: Findings,
     agenda: Agenda,
 }
 
@@ -37,11 +40,16 @@ impl Propagators {
             let propagator = propagator_of(alloc, model, i + 1)?;
             items.push(propagator)?;
         }
+        let found = Findings::new(alloc);
         let agenda = Agenda::new(alloc, model)?;
-        Ok(Propagators { items, agenda })
+        Ok(Propagators {
+            items,
+            found,
+            agenda,
+        })
     }
 
-    /// What the propagators find that are to be asked, one after the other. One that finds something is the next again.
+    /// What the first propagator finds that is to be asked and finds anything. It is the next again.
     fn ask_queued(
         &mut self,
         alloc: Global,
@@ -52,16 +60,23 @@ impl Propagators {
         requires declared { trail.now.declared ≡ declared_sets model.now.vars }
         requires not_empty { NoneEmpty trail.now.sets }
         ensures found { IfOk result (λ found. IfSome found (IsInference model.now trail.now)) }
-        ensures same { self.new.items ≡ self.old.items }
+        ensures same { StandFor self.new model.now }
     {
         for _ in 0..self.agenda.len() {
             let Some(place) = self.agenda.first() else {
                 return Ok(None);
             };
             if place < self.items.len()
-                && let Some(found) = ask(alloc, model, trail, &self.items, place)?
+                && let Some(first) = ask(
+                    alloc,
+                    model,
+                    trail,
+                    &self.items,
+                    place,
+                    &mut self.found,
+                )?
             {
-                return Ok(Some(found));
+                return Ok(Some(first));
             }
             self.agenda.leave();
         }
@@ -78,40 +93,49 @@ impl Constraints for Propagators {
         model: &Model,
         trail: &Trail,
     ) -> Result<Option<Inference>, Memory> {
+        if let Some(next) = take_forcing(model, trail, &mut self.found) {
+            return Ok(Some(next));
+        }
         let variables = model.vars.len();
         self.agenda.look(trail, variables)?;
         if let Some(found) = self.ask_queued(alloc, model, trail)? {
             return Ok(Some(found));
         }
         if self.agenda.is_all_fixed(trail, variables)? {
-            let found = ask_all(alloc, model, trail, &self.items)?;
+            let found = ask_all(alloc, model, trail, &self.items, &mut self.found)?;
             return Ok(found);
         }
         Ok(None)
     }
 
     fn rewind(&mut self, _model: &Model, entries: usize) {
-        self.agenda.rewind(entries);
+        if self.agenda.rewind(entries) {
+            self.found.clear();
+        }
     }
 }
 
-/// What the propagator at this place finds.
+/// What the propagator at this place finds first. The rest of it stands in `found`, alone.
 fn ask(
     alloc: Global,
     model: &Model,
     trail: &Trail,
     items: &Items<AnyPropagator>,
     place: usize,
+    found: &mut Findings,
 ) -> Result<Option<Inference>, Memory>
     requires is_for { AreFor items.now model.now }
     requires declared { trail.now.declared ≡ declared_sets model.now.vars }
     requires not_empty { NoneEmpty trail.now.sets }
     requires place { place < length items.now }
-    ensures found { IfOk result (λ found. IfSome found (IsInference model.now trail.now)) }
-    ensures none { IfOk result (λ found. IfNone found (HoldsAt (λ p. AreExhausted (AnyIsFor p) trail.now) items.now place)) }
+    ensures first { IfOk result (λ first. IfSome first (IsInference model.now trail.now)) }
+    ensures none { IfOk result (λ first. IfNone first (HoldsAt (λ p. AreExhausted (AnyIsFor p) trail.now) items.now place)) }
+    ensures rest { All (IsJustified model.now) found.new }
 {
+    found.clear();
     let propagator = &items.as_slice()[place];
-    propagator.propagate(alloc, trail)
+    propagator.propagate(alloc, trail, found)?;
+    Ok(found.take_first())
 }
 
 /// What the first propagator finds that finds anything.
@@ -120,17 +144,20 @@ fn ask_all(
     model: &Model,
     trail: &Trail,
     items: &Items<AnyPropagator>,
+    found: &mut Findings,
 ) -> Result<Option<Inference>, Memory>
     requires is_for { AreFor items.now model.now }
     requires declared { trail.now.declared ≡ declared_sets model.now.vars }
     requires not_empty { NoneEmpty trail.now.sets }
-    ensures found { IfOk result (λ found. IfSome found (IsInference model.now trail.now)) }
-    ensures none { IfOk result (λ found. IfNone found (IsQuiet model.now trail.now)) }
+    requires before { All (IsJustified model.now) found.old }
+    ensures first { IfOk result (λ first. IfSome first (IsInference model.now trail.now)) }
+    ensures none { IfOk result (λ first. IfNone first (IsQuiet model.now trail.now)) }
+    ensures rest { All (IsJustified model.now) found.new }
 {
     let _entries = trail.len(); // Each present set lies within its declared one.
     for place in 0..items.len() {
-        if let Some(found) = ask(alloc, model, trail, items, place)? {
-            return Ok(Some(found));
+        if let Some(first) = ask(alloc, model, trail, items, place, found)? {
+            return Ok(Some(first));
         }
     }
     Ok(None)

@@ -1,5 +1,7 @@
-// The propagator of a cumulative: the first of its clauses; and which constraint gets one.
-ghost use Rattle.std.specs.Prelude.{◌≡◌, ◌-◌, ◌≤◌, List, length, IfOk, IfSome, IfNone, MatchBool, slice_index_or};
+// The propagator of a cumulative: the clauses of the first kind of which there are any; and which constraint gets one.
+ghost use Rattle.std.specs.Prelude.{◌≡◌, ◌-◌, ◌<◌, ◌≤◌, negsuc, List, [], length, IfOk, IfSome, IfNone, OnOk, MatchBool, slice_index_or};
+ghost use Rattle.fzn_domain.specs.declared.literal.Lit.{Lit};
+ghost use Rattle.fzn_domain.specs.declared.literal.Op.TheVariants as op;
 ghost use Rattle.fzn_domain.specs.Narrow.{NoneEmpty};
 ghost use Rattle.fzn_meaning.specs.declared.constraint.Constraint.{Constraint};
 ghost use Rattle.fzn_meaning.specs.declared.constraint.Constraint.TheVariants as constraint;
@@ -8,18 +10,19 @@ ghost use Rattle.fzn_meaning.specs.Meaning.{AreTerms};
 ghost use Rattle.fzn_meaning.specs.Solutions.{declared_sets};
 ghost use Rattle.fzn_meaning.specs.WellFormed.{IsWellFormed};
 ghost use Rattle.fzn_rules.specs.declared.rule.Rule.TheVariants as rule;
-ghost use Rattle.fzn_terms.specs.Denied.{IsInferred};
+ghost use Rattle.fzn_terms.specs.Denied.{NoneIs, IsInferred};
 ghost use Rattle.fzn_load.specs.Loads.{AreReady, cumulative_of};
-ghost use Rattle.fzn_schedule.specs.Propagator.{cumulative_number, CumulativeIsFor, CumulativeFits};
-ghost use Rattle.fzn_schedule.specs.Kept.{AreNotBelow, HasNoneBelow, IsSomeBelow};
+ghost use Rattle.fzn_schedule.specs.Propagator.{cumulative_number, CumulativeIsFor, CumulativeFits, AreOfTasks};
+ghost use Rattle.fzn_schedule.specs.Kept.{AreNotBelow, HasNoneBelow, IsSomeBelow, MeetsWhereFixed};
 
 use crate::energy_pass::first_energy;
-use crate::load_pass::{first_of_fixed, first_of_profile};
+use crate::found::hand_over;
+use crate::load_pass::{find_by_profile, first_of_fixed};
 use fzn_domain::{Lit, Memory, Op};
 use fzn_list::Items;
 use fzn_load::Tasks;
 use fzn_meaning::{Constraint, Model, Term};
-use fzn_propagator::{Inference, Propagator};
+use fzn_propagator::{Findings, Propagator};
 use fzn_rules::Rule;
 use fzn_terms::force;
 use fzn_trail::Trail;
@@ -39,42 +42,20 @@ impl Propagator for CumulativePropagator {
 
     ghost fits = { CumulativeFits };
 
-    fn propagate(&self, alloc: Global, trail: &Trail) -> Result<Option<Inference>, Memory> {
-        let constraint = self.number;
-        let mut clause = Items::new(alloc);
-        if first_negative(trail, &self.tasks, &mut clause)? {
-            let rule = Rule::Rows;
-            return Ok(Some(Inference {
-                constraint,
-                rule,
-                clause,
-            }));
+    fn propagate(&self, alloc: Global, trail: &Trail, found: &mut Findings) -> Result<(), Memory> {
+        find_negative(alloc, trail, self.number, &self.tasks, found)?;
+        if !found.is_empty() {
+            return Ok(());
         }
-        if let Some(time) = first_of_profile(alloc, trail, &self.tasks, &mut clause)? {
-            let rule = Rule::Load(time);
-            return Ok(Some(Inference {
-                constraint,
-                rule,
-                clause,
-            }));
+        find_by_profile(alloc, trail, self.number, &self.tasks, found)?;
+        if !found.is_empty() {
+            return Ok(());
         }
-        if let Some(span) = first_energy(alloc, trail, &self.tasks, &mut clause)? {
-            let rule = Rule::Energy(span.from, span.until);
-            return Ok(Some(Inference {
-                constraint,
-                rule,
-                clause,
-            }));
+        find_energy(alloc, trail, self.number, &self.tasks, found)?;
+        if !found.is_empty() {
+            return Ok(());
         }
-        if let Some(time) = first_of_fixed(alloc, trail, &self.tasks, &mut clause)? {
-            let rule = Rule::Load(time);
-            return Ok(Some(Inference {
-                constraint,
-                rule,
-                clause,
-            }));
-        }
-        Ok(None)
+        find_of_fixed(alloc, trail, self.number, &self.tasks, found)
     }
 }
 
@@ -115,33 +96,136 @@ fn propagator_for(number: u64, given: &Constraint) -> Result<Option<CumulativePr
     }
 }
 
-/// The first clause that a duration, a use or the capacity is not below 0.
-fn first_negative(trail: &Trail, tasks: &Tasks, clause: &mut Items<Lit>) -> Result<bool, Memory>
+/// Finds of each duration, each use and the capacity that it is not below 0.
+fn find_negative(
+    alloc: Global,
+    trail: &Trail,
+    number: u64,
+    tasks: &Tasks,
+    found: &mut Findings,
+) -> Result<(), Memory>
     requires tasks { AreReady (length trail.now.declared) tasks.now }
     requires filled { NoneEmpty trail.now.sets }
-    ensures { IfOk result (λ found. MatchBool found (IsInferred trail.now (cumulative_of tasks.now) rule.Rows clause.new) (HasNoneBelow trail.now.sets tasks.now)) }
+    requires before { AreOfTasks number tasks.now trail.now found.old }
+    ensures found { AreOfTasks number tasks.now trail.now found.new }
+    ensures none { OnOk result (found.new ≡ [] → HasNoneBelow trail.now.sets tasks.now) }
 {
-    if first_below(trail, tasks.durations.as_slice(), clause)? {
-        return Ok(true);
-    }
-    if first_below(trail, tasks.uses.as_slice(), clause)? {
-        return Ok(true);
-    }
-    clause.clear();
-    force(trail, tasks.capacity, Op::AtMost, -1, clause)
+    let durations = tasks.durations.as_slice();
+    let uses = tasks.uses.as_slice();
+    find_below(alloc, trail, number, tasks, durations, found)?;
+    find_below(alloc, trail, number, tasks, uses, found)?;
+    find_negative_capacity(alloc, trail, number, tasks, found)
 }
 
-/// The first clause that one of the terms is not below 0.
-fn first_below(trail: &Trail, terms: &[Term], clause: &mut Items<Lit>) -> Result<bool, Memory>
+/// Finds of each of these terms of the tasks that it is not below 0.
+fn find_below(
+    alloc: Global,
+    trail: &Trail,
+    number: u64,
+    tasks: &Tasks,
+    terms: &[Term],
+    found: &mut Findings,
+) -> Result<(), Memory>
     requires terms { AreTerms (length trail.now.declared) terms.now }
     requires filled { NoneEmpty trail.now.sets }
-    ensures { IfOk result (λ found. MatchBool found (IsSomeBelow trail.now terms.now clause.new) (AreNotBelow trail.now.sets terms.now)) }
+    requires inferred { (clause : List Lit) → IsSomeBelow trail.now terms.now clause → IsInferred trail.now (cumulative_of tasks.now) rule.Rows clause }
+    requires before { AreOfTasks number tasks.now trail.now found.old }
+    ensures found { AreOfTasks number tasks.now trail.now found.new }
+    ensures kept { OnOk result (found.new ≡ [] → found.old ≡ []) }
+    ensures none { OnOk result (found.new ≡ [] → AreNotBelow trail.now.sets terms.now) }
 {
     for k in 0..terms.len() {
-        clause.clear();
-        if force(trail, terms[k], Op::AtMost, -1, clause)? {
-            return Ok(true);
+        let mut clause = Items::new(alloc);
+        if is_not_below(trail, terms, k, &mut clause)? {
+            hand_over(trail, number, tasks, Rule::Rows, clause, found)?;
         }
     }
-    Ok(false)
+    Ok(())
+}
+
+/// `true`: the clause, emptied first, says that the term at place k, counted from 0, is not below 0.
+fn is_not_below(
+    trail: &Trail,
+    terms: &[Term],
+    k: usize,
+    clause: &mut Items<Lit>,
+) -> Result<bool, Memory>
+    requires terms { AreTerms (length trail.now.declared) terms.now }
+    requires filled { NoneEmpty trail.now.sets }
+    requires place { k < length terms.now }
+    ensures { IfOk result (λ found. MatchBool found (IsSomeBelow trail.now terms.now clause.new) ((default : Term) → NoneIs op.AtMost (negsuc 0) (slice_index_or terms.now k default) trail.now.sets)) }
+{
+    clause.clear();
+    force(trail, terms[k], Op::AtMost, -1, clause)
+}
+
+/// Finds that the capacity is not below 0.
+fn find_negative_capacity(
+    alloc: Global,
+    trail: &Trail,
+    number: u64,
+    tasks: &Tasks,
+    found: &mut Findings,
+) -> Result<(), Memory>
+    requires tasks { AreReady (length trail.now.declared) tasks.now }
+    requires filled { NoneEmpty trail.now.sets }
+    requires before { AreOfTasks number tasks.now trail.now found.old }
+    ensures found { AreOfTasks number tasks.now trail.now found.new }
+    ensures kept { OnOk result (found.new ≡ [] → found.old ≡ []) }
+    ensures none { OnOk result (found.new ≡ [] → NoneIs op.AtMost (negsuc 0) tasks.now.capacity trail.now.sets) }
+{
+    let mut clause = Items::new(alloc);
+    if force(trail, tasks.capacity, Op::AtMost, -1, &mut clause)? {
+        hand_over(trail, number, tasks, Rule::Rows, clause, found)?;
+    }
+    Ok(())
+}
+
+/// Finds a conflict between two times that a sweep picks.
+fn find_energy(
+    alloc: Global,
+    trail: &Trail,
+    number: u64,
+    tasks: &Tasks,
+    found: &mut Findings,
+) -> Result<(), Memory>
+    requires tasks { AreReady (length trail.now.declared) tasks.now }
+    requires filled { NoneEmpty trail.now.sets }
+    requires before { AreOfTasks number tasks.now trail.now found.old }
+    ensures { AreOfTasks number tasks.now trail.now found.new }
+{
+    let mut clause = Items::new(alloc);
+    if let Some(span) = first_energy(alloc, trail, tasks, &mut clause)? {
+        hand_over(
+            trail,
+            number,
+            tasks,
+            Rule::Energy(span.from, span.until),
+            clause,
+            found,
+        )?;
+    }
+    Ok(())
+}
+
+/// Finds where all tasks are fixed that they do not use more than the capacity where one of them starts.
+fn find_of_fixed(
+    alloc: Global,
+    trail: &Trail,
+    number: u64,
+    tasks: &Tasks,
+    found: &mut Findings,
+) -> Result<(), Memory>
+    requires tasks { AreReady (length trail.now.declared) tasks.now }
+    requires filled { NoneEmpty trail.now.sets }
+    requires none_below { HasNoneBelow trail.now.sets tasks.now }
+    requires before { AreOfTasks number tasks.now trail.now found.old }
+    ensures found { AreOfTasks number tasks.now trail.now found.new }
+    ensures none { OnOk result (found.new ≡ [] → MeetsWhereFixed trail.now.sets tasks.now) }
+{
+    let mut clause = Items::new(alloc);
+    if let Some(time) = first_of_fixed(alloc, trail, tasks, &mut clause)? {
+        hand_over(trail, number, tasks, Rule::Load(time), clause, found)?;
+    }
+    Ok(())
 }

@@ -9,6 +9,7 @@ use fzn_arith::{Propagator, propagator_of};
 use fzn_constraints::Constraints;
 use fzn_domain::{Lit, Memory, Op, VarId};
 use fzn_meaning::Model;
+use fzn_propagator::Findings;
 use fzn_propagators::Propagators;
 use fzn_rules::Rule;
 use fzn_trail::Trail;
@@ -16,15 +17,17 @@ use fzn_trail_tests::{is_filled, keep};
 use std::alloc::Global;
 use std::test::*;
 
-/// The declared sets of x and of y, and from where to where each of them is left; constraints; where a clause follows by `lin` from one of
-/// them, its number and the clause.
+/// The declared sets of x and of y, and from where to where each of them is left; constraints; where clauses follow by `lin` from one of
+/// them, its number and the clause, for each that one pass hands over.
 static ROWS: &str = "
 0..10 0..10 0..10 0..10 | constraint int_lin_le([-2,0],[x,y],-7); | 1 x>=4
-0..10 0..10 6..10 0..10 | constraint int_lin_le([1,1],[x,y],8); | 1 x<=8
+0..10 0..10 6..10 0..10 | constraint int_lin_le([1,1],[x,y],8); | 1 x<=8, 1 x<=5 y<=2
 0..10 0..10 6..8 0..10 | constraint int_lin_le([1,1],[x,y],8); | 1 x<=5 y<=2
-0..10 0..10 1..10 0..5 | constraint int_lin_le([2,-3],[x,y],-13); | 1 y>=6 x<=1
-0..10 0..10 6..10 0..10 | constraint int_lin_eq([1,1],[x,y],8); | 1 x<=8
-0..10 0..10 0..10 0..10 | constraint int_lin_eq([1,1],[x,y],20); | 1 x>=10
+0..10 0..10 1..10 0..5 | constraint int_lin_le([2,-3],[x,y],-13); | 1 y>=6 x<=1, 1 x<=0 y>=5
+0..10 0..10 6..10 0..10 | constraint int_lin_eq([1,1],[x,y],8); | 1 x<=8, 1 x<=5 y<=2
+0..10 0..10 2..10 0..9 | constraint int_lin_eq([1,1],[x,y],5); | 1 x<=5, 1 x<=1 y<=3
+0..10 0..10 2..3 0..9 | constraint int_lin_eq([1,1],[x,y],5); | 1 x<=1 y<=3, 1 x>=4 y>=2
+0..10 0..10 0..10 0..10 | constraint int_lin_eq([1,1],[x,y],20); | 1 x>=10, 1 y>=10
 0..10 0..10 1..10 0..4 | constraint int_lin_le([2,-3],[x,y],-14); | 1 x<=0 y>=5
 0..10 0..10 3..3 3..3 | constraint int_lin_ne([1,-1],[x,y],0); | 1 x!=3 y!=3
 0..10 0..10 3..3 0..10 | constraint int_lin_ne([1,-1],[x,y],0); | 1 x!=3 y!=3
@@ -83,28 +86,32 @@ fn sign_of(op: Op) -> &'static str {
     }
 }
 
-/// What the propagator of the first constraint finds.
-fn found_by_first(alloc: Global, model: &Model, trail: &Trail) -> Result<String, Memory>
+/// What one pass of the propagator of the first constraint finds, in order.
+fn found_in_pass(alloc: Global, model: &Model, trail: &Trail) -> Result<String, Memory>
     requires well_formed { IsWellFormed model.now }
     requires declared { trail.now.declared ≡ declared_sets model.now.vars }
     requires filled { NoneEmpty trail.now.sets }
     requires some { 1 ≤ length model.now.constraints }
 {
-    if let Some(propagator) = propagator_of(alloc, model, 1)?
-        && let Some(found) = propagator.propagate(alloc, trail)?
-    {
-        return text_of(
-            alloc,
-            found.constraint,
-            &found.rule,
-            found.clause.as_slice(),
-        );
+    let mut found = Findings::new(alloc);
+    if let Some(propagator) = propagator_of(alloc, model, 1)? {
+        propagator.propagate(alloc, trail, &mut found)?;
     }
-    Ok(String::new(alloc))
+    let mut text = String::new(alloc);
+    for _ in 0..found.len() {
+        if let Some(next) = found.take_first() {
+            if !text.is_empty() {
+                text.push_str(", ")?;
+            }
+            let clause = next.clause.as_slice();
+            text.push_str(text_of(alloc, next.constraint, &next.rule, clause)?.as_str())?;
+        }
+    }
+    Ok(text)
 }
 
-/// What all propagators find together, asked as the search asks them.
-fn found_by_all<C: Constraints>(
+/// What all propagators find first together, asked as the search asks them.
+fn first_of_all<C: Constraints>(
     alloc: Global,
     propagators: &mut C,
     model: &Model,
@@ -131,13 +138,14 @@ fn is_found(alloc: Global, model: &Model, trail: &Trail, wanted: &str) -> Result
     requires declared { trail.now.declared ≡ declared_sets model.now.vars }
     requires filled { NoneEmpty trail.now.sets }
 {
+    let (first, _) = wanted.split_once(", ").unwrap_or((wanted, ""));
     let mut propagators = Propagators::new(alloc, model)?;
-    let found = found_by_all(alloc, &mut propagators, model, trail)?;
+    let found = first_of_all(alloc, &mut propagators, model, trail)?;
     if model.constraints.len() != 1 {
-        return Ok(found.as_str() == wanted);
+        return Ok(found.as_str() == first);
     }
-    let alone = found_by_first(alloc, model, trail)?;
-    Ok(found.as_str() == wanted && alone.as_str() == wanted)
+    let alone = found_in_pass(alloc, model, trail)?;
+    Ok(found.as_str() == first && alone.as_str() == wanted)
 }
 
 /// The number before and behind the dots.

@@ -31,7 +31,7 @@ pub explained_by_floor : (trail : Levels) (clause : List Lit) (place : Place) (l
 explained_by_floor trail clause place lit floor = λ v left.
     floor.explains v (last_fails trail.declared clause lit v (subst (λ (t : Term). IsLeft trail.declared (clause ++ lit ∷ []) t v) floor.of_place left))
 
-variable_of_place : (count : ℕ) (place : Place) (var : VarId) → IsPlace count place → place.term ≡ Variable var → IsVariable count var
+pub variable_of_place : (count : ℕ) (place : Place) (var : VarId) → IsPlace count place → place.term ≡ Variable var → IsVariable count var
 variable_of_place count place var fits of = subst (λ (t : Term). IsTerm count t) of fits.0
 
 pub explanation_same : (trail : Levels) (places : List Place) (i except : ℕ) (clause : List Lit) (d : Place) → i < length places → IsExplanation trail places i except clause → (i ≢ except → IsExplained trail clause (get_or places i d)) → IsExplanation trail places (i + 1) except clause

@@ -2,6 +2,7 @@ pub mod BarredLemmas
 pub mod CallerLemmas
 mod ClauseLemmas
 mod EndLemmas
+mod FloorLemmas
 pub mod OppositeLemmas
 mod PinLemmas
 mod PlaceLemmas

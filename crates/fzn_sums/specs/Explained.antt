@@ -1,6 +1,6 @@
 -- When a clause explains what a place gives at least.
-use Rattle.std.specs.Prelude.{◌≡◌, ◌≢◌, ℕ, ◌<◌, true, false, ℤ, pos, ◌+ℤ◌, ◌*ℤ◌, ◌≤ℤ◌, ◌<ℤ◌, List, [], length, slice_index_or}
-use Rattle.std.specs.List.{All}
+use Rattle.std.specs.Prelude.{◌≡◌, ◌≢◌, ◌⊎◌, ℕ, ◌<◌, true, false, ℤ, pos, ◌+ℤ◌, ◌*ℤ◌, ◌≤ℤ◌, ◌<ℤ◌, List, [], length, slice_index_or}
+use Rattle.std.specs.List.{All, HoldsAt}
 use Rattle.fzn_domain.specs.declared.literal.Lit.{Lit}
 use Rattle.fzn_domain.specs.Literal.{is_true_at}
 use Rattle.fzn_domain.specs.IntSet.{is_possible}
@@ -12,6 +12,7 @@ use Rattle.fzn_trail.specs.Levels.{Levels}
 use Rattle.fzn_trail.specs.Unit.{IsOpen}
 use Rattle.fzn_meaning.specs.Term.{total_by}
 use Rattle.fzn_sums.specs.declared.at_most.Forced.{Forced}
+use Rattle.fzn_sums.specs.declared.at_most.PlaceFloor.{PlaceFloor}
 use Rattle.fzn_propagator.specs.Inference.{IsWritable}
 use Rattle.fzn_propagator.specs.Left.{IsLeft}
 
@@ -51,3 +52,22 @@ Exceeds trail clause places bound =
 pub record IsForcedAt (trail : Levels) (places : List Place) (slack : ℕ) (forced : Forced) : Type 0 where
   pub in_places : forced.place < length places
   pub literal : (default : Place) → IsForced trail (slice_index_or places forced.place default) slack forced.lit
+
+-- the literal that explains what the place at this index gives at least
+pub record IsFloorAt (trail : Levels) (places : List Place) (floor : PlaceFloor) : Type 0 where
+  pub in_places : floor.place < length places
+  pub literal : (default : Place) → IsFloor trail (slice_index_or places floor.place default) floor.lit
+
+-- such literals, and each place before an index has one of them or needs none
+pub record AreFloors (trail : Levels) (places : List Place) (before : ℕ) (floors : List PlaceFloor) : Type 0 where
+  pub each : All (IsFloorAt trail places) floors
+  pub explained : (k : ℕ) (default : Place) → k < before
+      → IsExplained trail [] (slice_index_or places k default) ⊎ ((i : ℕ) × (i < length floors) × HoldsAt (λ floor. floor.place ≡ k) floors i)
+
+-- a clause that is false on the trail and has those before an index, but for that of one place
+pub record HasFloors (trail : Levels) (places : List Place) (floors : List PlaceFloor) (before except : ℕ) (clause : List Lit) : Type 0 where
+  pub over : IsClauseOver (length trail.declared) clause
+  pub writable : All IsWritable clause
+  pub impossible : possible_in trail.sets clause ≡ []
+  pub explained : (i : ℕ) (floor : PlaceFloor) (default : Place) → i < before → (slice_index_or floors i floor).place ≢ except
+      → IsExplained trail clause (slice_index_or places (slice_index_or floors i floor).place default)

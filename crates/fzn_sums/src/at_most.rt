@@ -1,11 +1,12 @@
 // What follows from a sum that is at most a bound.
 ghost use Rattle.std.specs.Prelude.{◌≡◌, ℕ, ◌<◌, ◌≤◌, ◌≤ℤ◌, ◌+ℤ◌, pos, [], length, unsigned_abs, IfOk, IfSome, IfNone, slice_index_or};
-ghost use Rattle.std.specs.List.{All};
+ghost use Rattle.std.specs.List.{All, AllWithin};
 ghost use Rattle.fzn_domain.specs.Narrow.{NoneEmpty};
+ghost use Rattle.fzn_meaning.specs.declared.term.Place.{Place};
 ghost use Rattle.fzn_meaning.specs.Term.{IsPlace};
 ghost use Rattle.fzn_builtin_rules.specs.Linear.{least_sum};
 ghost use Rattle.fzn_propagator.specs.Inference.{IsTight, spread};
-ghost use Rattle.fzn_sums.specs.Explained.{IsExplained, IsFloor, IsForced, IsForcedAt, IsExplanation};
+ghost use Rattle.fzn_sums.specs.Explained.{IsExplained, IsFloor, IsForced, IsForcedAt, IsExplanation, AreFloors};
 ghost use Rattle.fzn_sums.specs.Refuted.{IsConflict, IsRefutation};
 ghost use Rattle.fzn_meaning.specs.declared.relation.Comparison.TheVariants as sum;
 
@@ -85,20 +86,22 @@ fn force(trail: &Trail, place: Place, slack: u128) -> Option<Lit>
     }
 }
 
-/// A literal that a place is forced to.
+/// The literal that the place at this index is forced to.
 #[derive(Clone, Copy)]
-struct Forced {
-    place: usize,
-    lit: Lit,
+pub struct Forced {
+    pub place: usize,
+    pub lit: Lit,
 }
 
-fn first_forced(trail: &Trail, places: &[Place], slack: u128) -> Option<Forced>
+/// The first place from an index on that is forced, where the sum may rise by this slack above its least.
+pub fn next_forced(trail: &Trail, places: &[Place], slack: u128, from: usize) -> Option<Forced>
     requires places { All (IsPlace (length trail.now.declared)) places.now }
     requires filled { NoneEmpty trail.now.sets }
     ensures found { IfSome result (IsForcedAt trail.now places.now slack) }
-    ensures none { IfNone result (All (λ place. spread trail.now.sets place ≤ℤ pos slack) places.now) }
+    ensures before { IfSome result (λ forced. AllWithin (λ place. spread trail.now.sets place ≤ℤ pos slack) places.now from forced.place) }
+    ensures none { IfNone result (AllWithin (λ place. spread trail.now.sets place ≤ℤ pos slack) places.now from (length places.now)) }
 {
-    for i in 0..places.len() {
+    for i in from..places.len() {
         if let Some(lit) = force(trail, places[i], slack) {
             return Some(Forced { place: i, lit });
         }
@@ -128,6 +131,32 @@ fn explain(
     Ok(clause)
 }
 
+/// The literal that says that the place at this index gave no less.
+#[derive(Clone, Copy)]
+pub struct PlaceFloor {
+    place: usize,
+    lit: Lit,
+}
+
+/// That of each place, where its declared set does not say so. `Err` where memory runs out.
+pub fn floors_of(
+    alloc: Global,
+    trail: &Trail,
+    places: &[Place],
+) -> Result<Items<PlaceFloor>, Memory>
+    requires places { All (IsPlace (length trail.now.declared)) places.now }
+    requires filled { NoneEmpty trail.now.sets }
+    ensures { IfOk result (AreFloors trail.now places.now (length places.now)) }
+{
+    let mut floors = Items::new(alloc);
+    for i in 0..places.len() {
+        if let Some(lit) = floor(trail, places[i]) {
+            floors.push(PlaceFloor { place: i, lit })?;
+        }
+    }
+    Ok(floors)
+}
+
 /// A clause that is false on the trail, where the least sum of the at most 200,000 places exceeds the bound, and none elsewhere. `Err` where
 /// memory runs out.
 pub fn conflict_at_most(
@@ -150,6 +179,36 @@ pub fn conflict_at_most(
     Ok(Some(clause))
 }
 
+/// A clause that refutes that the sum is at most its least and this slack, where this place is forced, and none elsewhere. `Err` where memory
+/// runs out.
+pub fn refute_place(
+    alloc: Global,
+    trail: &Trail,
+    places: &[Place],
+    floors: &[PlaceFloor],
+    slack: u128,
+    place: usize,
+) -> Result<Option<Items<Lit>>, Memory>
+    requires places { All (IsPlace (length trail.now.declared)) places.now }
+    requires floors { AreFloors trail.now places.now (length places.now) floors.now }
+    requires place { place < length places.now }
+    requires filled { NoneEmpty trail.now.sets }
+    ensures found { IfOk result (λ found. IfSome found (IsRefutation trail.now sum.AtMost places.now (least_sum trail.now.sets places.now +ℤ pos slack))) }
+    ensures none { IfOk result (λ found. IfNone found ((default : Place) → spread trail.now.sets (slice_index_or places.now place default) ≤ℤ pos slack)) }
+{
+    let Some(lit) = force(trail, places[place], slack) else {
+        return Ok(None);
+    };
+    let mut clause = Items::new(alloc);
+    for i in 0..floors.len() {
+        if floors[i].place != place {
+            clause.push(floors[i].lit)?;
+        }
+    }
+    clause.push(lit)?;
+    Ok(Some(clause))
+}
+
 /// A clause that refutes that the sum is at most its least and this slack.
 pub(crate) fn refute_within(
     alloc: Global,
@@ -166,12 +225,29 @@ pub(crate) fn refute_within(
         let clause = explain(alloc, trail, places, places.len())?;
         return Ok(Some(clause));
     }
-    let Some(forced) = first_forced(trail, places, slack as u128) else {
+    let Some(forced) = next_forced(trail, places, slack as u128, 0) else {
         return Ok(None);
     };
     let mut clause = explain(alloc, trail, places, forced.place)?;
     clause.push(forced.lit)?;
     Ok(Some(clause))
+}
+
+/// How far the sum may rise from its least to the bound, where some place alone may rise further: none where the least sum exceeds the
+/// bound.
+pub fn slack_within(trail: &Trail, places: &[Place], bound: i64) -> Option<u128>
+    requires places { All (IsPlace (length trail.now.declared)) places.now }
+    requires short { length places.now ≤ 200000 }
+    requires filled { NoneEmpty trail.now.sets }
+    ensures found { IfSome result (λ slack. (least_sum trail.now.sets places.now +ℤ pos slack) ≡ bound) }
+    ensures none { IfNone result (least_sum trail.now.sets places.now ≤ℤ bound → IsTight trail.now.sets places.now bound) }
+{
+    let ends = ends_of(trail, places);
+    let slack = rise_to(ends, bound);
+    if slack < 0 || is_within(ends, slack) {
+        return None;
+    }
+    Some(slack as u128)
 }
 
 /// A clause that refutes that the sum is at most the bound, and is false or forces one literal on the trail: none where the sum stays within

@@ -5,7 +5,10 @@
 //! none is found, the ends leave one.
 #![tactic(auto)]
 
-pub use at_most::{conflict_at_most, refute_at_most};
+pub use at_most::{
+    Forced, PlaceFloor, conflict_at_most, floors_of, next_forced, refute_at_most, refute_place,
+    slack_within,
+};
 pub use ends::{ends_of, greatest_value, least_value};
 pub use equal::refute_equal;
 pub use not_equal::{conflict_not_equal, refute_not_equal};

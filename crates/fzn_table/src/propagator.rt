@@ -8,12 +8,11 @@ ghost use Rattle.fzn_meaning.specs.WellFormed.{IsWellFormed};
 ghost use Rattle.fzn_table.specs.Propagator.{table_number, TableIsFor, TableFits};
 
 use crate::supports::Supports;
-use crate::table::first_unsupported;
+use crate::table::bar_unsupported;
 use fzn_domain::Memory;
 use fzn_list::{Items, Shared};
 use fzn_meaning::{Constraint, Model, Rows, Term};
-use fzn_propagator::{Inference, Propagator};
-use fzn_rules::Rule;
+use fzn_propagator::{Findings, Propagator};
 use fzn_trail::Trail;
 use std::alloc::Global;
 
@@ -35,18 +34,18 @@ impl Propagator for TablePropagator {
     ghost fits = { TableFits };
 
     #[tactic(auto, unfolding(fzn_meaning::specs::Meaning::IsWellFormed))]
-    fn propagate(&self, alloc: Global, trail: &Trail) -> Result<Option<Inference>, Memory> {
+    fn propagate(&self, alloc: Global, trail: &Trail, found: &mut Findings) -> Result<(), Memory> {
         let places = self.places.as_slice();
         let rows = self.rows.constants();
-        let mut clause = Items::new(alloc);
-        if !first_unsupported(alloc, trail, places, rows, &self.supports, &mut clause)? {
-            return Ok(None);
-        }
-        Ok(Some(Inference {
-            constraint: self.number,
-            rule: Rule::Rows,
-            clause,
-        }))
+        bar_unsupported(
+            alloc,
+            trail,
+            places,
+            rows,
+            &self.supports,
+            self.number,
+            found,
+        )
     }
 }
 

@@ -1,5 +1,5 @@
 // What follows from the rows of a table: by the rule `rows`.
-ghost use Rattle.std.specs.Prelude.{◌≡◌, ◌↔◌, ◌+◌, ◌*◌, ◌<◌, ◌≤◌, false, true, ℕ, ℤ, pos, IsTrue, IfOk, IfSome, IfNone, OnOk, length};
+ghost use Rattle.std.specs.Prelude.{◌≡◌, ◌↔◌, ◌+◌, ◌*◌, ◌<◌, ◌≤◌, false, true, ℕ, ℤ, pos, [], IsTrue, IfOk, IfSome, IfNone, OnOk, length};
 ghost use Rattle.std.specs.List.{All, Contains};
 ghost use Rattle.fzn_domain.specs.Limits.{IsInLimits, IsNearLimits};
 ghost use Rattle.fzn_domain.specs.Narrow.{NoneEmpty};
@@ -8,12 +8,14 @@ ghost use Rattle.fzn_sets.specs.Terms.{MayBe};
 ghost use Rattle.fzn_propagator.specs.Left.{IsLeft};
 ghost use Rattle.fzn_terms.specs.Claims.{IsJustifiedBy, LeavesNoMore, place_at};
 ghost use Rattle.fzn_terms.specs.Denied.{IsFalseClause};
-ghost use Rattle.fzn_table.specs.Supports.{AreRowsOutOn, number_at, IsWhole, IsOutAt, IsOpenUpTo, AreOpen, IsSupported, AreSupported, IsRowRefuted, AreRowsRefuted};
+ghost use Rattle.fzn_table.specs.Supports.{AreRowsOutOn, number_at, IsWhole, IsOutAt, IsOpenUpTo, AreOpen, IsSupported, AreSupported, IsRowRefuted, AreRowsRefuted, AreFromTable};
 
 use crate::supports::Supports;
 use fzn_domain::{Lit, Memory, Op};
 use fzn_list::Items;
 use fzn_meaning::Term;
+use fzn_propagator::{Findings, Inference};
+use fzn_rules::Rule;
 use fzn_terms::{least_of, may_be, next_value, push_claim};
 use fzn_trail::Trail;
 use std::alloc::Global;
@@ -252,98 +254,118 @@ fn is_support(
     false
 }
 
-/// What `explain_value` says. It first looks at one row among the possible that has the value.
-fn explain_unless(
+/// The inference that the place has not this value goes behind what was found, where no row that stands has it there. It first looks at
+/// one row among the possible that has the value.
+fn bar_value(
+    alloc: Global,
     trail: &Trail,
     places: &[Term],
     rows: &[Term],
+    number: u64,
     p: usize,
     value: &i64,
     row: Option<usize>,
     marks: &mut Vec<bool>,
-    clause: &mut Items<Lit>,
-) -> Result<bool, Memory>
+    found: &mut Findings,
+) -> Result<(), Memory>
     requires places { All (IsTerm (length trail.now.declared)) places.now }
     requires numbers { All IsInLimits (numbers_in rows.now) }
     requires in_range { p < length places.now }
     requires limits { IsInLimits value.now }
     requires may { MayBe trail.now.sets (place_at places.now p) value.now }
     requires marks { AreOpen trail.now.sets places.now (numbers_in rows.now) marks.old.items }
-    ensures found { IfOk result (λ found. IsTrue found → IsJustifiedBy trail.now (AreRowsOutOn places.now (numbers_in rows.now)) clause.new) }
-    ensures none { IfOk result (λ found. found ≡ false → IsSupported trail.now.sets places.now (numbers_in rows.now) p value.now) }
+    requires before { AreFromTable number places.now (numbers_in rows.now) trail.now found.old }
+    ensures found { AreFromTable number places.now (numbers_in rows.now) trail.now found.new }
+    ensures kept { found.new ≡ [] → found.old ≡ [] }
+    ensures none { OnOk result (found.new ≡ [] → IsSupported trail.now.sets places.now (numbers_in rows.now) p value.now) }
     ensures marks { AreOpen trail.now.sets places.now (numbers_in rows.now) marks.new.items }
 {
     if let Some(r) = row {
         if is_support(trail, places, rows, p, value, r, marks) {
-            return Ok(false);
+            return Ok(());
         }
     }
-    explain_value(trail, places, rows, p, value, clause)
-}
-
-/// The first value of the place that no row supports.
-fn first_value(
-    trail: &Trail,
-    places: &[Term],
-    rows: &[Term],
-    supports: &Supports,
-    possible: &[u64],
-    p: usize,
-    marks: &mut Vec<bool>,
-    clause: &mut Items<Lit>,
-) -> Result<bool, Memory>
-    requires places { All (IsTerm (length trail.now.declared)) places.now }
-    requires numbers { All IsInLimits (numbers_in rows.now) }
-    requires filled { NoneEmpty trail.now.sets }
-    requires in_range { p < length places.now }
-    requires marks { AreOpen trail.now.sets places.now (numbers_in rows.now) marks.old.items }
-    ensures found { IfOk result (λ found. IsTrue found → IsJustifiedBy trail.now (AreRowsOutOn places.now (numbers_in rows.now)) clause.new) }
-    ensures none { IfOk result (λ found. found ≡ false → (v : ℤ) → MayBe trail.now.sets (place_at places.now p) v → IsSupported trail.now.sets places.now (numbers_in rows.now) p v) }
-    ensures marks { AreOpen trail.now.sets places.now (numbers_in rows.now) marks.new.items }
-{
-    let mut value = least_of(trail, places[p]);
-    loop {
-        let row = supports.row_of(possible, p, value);
-        if explain_unless(trail, places, rows, p, &value, row, marks, clause)? {
-            return Ok(true);
-        }
-        match next_value(trail, places[p], &value) {
-            Some(next) => value = next,
-            None => return Ok(false),
-        }
+    let mut clause = Items::new(alloc);
+    if !explain_value(trail, places, rows, p, value, &mut clause)? {
+        return Ok(());
     }
+    found.push(Inference {
+        constraint: number,
+        rule: Rule::Rows,
+        clause,
+    })?;
+    Ok(())
 }
 
-/// The first value of a place that no row supports.
-pub(crate) fn first_unsupported(
+/// An inference for each value of the place that no row supports.
+fn bar_values(
     alloc: Global,
     trail: &Trail,
     places: &[Term],
     rows: &[Term],
     supports: &Supports,
-    clause: &mut Items<Lit>,
-) -> Result<bool, Memory>
+    possible: &[u64],
+    number: u64,
+    p: usize,
+    marks: &mut Vec<bool>,
+    found: &mut Findings,
+) -> Result<(), Memory>
     requires places { All (IsTerm (length trail.now.declared)) places.now }
     requires numbers { All IsInLimits (numbers_in rows.now) }
     requires filled { NoneEmpty trail.now.sets }
-    ensures found { IfOk result (λ found. IsTrue found → IsJustifiedBy trail.now (AreRowsOutOn places.now (numbers_in rows.now)) clause.new) }
-    ensures none { IfOk result (λ found. found ≡ false → AreSupported trail.now.sets places.now (numbers_in rows.now) (length places.now)) }
+    requires in_range { p < length places.now }
+    requires marks { AreOpen trail.now.sets places.now (numbers_in rows.now) marks.old.items }
+    requires before { AreFromTable number places.now (numbers_in rows.now) trail.now found.old }
+    ensures found { AreFromTable number places.now (numbers_in rows.now) trail.now found.new }
+    ensures kept { found.new ≡ [] → found.old ≡ [] }
+    ensures none { OnOk result (found.new ≡ [] → (v : ℤ) → MayBe trail.now.sets (place_at places.now p) v → IsSupported trail.now.sets places.now (numbers_in rows.now) p v) }
+    ensures marks { AreOpen trail.now.sets places.now (numbers_in rows.now) marks.new.items }
+{
+    let mut value = least_of(trail, places[p]);
+    loop {
+        let row = supports.row_of(possible, p, value);
+        bar_value(
+            alloc, trail, places, rows, number, p, &value, row, marks, found,
+        )?;
+        match next_value(trail, places[p], &value) {
+            Some(next) => value = next,
+            None => return Ok(()),
+        }
+    }
+}
+
+/// An inference for each value of each place that no row supports.
+pub(crate) fn bar_unsupported(
+    alloc: Global,
+    trail: &Trail,
+    places: &[Term],
+    rows: &[Term],
+    supports: &Supports,
+    number: u64,
+    found: &mut Findings,
+) -> Result<(), Memory>
+    requires places { All (IsTerm (length trail.now.declared)) places.now }
+    requires numbers { All IsInLimits (numbers_in rows.now) }
+    requires filled { NoneEmpty trail.now.sets }
+    requires before { AreFromTable number places.now (numbers_in rows.now) trail.now found.old }
+    ensures found { AreFromTable number places.now (numbers_in rows.now) trail.now found.new }
+    ensures none { OnOk result (found.new ≡ [] → AreSupported trail.now.sets places.now (numbers_in rows.now) (length places.now)) }
 {
     let possible = supports.possible(alloc, trail, places)?;
     let mut marks = Vec::from_elem(alloc, false, supports.rows())?;
     for p in 0..places.len() {
-        if first_value(
+        bar_values(
+            alloc,
             trail,
             places,
             rows,
             supports,
             possible.as_slice(),
+            number,
             p,
             &mut marks,
-            clause,
-        )? {
-            return Ok(true);
-        }
+            found,
+        )?;
     }
-    Ok(false)
+    Ok(())
 }

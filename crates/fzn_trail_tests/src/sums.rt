@@ -8,8 +8,8 @@ use fzn_domain::{Lit, Memory, Op, VarId};
 use fzn_list::Items;
 use fzn_meaning::{Place, Term};
 use fzn_sums::{
-    conflict_at_most, conflict_not_equal, ends_of, greatest_value, least_value, refute_at_most,
-    refute_equal, refute_not_equal,
+    conflict_at_most, conflict_not_equal, ends_of, floors_of, greatest_value, least_value,
+    next_forced, refute_at_most, refute_equal, refute_not_equal, refute_place, slack_within,
 };
 use fzn_trail::Trail;
 use std::alloc::Global;
@@ -90,6 +90,27 @@ fn are_ends(trail: &Trail) -> bool
         && ends.widest == 15
 }
 
+fn are_forced(alloc: Global, trail: &Trail) -> bool
+    requires two { length trail.now.declared ≡ 2 }
+    requires filled { NoneEmpty trail.now.sets }
+{
+    let sum = [place(2, X), place(3, Y)];
+    let clause = [lit(1, Op::AtMost, 1), lit(2, Op::AtMost, 1)];
+    let Ok(floors) = floors_of(alloc, trail, &sum) else {
+        return false;
+    };
+    let found = refute_place(alloc, trail, &sum, floors.as_slice(), 4, 1);
+    let is_second = match next_forced(trail, &sum, 4, 0) {
+        Some(forced) => forced.place == 1 && forced.lit == clause[1],
+        None => false,
+    };
+    slack_within(trail, &sum, 8) == Some(4)
+        && slack_within(trail, &sum, 3).is_none()
+        && is_second
+        && next_forced(trail, &sum, 4, 2).is_none()
+        && is_found(found, &clause)
+}
+
 fn are_all(alloc: Global, trail: &Trail) -> bool
     requires two { length trail.now.declared ≡ 2 }
     requires filled { NoneEmpty trail.now.sets }
@@ -98,6 +119,7 @@ fn are_all(alloc: Global, trail: &Trail) -> bool
         && are_different(alloc, trail)
         && are_equal(alloc, trail)
         && are_ends(trail)
+        && are_forced(alloc, trail)
 }
 
 fn are_told(alloc: Global) -> Result<bool, Memory> {

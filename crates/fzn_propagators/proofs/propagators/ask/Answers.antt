@@ -1,11 +1,11 @@
 -- What the propagator at this place finds.
-use Rattle.std.proofs.Common.{Option, get_or, IfSome, ap, ◌∙◌}
-use Rattle.std.proofs.lemmas.Result.{IfOk-weaker}
+use Rattle.std.proofs.Common.{◌≡◌, List, get_or, ap, ◌∙◌}
 use Rattle.fzn_propagator.specs.declared.propagator.Inference.{Inference}
-use Rattle.fzn_propagator.specs.Inference.{IsInferenceOf}
-use Rattle.fzn_constraints.specs.Inference.{IsInference}
+use Rattle.fzn_propagator.specs.Inference.{IsInferenceOf, AreExhausted}
+use Rattle.fzn_constraints.specs.Inference.{IsInference, IsJustified}
 use Rattle.fzn_propagators.specs.AnyCrate.{any_number, AnyIsFor}
-use Rattle.fzn_propagators.proofs.FoundLemmas.{fits-trail, found-some}
+use Rattle.fzn_propagators.proofs.FoundLemmas.{HoldsAt-item, fits-trail, all-found, all-justified}
+use Rattle.fzn_propagators.proofs.TakenLemmas.{first-taken, others-left, none-taken}
 use Rattle.fzn_propagators.proofs.propagators.ask.Goals as goal
 
 pub propagate-requires-clause-fits : goal.propagate-requires-clause-fits
@@ -14,12 +14,29 @@ propagate-requires-clause-fits c =
     fits-trail c.args.model.now c.args.trail.now c.requires.declared c.args.items.now c.requires.is_for c.args.place p
     (c.index-as_slice-place.is ∙ ap (λ xs. get_or xs c.args.place p) c.as_slice.ensures) c.requires.place
 
-pub returns-clause-found : goal.returns-clause-found
-returns-clause-found c =
+pub returns-in_err-propagate-clause-rest : goal.returns-in_err-propagate-clause-rest
+returns-in_err-propagate-clause-rest c =
     let p = c.index-as_slice-place.result in
-    IfOk-weaker c.propagate.result
-    (λ (found : Option Inference). IfSome found (IsInferenceOf (any_number p) (AnyIsFor p) c.args.trail.now))
-    (λ (found : Option Inference). IfSome found (IsInference c.args.model.now c.args.trail.now))
-    (found-some c.args.model.now c.args.trail.now c.requires.declared c.args.items.now c.requires.is_for c.args.place p
-    (c.index-as_slice-place.is ∙ ap (λ xs. get_or xs c.args.place p) c.as_slice.ensures) c.requires.place)
-    c.propagate.ensures.found
+    all-justified c.args.model.now c.args.trail.now c.requires.declared c.args.items.now c.requires.is_for c.args.place p
+    (c.index-as_slice-place.is ∙ ap (λ xs. get_or xs c.args.place p) c.as_slice.ensures) c.requires.place c.propagate.new.found c.propagate.ensures.found
+
+pub returns-clause-first : goal.returns-clause-first
+returns-clause-first c =
+    let p = c.index-as_slice-place.result in
+    first-taken (IsInference c.args.model.now c.args.trail.now) c.take_first.result c.propagate.new.found c.take_first.new.self c.take_first.ensures.some
+    (all-found c.args.model.now c.args.trail.now c.requires.declared c.args.items.now c.requires.is_for c.args.place p
+    (c.index-as_slice-place.is ∙ ap (λ xs. get_or xs c.args.place p) c.as_slice.ensures) c.requires.place c.propagate.new.found c.propagate.ensures.found)
+
+pub returns-clause-none : goal.returns-clause-none
+returns-clause-none c =
+    let p = c.index-as_slice-place.result in
+    none-taken _ c.take_first.result c.propagate.new.found c.take_first.new.self c.take_first.ensures.none
+    (λ nothing. HoldsAt-item (λ q. AreExhausted (AnyIsFor q) c.args.trail.now) c.args.items.now c.args.place p
+    (c.index-as_slice-place.is ∙ ap (λ xs. get_or xs c.args.place p) c.as_slice.ensures) c.requires.place (c.in_ok-propagate.ensures.none nothing))
+
+pub returns-clause-rest : goal.returns-clause-rest
+returns-clause-rest c =
+    let p = c.index-as_slice-place.result in
+    others-left (IsJustified c.args.model.now) c.take_first.result c.propagate.new.found c.take_first.new.self c.take_first.ensures.some c.take_first.ensures.none
+    (all-justified c.args.model.now c.args.trail.now c.requires.declared c.args.items.now c.requires.is_for c.args.place p
+    (c.index-as_slice-place.is ∙ ap (λ xs. get_or xs c.args.place p) c.as_slice.ensures) c.requires.place c.propagate.new.found c.propagate.ensures.found)

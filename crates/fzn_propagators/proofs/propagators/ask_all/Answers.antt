@@ -7,11 +7,14 @@ use Rattle.fzn_propagators.proofs.FoundLemmas.{none-quiet}
 use Rattle.fzn_propagators.proofs.propagators.ask_all.Goals as goal
 
 pub loop-place-preserved : goal.loop-place-preserved
-loop-place-preserved c =
-    AllWithin-more (λ p. AreExhausted (AnyIsFor p) c.args.trail.now) c.args.items.now 0 c.loop-place.place c.loop-place.invariant
-    (rw c.in_default.is at c.in_ok-found.ensures.none)
+loop-place-preserved c = record {
+  none =
+      AllWithin-more (λ p. AreExhausted (AnyIsFor p) c.args.trail.now) c.args.items.now 0 c.loop-place.place c.loop-place.invariant.none
+      (rw c.in_default.is at c.in_ok-first.ensures.none);
+  rest = c.ask.ensures.rest;
+}
 
 pub returns-clause-none : goal.returns-clause-none
 returns-clause-none c =
     none-quiet c.args.model.now c.args.trail.now c.requires.declared c.args.items.now c.requires.is_for c.len-entries.ensures.narrower
-    c.loop-place.place (omega arith) c.loop-place.invariant
+    c.loop-place.place (omega arith) c.loop-place.invariant.none

@@ -1,8 +1,12 @@
-use Rattle.std.specs.List.{AllWithin}
+use Rattle.std.specs.List.{All, AllWithin}
+use Rattle.fzn_constraints.specs.Inference.{IsJustified}
 use Rattle.fzn_propagators.specs.AnyCrate.{AnyIsFor}
 use Rattle.fzn_propagator.specs.Inference.{AreExhausted}
 use Rattle.fzn_propagators.proofs.propagators.ask_all.Given as goal
 
 -- the propagators before this place find nothing
 abbrev pub invariant-loop-place : goal.invariant-loop-place
-invariant-loop-place l = AllWithin (λ p. AreExhausted (AnyIsFor p) l.trail) l.items 0 l.place
+invariant-loop-place l = record {
+  none : AllWithin (λ p. AreExhausted (AnyIsFor p) l.trail) l.items 0 l.place;
+  rest : All (IsJustified l.model) l.found;
+}

@@ -1,5 +1,5 @@
 -- The propagators so far, and one more for the next constraint.
-use Rattle.std.proofs.Common.{arith, length-append}
+use Rattle.std.proofs.Common.{rules, arith, length-append}
 use Rattle.fzn_propagators.proofs.MadeLemmas.{AreFirst-push}
 use Rattle.fzn_propagators.proofs.propagators.Propagators.new.Goals as goal
 
@@ -10,3 +10,6 @@ loop-i-preserved c = record {
       AreFirst-push c.args.model.now c.loop-i.i c.loop-i.items c.in_ok-propagator.propagator _ c.in_ok-push.ensures.ok c.loop-i.invariant.one_each c.loop-i.invariant.first
       c.in_ok-propagator.ensures.number c.in_ok-propagator.ensures.is_for c.in_ok-propagator.ensures.fits;
 }
+
+pub returns : goal.returns
+returns c = record { items = search rules; found = search rules }

@@ -1,0 +1,6 @@
+use Rattle.fzn_meaning.specs.declared.constraint.Constraint.TheVariants as constraint
+use Rattle.fzn_equality.specs.Found.{AreFoundOf}
+use Rattle.fzn_builtin.proofs.amount.part_values.Given as goal
+
+abbrev pub invariant-loop-value : goal.invariant-loop-value
+invariant-loop-value l = AreFoundOf l.number (constraint.IntAbs l.of l.amount) l.trail l.found

@@ -1,8 +1,0 @@
-use Rattle.std.proofs.Common.{ℕ, ◌+◌, ◌<◌, pos, length, get_or}
-use Rattle.fzn_domain.specs.declared.literal.Op.TheVariants.{AtMost, AtLeast}
-use Rattle.fzn_meaning.specs.declared.term.Term.{Term}
-use Rattle.fzn_terms.specs.Denied.{NoneIs}
-use Rattle.fzn_circuit.proofs.propagator.first_outside.Given as goal
-
-abbrev pub invariant-loop-k : goal.invariant-loop-k
-invariant-loop-k l = (k : ℕ) (d : Term) → k < l.k → NoneIs AtMost (pos 0) (get_or l.successors k d) l.trail.sets × NoneIs AtLeast (pos (length l.successors + 1)) (get_or l.successors k d) l.trail.sets

@@ -1,0 +1,10 @@
+use Rattle.std.proofs.Common.{length}
+use Rattle.std.specs.List.{All}
+use Rattle.fzn_meaning.specs.Entries.{IsIndex}
+use Rattle.fzn_circuit.proofs.ways.starts_of.Given as goal
+
+abbrev pub invariant-loop-k : goal.invariant-loop-k
+invariant-loop-k l = All (IsIndex (length l.successors)) l.starts
+
+abbrev pub invariant-loop-k-2 : goal.invariant-loop-k-2
+invariant-loop-k-2 l = All (IsIndex (length l.successors)) l.starts

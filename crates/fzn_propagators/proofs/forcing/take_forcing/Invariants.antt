@@ -1,0 +1,6 @@
+use Rattle.std.specs.List.{All}
+use Rattle.fzn_constraints.specs.Inference.{IsJustified}
+use Rattle.fzn_propagators.proofs.forcing.take_forcing.Given as goal
+
+abbrev pub invariant-loop : goal.invariant-loop
+invariant-loop l = All (IsJustified l.model) l.found

@@ -1,8 +1,0 @@
-use Rattle.std.proofs.Common.{ℕ, ◌<◌, negsuc, get_or}
-use Rattle.fzn_domain.specs.declared.literal.Op.TheVariants.{AtMost}
-use Rattle.fzn_meaning.specs.declared.term.Term.{Term}
-use Rattle.fzn_terms.specs.Denied.{NoneIs}
-use Rattle.fzn_schedule.proofs.propagator.first_below.Given as goal
-
-abbrev pub invariant-loop-k : goal.invariant-loop-k
-invariant-loop-k l = (k : ℕ) (d : Term) → k < l.k → NoneIs AtMost (negsuc 0) (get_or l.terms k d) l.trail.sets

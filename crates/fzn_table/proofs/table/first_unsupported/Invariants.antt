@@ -1,9 +1,0 @@
-use Rattle.fzn_meaning.specs.Term.{numbers_in}
-use Rattle.fzn_table.specs.Supports.{AreOpen, AreSupported}
-use Rattle.fzn_table.proofs.table.first_unsupported.Given as goal
-
-abbrev pub invariant-loop-p : goal.invariant-loop-p
-invariant-loop-p l = record {
-  supported : AreSupported l.trail.sets l.places (numbers_in l.rows) l.p;
-  marks : AreOpen l.trail.sets l.places (numbers_in l.rows) l.marks.items;
-}
