@@ -2,7 +2,7 @@
 use Rattle.std.proofs.Common.{ℕ, List, length, Option, Some, None, ◌∙◌, arith}
 use Rattle.std.specs.Io.KnownBytes.{Appends, Keeps}
 use Rattle.std.proofs.Math.Seq.{take-length}
-use Rattle.fzn_output.specs.Output.{AppendsFront}
+use Rattle.fzn_streams.specs.Output.{AppendsFront}
 
 -- what stands whole, and stays, is a beginning of itself
 pub AppendsFront_whole : (a b c : Option (List ℕ)) (xs : List ℕ) → Appends a b xs → Keeps b c → AppendsFront a c xs

@@ -2,7 +2,7 @@
 use Rattle.std.specs.Prelude.{ℕ, List, Option}
 use Rattle.std.specs.Io.KnownBytes.{Keeps}
 use Rattle.std.specs.Borrow.{GName}
-use Rattle.fzn_output.specs.Output.{AppendsFront}
+use Rattle.fzn_streams.specs.Output.{AppendsFront}
 use Rattle.fzn_cert.specs.declared.fault.FaultKind.{FaultKind}
 use Rattle.fzn_cert.specs.declared.fault.FaultKind.TheVariants.{Memory, Write, StepTooLong}
 use Rattle.fzn_cert.specs.declared.step.Step.{Step}

@@ -1,7 +1,7 @@
 // The writer of a certificate.
 ghost use Rattle.std.specs.Prelude.{◌≡◌, ℕ, ◌+◌, ◌<◌, ◌^◌, Bool, string_bytes, OnOk, OnErr, IfOk, IfErr, Err};
 ghost use Rattle.std.specs.Io.KnownBytes.{Appends, Keeps};
-ghost use Rattle.fzn_output.specs.Output.{Puts};
+ghost use Rattle.fzn_streams.specs.Output.{Puts};
 ghost use Rattle.fzn_cert.specs.declared.step.Version.TheVariants.{One};
 ghost use Rattle.fzn_cert.specs.declared.writer.Stage.TheVariants.{Fresh, Open, Shut};
 ghost use Rattle.fzn_cert.specs.Spelling.{step_line, IsSpelled, HasRoom, version_text, header_text, end_line};
@@ -11,7 +11,7 @@ use crate::fault::FaultKind;
 use crate::limits::{LAST_STEP, LINE_LIMIT};
 use crate::line::push_step;
 use crate::step::{Step, Version};
-use fzn_output::{WriteFailed, put};
+use fzn_streams::{WriteFailed, put};
 use std::alloc::Global;
 use std::io::Write;
 

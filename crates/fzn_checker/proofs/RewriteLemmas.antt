@@ -5,8 +5,8 @@ use Rattle.std.specs.Result.{is_err}
 use Rattle.std.specs.Io.KnownBytes.{Consumes, Appends, Keeps}
 use Rattle.std.proofs.KnownBytes.{Consumes-trans, Appends-trans, Consumes-whole, Appends-kept, Keeps-refl}
 use Rattle.std.proofs.lemmas.List.{append-nil, length-append}
-use Rattle.fzn_output.specs.Output.{AppendsFront, Puts}
-use Rattle.fzn_output.proofs.CallerLemmas.{front-left, front-then}
+use Rattle.fzn_streams.specs.Output.{AppendsFront, Puts}
+use Rattle.fzn_streams.proofs.CallerLemmas.{front-left, front-then}
 use Rattle.fzn_cert.specs.declared.fault.FaultKind.{FaultKind}
 use Rattle.fzn_cert.specs.declared.fault.FaultKind.TheVariants as faults
 use Rattle.fzn_cert.specs.declared.refusal.Refusal.{Refusal}

@@ -1,7 +1,7 @@
 -- What checking the bytes of a file and those of a certificate answers.
 use Rattle.std.specs.Prelude.{◌≡◌, ℕ, Bool, true, ℤ, List, length, Option, IfSome, Ok, Err}
 use Rattle.std.specs.Io.KnownBytes.{Appends, Keeps}
-use Rattle.fzn_output.specs.Output.{AppendsFront}
+use Rattle.fzn_streams.specs.Output.{AppendsFront}
 use Rattle.fzn_lexer.specs.declared.halt.Halt.TheVariants as errors
 use Rattle.fzn_meaning.specs.declared.model.Model.{Model}
 use Rattle.fzn_meaning.specs.Solutions.{IsProper, IsExhausted}

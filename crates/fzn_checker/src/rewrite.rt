@@ -2,7 +2,7 @@
 ghost use Rattle.std.specs.Prelude.{◌≡◌, ◌≤◌, ◌+◌, ◌++◌, ◌∷◌, [], OnOk, None, true, IfOk, IfErr};
 ghost use Rattle.std.specs.Bool.{OnTrue, OnFalse};
 ghost use Rattle.std.specs.Io.KnownBytes.{Consumes, Appends};
-ghost use Rattle.fzn_output.specs.Output.{AppendsFront};
+ghost use Rattle.fzn_streams.specs.Output.{AppendsFront};
 ghost use Rattle.fzn_cert_reader.specs.Input.{left_in};
 ghost use Rattle.fzn_cert.specs.declared.step.Version.TheVariants.{One};
 ghost use Rattle.fzn_checker.specs.Faults.{fault_of_kind};
@@ -14,7 +14,7 @@ use crate::fault::CheckFault;
 use crate::next::fault_after;
 use fzn_cert::{CertFault, FaultKind, Version};
 use fzn_cert_reader::{StepLines, line_of};
-use fzn_output::put;
+use fzn_streams::put;
 use std::alloc::Global;
 use std::io::{Read, Write};
 

@@ -1,6 +1,6 @@
 //! Tests of the crates that print, and that write, read and check a certificate.
 //!
-//! In: steps, bytes of certificates, and a small model. Out: the calls of `fzn_output`, `fzn_printer`, `fzn_cert`, `fzn_cert_reader` and
+//! In: steps, bytes of certificates, and a small model. Out: the calls of `fzn_streams`, `fzn_printer`, `fzn_cert`, `fzn_cert_reader` and
 //! `fzn_checker`, against lines, steps and verdicts worked out by hand; what the checker says of a certificate stands in `rows/`. Nothing is
 //! proved here beyond that the tests are safe; they stand apart so that the crates below are not proved a second time with them.
 #![tactic(auto)]

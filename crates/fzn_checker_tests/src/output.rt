@@ -1,4 +1,4 @@
-use fzn_output::{WriteFailed, put};
+use fzn_streams::{WriteFailed, put};
 use std::alloc::Global;
 use std::test::*;
 

@@ -13,7 +13,6 @@ use Rattle.fzn_meaning.specs.declared.relation.Comparison.TheVariants.{Equal}
 use Rattle.fzn_meaning.specs.declared.constraint.Constraint.{Constraint}
 use Rattle.fzn_meaning.specs.declared.constraint.Constraint.TheVariants.{Compare, BoolNot, BoolToInt, Linear, BoolLinEq, Arithmetic, IntAbs, Extremum, Element, SetIn, Gated, BoolXor, ArrayBoolXor, BoolClause, AllDifferent, Table, Cumulative, Circuit, Inverse}
 use Rattle.fzn_meaning.specs.Term.{term_value, values_of, sum_at, IsTerm, IsPlace}
-pub use Rattle.fzn_meaning.specs.Term.{IsNotNegative}
 use Rattle.fzn_meaning.specs.Comparisons.{IsRelated, IsSwitched}
 use Rattle.fzn_meaning.specs.Linear.{IsLinear}
 use Rattle.fzn_meaning.specs.Arithmetic.{IsArithmetic, IsIntAbs}
@@ -84,7 +83,7 @@ IsWellFormed count (BoolClause positive negative) = AreTerms count positive × A
 IsWellFormed count (AllDifferent places) = AreTerms count places
 IsWellFormed count (Table places rows) = AreTerms count places × (0 < length places) × All IsInLimits rows × (length rows ≤ longest) × (length rows % length places ≡ 0)
 IsWellFormed count (Cumulative starts durations uses capacity) = AreTerms count starts × AreTerms count durations × AreTerms count uses × IsTerm count capacity
-    × (length durations ≡ length starts) × (length uses ≡ length starts) × All IsNotNegative durations × All IsNotNegative uses × IsNotNegative capacity
+    × (length durations ≡ length starts) × (length uses ≡ length starts)
 IsWellFormed count (Circuit successors) = AreTerms count successors
 IsWellFormed count (Inverse forward backward) = AreTerms count forward × AreTerms count backward × (length backward ≡ length forward)
 

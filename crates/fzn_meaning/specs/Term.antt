@@ -44,10 +44,5 @@ abbrev pub IsTerm : ℕ → Term → Type 0
 IsTerm count (Constant k) = IsInLimits k
 IsTerm count (Variable var) = IsVariable count var
 
--- a constant is not below 0
-abbrev pub IsNotNegative : Term → Type 0
-IsNotNegative (Constant k) = pos 0 ≤ℤ k
-IsNotNegative (Variable var) = Unit {0}
-
 abbrev pub IsPlace : ℕ → Place → Type 0
 IsPlace count place = IsTerm count place.term × IsSmall place.coefficient

@@ -1,7 +1,7 @@
 // A whole answer.
 ghost use Rattle.std.specs.Prelude.{◌≡◌, length};
 ghost use Rattle.std.specs.List.{All, flat_map};
-ghost use Rattle.fzn_output.specs.Output.{Puts};
+ghost use Rattle.fzn_streams.specs.Output.{Puts};
 ghost use Rattle.fzn_meaning.specs.WellFormed.{IsOutputItem, IsWellFormed};
 ghost use Rattle.fzn_meaning.specs.Solutions.{IsAssignment};
 ghost use Rattle.fzn_printer.specs.Shown.{shown};
@@ -11,12 +11,12 @@ use crate::item::put_solution;
 use crate::printer::ending_line;
 use fzn_list::Items;
 use fzn_meaning::{Goal, Model};
-use fzn_output::{WriteFailed, put};
+use fzn_streams::{WriteFailed, put};
 use std::io::Write;
 
 /// Prints the solutions that are to be seen, and how the answer ends, and flushes the writer. In an optimisation the last solution
 /// alone is printed, but for a wish to see all.
-#[tactic(auto, using(fzn_output::proofs::CallerLemmas::puts))]
+#[tactic(auto, using(fzn_streams::proofs::CallerLemmas::puts))]
 pub fn put_answer<W: Write>(
     out: &mut W,
     model: &Model,

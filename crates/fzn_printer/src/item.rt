@@ -5,7 +5,7 @@ ghost use Rattle.std.specs.Fmt.{decimal};
 ghost use Rattle.fzn_domain.specs.Narrow.{IsVariable, value_of};
 ghost use Rattle.fzn_meaning.specs.Term.{IsTerm};
 ghost use Rattle.fzn_meaning.specs.WellFormed.{IsOutputItem};
-ghost use Rattle.fzn_output.specs.Output.{Puts};
+ghost use Rattle.fzn_streams.specs.Output.{Puts};
 ghost use Rattle.fzn_meaning.specs.declared.model.OutputItem.TheVariants.{Single, Array};
 ghost use Rattle.fzn_printer.specs.Shown.{value_text, range_text, entry_text, entries_text, list_text, item_text, shown};
 
@@ -13,7 +13,7 @@ use crate::value::{put_count, put_range, put_value};
 use fzn_domain::VarId;
 use fzn_list::Text;
 use fzn_meaning::{IndexRange, Kind, Model, OutputItem, Term};
-use fzn_output::{WriteFailed, put};
+use fzn_streams::{WriteFailed, put};
 use std::io::Write;
 
 /// The lines of the marked declarations, and ten dashes.
@@ -26,7 +26,7 @@ pub fn put_solution<W: Write>(out: &mut W, model: &Model, values: &[i64]) -> Res
 }
 
 /// The lines of these declarations.
-#[tactic(auto, using(fzn_output::proofs::CallerLemmas::puts))]
+#[tactic(auto, using(fzn_streams::proofs::CallerLemmas::puts))]
 fn put_items<W: Write>(out: &mut W, items: &[OutputItem], values: &[i64]) -> Result<(), WriteFailed>
     requires { All (IsOutputItem (length values.now)) items.now }
     ensures { Puts (W.contents out.old) (W.contents out.new) result (flat_map (item_text values.now) items.now) }
@@ -37,7 +37,7 @@ fn put_items<W: Write>(out: &mut W, items: &[OutputItem], values: &[i64]) -> Res
     Ok(())
 }
 
-#[tactic(auto, using(fzn_output::proofs::CallerLemmas::puts))]
+#[tactic(auto, using(fzn_streams::proofs::CallerLemmas::puts))]
 fn put_item<W: Write>(out: &mut W, item: &OutputItem, values: &[i64]) -> Result<(), WriteFailed>
     requires { IsOutputItem (length values.now) item.now }
     ensures { Puts (W.contents out.old) (W.contents out.new) result (item_text values.now item.now) }
@@ -57,7 +57,7 @@ fn put_item<W: Write>(out: &mut W, item: &OutputItem, values: &[i64]) -> Result<
     }
 }
 
-#[tactic(auto, using(fzn_output::proofs::CallerLemmas::puts))]
+#[tactic(auto, using(fzn_streams::proofs::CallerLemmas::puts))]
 pub fn put_single<W: Write>(
     out: &mut W,
     name: &Text,
@@ -73,7 +73,7 @@ pub fn put_single<W: Write>(
 }
 
 /// The name of an array and its index ranges, each with a comma and a space.
-#[tactic(auto, using(fzn_output::proofs::CallerLemmas::puts))]
+#[tactic(auto, using(fzn_streams::proofs::CallerLemmas::puts))]
 pub fn put_head<W: Write>(
     out: &mut W,
     name: &Text,
@@ -97,7 +97,7 @@ fn put_ranges<W: Write>(out: &mut W, ranges: &[IndexRange]) -> Result<(), WriteF
     Ok(())
 }
 
-#[tactic(auto, using(fzn_output::proofs::CallerLemmas::puts))]
+#[tactic(auto, using(fzn_streams::proofs::CallerLemmas::puts))]
 fn put_indices<W: Write>(out: &mut W, range: &IndexRange) -> Result<(), WriteFailed>
     ensures { Puts (W.contents out.old) (W.contents out.new) result (range_text range.now ++ codes ", ") }
 {
@@ -105,7 +105,7 @@ fn put_indices<W: Write>(out: &mut W, range: &IndexRange) -> Result<(), WriteFai
     put(out, b", ")
 }
 
-#[tactic(auto, using(fzn_output::proofs::CallerLemmas::puts))]
+#[tactic(auto, using(fzn_streams::proofs::CallerLemmas::puts))]
 pub fn put_list<W: Write>(
     out: &mut W,
     kind: Kind,
@@ -167,7 +167,7 @@ fn put_further<W: Write>(
     Ok(())
 }
 
-#[tactic(auto, using(fzn_output::proofs::CallerLemmas::puts))]
+#[tactic(auto, using(fzn_streams::proofs::CallerLemmas::puts))]
 fn put_after_comma<W: Write>(
     out: &mut W,
     kind: Kind,

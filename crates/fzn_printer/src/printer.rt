@@ -1,7 +1,7 @@
 // Solutions and the end of an answer on a writer.
 ghost use Rattle.std.specs.Prelude.{◌≡◌, ◌≢◌, true, false, length, IfErr, OnOk, OnErr, Err};
 ghost use Rattle.std.specs.Io.KnownBytes.{Appends, Keeps};
-ghost use Rattle.fzn_output.specs.Output.{AppendsFront};
+ghost use Rattle.fzn_streams.specs.Output.{AppendsFront};
 ghost use Rattle.fzn_meaning.specs.Solutions.{IsAssignment};
 ghost use Rattle.fzn_meaning.specs.WellFormed.{IsWellFormed};
 ghost use Rattle.fzn_printer.specs.Shown.{shown, ending_text, is_closed};
@@ -9,7 +9,7 @@ ghost use Rattle.fzn_printer.specs.Printer.{contents_of, out_name, is_open, has_
 
 use crate::item::put_solution;
 use fzn_meaning::Model;
-use fzn_output::put;
+use fzn_streams::put;
 use std::io::Write;
 use thiserror::Error;
 

@@ -1,11 +1,11 @@
 // Numbers, values and names.
 ghost use Rattle.std.specs.Prelude.{◌≡◌};
 ghost use Rattle.std.specs.Fmt.{decimal, signed_decimal};
-ghost use Rattle.fzn_output.specs.Output.{Puts};
+ghost use Rattle.fzn_streams.specs.Output.{Puts};
 ghost use Rattle.fzn_printer.specs.Shown.{value_text, range_text};
 
 use fzn_meaning::{IndexRange, Kind};
-use fzn_output::{WriteFailed, put};
+use fzn_streams::{WriteFailed, put};
 use itoa::Buffer;
 use std::io::Write;
 
@@ -31,7 +31,7 @@ pub fn put_value<W: Write>(out: &mut W, kind: Kind, value: &i64) -> Result<(), W
     }
 }
 
-#[tactic(auto, using(fzn_output::proofs::CallerLemmas::puts))]
+#[tactic(auto, using(fzn_streams::proofs::CallerLemmas::puts))]
 pub fn put_range<W: Write>(out: &mut W, range: &IndexRange) -> Result<(), WriteFailed>
     ensures { Puts (W.contents out.old) (W.contents out.new) result (range_text range.now) }
 {

@@ -18,7 +18,7 @@ use Rattle.fzn_meaning.specs.declared.term.Term.TheVariants.{Constant, Variable}
 use Rattle.fzn_meaning.specs.declared.constraint.Constraint.{Constraint}
 use Rattle.fzn_meaning.specs.declared.constraint.Constraint.TheVariants.{Cumulative}
 use Rattle.fzn_meaning.specs.Cumulative.{tasks, load_at, IsCumulative}
-use Rattle.fzn_meaning.specs.Term.{IsTerm, IsNotNegative, term_value, values_of}
+use Rattle.fzn_meaning.specs.Term.{IsTerm, term_value, values_of}
 use Rattle.fzn_meaning.specs.Meaning.{Meets, IsWellFormed}
 use Rattle.fzn_meaning.proofs.CallerLemmas.{All-values_of}
 use Rattle.fzn_meaning.proofs.CumulativeLemmas.{cumulative_from}
@@ -124,22 +124,9 @@ not_fixed sets count terms held r same fit is test told fixed =
 
 -- ---- tasks of constants
 
-least_may : (sets : List IntSet) (term : Term) → NoneEmpty sets → IsTerm (length sets) term → MayBe sets term (least_value sets term)
-least_may sets (Constant k) filled fits = refl
-least_may sets (Variable var) filled fits =
-    let some = member_of_size (set_of sets var) (All-get_or (λ (s : IntSet). 0 < size s) sets (var.0 - 1) no_values (omega arith) filled) in
-    contains-least (set_of sets var) some.0 some.1
-
-pub least_low : (sets : List IntSet) (count : ℕ) (term : Term) → NoneEmpty sets → length sets ≡ count → IsTerm count term → NoneIs AtMost (negsuc 0) term sets → pos 0 ≤ℤ least_value sets term
-least_low sets count term filled same fits none = not_below (least_value sets term) (none (least_value sets term) (least_may sets term filled (subst (λ (n : ℕ). IsTerm n term) (sym same) fits)))
-
-none_negative : (sets : List IntSet) (count : ℕ) (terms : List Term) → NoneEmpty sets → length sets ≡ count → All (IsTerm count) terms → AreNotBelow sets terms → All IsNotNegative (least_terms sets terms)
-none_negative sets count terms filled same fit none =
-    All-map IsNotNegative (λ term. Constant (least_value sets term)) terms (λ k d below. least_low sets count (get_or terms k d) filled same (All-get_or (IsTerm count) terms k d below fit) (none k d below))
-
-pub constants_formed : (sets : List IntSet) (count : ℕ) (group : Tasks) (ss ds rs : List Term) (most : ℤ) → AreReady count group → NoneEmpty sets → length sets ≡ count → HasNoneBelow sets group → ss ≡ least_terms sets group.starts → ds ≡ least_terms sets group.durations → rs ≡ least_terms sets group.uses → All (IsTerm 0) ss → All (IsTerm 0) ds → All (IsTerm 0) rs → IsInLimits most → most ≡ least_value sets group.capacity → IsWellFormed 0 (Cumulative ss ds rs (Constant most))
+pub constants_formed : (sets : List IntSet) (count : ℕ) (group : Tasks) (ss ds rs : List Term) (most : ℤ) → AreReady count group → ss ≡ least_terms sets group.starts → ds ≡ least_terms sets group.durations → rs ≡ least_terms sets group.uses → All (IsTerm 0) ss → All (IsTerm 0) ds → All (IsTerm 0) rs → IsInLimits most → IsWellFormed 0 (Cumulative ss ds rs (Constant most))
 unfolding IsWellFormed
-constants_formed sets count group ss ds rs most ready filled same none a b c fit_starts fit_durations fit_uses limits is =
+constants_formed sets count group ss ds rs most ready a b c fit_starts fit_durations fit_uses limits =
     let len_starts = ap length a ∙ length-map group.starts (λ term. Constant (least_value sets term)) in
     let len_durations = ap length b ∙ length-map group.durations (λ term. Constant (least_value sets term)) in
     let len_uses = ap length c ∙ length-map group.uses (λ term. Constant (least_value sets term)) in
@@ -154,9 +141,6 @@ constants_formed sets count group ss ds rs most ready filled same none a b c fit
       limits,
       len_durations ∙ many_durations ∙ sym len_starts,
       len_uses ∙ many_uses ∙ sym len_starts,
-      subst (All IsNotNegative) (sym b) (none_negative sets count group.durations filled same ready.durations.0 none.durations),
-      subst (All IsNotNegative) (sym c) (none_negative sets count group.uses filled same ready.uses.0 none.uses),
-      subst (λ (x : ℤ). pos 0 ≤ℤ x) (sym is) (least_low sets count group.capacity filled same ready.capacity none.capacity),
     )
 
 module _ (sets : List IntSet) (values : List ℤ) (within : IsWithin sets values) (fixed : AllFixed sets) where

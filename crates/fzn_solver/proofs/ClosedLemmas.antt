@@ -6,8 +6,8 @@ use Rattle.std.proofs.lemmas.Bool.{cases_Bool}
 use Rattle.std.proofs.lemmas.Bool.Decides.{nat_tests}
 use Rattle.std.proofs.lemmas.List.{length-drop}
 use Rattle.std.proofs.lemmas.List.Concat.{flat_map-append}
-use Rattle.fzn_output.specs.Output.{AppendsFront}
-use Rattle.fzn_output.proofs.CallerLemmas.{Appends-then, front-then, front-left, front-none}
+use Rattle.fzn_streams.specs.Output.{AppendsFront}
+use Rattle.fzn_streams.proofs.CallerLemmas.{Appends-then, front-then, front-left, front-none}
 use Rattle.fzn_meaning.specs.declared.model.Model.{Model}
 use Rattle.fzn_cert.specs.declared.writer.Stage.TheVariants.{Fresh, Open, Shut}
 use Rattle.fzn_cert.specs.declared.writer.Stage.{Stage}

@@ -3,8 +3,8 @@ use Rattle.std.proofs.Common.{◌≡◌, ℕ, ◌==◌, not, Bool, List, [], ◌
 use Rattle.std.specs.Result.{IsErrAnd}
 use Rattle.std.specs.Borrow.{GName}
 use Rattle.std.specs.Io.KnownBytes.{Appends}
-use Rattle.fzn_output.specs.Output.{AppendsFront}
-use Rattle.fzn_output.proofs.CallerLemmas.{Appends-then, front-none}
+use Rattle.fzn_streams.specs.Output.{AppendsFront}
+use Rattle.fzn_streams.proofs.CallerLemmas.{Appends-then, front-none}
 use Rattle.fzn_meaning.specs.declared.model.Model.{Model}
 use Rattle.fzn_meaning.specs.WellFormed.{IsWellFormed}
 use Rattle.fzn_cert.specs.declared.step.Step.{Step}

@@ -6,8 +6,8 @@ use Rattle.std.specs.Io.KnownBytes.{Appends, Keeps}
 use Rattle.std.proofs.lemmas.List.{append-nil, length-append}
 use Rattle.std.proofs.lemmas.List.Sums.{fold-append}
 use Rattle.std.proofs.lemmas.List.Concat.{flat_map-append}
-use Rattle.fzn_output.specs.Output.{AppendsFront}
-use Rattle.fzn_output.proofs.CallerLemmas.{Appends-then, front-left, front-then}
+use Rattle.fzn_streams.specs.Output.{AppendsFront}
+use Rattle.fzn_streams.proofs.CallerLemmas.{Appends-then, front-left, front-then}
 use Rattle.fzn_meaning.specs.declared.model.Model.{Model}
 use Rattle.fzn_cert.specs.declared.step.Step.{Step}
 use Rattle.fzn_cert.specs.declared.step.Step.TheVariants.{Infer, Resolve, Solution, Delete}

@@ -5,8 +5,8 @@ use Rattle.std.specs.Borrow.{MutBor}
 use Rattle.std.specs.Io.KnownBytes.{Appends, Keeps}
 use Rattle.std.proofs.lemmas.Bool.{cases_Bool}
 use Rattle.std.proofs.lemmas.List.{append-nil, length-append}
-use Rattle.fzn_output.specs.Output.{AppendsFront}
-use Rattle.fzn_output.proofs.CallerLemmas.{front-none}
+use Rattle.fzn_streams.specs.Output.{AppendsFront}
+use Rattle.fzn_streams.proofs.CallerLemmas.{front-none}
 use Rattle.fzn_meaning.specs.declared.model.Model.{Model}
 use Rattle.fzn_meaning.specs.Solutions.{IsAssignment}
 use Rattle.fzn_engine.specs.declared.fault.Fault.{Fault}

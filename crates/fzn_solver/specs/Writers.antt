@@ -3,7 +3,7 @@ use Rattle.std.specs.Prelude.{◌≡◌, ◌⊎◌, ◌||◌, ◌==◌, not, ℕ
 use Rattle.std.specs.Option.{option_to_list}
 use Rattle.std.specs.Borrow.{GName}
 use Rattle.std.specs.Io.KnownBytes.{Appends, Keeps}
-use Rattle.fzn_output.specs.Output.{AppendsFront}
+use Rattle.fzn_streams.specs.Output.{AppendsFront}
 use Rattle.fzn_meaning.specs.declared.model.Model.{Model}
 use Rattle.fzn_meaning.specs.Solutions.{IsAssignment}
 use Rattle.fzn_cert.specs.declared.step.Step.{Step}

@@ -8,7 +8,7 @@ use Rattle.fzn_domain.specs.IntSet.{IntSet}
 use Rattle.fzn_domain.specs.Limits.{IsInLimits, IsLimited}
 use Rattle.fzn_meaning.specs.declared.term.Term.{Term}
 use Rattle.fzn_meaning.specs.declared.term.Term.TheVariants as terms
-use Rattle.fzn_meaning.specs.Meaning.{IsBoolean, AreTerms, IsNotNegative}
+use Rattle.fzn_meaning.specs.Meaning.{IsBoolean, AreTerms}
 use Rattle.fzn_meaning.specs.Term.{number_in, weighted, IsTerm, IsPlace}
 use Rattle.fzn_names.specs.Places.{place_of}
 use Rattle.fzn_names.specs.Types.{is_wanted}
@@ -51,20 +51,6 @@ pub weighted-length : (xs ys : List Term) → length (weighted xs ys) ≤ length
 weighted-length [] ys = omega arith
 weighted-length (x ∷ xs) [] = omega arith
 weighted-length (x ∷ xs) (y ∷ ys) = let rest = weighted-length xs ys in omega (arith, rest)
-
-pub not_negative : (x : Term) → is_negative x ≡ false → IsNotNegative x
-not_negative (terms.Constant k) e = grind (arith, ints, e)
-not_negative (terms.Variable var) e = tt
-
-pub neither : (a b : Bool) → (a || b) ≡ false → (a ≡ false) × (b ≡ false)
-neither true b e = cc
-neither false b e = (refl, e)
-
-pub none_negative : (xs : List Term) → list_any is_negative xs ≡ false → All IsNotNegative xs
-none_negative [] e = All-nil IsNotNegative
-none_negative (x ∷ xs) e =
-    let parts = neither (is_negative x) (list_any is_negative xs) e in
-    All-cons IsNotNegative x xs (not_negative x parts.0) (none_negative xs parts.1)
 
 -- ---- arguments
 

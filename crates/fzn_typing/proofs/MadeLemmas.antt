@@ -33,7 +33,7 @@ use Rattle.fzn_registry.specs.Registry.{row, arguments_of, lengths_of, non_negat
 use Rattle.fzn_typing.specs.Arguments.{wrong_arguments, term_given, terms_given, term_at, terms_at, set_at, number_at, numbers_at, length_at, has_lengths, has_negative}
 use Rattle.fzn_typing.specs.Constraints.{term, list, sum, by, constraint_for}
 use Rattle.fzn_typing.specs.Limits.{IsArgWithin}
-use Rattle.fzn_typing.proofs.ArgumentLemmas.{amount, number-within, numbers-within, weighted-within, weighted-length, not_negative, neither, none_negative, IsGivenWithin, given-within, right_at, term-within, list-within, set-within, boolean-given, booleans-given}
+use Rattle.fzn_typing.proofs.ArgumentLemmas.{amount, number-within, numbers-within, weighted-within, weighted-length, IsGivenWithin, given-within, right_at, term-within, list-within, set-within, boolean-given, booleans-given}
 
 module _ (sets : List IntSet) (names : NameList) (known : AreMeanings sets names) (given : List Arg) (within : All IsArgWithin given) where
   abbrev pub Made : Constraint → Type 0
@@ -174,20 +174,13 @@ module _ (sets : List IntSet) (names : NameList) (known : AreMeanings sets names
       let parts = and_parts (nat_lt 0 (length_at names given 0)) (nat_eq (length_at names given 1 % length_at names given 0) 0) h in
       ((ts 0, grind (arith, parts.0), numbers-within (length sets) (list names given 1) (ts 1).0, rw length-map (ts 1).1, rw length-map (grind (arith, parts.1))), none)
 
-  scheduled : has_lengths names (lengths_of n.FznCumulative) given ≡ true → list_any (has_negative names given) (non_negative_of n.FznCumulative) ≡ false
-      → Made (Cumulative (list names given 0) (list names given 1) (list names given 2) (term names given 3))
-  unfolding IsWellFormed booleans_of lengths_of non_negative_of
-  scheduled h e =
+  scheduled : has_lengths names (lengths_of n.FznCumulative) given ≡ true → Made (Cumulative (list names given 0) (list names given 1) (list names given 2) (term names given 3))
+  unfolding IsWellFormed booleans_of lengths_of
+  scheduled h =
       let parts = and_parts (nat_eq (length_at names given 0) (length_at names given 1)) (nat_eq (length_at names given 1) (length_at names given 2)) h in
-      let first = neither (has_negative names given 1) (has_negative names given 2 || (has_negative names given 3 || false)) e in
-      let second = neither (has_negative names given 2) (has_negative names given 3 || false) first.1 in
-      let third = neither (has_negative names given 3) false second.1 in
-      let durations = neither (is_negative (term_at names given 1)) (list_any is_negative (terms_at names given 1)) first.0 in
-      let uses = neither (is_negative (term_at names given 2)) (list_any is_negative (terms_at names given 2)) second.0 in
-      let capacity = neither (is_negative (term_at names given 3)) (list_any is_negative (terms_at names given 3)) third.0 in
       let as_many : length (list names given 1) ≡ length (list names given 0) = grind (arith, parts.0) in
       let as_many_uses : length (list names given 2) ≡ length (list names given 0) = grind (arith, parts.0, parts.1) in (
-        (ts 0, ts 1, ts 2, t 3, as_many, as_many_uses, none_negative (list names given 1) durations.1, none_negative (list names given 2) uses.1, not_negative (term names given 3) capacity.0),
+        (ts 0, ts 1, ts 2, t 3, as_many, as_many_uses),
         none,
       )
 
@@ -242,7 +235,7 @@ module _ (sets : List IntSet) (names : NameList) (known : AreMeanings sets names
   made_right n.BoolLinLe w l e = summed c.AtMost
   made_right n.FznAllDifferentInt w l e = different
   made_right n.FznTableInt w l e = tabled l
-  made_right n.FznCumulative w l e = scheduled l e
+  made_right n.FznCumulative w l e = scheduled l
   made_right n.FznCircuit w l e = circuit
   made_right n.FznInverse w l e = inverse l
   made_right n.IntEqReif w l e = compared_by r.Equal (b (arguments_of n.IntEqReif) w 2 refl)

@@ -1,5 +1,5 @@
 use Rattle.std.proofs.Common.{[], ◌∷◌, refl, sym, ◌∙◌}
-use Rattle.fzn_output.proofs.CallerLemmas.{front-then}
+use Rattle.fzn_streams.proofs.CallerLemmas.{front-then}
 use Rattle.fzn_checker.proofs.RewriteLemmas.{put-done, put-failed}
 use Rattle.fzn_checker.proofs.rewrite.put_line.Goals as goal
 

@@ -2,7 +2,7 @@ use Rattle.std.proofs.Common.{◌≡◌, ◌-◌, ◌≤◌, List, ℤ, length, 
 use Rattle.std.specs.List.{flat_map}
 use Rattle.std.specs.Io.KnownBytes.{Appends}
 use Rattle.std.proofs.lemmas.List.{take_all, length-drop}
-use Rattle.fzn_output.proofs.CallerLemmas.{Puts-last}
+use Rattle.fzn_streams.proofs.CallerLemmas.{Puts-last}
 use Rattle.fzn_printer.specs.Shown.{shown}
 use Rattle.fzn_printer.proofs.answer.put_answer.Goals as goal
 

@@ -1,6 +1,6 @@
 use Rattle.std.proofs.Common.{arith}
 use Rattle.fzn_printer.specs.Shown.{shown}
-use Rattle.fzn_output.proofs.CallerLemmas.{Appends-then, front-left, front-then, front-each, front-each-at, each-more, Puts-last, Puts-stopped}
+use Rattle.fzn_streams.proofs.CallerLemmas.{Appends-then, front-left, front-then, front-each, front-each-at, each-more, Puts-last, Puts-stopped}
 use Rattle.fzn_printer.proofs.answer.put_solutions.Goals as goal
 
 pub returns-in_err-put_assignment : goal.returns-in_err-put_assignment

@@ -1,4 +1,4 @@
-use Rattle.fzn_output.proofs.CallerLemmas.{Appends-then, front-left, front-then, front-each, front-each-at, Puts-last, Puts-stopped}
+use Rattle.fzn_streams.proofs.CallerLemmas.{Appends-then, front-left, front-then, front-each, front-each-at, Puts-last, Puts-stopped}
 use Rattle.fzn_printer.proofs.item.put_all.Goals as goal
 
 pub returns : goal.returns

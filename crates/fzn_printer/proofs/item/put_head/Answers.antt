@@ -1,4 +1,4 @@
-use Rattle.fzn_output.proofs.CallerLemmas.{Appends-then, front-left, front-then, front-each, Puts-last, Puts-stopped}
+use Rattle.fzn_streams.proofs.CallerLemmas.{Appends-then, front-left, front-then, front-each, Puts-last, Puts-stopped}
 use Rattle.fzn_printer.proofs.item.put_head.Goals as goal
 
 pub returns-in_err-put-2 : goal.returns-in_err-put-2

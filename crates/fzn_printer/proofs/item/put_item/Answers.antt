@@ -1,9 +1,9 @@
 use Rattle.std.proofs.Common.{arith, subst, ◌++◌, ℤ}
 use Rattle.std.specs.Prelude.{codes}
 use Rattle.std.specs.Io.KnownBytes.{Appends}
-use Rattle.fzn_output.specs.Output.{AppendsFront}
+use Rattle.fzn_streams.specs.Output.{AppendsFront}
 use Rattle.fzn_printer.specs.Shown.{value_text, entry_text, item_text}
-use Rattle.fzn_output.proofs.CallerLemmas.{Appends-then, front-left, front-then, front-each, front-each-at, Puts-last, Puts-stopped}
+use Rattle.fzn_streams.proofs.CallerLemmas.{Appends-then, front-left, front-then, front-each, front-each-at, Puts-last, Puts-stopped}
 use Rattle.fzn_printer.proofs.item.put_item.Goals as goal
 
 pub returns-in_err-put_list-in-Array : goal.returns-in_err-put_list-in-Array

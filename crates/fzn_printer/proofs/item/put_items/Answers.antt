@@ -1,6 +1,6 @@
 use Rattle.std.proofs.Common.{arith}
 use Rattle.fzn_printer.specs.Shown.{item_text}
-use Rattle.fzn_output.proofs.CallerLemmas.{Appends-then, front-left, front-then, front-each, front-each-at, Puts-last, Puts-stopped}
+use Rattle.fzn_streams.proofs.CallerLemmas.{Appends-then, front-left, front-then, front-each, front-each-at, Puts-last, Puts-stopped}
 use Rattle.fzn_printer.proofs.item.put_items.Goals as goal
 
 pub returns-in_err-put_item : goal.returns-in_err-put_item

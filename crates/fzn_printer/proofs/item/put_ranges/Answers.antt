@@ -1,5 +1,5 @@
 use Rattle.std.proofs.Common.{arith}
-use Rattle.fzn_output.proofs.CallerLemmas.{Appends-then, front-left, front-then, front-each, Puts-last, Puts-stopped}
+use Rattle.fzn_streams.proofs.CallerLemmas.{Appends-then, front-left, front-then, front-each, Puts-last, Puts-stopped}
 use Rattle.fzn_printer.proofs.item.put_ranges.Goals as goal
 
 pub returns-in_err-put_indices : goal.returns-in_err-put_indices

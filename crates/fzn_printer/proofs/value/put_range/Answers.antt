@@ -1,5 +1,5 @@
 use Rattle.std.proofs.Common.{◌≡◌, ◌++◌, List, ℕ}
-use Rattle.fzn_output.proofs.CallerLemmas.{Appends-then, front-left, front-then, Puts-last, Puts-stopped}
+use Rattle.fzn_streams.proofs.CallerLemmas.{Appends-then, front-left, front-then, Puts-last, Puts-stopped}
 use Rattle.fzn_printer.proofs.value.put_range.Goals as goal
 
 -- the low bound and the dots, and then a beginning of the high one

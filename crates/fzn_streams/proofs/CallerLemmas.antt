@@ -7,7 +7,7 @@ use Rattle.std.proofs.lemmas.Grind.{flat_map-append}
 use Rattle.std.proofs.Math.Seq.{take-append-add}
 use Rattle.std.specs.Result.{IsErr}
 use Rattle.std.specs.Prelude.{Result}
-use Rattle.fzn_output.specs.Output.{AppendsFront, Puts}
+use Rattle.fzn_streams.specs.Output.{AppendsFront, Puts}
 
 pub take_then : (i n : ℕ) (xs : List ℕ) → take (i + n) xs ≡ take i xs ++ take n (drop i xs)
 take_then i n xs =
