@@ -1,6 +1,5 @@
 -- What each fault of a run comes of.
-use Rattle.std.proofs.Common.{◌≡◌, ℕ, Bool, true, List, [], ◌∷◌, ◌++◌, length, Option, Some, None, IfSome, refl, sym, ap, subst, ◌∙◌, Result, Ok, Err, IfErr, unwrap_or}
-use Rattle.std.specs.Result.{IsErrAnd}
+use Rattle.std.proofs.Common.{◌≡◌, ℕ, Bool, true, List, [], ◌∷◌, ◌++◌, length, Option, Some, None, IfSome, refl, sym, ap, subst, ◌∙◌, Result, Ok, Err, IfErr, OnOk, OnErr, unwrap_or}
 use Rattle.fzn_meaning.specs.declared.model.Model.{Model}
 use Rattle.fzn_cert.specs.declared.fault.FaultKind.{FaultKind}
 use Rattle.fzn_cert.specs.declared.fault.FaultKind.TheVariants as faults
@@ -11,12 +10,13 @@ use Rattle.fzn_cert.specs.Spelling.{HasRoom}
 use Rattle.fzn_cert.specs.Writer.{IsLineFault, IsStepFault, step_count, has_failed_in as cert_failed}
 use Rattle.fzn_engine.specs.declared.fault.Fault.{Fault}
 use Rattle.fzn_engine.specs.declared.fault.Fault.TheVariants as engine
-use Rattle.fzn_printer.specs.Printer.{has_failed_in as out_failed}
+use Rattle.fzn_printer.specs.Printer.{is_open, has_failed_in as out_failed}
 use Rattle.fzn_solver.specs.declared.writers.Writers.{Writers}
-use Rattle.fzn_solver.specs.Causes.{IsTooLong, HasCause, IsCause, IsLineCause}
+use Rattle.fzn_solver.specs.Causes.{IsTooLong, HasCause, IsCause, IsLineCause, AreOpen}
 use Rattle.fzn_solver.specs.FaultsFrom.{fault_of_certificate, fault_of_engine}
 use Rattle.fzn_solver.specs.Left.{HasLines}
-use Rattle.fzn_solver.specs.Writers.{taken}
+use Rattle.fzn_solver.specs.Writers.{taken, IsKept, IsLineTaken, IsLineRefused}
+use Rattle.fzn_solver.specs.declared.history.History.{History}
 
 -- a fault of the line of a step
 pub line-cause : {C : Type 0} (certs : C → Bool) (step : Step) (count : ℕ) (cert : StepWriter C) (fault : FaultKind) → IsStepFault count step fault → (fault ≡ faults.Write → cert_failed certs cert ≡ true)
@@ -66,3 +66,14 @@ module _ {W C : Type 0} (outs : W → Bool) (certs : C → Bool) (model : Model)
   pub fault-cause : (now : Writers W C) (stopped : Option Fault) → IfSome stopped (IsCause outs certs model now) → IsCause outs certs model now (unwrap_or stopped engine.Memory)
   fault-cause now None cause = tt
   fault-cause now (Some fault) cause = cause
+
+-- the line of a step that is no solution, taken or not
+pub line-taken : {W C : Type 0} (outs : W → Option (List ℕ)) (certs : C → Option (List ℕ)) (outs_failed : W → Bool) (certs_failed : C → Bool) (model : Model) (step : Step) (old new : Writers W C) (result : Result Unit Fault) → AllAccepted model (taken old ++ step ∷ []) → IsKept outs certs model old → AreOpen old
+    → OnOk result (IsLineTaken certs step old new) → OnErr result (IsLineRefused certs step old new) → IfErr result (IsLineCause certs_failed step (step_count old.cert) new.cert)
+    → OnOk result (AreOpen new) × IfErr result (IsCause outs_failed certs_failed model new) × (new.out ≡ old.out)
+line-taken outs certs outs_failed certs_failed model step old new (Ok v) accepted kept opened line refused cause = ((line.stays_open, ap is_open line.same_rest.out ∙ opened.1), tt, line.same_rest.out)
+line-taken outs certs outs_failed certs_failed model step old new (Err e) accepted kept opened line refused cause =
+    (tt, step-cause outs_failed certs_failed model step (taken old) (step_count old.cert) new e accepted (kept.cert_in_step opened.0).counted (ap items_of refused.taken) cause, refused.same_rest.out)
+  where
+    items_of : History Step → List Step
+    items_of history = history.items

@@ -12,7 +12,7 @@ ghost use Rattle.std.specs.Borrow.{GName};
 ghost use Rattle.fzn_cert.specs.declared.step.Version.TheVariants.{Two};
 ghost use Rattle.fzn_printer.specs.Printer.{contents_of as out_contents, out_name, stream_of as out_stream, has_failed_in as out_failed, is_open};
 ghost use Rattle.std.specs.Option.{option_to_list};
-ghost use Rattle.fzn_engine.specs.declared.fault.Fault.TheVariants.{Memory, WriteOutput, WriteCert};
+ghost use Rattle.fzn_engine.specs.declared.fault.Fault.TheVariants.{Memory as OutOfMemory, WriteOutput, WriteCert};
 ghost use Rattle.fzn_printer.specs.Shown.{is_closed};
 ghost use Rattle.fzn_solver.specs.Causes.{IsCause, IsLineCause, IsUnderWay, AreOpen, AreSameStreams, AreStreamsAsAtFirst};
 ghost use Rattle.fzn_solver.specs.FaultsFrom.{fault_of_certificate};
@@ -185,20 +185,22 @@ impl<'o, 'c, 'l, W: TrackedWrite, C: TrackedWrite> Writers<'o, 'c, 'l, W, C> {
         ensures ok { OnOk result (is_open self.new.out ≡ true) }
         ensures cause { is_open self.old.out ≡ true → IfErr result (λ fault. (fault ≡ WriteOutput) × (out_failed W.has_failed self.new.out ≡ true)) }
         ensures same_stream { out_stream W.stream self.new.out ≡ out_stream W.stream self.old.out }
+        ensures same_stopped { self.new.stopped ≡ self.old.stopped }
         ensures same { (self.new.cert ≡ self.old.cert) × IsAllSame self.old self.new }
     {
-        if self.out.solution(model, values.as_slice()).is_err() {
-            return Err(Fault::WriteOutput);
+        match self.out.solution(model, values.as_slice()) {
+            Ok(()) => {}
+            Err(_) => return Err(Fault::WriteOutput),
         }
-        if self.out.flush().is_err() {
-            return Err(Fault::WriteOutput);
+        match self.out.flush() {
+            Ok(()) => Ok(()),
+            Err(_) => Err(Fault::WriteOutput),
         }
-        Ok(())
     }
 
     /// What stopped it; where nothing did, it is memory that ran out.
     pub fn fault(&self) -> Fault
-        ensures { result ≡ unwrap_or self.now.stopped Memory }
+        ensures { result ≡ unwrap_or self.now.stopped OutOfMemory }
     {
         self.stopped.unwrap_or(Fault::Memory)
     }

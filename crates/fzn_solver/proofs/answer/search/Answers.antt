@@ -24,25 +24,19 @@ pub returns-clause-answer : goal.returns-clause-answer
 returns-clause-answer g c =
     let E : Ending → Type 0 = λ e. IsClosed g.W.Write.contents g.C.Write.contents c.args.model.now (is_closed e) c.solve_watched.new.sink c.close.new.self in
     let limits : Limits = record { nodes = c.args.options.now.nodes; solutions = c.wanted.result } in
-    let O : Learn → Type 0 = λ l. IsOutcome c.args.model.now l limits (taken c.solve_watched.new.sink) c.in_ok-outcome.outcome.nodes c.in_ok-outcome.outcome.ending in
-    let R : Ending → Type 0 = λ e. IsAnswer c.args.model.now c.args.options.now (out_contents g.W.Write.contents c.args.writers.now.out) (out_contents g.W.Write.contents c.close.new.self.out) (cert_contents g.C.Write.contents c.args.writers.now.cert) (cert_contents g.C.Write.contents c.close.new.self.cert) (record { solutions = c.in_ok-outcome.outcome.solutions; nodes = c.in_ok-outcome.outcome.nodes; ending = e }) in
-    subst R (sym c.ending_for-ending.ensures) (answer-of g.W.Write.contents g.C.Write.contents c.args.model.now c.args.options.now c.requires.model c.args.writers.now c.solve_watched.new.sink c.close.new.self limits c.in_ok-outcome.outcome.nodes c.in_ok-outcome.outcome.solutions c.in_ok-outcome.outcome.ending
-    c.requires.fresh c.requires.alone (c.solve_watched.ensures.kept.1 ∙ c.begin.ensures.same) refl c.wanted.ensures c.solve_watched.ensures.accepted (subst O c.learn_for-learn.ensures c.in_ok-outcome.ensures.outcome) c.in_ok-outcome.ensures.solutions (subst E c.ending_for-ending.ensures c.in_ok-close.ensures.closed))
+    let O : Learn → Type 0 = λ l. IsOutcome c.args.model.now l limits (taken c.solve_watched.new.sink) c.in-Ok.outcome.nodes c.in-Ok.outcome.ending in
+    let R : Ending → Type 0 = λ e. IsAnswer c.args.model.now c.args.options.now (out_contents g.W.Write.contents c.args.writers.now.out) (out_contents g.W.Write.contents c.close.new.self.out) (cert_contents g.C.Write.contents c.args.writers.now.cert) (cert_contents g.C.Write.contents c.close.new.self.cert) (record { solutions = c.in-Ok.outcome.solutions; nodes = c.in-Ok.outcome.nodes; ending = e }) in
+    subst R (sym c.ending_for-ending.ensures) (answer-of g.W.Write.contents g.C.Write.contents c.args.model.now c.args.options.now c.requires.model c.args.writers.now c.solve_watched.new.sink c.close.new.self limits c.in-Ok.outcome.nodes c.in-Ok.outcome.solutions c.in-Ok.outcome.ending
+    c.requires.fresh c.requires.alone (c.solve_watched.ensures.kept.1 ∙ c.begin.ensures.same) refl c.wanted.ensures c.solve_watched.ensures.accepted (subst O c.learn_for-learn.ensures c.in-Ok.ensures.outcome) c.in-Ok.ensures.solutions (subst E c.ending_for-ending.ensures c.in_ok-close.ensures.closed))
 
 pub returns-in_err-begin-clause-left : goal.returns-in_err-begin-clause-left
 returns-in_err-begin-clause-left g c =
     error-is c.from_residual.result (fault_of_engine c.in_err-begin.field-0.0) (IsLeft c.args.model.now c.args.options.now.all (out_contents g.W.Write.contents c.args.writers.now.out) (out_contents g.W.Write.contents c.begin.new.self.out) (cert_contents g.C.Write.contents c.args.writers.now.cert) (cert_contents g.C.Write.contents c.begin.new.self.cert)) c.from_residual.ensures.1
     (left-unbegun g.W.Write.contents g.C.Write.contents c.args.model.now c.args.options.now.all c.args.writers.now c.begin.new.self c.in_err-begin.field-0.0 c.requires.model c.in_err-begin.ensures.err)
 
-pub returns-in_err-outcome-clause-left : goal.returns-in_err-outcome-clause-left
-returns-in_err-outcome-clause-left g c =
-    error-is c.from_residual-in_err-outcome.result (fault_of_engine c.in_err-outcome.field-0.0) (IsLeft c.args.model.now c.args.options.now.all (out_contents g.W.Write.contents c.args.writers.now.out) (out_contents g.W.Write.contents c.solve_watched.new.sink.out) (cert_contents g.C.Write.contents c.args.writers.now.cert) (cert_contents g.C.Write.contents c.solve_watched.new.sink.cert)) c.from_residual-in_err-outcome.ensures.1
-    (left-on_way g.W.Write.contents g.C.Write.contents c.args.model.now c.args.options.now.all c.args.writers.now c.solve_watched.new.sink c.in_err-outcome.field-0.0 c.requires.model c.requires.fresh c.requires.alone
-    (c.solve_watched.ensures.kept.1 ∙ c.begin.ensures.same) c.solve_watched.ensures.accepted c.solve_watched.ensures.kept.0)
-
 pub returns-in_err-close-clause-left : goal.returns-in_err-close-clause-left
 returns-in_err-close-clause-left g c =
     let U : Ending → Type 0 = λ e. IsUnclosed g.W.Write.contents g.C.Write.contents c.args.model.now (is_closed e) c.solve_watched.new.sink c.close.new.self c.in_err-close.field-0.0 in
     error-is c.from_residual-in_err-close.result (fault_of_engine c.in_err-close.field-0.0) (IsLeft c.args.model.now c.args.options.now.all (out_contents g.W.Write.contents c.args.writers.now.out) (out_contents g.W.Write.contents c.close.new.self.out) (cert_contents g.C.Write.contents c.args.writers.now.cert) (cert_contents g.C.Write.contents c.close.new.self.cert)) c.from_residual-in_err-close.ensures.1
-    (left-at_end g.W.Write.contents g.C.Write.contents c.args.model.now c.args.options.now.all c.args.writers.now c.solve_watched.new.sink c.close.new.self c.in_err-close.field-0.0 _ _ c.in_ok-outcome.outcome.nodes c.in_ok-outcome.outcome.solutions c.in_ok-outcome.outcome.ending
-    c.requires.model c.requires.fresh c.requires.alone (c.solve_watched.ensures.kept.1 ∙ c.begin.ensures.same) c.solve_watched.ensures.accepted c.in_ok-outcome.ensures.outcome c.solve_watched.ensures.kept.0 (subst U c.ending_for-ending.ensures c.in_err-close.ensures.err))
+    (left-at_end g.W.Write.contents g.C.Write.contents c.args.model.now c.args.options.now.all c.args.writers.now c.solve_watched.new.sink c.close.new.self c.in_err-close.field-0.0 _ _ c.in-Ok.outcome.nodes c.in-Ok.outcome.solutions c.in-Ok.outcome.ending
+    c.requires.model c.requires.fresh c.requires.alone (c.solve_watched.ensures.kept.1 ∙ c.begin.ensures.same) c.solve_watched.ensures.accepted c.in-Ok.ensures.outcome c.solve_watched.ensures.kept.0 (subst U c.ending_for-ending.ensures c.in_err-close.ensures.err))
