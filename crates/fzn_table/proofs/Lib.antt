@@ -1,2 +1,3 @@
 mod PropagatorLemmas
 mod TableLemmas
+mod WordsLemmas

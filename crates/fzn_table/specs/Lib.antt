@@ -1,2 +1,3 @@
 pub mod Propagator
 pub mod Supports
+pub mod Words

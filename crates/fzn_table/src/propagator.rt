@@ -27,14 +27,28 @@ pub struct TablePropagator {
 }
 
 impl Propagator for TablePropagator {
+    ghost use Rattle.std.specs.Prelude.{[], OnOk};
+    ghost use Rattle.fzn_domain.specs.Narrow.{NoneEmpty};
+    ghost use Rattle.fzn_propagator.specs.Inference.{AreInferencesOf, AreExhausted};
+    ghost use Rattle.fzn_table.specs.Supports.{AreSupported};
+
     ghost number = { table_number };
 
     ghost is_for = { TableIsFor };
 
     ghost fits = { TableFits };
 
+    /// One pass, by the law of the trait. Where it finds nothing, each value of each place stands there in a row whose values are all
+    /// in their places' sets.
     #[tactic(auto, unfolding(fzn_meaning::specs::Meaning::IsWellFormed))]
-    fn propagate(&self, alloc: Global, trail: &Trail, found: &mut Findings) -> Result<(), Memory> {
+    fn propagate(&self, alloc: Global, trail: &Trail, found: &mut Findings) -> Result<(), Memory>
+        requires fits { TableFits self.now trail.now.declared }
+        requires filled { NoneEmpty trail.now.sets }
+        requires before { AreInferencesOf (table_number self.now) (TableIsFor self.now) trail.now found.old }
+        ensures found { AreInferencesOf (table_number self.now) (TableIsFor self.now) trail.now found.new }
+        ensures none { OnOk result (found.new ≡ [] → AreExhausted (TableIsFor self.now) trail.now) }
+        ensures supported { OnOk result (found.new ≡ [] → AreSupported trail.now.sets self.now.places self.now.rows (length self.now.places)) }
+    {
         let places = self.places.as_slice();
         let rows = self.rows.constants();
         bar_unsupported(

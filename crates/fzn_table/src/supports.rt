@@ -1,4 +1,4 @@
-// The rows of a table that have a value at a place, one bit a row.
+// The rows of a table that have a value at a place. They take memory by the numbers of the table, however many values a place has.
 ghost use Rattle.std.specs.Prelude.{◌<◌, length};
 ghost use Rattle.std.specs.List.{All};
 ghost use Rattle.fzn_meaning.specs.Term.{IsTerm};
@@ -10,52 +10,95 @@ use fzn_terms::may_be;
 use fzn_trail::Trail;
 use std::alloc::Global;
 
+/// A number of the table, where it stands.
+#[derive(Clone, Copy, Debug)]
+struct Number {
+    place: usize,
+    value: i64,
+    row: usize,
+}
+
 /// A value that some row has at the place.
 #[derive(Clone, Copy, Debug)]
 struct Entry {
     place: usize,
     value: i64,
+    rows: RowSet,
+}
+
+/// Where the rows of an entry stand.
+#[derive(Clone, Copy, Debug)]
+enum RowSet {
+    /// One bit a row, from this word on.
+    Bits { start: usize },
+    /// Their numbers, from one place of the list up to another: there are fewer than a set of bits has words.
+    Listed { start: usize, end: usize },
 }
 
 /// The values of each place, and the rows that have each. Which rows these are is open: each is looked at again before it counts.
 #[derive(Debug, Drop)]
 pub struct Supports {
-    /// How many words a set of rows takes.
+    /// How many words a set of bits takes.
     width: usize,
     /// By their places, and those of one place by their values.
     entries: Vec<Entry>,
-    /// The rows of each entry, one after the other.
-    rows: Vec<u64>,
+    /// The sets of bits, one after the other.
+    words: Vec<u64>,
+    /// The rows that are listed, those of one entry after those of the other.
+    listed: Vec<usize>,
 }
 
 impl Supports {
     /// Made once: of a table's rows, each as long as there are places.
-    pub fn new(alloc: Global, places: usize, numbers: &[Term]) -> Result<Supports, Memory> {
-        let mut entries = Vec::new(alloc);
-        for i in 0..numbers.len() {
-            if places != 0 {
-                entries.push(Entry {
-                    place: i % places,
-                    value: numbers[i].number(),
-                })?;
-            }
-        }
-        entries.sort_by_key(|entry| (entry.place, entry.value))?;
-        let entries = without_repeats(alloc, entries.as_slice())?;
-        let count = numbers.len().checked_div(places).unwrap_or(0);
-        let width = count / 64 + 1;
-        let words = vec![in alloc; 0u64; entries.len().saturating_mul(width)]?;
+    pub fn new(alloc: Global, places: usize, rows: &[Term]) -> Result<Supports, Memory> {
+        let mut numbers = numbers_of(alloc, places, rows)?;
+        numbers.sort_by_key(|number| (number.place, number.value))?;
         let mut supports = Supports {
-            width,
-            entries,
-            rows: words,
+            width: rows.len().checked_div(places).unwrap_or(0) / 64 + 1,
+            entries: Vec::new(alloc),
+            words: Vec::new(alloc),
+            listed: Vec::new(alloc),
         };
-        for i in 0..numbers.len() {
-            if places != 0 {
-                supports.mark(i % places, numbers[i].number(), i / places);
-            }
+        for alike in numbers.chunk_by(|a, b| a.place == b.place && a.value == b.value) {
+            supports.add_entry(alike)?;
         }
         Ok(supports)
+    }
+
+    /// Adds the entry of these numbers, which are one value of one place.
+    fn add_entry(&mut self, alike: &[Number]) -> Result<(), Memory> {
+        let Some(first) = alike.first() else {
+            return Ok(());
+        };
+        let rows = if alike.len() < self.width {
+            self.add_listed(alike)?
+        } else {
+            self.add_bits(alike)?
+        };
+        self.entries.push(Entry {
+            place: first.place,
+            value: first.value,
+            rows,
+        })?;
+        Ok(())
+    }
+
+    fn add_listed(&mut self, alike: &[Number]) -> Result<RowSet, Memory> {
+        let start = self.listed.len();
+        for number in alike {
+            self.listed.push(number.row)?;
+        }
+        Ok(RowSet::Listed {
+            start,
+            end: self.listed.len(),
+        })
+    }
+
+    fn add_bits(&mut self, alike: &[Number]) -> Result<RowSet, Memory> {
+        let start = self.words.len();
+        self.words.resize(start.saturating_add(self.width), 0)?;
+        set_bits(&mut self.words[start..], alike);
+        Ok(RowSet::Bits { start })
     }
 
     /// No fewer than there are rows.
@@ -63,18 +106,8 @@ impl Supports {
         self.width.saturating_mul(64)
     }
 
-    /// Notes that the row has the value at the place.
-    fn mark(&mut self, place: usize, value: i64, row: usize) {
-        if let Some(entry) = self.entry_of(place, value) {
-            let at = entry.saturating_mul(self.width).saturating_add(row / 64);
-            if at < self.rows.len() {
-                self.rows[at] |= 1u64 << (row % 64);
-            }
-        }
-    }
-
     /// The entry of a value at a place.
-    fn entry_of(&self, place: usize, value: i64) -> Option<usize> {
+    fn entry_of(&self, place: usize, value: i64) -> Option<Entry> {
         let mut low = 0;
         let mut high = self.entries.len();
         for _ in 0..64 {
@@ -82,12 +115,9 @@ impl Supports {
                 return None;
             }
             let middle = low + (high - low) / 2;
-            if middle >= self.entries.len() {
-                return None;
-            }
-            let entry = self.entries[middle];
+            let entry = *self.entries.get(middle)?;
             if entry.place == place && entry.value == value {
-                return Some(middle);
+                return Some(entry);
             }
             if (entry.place, entry.value) < (place, value) {
                 low = middle + 1;
@@ -98,14 +128,12 @@ impl Supports {
         None
     }
 
-    /// The rows of an entry.
-    fn rows_of(&self, entry: usize) -> Option<&[u64]> {
-        let start = entry.saturating_mul(self.width);
-        let end = start.saturating_add(self.width);
-        self.rows.get(start..end)
+    /// A set of bits.
+    fn bits_from(&self, start: usize) -> Option<&[u64]> {
+        self.words.get(start..start.saturating_add(self.width))
     }
 
-    /// The rows whose values are all possible.
+    /// The rows whose values are all possible, as a set of bits.
     pub fn possible(
         &self,
         alloc: Global,
@@ -142,31 +170,79 @@ impl Supports {
                 return k;
             }
             if may_be(trail, term, &entry.value) {
-                if let Some(rows) = self.rows_of(k) {
-                    add_all(here, rows);
-                }
+                self.add_rows(entry.rows, here);
             }
         }
         self.entries.len()
     }
 
+    /// Adds these rows.
+    fn add_rows(&self, rows: RowSet, here: &mut [u64]) {
+        match rows {
+            RowSet::Bits { start } => {
+                if let Some(words) = self.bits_from(start) {
+                    add_all(here, words);
+                }
+            }
+            RowSet::Listed { start, end } => {
+                if let Some(listed) = self.listed.get(start..end) {
+                    for row in listed {
+                        set_bit(here, *row);
+                    }
+                }
+            }
+        }
+    }
+
     /// A row among these that has the value at the place.
     pub fn row_of(&self, possible: &[u64], place: usize, value: i64) -> Option<usize> {
-        let rows = self.rows_of(self.entry_of(place, value)?)?;
-        first_common(rows, possible)
+        match self.entry_of(place, value)?.rows {
+            RowSet::Bits { start } => first_common(self.bits_from(start)?, possible),
+            RowSet::Listed { start, end } => first_among(possible, self.listed.get(start..end)?),
+        }
     }
 }
 
-/// The entries without those that are like the one before.
-fn without_repeats(alloc: Global, entries: &[Entry]) -> Result<Vec<Entry>, Memory> {
-    let mut kept = Vec::new(alloc);
-    for i in 0..entries.len() {
-        let entry = entries[i];
-        if i == 0 || entries[i - 1].place != entry.place || entries[i - 1].value != entry.value {
-            kept.push(entry)?;
+/// The numbers of these rows, row by row.
+fn numbers_of(alloc: Global, places: usize, rows: &[Term]) -> Result<Vec<Number>, Memory> {
+    let mut numbers = Vec::new(alloc);
+    for i in 0..rows.len() {
+        if places != 0 {
+            numbers.push(Number {
+                place: i % places,
+                value: rows[i].number(),
+                row: i / places,
+            })?;
         }
     }
-    Ok(kept)
+    Ok(numbers)
+}
+
+/// The first of the listed rows that is among these.
+fn first_among(words: &[u64], listed: &[usize]) -> Option<usize> {
+    for row in listed {
+        if has_bit(words, *row) {
+            return Some(*row);
+        }
+    }
+    None
+}
+
+fn has_bit(words: &[u64], row: usize) -> bool {
+    row / 64 < words.len() && (words[row / 64] >> (row % 64)) & 1 == 1
+}
+
+/// Sets the bits of their rows.
+fn set_bits(words: &mut [u64], alike: &[Number]) {
+    for number in alike {
+        set_bit(words, number.row);
+    }
+}
+
+fn set_bit(words: &mut [u64], row: usize) {
+    if row / 64 < words.len() {
+        words[row / 64] |= 1 << (row % 64);
+    }
 }
 
 /// Adds the others' bits.
