@@ -9,9 +9,9 @@ use Rattle.fzn_clauses.specs.declared.clauses.Again.{Again}
 use Rattle.fzn_clauses.specs.declared.clauses.Clauses.{Clauses}
 use Rattle.fzn_clauses.specs.declared.clauses.Early.{Early}
 use Rattle.fzn_clauses.specs.Guard.{possible_on}
-use Rattle.fzn_clauses.specs.Kept.{AreVisited}
+use Rattle.fzn_clauses.specs.Rooted.{AreVisited, sets_at}
 use Rattle.fzn_clauses.specs.Watched.{Watched, watched_at, first_of, second_of}
-use Rattle.fzn_clauses.specs.Watching.{IsAmong, GuardsBy, Guards, IsAgain, IsRising, IsTidy, IsWatchingAt, IsWatchingFrom, IsWatching, IsSavedAt, IsRewound, sets_at, start_of}
+use Rattle.fzn_clauses.specs.Watching.{IsAmong, GuardsBy, Guards, IsAgain, IsRising, IsTidy, IsWatchingAt, IsWatchingFrom, IsWatching, IsSavedAt, IsRewound, start_of}
 use Rattle.fzn_clauses.proofs.GuardLemmas.{IsGuarded-step, possible_before}
 use Rattle.fzn_clauses.proofs.TrailLemmas.{IsNarrower-sets_at, IsRooted-moved, variables_saved}
 

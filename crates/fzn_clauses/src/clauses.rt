@@ -6,10 +6,11 @@ ghost use Rattle.fzn_domain.specs.Narrow.{IsVariable, IsClauseOver};
 ghost use Rattle.fzn_trail.specs.Levels.{NoneEmpty, fresh};
 ghost use Rattle.fzn_clauses.specs.Guard.{literal_at, IsPair, IsPossibleAt, IsSatisfied};
 ghost use Rattle.fzn_clauses.specs.Held.{IsHeld, clause_of, AllHeld, held_in};
-ghost use Rattle.fzn_clauses.specs.Kept.{AreBelow, AreSpared, AreVisited, IsLast, KeepsRewound, KeepsRuns, KeepsRunning, KeepsWatching, LooksAt, Sweeps, Visits, VisitsAll, VisitsEntry};
+ghost use Rattle.fzn_clauses.specs.Rooted.{AreVisited, IsRooted};
+ghost use Rattle.fzn_clauses.specs.Kept.{AreBelow, AreSpared, IsLast, KeepsRewound, KeepsRuns, KeepsRunning, KeepsWatching, LooksAt, Sweeps, Visits, VisitsAll, VisitsEntry};
 ghost use Rattle.fzn_clauses.specs.Propagation.{IsPropagated, IsConflict, AllSettled};
 ghost use Rattle.fzn_clauses.specs.Watched.{watched_at, removed, added};
-ghost use Rattle.fzn_clauses.specs.Watching.{held_by, IsAt, IsOn, IsTidy, IsEnlistedAt, Enlists, Lengthens, IsRewatched, IsReady, IsRewound, IsRising, IsRooted, IsWatching, AreVariables, Ran, Settles, set_at_mark, start_of};
+ghost use Rattle.fzn_clauses.specs.Watching.{held_by, IsAt, IsOn, IsTidy, IsEnlistedAt, Enlists, Lengthens, IsRewatched, IsReady, IsRewound, IsRising, IsWatching, AreVariables, Ran, Settles, set_at_mark, start_of};
 ghost use Rattle.fzn_clauses.specs.Keys.{key_at};
 ghost use Rattle.fzn_clauses.specs.Lists.{list_at, AreLonger};
 ghost use Rattle.fzn_clauses.specs.declared.clauses.Look.TheVariants.{Conflict};
@@ -31,7 +32,7 @@ struct Again {
     entries: usize,
 }
 
-/// Levels were pushed on at most `until` entries, while some of these from `from` on were not yet visited.
+/// Levels were pushed on at most this many entries (`until`) while those from another one on (`from`) were not yet visited.
 #[derive(Clone, Copy, Debug)]
 struct Early {
     from: usize,
@@ -165,7 +166,8 @@ impl Clauses {
     }
 
     /// Asserts what the clauses force, until one is false, which is given, or none forces a literal. The trail is that of the last
-    /// call, and may have been pushed, asserted on and cut back since; so it may after an error, which loses nothing.
+    /// call, or at first a new one; since then levels may have been pushed and gone back to and literals asserted. After an error,
+    /// for want of memory, what was asserted stands, and the next call goes on from there.
     pub fn propagate(&mut self, trail: &mut Trail) -> Result<Option<ClauseId>, Memory>
         requires over { AllHeld (IsClauseOver (length trail.old.declared)) (held_by self.old) }
         requires not_empty { NoneEmpty trail.old.sets }
