@@ -11,13 +11,14 @@ use Rattle.fzn_clauses.proofs.HoldLemmas.{KeepsWatching-stands}
 use Rattle.fzn_clauses.proofs.ListedLemmas.{IsTidy-taken_out}
 
 pub Sweeps-none : (clauses : Clauses) → Sweeps clauses clauses
-Sweeps-none clauses = record { arena = refl; pending = refl; again = refl; tidy = λ tidy. tidy }
+Sweeps-none clauses = record { arena = refl; pending = refl; again = refl; early = refl; tidy = λ tidy. tidy }
 
 pub Sweeps-join : (one two three : Clauses) → Sweeps one two → Sweeps two three → Sweeps one three
 Sweeps-join one two three first second = record {
   arena = second.arena ∙ first.arena;
   pending = second.pending ∙ first.pending;
   again = second.again ∙ first.again;
+  early = second.early ∙ first.early;
   tidy = λ tidy. second.tidy (first.tidy tidy);
 }
 
@@ -26,6 +27,7 @@ Sweeps-taken_out old lists key j w within at off taken = record {
   arena = refl;
   pending = refl;
   again = refl;
+  early = refl;
   tidy = IsTidy-taken_out old.arena old.lists lists key j w within at off taken;
 }
 
@@ -34,5 +36,5 @@ held-Sweeps old new sweeps = ap held_in sweeps.arena
 
 pub KeepsWatching-Sweeps : (old new : Clauses) → Sweeps old new → KeepsWatching old new
 KeepsWatching-Sweeps old new sweeps =
-    KeepsWatching-stands old new sweeps.again sweeps.tidy (λ k among. subst (λ p. IsAmong k p.items) (sym sweeps.pending) among)
+    KeepsWatching-stands old new sweeps.again sweeps.early sweeps.tidy (λ k among. subst (λ p. IsAmong k p.items) (sym sweeps.pending) among)
     (λ k within live. inl (subst (λ (a : List Watched). k < length a) sweeps.arena within, ap (λ (a : List Watched). watched_at a k) sweeps.arena))

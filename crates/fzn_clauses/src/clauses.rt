@@ -6,10 +6,11 @@ ghost use Rattle.fzn_domain.specs.Narrow.{IsVariable, IsClauseOver};
 ghost use Rattle.fzn_trail.specs.Levels.{NoneEmpty, fresh};
 ghost use Rattle.fzn_clauses.specs.Guard.{literal_at, IsPair, IsPossibleAt, IsSatisfied};
 ghost use Rattle.fzn_clauses.specs.Held.{IsHeld, clause_of, AllHeld, held_in};
-ghost use Rattle.fzn_clauses.specs.Kept.{AreSpared, IsLast, KeepsRuns, KeepsRunning, KeepsWatching, LooksAt, Sweeps, Unwinds, Visits, VisitsAll, VisitsEntry};
+ghost use Rattle.fzn_clauses.specs.Rooted.{AreVisited, IsRooted};
+ghost use Rattle.fzn_clauses.specs.Kept.{AreBelow, AreSpared, IsLast, KeepsRewound, KeepsRuns, KeepsRunning, KeepsWatching, LooksAt, Sweeps, Visits, VisitsAll, VisitsEntry};
 ghost use Rattle.fzn_clauses.specs.Propagation.{IsPropagated, IsConflict, AllSettled};
 ghost use Rattle.fzn_clauses.specs.Watched.{watched_at, removed, added};
-ghost use Rattle.fzn_clauses.specs.Watching.{held_by, IsAt, IsOn, IsTidy, IsEnlistedAt, Enlists, IsRewatched, IsReady, IsWatching, AreVariables, Ran, Settles, set_at_mark};
+ghost use Rattle.fzn_clauses.specs.Watching.{held_by, IsAt, IsOn, IsTidy, IsEnlistedAt, Enlists, Lengthens, IsRewatched, IsReady, IsRewound, IsRising, IsWatching, AreVariables, Ran, Settles, set_at_mark, start_of};
 ghost use Rattle.fzn_clauses.specs.Keys.{key_at};
 ghost use Rattle.fzn_clauses.specs.Lists.{list_at, AreLonger};
 ghost use Rattle.fzn_clauses.specs.declared.clauses.Look.TheVariants.{Conflict};
@@ -30,6 +31,19 @@ struct Again {
     k: usize,
     entries: usize,
 }
+
+/// Levels were pushed on at most this many entries (`until`) while those from another one on (`from`) were not yet visited.
+#[derive(Clone, Copy, Debug)]
+struct Early {
+    from: usize,
+    until: usize,
+}
+
+/// No level was.
+const NONE_EARLY: Early = Early {
+    from: usize::MAX,
+    until: 0,
+};
 
 /// What came of looking at a clause.
 #[derive(Clone, Copy, Debug, PartialEq, Eq)]
@@ -57,6 +71,7 @@ pub struct Clauses {
     lists: Lists,
     pending: Vec<usize>,
     again: Vec<Again>,
+    early: Early,
     looked: u64,
 }
 
@@ -71,6 +86,7 @@ impl Clauses {
             lists: Lists::new(alloc),
             pending: Vec::new(alloc),
             again: Vec::new(alloc),
+            early: NONE_EARLY,
             looked: 0,
         }
     }
@@ -149,7 +165,9 @@ impl Clauses {
         self.looked
     }
 
-    /// Asserts what the clauses force, until one is false, which is given, or none forces a literal.
+    /// Asserts what the clauses force, until one is false, which is given, or none forces a literal. The trail is that of the last
+    /// call, or at first a new one; since then levels may have been pushed and gone back to and literals asserted. After an error,
+    /// for want of memory, what was asserted stands, and the next call goes on from there.
     pub fn propagate(&mut self, trail: &mut Trail) -> Result<Option<ClauseId>, Memory>
         requires over { AllHeld (IsClauseOver (length trail.old.declared)) (held_by self.old) }
         requires not_empty { NoneEmpty trail.old.sets }
@@ -159,14 +177,13 @@ impl Clauses {
         ensures same { held_by self.new ≡ held_by self.old }
         ensures propagated { IsPropagated (held_by self.old) trail.old trail.new }
         ensures left { NoneEmpty trail.new.sets }
+        ensures watching { IsWatching self.new trail.new }
 
-        ensures watching { OnOk result (IsWatching self.new trail.new) }
         ensures none { IfOk result (λ id. IfNone id (AllSettled (held_by self.old) trail.new.sets)) }
         ensures seen { IfOk result (λ id. IfNone id (trail.new.mark ≡ length trail.new.entries)) }
         ensures conflict { IfOk result (λ id. IfSome id (IsConflict (held_by self.old) trail.new.sets)) }
     {
-        let _entries = trail.len(); // A trail has a set for each variable.
-        self.unwind(trail.seen())?;
+        self.resume(trail)?;
         if let Some(k) = self.look_at_pending(trail)? {
             return Ok(Some(ClauseId(k as u64)));
         }
@@ -176,11 +193,55 @@ impl Clauses {
         }
     }
 
+    /// Goes to the entry from which on the trail is to be visited, and takes back what was put aside behind it.
+    fn resume(&mut self, trail: &mut Trail) -> Result<(), Memory>
+        requires { IsWatching self.old trail.old }
+        ensures same { self.new.arena ≡ self.old.arena }
+        ensures moved { trail.new ≡ record trail.old { mark = trail.new.mark } }
+        ensures rewound { IsRewound self.new trail.new }
+        ensures low { OnOk result (AreBelow trail.new.mark self.new.again.items) }
+    {
+        self.rewind(trail);
+        self.note_early(trail);
+        self.unwind(trail.seen())
+    }
+
+    /// Moves the mark back where the trail was cut back to a level that was pushed before all of its entries were visited.
+    fn rewind(&mut self, trail: &mut Trail)
+        requires { IsWatching self.old trail.old }
+        ensures same { self.new.arena ≡ self.old.arena }
+        ensures moved { trail.new ≡ record trail.old { mark = trail.new.mark } }
+        ensures watching { IsWatching self.new trail.new }
+        ensures start { start_of self.new.early trail.new.mark ≡ trail.new.mark }
+    {
+        let mark = trail.seen();
+        if mark <= self.early.until {
+            trail.see(mark.min(self.early.from));
+            self.early = NONE_EARLY;
+        }
+    }
+
+    /// Notes that levels were pushed before all of their entries were visited, if some were.
+    fn note_early(&mut self, trail: &Trail)
+        requires watching { IsWatching self.old trail.now }
+        requires start { start_of self.old.early trail.now.mark ≡ trail.now.mark }
+        ensures same { self.new.arena ≡ self.old.arena }
+        ensures rewound { IsRewound self.new trail.now }
+    {
+        if !is_early(trail) {
+            return;
+        }
+        self.early = Early {
+            from: self.early.from.min(trail.seen()),
+            until: trail.len(),
+        };
+    }
+
     /// What was looked at after the visits of as many entries, or more, is to be looked at again.
     fn unwind(&mut self, entries: usize) -> Result<(), Memory>
         ensures arena { self.new.arena ≡ self.old.arena }
-        ensures lists { self.new.lists ≡ self.old.lists }
-        ensures unwinds { OnOk result (Unwinds entries self.old self.new) }
+        ensures keeps { KeepsRewound self.old self.new }
+        ensures low { OnOk result (IsRising self.old.again.items → AreBelow entries self.new.again.items) }
     {
         while let Some(last) = self.last_again() {
             if last.entries < entries {
@@ -208,9 +269,9 @@ impl Clauses {
     fn look_at_pending(&mut self, trail: &mut Trail) -> Result<Option<usize>, Memory>
         requires { IsReady self.old trail.old }
         ensures ran { Ran self.old self.new trail.old trail.new }
-        ensures ready { OnOk result (IsReady self.new trail.new) }
+        ensures ready { IsReady self.new trail.new }
         ensures conflict { IfOk result (λ found. IfSome found (λ k. IsConflict (held_by self.old) trail.new.sets (record { 0 = k }))) }
-        ensures keeps { OnOk result (KeepsRuns self.old self.new trail.old trail.new) }
+        ensures keeps { KeepsRuns self.old self.new trail.old trail.new }
         ensures none { IfOk result (λ found. IfNone found (length self.new.pending.items ≡ 0)) }
     {
         while self.pending.len() > 0 {
@@ -227,10 +288,10 @@ impl Clauses {
     fn look(&mut self, k: usize, trail: &mut Trail) -> Result<bool, Memory>
         requires { IsReady self.old trail.old }
         ensures ran { Ran self.old self.new trail.old trail.new }
-        ensures ready { OnOk result (IsReady self.new trail.new) }
+        ensures ready { IsReady self.new trail.new }
         ensures conflict { IfOk result (λ found. IsTrue found → IsConflict (held_by self.old) trail.new.sets (record { 0 = k })) }
         ensures pending { OnOk result (self.new.pending ≡ self.old.pending) }
-        ensures keeps { OnOk result (KeepsRuns self.old self.new trail.old trail.new) }
+        ensures keeps { KeepsRuns self.old self.new trail.old trail.new }
         ensures past { IfOk result (λ found. OnFalse found (LooksAt k self.old self.new trail.old trail.new)) }
     {
         if k >= self.arena.len() || !self.arena.is_live(k) {
@@ -255,9 +316,9 @@ impl Clauses {
         requires ready { IsReady self.old trail.old }
         requires variables { AreVariables trail.old.mark trail.old }
         ensures ran { Ran self.old self.new trail.old trail.new }
-        ensures ready { OnOk result (IsReady self.new trail.new) }
+        ensures ready { IsReady self.new trail.new }
         ensures conflict { IfOk result (λ found. IfSome found (λ k. IsConflict (held_by self.old) trail.new.sets (record { 0 = k }))) }
-        ensures keeps { OnOk result (KeepsRunning self.old self.new trail.old trail.new) }
+        ensures keeps { KeepsRunning self.old self.new trail.old trail.new }
         ensures pending { OnOk result (self.new.pending ≡ self.old.pending) }
         ensures seen { IfOk result (λ found. IfNone found (trail.new.mark ≡ length trail.new.entries)) }
     {
@@ -278,9 +339,9 @@ impl Clauses {
         requires next { trail.old.mark < length trail.old.entries }
         requires ready { IsReady self.old trail.old }
         ensures ran { Ran self.old self.new trail.old trail.new }
-        ensures ready { OnOk result (IsReady self.new trail.new) }
+        ensures ready { IsReady self.new trail.new }
         ensures conflict { IfOk result (λ found. IfSome found (λ k. IsConflict (held_by self.old) trail.new.sets (record { 0 = k }))) }
-        ensures keeps { OnOk result (KeepsRuns self.old self.new trail.old trail.new) }
+        ensures keeps { KeepsRuns self.old self.new trail.old trail.new }
         ensures pending { OnOk result (self.new.pending ≡ self.old.pending) }
         ensures mark { OnOk result (trail.new.mark ≡ trail.old.mark) }
         ensures all { IfOk result (λ found. IfNone found (VisitsEntry (set_at_mark trail.old) lit self.old self.new trail.old trail.new)) }
@@ -307,9 +368,9 @@ impl Clauses {
         requires next { trail.old.mark < length trail.old.entries }
         requires ready { IsReady self.old trail.old }
         ensures ran { Ran self.old self.new trail.old trail.new }
-        ensures ready { OnOk result (IsReady self.new trail.new) }
+        ensures ready { IsReady self.new trail.new }
         ensures conflict { IfOk result (λ found. IfSome found (λ k. IsConflict (held_by self.old) trail.new.sets (record { 0 = k }))) }
-        ensures keeps { OnOk result (KeepsRuns self.old self.new trail.old trail.new) }
+        ensures keeps { KeepsRuns self.old self.new trail.old trail.new }
         ensures pending { OnOk result (self.new.pending ≡ self.old.pending) }
         ensures mark { OnOk result (trail.new.mark ≡ trail.old.mark) }
         ensures all { IfOk result (λ found. IfNone found (VisitsAll (set_at_mark trail.old) entry (key_at entry.var place) self.old self.new trail.old trail.new)) }
@@ -361,11 +422,12 @@ impl Clauses {
     fn visit(&mut self, watcher: Watcher, key: usize, trail: &mut Trail) -> Result<Visit, Memory>
         requires { IsReady self.old trail.old }
         ensures ran { Ran self.old self.new trail.old trail.new }
-        ensures ready { OnOk result (IsReady self.new trail.new) }
+        ensures ready { IsReady self.new trail.new }
         ensures conflict { IfOk result (λ visit. visit ≡ Refuted → IsConflict (held_by self.old) trail.new.sets (record { 0 = watcher.k })) }
         ensures longer { OnOk result (AreLonger self.old.lists self.new.lists) }
         ensures leaves { IfOk result (λ visit. visit ≡ Leaves → ¬ (IsOn self.new.arena watcher key)) }
         ensures visits { IfOk result (Visits watcher key self.old self.new trail.old trail.new) }
+        ensures err { OnErr result (KeepsRuns self.old self.new trail.old trail.new) }
     {
         if !self.is_watching(watcher, key) {
             return Ok(Visit::Leaves);
@@ -438,8 +500,9 @@ impl Clauses {
         requires ready { IsReady self.old trail.old }
         ensures ok { IfOk result (LooksAs k self.old self.new trail.old trail.new) }
         ensures settled { OnOk result (Settles self.old self.new) }
+        ensures keeps { KeepsRuns self.old self.new trail.old trail.new }
         ensures ran { Ran self.old self.new trail.old trail.new }
-        ensures ready { OnOk result (IsReady self.new trail.new) }
+        ensures ready { IsReady self.new trail.new }
         ensures conflict { IfOk result (λ look. look ≡ Conflict → IsConflict (held_by self.old) trail.new.sets (record { 0 = k })) }
     {
         self.looked = self.looked.saturating_add(1);
@@ -465,7 +528,7 @@ impl Clauses {
         requires tidy { IsTidy self.old.arena self.old.lists }
         requires fits { IsPair (watched_at self.old.arena k).clause pair }
         ensures ok { OnOk result (IsRewatched k pair self.old self.new) }
-        ensures err { OnErr result (self.new.arena ≡ self.old.arena) }
+        ensures err { OnErr result (Lengthens self.old self.new) }
     {
         self.enlist(k, pair.first)?;
         self.enlist(k, pair.second)?;
@@ -479,7 +542,7 @@ impl Clauses {
         requires tidy { IsTidy self.old.arena self.old.lists }
         requires fits { place < length (watched_at self.old.arena k).clause }
         ensures ok { OnOk result (Enlists k (literal_at (watched_at self.old.arena k).clause place) self.old self.new) }
-        ensures err { OnErr result (self.new.arena ≡ self.old.arena) }
+        ensures err { OnErr result (Lengthens self.old self.new) }
     {
         if self.is_enlisted(k, place) {
             return Ok(());
@@ -503,6 +566,15 @@ impl Clauses {
         let listed = self.arena.is_live(k) && self.arena.is_listed(k);
         listed && (place == pair.first || place == pair.second)
     }
+}
+
+/// Whether a level was pushed before all entries below it were visited.
+fn is_early(trail: &Trail) -> bool
+    requires { IsRooted trail.now }
+    ensures { OnFalse result (AreVisited trail.now) }
+{
+    let mark = trail.seen();
+    mark < trail.len() && trail.entry(mark).level < trail.level()
 }
 
 /// Whether the literal has the value of the watcher and stands in the list of this key.
