@@ -207,6 +207,6 @@ pub unflagged-apart : (flags : List Bool) (gone : ClauseId) (entries : List Entr
 unflagged-apart flags gone entries within clear flagged =
     All-weaker (λ (entry : Entry). IsFlagged flags entry.reason) (λ (entry : Entry). IsOther gone entry.reason) (λ entry one. other-of flags gone within clear entry.reason one) entries flagged
 
--- nor is one of another length a cut
-pub uncut : (model : Model) (held : Held) (gone : ClauseId) (n : ℕ) → ((values : List ℤ) → length (cut_of model values) ≡ n) → length (clause_of held gone) ≢ n → (values : List ℤ) → at_number held gone ≡ Some (cut_of model values) → ⊥
-uncut model held gone n each apart values e = apart (ap (λ (o : Option (List Lit)). length (unwrap_or o [])) e ∙ each values)
+-- nor is another clause than each cut one of them
+pub uncut : (model : Model) (held : Held) (gone : ClauseId) → ((values : List ℤ) → clause_of held gone ≡ cut_of model values → ⊥) → (values : List ℤ) → at_number held gone ≡ Some (cut_of model values) → ⊥
+uncut model held gone other values e = other values (ap (λ (o : Option (List Lit)). unwrap_or o []) e)

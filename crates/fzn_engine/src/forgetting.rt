@@ -12,8 +12,8 @@ ghost use Rattle.fzn_engine.specs.Search.{IsAfter, IsTended};
 use crate::solver::Solver;
 use fzn_cert::Step;
 use fzn_domain::Memory;
-use fzn_meaning::{Goal, Model};
-use fzn_search::cut;
+use fzn_meaning::Model;
+use fzn_search::is_like_cut;
 use fzn_trail::ClauseId;
 use fzn_upkeep::reasons_on;
 use std::alloc::Global;
@@ -59,7 +59,7 @@ impl Solver {
         self.clauses.remove(id);
     }
 
-    /// Whether the clause is held, no reason, and by its length neither a cut nor one that stands for an entry.
+    /// Whether the clause is held, no reason, unlike the cut of a solution, and by its length none that stands for an entry.
     fn is_idle(&self, model: &Model, id: ClauseId, are_reasons: &[bool]) -> bool
         ensures held { IsTrue result → IsHeld (held_by self.now.clauses) id }
         ensures unflagged { IsTrue result → (id.0 < length are_reasons.now) × (slice_index_or are_reasons.now id.0 false ≡ false) }
@@ -72,22 +72,10 @@ impl Solver {
         if k >= are_reasons.len() || are_reasons[k] {
             return false;
         }
-        let len = self.clauses.clause(id).len();
-        let cut = cut_len(model);
-        if len == cut {
+        let clause = self.clauses.clause(id);
+        if is_like_cut(model, clause) {
             return false;
         }
-        len > 1
-    }
-}
-
-/// How many literals each cut has.
-fn cut_len(model: &Model) -> usize
-    ensures { (values : List ℤ) → length (cut_of model.now values) ≡ result }
-{
-    match model.goal {
-        Goal::Satisfy => model.outputs.len(),
-        Goal::Minimize(_) => 1,
-        Goal::Maximize(_) => 1,
+        clause.len() > 1
     }
 }

@@ -62,7 +62,7 @@ impl Solver {
             search,
             scratch,
             learn,
-            notes: Notes::new(alloc, choice.keep),
+            notes: Notes::new(alloc, choice.keep, learn),
             found: 0,
             steps: 0,
         })

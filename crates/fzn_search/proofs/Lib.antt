@@ -1,2 +1,3 @@
 pub mod CallerLemmas
+mod CutLemmas
 mod FixedLemmas

@@ -15,7 +15,8 @@ pub struct Choice {
     pub seed: Option<u64>,
     /// After how many conflicts the first restart comes, at least 1; none where the search never restarts.
     pub restart_after: Option<u64>,
-    /// How many learned clauses are kept at a restart, the newest: one at least.
+    /// How many learned clauses are kept at a restart, the newest: one at least. Beside that a search that restarts forgets learned
+    /// clauses below this number too, those whose literals stand on the most levels, from 800 on. One that never restarts forgets none.
     pub keep: u64,
 }
 

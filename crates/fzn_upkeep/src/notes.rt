@@ -6,13 +6,13 @@ ghost use Rattle.fzn_clauses.specs.Watching.{held_by};
 use crate::numbers::Numbers;
 use crate::recent::Recent;
 use fzn_clauses::Clauses;
-use fzn_conflict::Marks;
+use fzn_conflict::{Learn, Marks};
 use fzn_domain::Memory;
 use fzn_learned::{Ranks, Source};
 use fzn_trail::ClauseId;
 use std::alloc::Global;
 
-/// How many learned clauses are kept at first.
+/// With more learned clauses than these some are forgotten, at first.
 const LEARNED: usize = 800;
 
 /// How many steps beyond those in use are written before some are deleted: as many as these, and so many more, but no more of the
@@ -51,11 +51,17 @@ pub struct Notes {
 }
 
 impl Notes {
-    pub fn new(alloc: Global, keep: u64) -> Notes {
+    /// Nothing is noted yet. A restart keeps so many learned clauses, the newest; between restarts those of the most levels are forgotten
+    /// too, from 800 on. With `Plain` no learned clause is ever forgotten.
+    pub fn new(alloc: Global, keep: u64, learn: Learn) -> Notes {
+        let most = match learn {
+            Learn::Plain => usize::MAX,
+            Learn::First => LEARNED,
+        };
         Notes {
             marks: Marks::new(alloc),
             next_cut: 0,
-            learned: Ranks::new(alloc, LEARNED),
+            learned: Ranks::new(alloc, most),
             inferred: Recent::new(alloc),
             free: Vec::new(alloc),
             held: 0,

@@ -75,7 +75,9 @@ pub struct Options {
     /// After how many conflicts the search first restarts where it learns the clause of the first unique implication point, 1 to 10^9. No
     /// word says it.
     pub restart_after: u64,
-    /// How many learned clauses a restart keeps, at most 10^9. No word says it.
+    /// How many learned clauses a restart keeps, at most 10^9: the newest. Cuts, clauses of one literal and those that entries rest on are
+    /// kept besides. Below this number too learned clauses are forgotten, those whose literals stand on the most levels, once there are
+    /// more than 800. With `Plain` none is forgotten. No word says it.
     pub keep: u64,
     /// Whether standard error tells how far the search has come.
     pub progress: bool,
