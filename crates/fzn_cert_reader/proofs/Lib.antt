@@ -8,4 +8,5 @@ mod ReadLaws
 mod RiseLaws
 mod SplitLaws
 mod StepLaws
+mod ToldLaws
 mod WordLaws

@@ -9,6 +9,7 @@ use Rattle.fzn_cert.specs.declared.step.Step.{Step}
 use Rattle.fzn_cert_reader.specs.declared.stream.StepReader.{StepReader}
 use Rattle.fzn_cert.specs.Spelling.{step_line, end_line, header_lines, HasLine}
 use Rattle.fzn_cert_reader.specs.Input.{left_in}
+use Rattle.fzn_cert_reader.specs.Told.{TakesNoHeader, TakesEnd}
 use Rattle.fzn_cert.specs.Stream.{IsFaultOf, IsHeaderFault, IsTrailedBy, After, line_of}
 
 -- how far a certificate was read
@@ -87,6 +88,15 @@ pub record Finds (old new : Progress) (fault : CertFault) : Type 0 where
   pub is_next : IsNextFault old new.header new.closing fault
   pub same_steps : new.steps ≡ old.steps
   pub line : new.fault_line ≡ Some fault.line
+
+-- The lines of which this is told are those that the call took: the first two, where they weren't read before, and the last line behind them.
+abbrev pub TakesTold : Progress → Option Header → Option Bool → Option (List ℕ) → Type 0
+TakesTold old None closing left = TakesNoHeader old.left left × (closing ≡ None)
+TakesTold old (Some header) closing left = After old.left (lines_read old.header (Some header)) (λ rest. TakesEnd rest left closing)
+
+-- after the call the first two lines and the last one are told exactly where they were read
+abbrev pub Tells : Progress → Progress → Type 0
+Tells old new = TakesTold old new.header new.closing new.left
 
 -- ---- a whole certificate
 

@@ -1,8 +1,8 @@
 //! The reader of a certificate: its bytes, line by line, to the steps that the lines spell.
 //!
 //! In: a reader of bytes. Out: one step at a time, what the first and the last lines say, or the first faulty line and its fault; from
-//! `StepLines` one line at a time, with its bytes. Proved against `specs/Reader.antt` (what one call takes of the bytes) and `fzn_cert`'s
-//! `Spelling` (the one line of a step) and `Stream` (the fault of a line). Whether a step is accepted is not asked here.
+//! `StepLines` one line at a time, with its bytes. Proved against `specs/Reader.antt` (what one call takes of the bytes, and what is told of
+//! them) and `fzn_cert`'s `Spelling` (the one line of a step) and `Stream` (the fault of a line). Whether a step is accepted is not asked here.
 #![tactic(auto)]
 
 pub use reader::StepLines;

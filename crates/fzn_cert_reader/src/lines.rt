@@ -1,10 +1,11 @@
 // Lines of a reader, one at a time.
-ghost use Rattle.std.specs.Prelude.{◌≡◌, ◌≤◌, ◌+◌, ◌++◌, ◌∷◌, [], true, length, ◌⊎◌, IfOk, IfErr, OnOk};
+ghost use Rattle.std.specs.Prelude.{◌≡◌, ◌≤◌, ◌+◌, ◌++◌, ◌∷◌, [], true, length, ◌⊎◌, IfOk, IfErr, OnOk, OnErr};
 ghost use Rattle.std.specs.Io.KnownBytes.{Consumes};
 ghost use Rattle.fzn_cert.specs.declared.fault.FaultKind.TheVariants.{Memory, Read};
 ghost use Rattle.fzn_cert.specs.Stream.{HasNoLineFeed};
 ghost use Rattle.fzn_cert_reader.specs.Input.{input_of, left_in};
 ghost use Rattle.fzn_cert_reader.specs.Lines.{bytes_taken, EndsLine};
+ghost use Rattle.fzn_cert_reader.specs.Told.{TakesPart};
 
 use crate::input::Bytes;
 use fzn_cert::{FaultKind, LINE_LIMIT};
@@ -28,6 +29,7 @@ pub fn next_line<R: TrackedRead + Drop>(
 ) -> Result<LineEnd, FaultKind>
     ensures taken { IfOk result (λ end. Consumes (left_in R.remaining bytes.old) (left_in R.remaining bytes.new) (bytes_taken end line.new.items)) }
     ensures inside { OnOk result (HasNoLineFeed line.new.items) }
+    ensures part { OnErr result (TakesPart (left_in R.remaining bytes.old) (left_in R.remaining bytes.new)) }
     ensures fault { IfErr result (λ fault. (fault ≡ Memory) ⊎ (fault ≡ Read)) }
     ensures end { IfOk result (λ end. EndsLine end (left_in R.remaining bytes.new) line.new.items) }
     ensures due { IfErr result (λ fault. fault ≡ Read → R.has_failed (input_of bytes.new) ≡ true) }

@@ -4,6 +4,7 @@ ghost use Rattle.std.specs.Option.{option_map, ForSome};
 ghost use Rattle.std.specs.Io.KnownBytes.{Consumes};
 ghost use Rattle.fzn_cert.specs.Spelling.{IsHeader};
 ghost use Rattle.fzn_cert_reader.specs.Input.{left_in};
+ghost use Rattle.fzn_cert_reader.specs.Told.{TakesNoHeader};
 ghost use Rattle.fzn_cert.specs.Stream.{IsHeaderFault, line_of};
 
 use crate::reader::StepLines;
@@ -21,7 +22,7 @@ pub struct StepReader<R> {
 }
 
 impl<R: TrackedRead + Drop> StepReader<R> {
-    ghost use Rattle.fzn_cert_reader.specs.Reader.{input_of, progress, lines_read, IsFresh, IsReading, HasEnded, Gives, Ends, IsNextFault, Finds};
+    ghost use Rattle.fzn_cert_reader.specs.Reader.{input_of, progress, lines_read, IsFresh, IsReading, HasEnded, Gives, Ends, IsNextFault, Finds, Tells};
 
     /// Reads nothing.
     pub fn new(alloc: Global, input: R) -> StepReader<R>
@@ -68,11 +69,13 @@ impl<R: TrackedRead + Drop> StepReader<R> {
 
     /// The next step, and none once the last line was read and nothing follows it. The first call reads the first two lines too.
     /// Its faults are `Memory`, `Read`, `Truncated` and `LineTooLong`, `Header` at the first two lines, `Spelling` at each later one,
-    /// `Trailing` at a byte after the last line, and `Failed` after a fault.
+    /// `Trailing` at a byte after the last line, and `Failed` after a fault. `Read` is answered only after a read that failed. After a fault
+    /// `header`, `counts`, `version` and `closed` still tell of the lines that were read, and of no others.
     pub fn next(&mut self, alloc: Global) -> Result<Option<Step>, CertFault>
         ensures step { IfOk result (λ found. IfSome found (Gives (progress R.remaining self.old) (progress R.remaining self.new))) }
         ensures end { IsReading (progress R.remaining self.old) → IfOk result (λ found. IfNone found (Ends (progress R.remaining self.old) (progress R.remaining self.new))) }
         ensures err { IsReading (progress R.remaining self.old) → IfErr result (Finds (progress R.remaining self.old) (progress R.remaining self.new)) }
+        ensures told { IsReading (progress R.remaining self.old) → Tells (progress R.remaining self.old) (progress R.remaining self.new) }
         ensures ended { HasEnded (progress R.remaining self.old) → (result ≡ Ok None) × (self.new ≡ self.old) }
         ensures failed { IfSome (progress R.remaining self.old).fault_line (λ line. (result ≡ Err (record { kind = FaultKind.Failed; line = line })) × (self.new ≡ self.old)) }
         ensures due { IfErr result (λ fault. fault.kind ≡ FaultKind.Read → R.has_failed (input_of self.new) ≡ true) }
@@ -102,6 +105,7 @@ impl<R: TrackedRead + Drop> StepReader<R> {
         ensures step { IfOk result (λ found. IfSome found (Gives (progress R.remaining self.old) (progress R.remaining self.new))) }
         ensures end { IfOk result (λ found. IfNone found (Ends (progress R.remaining self.old) (progress R.remaining self.new))) }
         ensures err { IfErr result (IsNextFault (progress R.remaining self.old) self.new.header self.new.lines.closed) }
+        ensures told { Tells (progress R.remaining self.old) (progress R.remaining self.new) }
         ensures same { (self.new.fault_line ≡ self.old.fault_line) × (IsSome self.old.header → self.new.header ≡ self.old.header) }
         ensures same_steps { OnErr result (self.new.lines.steps ≡ self.old.lines.steps) }
         ensures due { IfErr result (λ fault. fault.kind ≡ FaultKind.Read → R.has_failed (input_of self.new) ≡ true) }
@@ -122,6 +126,7 @@ impl<R: TrackedRead + Drop> StepReader<R> {
         ensures ok { IfOk result (λ header. self.new.header ≡ Some header) }
         ensures taken { OnOk result (Consumes (left_in R.remaining self.old.lines.bytes) (left_in R.remaining self.new.lines.bytes) (lines_read self.old.header self.new.header)) }
         ensures err { IfErr result (λ fault. (self.new.header ≡ None) × IsHeaderFault (left_in R.remaining self.old.lines.bytes) fault) }
+        ensures untold { OnErr result (TakesNoHeader (left_in R.remaining self.old.lines.bytes) (left_in R.remaining self.new.lines.bytes)) }
         ensures same { (self.new.lines.steps ≡ self.old.lines.steps) × (self.new.lines.closed ≡ self.old.lines.closed) × (self.new.fault_line ≡ self.old.fault_line) }
         ensures same_header { IsSome self.old.header → self.new.header ≡ self.old.header }
         ensures due { IfErr result (λ fault. fault.kind ≡ FaultKind.Read → R.has_failed (input_of self.new) ≡ true) }
