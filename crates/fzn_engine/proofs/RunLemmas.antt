@@ -105,7 +105,7 @@ decided-ongoing model limits old new steps h seen within room d =
     let nodes = d.nodes in
     record {
       state = record {
-        watching = subst B (sym d.trail) (subst A (sym d.same.clauses) (IsWatching-asserted old.clauses (pushed old.trail) (IsWatching-pushed old.clauses old.trail h.watching seen) lit Decision d.splits.variable));
+        watching = subst B (sym d.trail) (subst A (sym d.same.clauses) (IsWatching-asserted old.clauses (pushed old.trail) (IsWatching-pushed old.clauses old.trail h.watching) lit Decision d.splits.variable));
         state = subst T (sym d.trail) (subst N (sym d.nodes) (subst K (sym d.same.stock) (subst L (sym d.same.learn) state)));
         scratch = d.same.scratch ∙ h.scratch;
         vars = d.vars ∙ h.vars;

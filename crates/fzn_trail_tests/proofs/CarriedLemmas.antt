@@ -18,7 +18,7 @@ module _ (clauses : Clauses) (trail : Levels) (carried : IsCarried clauses trail
   IsCarried-decided lit reason seen var narrower = record {
     over = carried.over;
     watching =
-        IsWatching-asserted clauses (pushed trail) (IsWatching-pushed clauses trail carried.watching seen) lit reason
+        IsWatching-asserted clauses (pushed trail) (IsWatching-pushed clauses trail carried.watching) lit reason
         (subst (λ (n : ℕ). IsVariable n lit.var) (sym (narrower.one_each ∙ carried.count)) var);
     count = carried.count;
   }
