@@ -13,8 +13,13 @@ use Rattle.fzn_engine.specs.declared.fault.Fault.TheVariants as engine
 use Rattle.fzn_printer.specs.Printer.{is_open, has_failed_in as out_failed}
 use Rattle.fzn_solver.specs.declared.writers.Writers.{Writers}
 use Rattle.fzn_solver.specs.Causes.{IsTooLong, HasCause, IsCause, IsLineCause, AreOpen}
-use Rattle.fzn_solver.specs.FaultsFrom.{fault_of_certificate, fault_of_engine}
-use Rattle.fzn_solver.specs.Left.{HasLines}
+use Rattle.fzn_reading.specs.declared.fault.ModelFault.{ModelFault}
+use Rattle.fzn_reading.specs.declared.fault.ModelFault.TheVariants as reading
+use Rattle.fzn_solver.specs.FaultsFrom.{fault_of_certificate, fault_of_engine, fault_of_model}
+use Rattle.fzn_solver.specs.Left.{HasLines, IsLater, IsLeft}
+use Rattle.fzn_solver.specs.Run.{States, IsDue}
+use Rattle.fzn_solver.specs.declared.fault.RunFault.{RunFault}
+use Rattle.fzn_solver.specs.declared.fault.RunFault.TheVariants as run
 use Rattle.fzn_solver.specs.Writers.{taken, IsKept, IsLineTaken, IsLineRefused}
 use Rattle.fzn_solver.specs.declared.history.History.{History}
 
@@ -57,6 +62,7 @@ module _ {W C : Type 0} (outs : W → Bool) (certs : C → Bool) (model : Model)
   -- as a fault of the run
   pub run-cause : (now : Writers W C) (fault : Fault) (cert_old cert_new : Option (List ℕ)) → HasLines model (taken now) cert_old cert_new → IsCause outs certs model now fault
       → HasCause (out_failed outs now.out) (cert_failed certs now.cert) model cert_old cert_new (fault_of_engine fault)
+  unfolding HasCause
   run-cause now engine.Memory cert_old cert_new lines cause = tt
   run-cause now engine.WriteOutput cert_old cert_new lines cause = cause
   run-cause now engine.WriteCert cert_old cert_new lines cause = cause
@@ -77,3 +83,30 @@ line-taken outs certs outs_failed certs_failed model step old new (Err e) accept
   where
     items_of : History Step → List Step
     items_of history = history.items
+
+-- ---- the whole run
+
+later-due : (read out cert : Bool) (file cert_old cert_new : Option (List ℕ)) (model : Model) (fault : RunFault) → States file model → IsLater fault → HasCause out cert model cert_old cert_new fault → IsDue read out cert file cert_old cert_new fault
+unfolding IsDue
+later-due read out cert file cert_old cert_new model (run.File fault) states later cause = tt
+later-due read out cert file cert_old cert_new model run.Read states later cause = absurd later
+later-due read out cert file cert_old cert_new model run.Memory states later cause = tt
+later-due read out cert file cert_old cert_new model run.WriteOutput states later cause = (model, states, cause)
+later-due read out cert file cert_old cert_new model run.WriteCert states later cause = (model, states, cause)
+later-due read out cert file cert_old cert_new model run.StepTooLong states later cause = (model, states, cause)
+
+pub each-due : {A : Type 0} (result : Result A RunFault) (all : Bool) (read out cert : Bool) (file out_old out_new cert_old cert_new : Option (List ℕ)) (model : Model) → States file model → IfErr result (IsLeft model all out_old out_new cert_old cert_new) → IfErr result (HasCause out cert model cert_old cert_new)
+    → IfErr result (IsDue read out cert file cert_old cert_new)
+each-due (Ok value) all read out cert file out_old out_new cert_old cert_new model states left cause = tt
+each-due (Err fault) all read out cert file out_old out_new cert_old cert_new model states left cause = later-due read out cert file cert_old cert_new model fault states left.0 cause
+
+pub read-due : (read out cert : Bool) (file cert_old cert_new : Option (List ℕ)) (fault : ModelFault) → (fault ≡ reading.Read → read ≡ true) → IsDue read out cert file cert_old cert_new (fault_of_model fault)
+unfolding IsDue
+read-due read out cert file cert_old cert_new (reading.File fault) due = tt
+read-due read out cert file cert_old cert_new reading.Memory due = tt
+read-due read out cert file cert_old cert_new reading.Read due = due refl
+
+-- want of memory needs no other cause
+pub memory-due : (read out cert : Bool) (file cert_old cert_new : Option (List ℕ)) → IsDue read out cert file cert_old cert_new run.Memory
+unfolding IsDue
+memory-due read out cert file cert_old cert_new = tt

@@ -92,7 +92,7 @@ open-before Fresh result v failed is = let bad : Ok v ≡ Err Failed = sym is �
 open-before Open result v failed is = refl
 open-before Shut result v failed is = let bad : Ok v ≡ Err Failed = sym is ∙ failed (λ h. cc) in cc
 
-open-print : {K : Type 0} (opened : Bool) (result : Result Unit PrintFault) (v : Unit) → (opened ≡ false → (result ≡ Err NoMore) × K) → result ≡ Ok v → opened ≡ true
+pub open-print : {K : Type 0} (opened : Bool) (result : Result Unit PrintFault) (v : Unit) → (opened ≡ false → (result ≡ Err NoMore) × K) → result ≡ Ok v → opened ≡ true
 open-print true result v failed is = refl
 open-print false result v failed is = let bad : Ok v ≡ Err NoMore = sym is ∙ (failed refl).0 in cc
 

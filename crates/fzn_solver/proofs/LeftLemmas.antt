@@ -31,7 +31,7 @@ use Rattle.fzn_reading.specs.Reads.{Answers}
 use Rattle.fzn_solver.specs.declared.fault.RunFault.{RunFault}
 use Rattle.fzn_solver.specs.declared.fault.RunFault.TheVariants as run
 use Rattle.fzn_solver.specs.Run.{States, IsRunFault}
-use Rattle.fzn_solver.specs.Left.{IsStopped, IsLater, IsLeft}
+use Rattle.fzn_solver.specs.Left.{HasLines, IsStopped, IsLater, IsLeft}
 use Rattle.fzn_solver.specs.Writers.{taken, at_first, origin, IsFresh, IsKept, IsUnbegun, IsUnclosed}
 use Rattle.fzn_solver.proofs.StandingLemmas.{standing-refused}
 use Rattle.fzn_solver.proofs.WritersLemmas.{Keeps-same}
@@ -46,11 +46,18 @@ error-is (Err e) fault P same p = subst P (sym same) p
 -- ---- the whole run
 
 pub read-fault : (file : Option (List ℕ)) (all : Bool) (out cert : Option (List ℕ)) (fault : ModelFault) → IfSome file (λ bytes. Answers bytes (Err fault)) → IsRunFault file all out out cert cert (fault_of_model fault)
+unfolding IsRunFault
 read-fault file all out cert (reading.File fault) right = (Keeps-same out, Keeps-same cert, right)
 read-fault file all out cert reading.Memory right = inl (Keeps-same out, Keeps-same cert)
 read-fault file all out cert reading.Read right = (Keeps-same out, Keeps-same cert)
 
+-- want of memory before the search begins
+pub memory-fault : (file : Option (List ℕ)) (all : Bool) (out cert : Option (List ℕ)) → IsRunFault file all out out cert cert run.Memory
+unfolding IsRunFault
+memory-fault file all out cert = inl (Keeps-same out, Keeps-same cert)
+
 pub later-fault : (file : Option (List ℕ)) (all : Bool) (out_old out_new cert_old cert_new : Option (List ℕ)) (model : Model) (fault : RunFault) → States file model → IsLeft model all out_old out_new cert_old cert_new fault → IsRunFault file all out_old out_new cert_old cert_new fault
+unfolding IsRunFault
 later-fault file all out_old out_new cert_old cert_new model (run.File fault) states left = absurd left.0
 later-fault file all out_old out_new cert_old cert_new model run.Read states left = absurd left.0
 later-fault file all out_old out_new cert_old cert_new model run.Memory states left = inr (model, states, left)
@@ -104,6 +111,26 @@ module _ {W C : Type 0} (outs : W → Option (List ℕ)) (certs : C → Option (
   outs-first : (before now : Writers W C) (fresh : IsFresh outs certs before) → origin now ≡ origin before → outs (at_first now).0 ≡ out_contents outs before.out
   outs-first before now fresh same =
       ap (λ (o : (W × C) × Bool × GName × GName). outs o.0.0) same ∙ sym fresh.same_out
+
+  -- the lines of the steps stand
+  pub lines-kept : (before now : Writers W C) → IsFresh outs certs before → origin now ≡ origin before → IsKept outs certs model now → HasLines model (taken now) (cert_contents certs before.cert) (cert_contents certs now.cert)
+  lines-kept before now fresh same kept =
+      let K : Option (List ℕ) → Type 0 = λ o. Appends o (cert_contents certs now.cert) (begun_certificate model (taken now) ++ kept.standing.more) in
+      inr (kept.standing.more, subst K (certs-first before now fresh same) kept.standing.lines)
+
+  -- and after a fault at the end
+  pub lines-unclosed : (before now after : Writers W C) (closed : Bool) (fault : Fault) → IsFresh outs certs before → origin now ≡ origin before → IsKept outs certs model now → taken after ≡ taken now → IsUnclosed outs certs model closed now after fault
+      → HasLines model (taken after) (cert_contents certs before.cert) (cert_contents certs after.cert)
+  lines-unclosed before now after closed fault fresh same kept same_taken (inl unfinished) =
+      let L : List Step → Type 0 = λ steps. HasLines model steps (cert_contents certs before.cert) (cert_contents certs after.cert) in
+      let standing = standing-refused model now.alone (taken now) (certs (at_first now).1) (cert_contents certs now.cert) (cert_contents certs after.cert) (outs (at_first now).0) (out_contents outs now.out) (end_line closed) kept.standing unfinished.front in
+      let K : Option (List ℕ) → Type 0 = λ o. Appends o (cert_contents certs after.cert) (begun_certificate model (taken now) ++ standing.more) in
+      subst L (sym same_taken) (inr (standing.more, subst K (certs-first before now fresh same) standing.lines))
+  lines-unclosed before now after closed fault fresh same kept same_taken (inr (_, cut)) =
+      let L : List Step → Type 0 = λ steps. HasLines model steps (cert_contents certs before.cert) (cert_contents certs after.cert) in
+      let in_step = kept.cert_in_step cut.was_open in
+      let K : Option (List ℕ) → Type 0 = λ o. Appends o (cert_contents certs after.cert) (begun_certificate model (taken now) ++ end_line closed) in
+      subst L (sym same_taken) (inr (end_line closed, subst K (certs-first before now fresh same) (Appends-then (certs (at_first now).1) (cert_contents certs now.cert) (cert_contents certs after.cert) (begun_certificate model (taken now)) (end_line closed) in_step.lines cut.end)))
 
   -- on the way
   pub left-on_way : (before now : Writers W C) (fault : Fault) → IsWellFormed model → IsFresh outs certs before → before.alone ≡ is_alone model.goal all → origin now ≡ origin before → AllAccepted model (taken now) → IsKept outs certs model now → Left before now fault

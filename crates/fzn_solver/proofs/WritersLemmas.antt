@@ -6,7 +6,7 @@ use Rattle.std.specs.Io.KnownBytes.{Appends, Keeps}
 use Rattle.std.proofs.lemmas.Bool.{cases_Bool}
 use Rattle.std.proofs.lemmas.List.{append-nil, length-append}
 use Rattle.fzn_streams.specs.Output.{AppendsFront}
-use Rattle.fzn_streams.proofs.CallerLemmas.{front-none}
+use Rattle.fzn_streams.proofs.CallerLemmas.{front-none, front-then}
 use Rattle.fzn_meaning.specs.declared.model.Model.{Model}
 use Rattle.fzn_meaning.specs.Solutions.{IsAssignment}
 use Rattle.fzn_engine.specs.declared.fault.Fault.{Fault}
@@ -21,7 +21,7 @@ use Rattle.fzn_cert.specs.Spelling.{step_line, header_text, header_lines, IsSpel
 use Rattle.fzn_cert.specs.Verdict.{header_of}
 use Rattle.fzn_cert.specs.Writer.{contents_of as cert_contents, out_name as cert_name, stage_of, step_count, version_of}
 use Rattle.fzn_printer.specs.declared.printer.Printer.{Printer}
-use Rattle.fzn_printer.specs.Printer.{contents_of as out_contents, is_open, has_printed}
+use Rattle.fzn_printer.specs.Printer.{contents_of as out_contents, out_name, is_open, has_printed}
 use Rattle.fzn_printer.specs.Shown.{shown}
 use Rattle.fzn_solver.specs.Standing.{found_by, early, shown_all, IsCertInStep, IsOutInStep}
 use Rattle.fzn_solver.specs.declared.history.History.{History}
@@ -201,6 +201,17 @@ module _ {W C : Type 0} (outs : W → Option (List ℕ)) (certs : C → Option (
         nothing = λ _. Keeps-same (out_contents outs old);
         whole = λ goes_on _. absurd (stops goes_on);
       })
+
+  -- the text stands, and the output was not flushed
+  pub printed-cut : (values : List ℤ) (goes : Type 0) (old mid new : Printer W) → out_name mid ≡ out_name old → out_name new ≡ out_name mid → is_open old ≡ true → Appends (out_contents outs old) (out_contents outs mid) (shown model values) → Keeps (out_contents outs mid) (out_contents outs new) → is_open new ≡ false
+      → IsPrinted outs model values goes old new
+  printed-cut values goes old mid new first second opened text kept shut =
+      let whole = Appends-kept (out_contents outs old) (out_contents outs mid) (out_contents outs new) (shown model values) text kept in record {
+        same = second ∙ first;
+        front = subst (AppendsFront (out_contents outs old) (out_contents outs new)) (append-nil (shown model values)) (front-then (out_contents outs old) (out_contents outs new) (out_contents outs new) (shown model values) [] whole (front-none (out_contents outs new) (out_contents outs new) [] (Keeps-same (out_contents outs new))));
+        nothing = λ was. absurd (false_true (sym was ∙ opened));
+        whole = λ _ is. absurd (false_true (sym shut ∙ is));
+      }
 
   -- the first two lines stand
   pub begun-kept : (cert : StepWriter C) (old : Writers W C) → IsFresh outs certs old → version_of cert ≡ Two → step_count cert ≡ 0

@@ -24,7 +24,7 @@ pub record IsTooLong (model : Model) (steps : List Step) : Type 0 where
 
 -- A fault that came once the model was read: a write or a flush of the output failed, one of the certificate did, or the line of a step
 -- that follows those on the certificate would be too long.
-abbrev pub HasCause : Bool → Bool → Model → Option (List ℕ) → Option (List ℕ) → RunFault → Type 0
+unfoldable pub HasCause : Bool → Bool → Model → Option (List ℕ) → Option (List ℕ) → RunFault → Type 0
 HasCause out cert model cert_old cert_new WriteOutput = out ≡ true
 HasCause out cert model cert_old cert_new WriteCert = cert ≡ true
 HasCause out cert model cert_old cert_new StepTooLong = (steps : List Step) × HasLines model steps cert_old cert_new × IsTooLong model steps

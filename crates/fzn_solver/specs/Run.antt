@@ -27,14 +27,14 @@ abbrev pub IsLeftOf : Option (List ℕ) → Bool → Option (List ℕ) → Optio
 IsLeftOf file all out_old out_new cert_old cert_new fault = (model : Model) × States file model × IsLeft model all out_old out_new cert_old cert_new fault
 
 -- The file's first fault, and that of a failed read, leave both writers as they were.
-abbrev pub IsRunFault : Option (List ℕ) → Bool → Option (List ℕ) → Option (List ℕ) → Option (List ℕ) → Option (List ℕ) → RunFault → Type 0
+unfoldable pub IsRunFault : Option (List ℕ) → Bool → Option (List ℕ) → Option (List ℕ) → Option (List ℕ) → Option (List ℕ) → RunFault → Type 0
 IsRunFault file all out_old out_new cert_old cert_new (File fault) = Keeps out_old out_new × Keeps cert_old cert_new × IfSome file (λ bytes. Reads bytes (Err (errors.Fault fault)))
 IsRunFault file all out_old out_new cert_old cert_new Read = Keeps out_old out_new × Keeps cert_old cert_new
 IsRunFault file all out_old out_new cert_old cert_new Memory = (Keeps out_old out_new × Keeps cert_old cert_new) ⊎ IsLeftOf file all out_old out_new cert_old cert_new Memory
 IsRunFault file all out_old out_new cert_old cert_new fault = IsLeftOf file all out_old out_new cert_old cert_new fault
 
 -- Each fault has its cause: a failed read, a failed write or flush of the output or of the certificate, a line that would be too long.
-abbrev pub IsDue : Bool → Bool → Bool → Option (List ℕ) → Option (List ℕ) → Option (List ℕ) → RunFault → Type 0
+unfoldable pub IsDue : Bool → Bool → Bool → Option (List ℕ) → Option (List ℕ) → Option (List ℕ) → RunFault → Type 0
 IsDue read out cert file cert_old cert_new (File fault) = Unit {0}
 IsDue read out cert file cert_old cert_new Memory = Unit {0}
 IsDue read out cert file cert_old cert_new Read = read ≡ true

@@ -55,6 +55,7 @@ impl<'o, 'c, 'l, W: TrackedWrite, C: TrackedWrite> Writers<'o, 'c, 'l, W, C> {
         ensures under_way { OnOk result (IsUnderWay W.has_failed C.has_failed model.now self.new) }
         ensures cause { IfErr result (IsCause W.has_failed C.has_failed model.now self.new) }
         ensures same_streams { AreSameStreams W.stream C.stream self.old self.new }
+        ensures same_taken { taken self.new ≡ taken self.old }
         ensures none_taken { OnOk result (taken self.new ≡ []) }
         ensures err { OnErr result (IsUnbegun C.contents model.now self.old self.new) }
         ensures same { origin self.new ≡ origin self.old }
@@ -212,6 +213,7 @@ impl<'o, 'c, 'l, W: TrackedWrite, C: TrackedWrite> Writers<'o, 'c, 'l, W, C> {
         requires under_way { IsUnderWay W.has_failed C.has_failed model.now self.old }
         ensures cause { IfErr result (IsCause W.has_failed C.has_failed model.now self.new) }
         ensures same_streams { AreSameStreams W.stream C.stream self.old self.new }
+        ensures same_taken { taken self.new ≡ taken self.old }
         ensures closed { OnOk result (IsClosed W.contents C.contents model.now (is_closed ending) self.old self.new) }
         ensures err { IfErr result (IsUnclosed W.contents C.contents model.now (is_closed ending) self.old self.new) }
         ensures same_writers { (cert_name self.new.cert ≡ cert_name self.old.cert) × (out_name self.new.out ≡ out_name self.old.out) }
@@ -274,11 +276,9 @@ impl<'o, 'c, 'l, W: TrackedWrite, C: TrackedWrite> Sink for Writers<'o, 'c, 'l, 
 
     ghost origin = { λ writers. origin writers };
 
-    ghost keeps = {
-        λ model writers. IsKept W.contents C.contents model writers
-            × IsUnderWay W.has_failed C.has_failed model writers
-            × AreStreamsAsAtFirst W.stream C.stream writers
-    };
+    ghost keeps = { λ model writers. IsKept W.contents C.contents model writers
+        × IsUnderWay W.has_failed C.has_failed model writers
+        × AreStreamsAsAtFirst W.stream C.stream writers };
 
     fn step(&mut self, alloc: Global, model: &Model, step: &Step) -> Result<(), Fault> {
         if let Some(fault) = self.stopped {

@@ -1,7 +1,9 @@
 -- The fault of the file, or what the search left.
 use Rattle.fzn_solver.specs.FaultsFrom.{fault_of_model}
-use Rattle.fzn_solver.specs.Run.{IsRunFault}
-use Rattle.fzn_solver.proofs.LeftLemmas.{error-is, read-fault, each-fault}
+use Rattle.fzn_solver.specs.Run.{IsRunFault, IsDue}
+use Rattle.fzn_solver.specs.declared.fault.RunFault.TheVariants.{Memory}
+use Rattle.fzn_solver.proofs.CauseLemmas.{each-due, read-due, memory-due}
+use Rattle.fzn_solver.proofs.LeftLemmas.{error-is, read-fault, memory-fault, each-fault}
 use Rattle.fzn_solver.proofs.answer.run_tracked.Goals as goal
 
 pub returns-in_err-read-clause-fault : goal.returns-in_err-read-clause-fault
@@ -12,3 +14,42 @@ returns-in_err-read-clause-fault g c =
 pub returns-clause-fault : goal.returns-clause-fault
 returns-clause-fault g c =
     each-fault c.answer.result (g.R.Read.remaining c.args.input.now) c.args.options.now.all (g.W.Write.contents c.args.out.now) (g.W.Write.contents c.answer.new.out) (g.C.Write.contents c.args.cert.now) (g.C.Write.contents c.answer.new.cert) c.in_ok-read.read.model c.in_ok-read.ensures.right c.answer.ensures.left
+
+pub returns-clause-due : goal.returns-clause-due
+returns-clause-due g c =
+    each-due c.answer.result c.args.options.now.all (g.R.TrackedRead.has_failed c.read_annotated.new.input) (g.W.TrackedWrite.has_failed c.answer.new.out) (g.C.TrackedWrite.has_failed c.answer.new.cert) (g.R.Read.remaining c.args.input.now) (g.W.Write.contents c.args.out.now) (g.W.Write.contents c.answer.new.out) (g.C.Write.contents c.args.cert.now) (g.C.Write.contents c.answer.new.cert)
+    c.in_ok-read.read.model c.in_ok-read.ensures.right c.answer.ensures.left c.answer.ensures.cause
+
+pub returns-in_err-read-clause-due : goal.returns-in_err-read-clause-due
+returns-in_err-read-clause-due g c =
+    let read = g.R.TrackedRead.has_failed c.read_annotated.new.input in
+    let out = g.W.TrackedWrite.has_failed c.args.out.now in
+    let cert = g.C.TrackedWrite.has_failed c.args.cert.now in
+    error-is c.from_residual.result (fault_of_model c.in_err-read.field-0.0) (IsDue read out cert (g.R.Read.remaining c.args.input.now) (g.C.Write.contents c.args.cert.now) (g.C.Write.contents c.args.cert.now)) c.from_residual.ensures.1
+    (read-due read out cert (g.R.Read.remaining c.args.input.now) (g.C.Write.contents c.args.cert.now) (g.C.Write.contents c.args.cert.now) c.in_err-read.field-0.0 c.in_err-read.ensures.due)
+
+pub returns-in_err-annotations-clause-fault : goal.returns-in_err-annotations-clause-fault
+returns-in_err-annotations-clause-fault g c =
+    error-is c.from_residual-in_err-annotations.result Memory (IsRunFault (g.R.Read.remaining c.args.input.now) c.args.options.now.all (g.W.Write.contents c.args.out.now) (g.W.Write.contents c.args.out.now) (g.C.Write.contents c.args.cert.now) (g.C.Write.contents c.args.cert.now)) c.from_residual-in_err-annotations.ensures.1
+    (memory-fault (g.R.Read.remaining c.args.input.now) c.args.options.now.all (g.W.Write.contents c.args.out.now) (g.C.Write.contents c.args.cert.now))
+
+pub returns-in_err-annotations-clause-due : goal.returns-in_err-annotations-clause-due
+returns-in_err-annotations-clause-due g c =
+    let read = g.R.TrackedRead.has_failed c.read_annotated.new.input in
+    let out = g.W.TrackedWrite.has_failed c.args.out.now in
+    let cert = g.C.TrackedWrite.has_failed c.args.cert.now in
+    error-is c.from_residual-in_err-annotations.result Memory (IsDue read out cert (g.R.Read.remaining c.args.input.now) (g.C.Write.contents c.args.cert.now) (g.C.Write.contents c.args.cert.now)) c.from_residual-in_err-annotations.ensures.1
+    (memory-due read out cert (g.R.Read.remaining c.args.input.now) (g.C.Write.contents c.args.cert.now) (g.C.Write.contents c.args.cert.now))
+
+pub returns-in_err-propagators-clause-fault : goal.returns-in_err-propagators-clause-fault
+returns-in_err-propagators-clause-fault g c =
+    error-is c.from_residual-in_err-propagators.result Memory (IsRunFault (g.R.Read.remaining c.args.input.now) c.args.options.now.all (g.W.Write.contents c.args.out.now) (g.W.Write.contents c.args.out.now) (g.C.Write.contents c.args.cert.now) (g.C.Write.contents c.args.cert.now)) c.from_residual-in_err-propagators.ensures.1
+    (memory-fault (g.R.Read.remaining c.args.input.now) c.args.options.now.all (g.W.Write.contents c.args.out.now) (g.C.Write.contents c.args.cert.now))
+
+pub returns-in_err-propagators-clause-due : goal.returns-in_err-propagators-clause-due
+returns-in_err-propagators-clause-due g c =
+    let read = g.R.TrackedRead.has_failed c.read_annotated.new.input in
+    let out = g.W.TrackedWrite.has_failed c.args.out.now in
+    let cert = g.C.TrackedWrite.has_failed c.args.cert.now in
+    error-is c.from_residual-in_err-propagators.result Memory (IsDue read out cert (g.R.Read.remaining c.args.input.now) (g.C.Write.contents c.args.cert.now) (g.C.Write.contents c.args.cert.now)) c.from_residual-in_err-propagators.ensures.1
+    (memory-due read out cert (g.R.Read.remaining c.args.input.now) (g.C.Write.contents c.args.cert.now) (g.C.Write.contents c.args.cert.now))
