@@ -89,6 +89,16 @@ finds-fault model past old new fault midway same counts finds = by_header new.he
         (subst (λ n. IsFaultWhere (VerdictFrom model header.version past old.steps rest) (fault_of_kind fault.kind n new.closing past.refuted)) (sym line)
         (line-fault model header.version past old.steps rest fault.kind new.closing f trailed))
 
+-- the fault is that of a failed read only where the reader says so
+pub read-failed : (kind : FaultKind) (line : ℕ) (closing : Option Bool) (is_refuted : Bool) → fault_of_kind kind line closing is_refuted ≡ Read → kind ≡ faults.Read
+read-failed faults.Read line closing is_refuted same = refl
+read-failed faults.Trailing line closing is_refuted same = by_ending (may_end closing is_refuted) same
+  where
+    by_ending : (may : Bool) → (if may then Refused line refusals.Trailing else Refused (line - 1) refusals.NotClosed) ≡ Read → faults.Trailing ≡ faults.Read
+    by_ending true same = cc
+    by_ending false same = cc
+read-failed _ line closing is_refuted same = cc
+
 -- ---- other counts, whatever comes after the second line
 
 lines_taken : (old new : Progress) (next : Result (Option Step) CertFault) (header : Header) → new.header ≡ Some header → IfOk next (λ found. IfSome found (Gives old new)) → IfOk next (λ found. IfNone found (Ends old new)) → IfErr next (Finds old new) → After old.left (lines_read old.header new.header) (λ _. Unit {0})

@@ -1,5 +1,5 @@
 -- How far the check of a certificate came, and what its faults say.
-use Rattle.std.specs.Prelude.{◌≡◌, ◌+◌, ◌<◌, Bool, length, Some, None, IfSome, MatchOption}
+use Rattle.std.specs.Prelude.{◌≡◌, ◌+◌, ◌<◌, Bool, true, length, Some, None, IfSome, MatchOption}
 use Rattle.fzn_meaning.specs.declared.model.Model.{Model}
 use Rattle.fzn_cert.specs.declared.fault.FaultKind.{FaultKind}
 use Rattle.fzn_cert.specs.declared.fault.FaultKind.TheVariants as faults
@@ -22,6 +22,10 @@ IsFaultWhere Holds (Refused line refusal) = Holds (refused line refusal)
 IsFaultWhere Holds Memory = Unit {0}
 IsFaultWhere Holds Read = Unit {0}
 IsFaultWhere Holds _ = ⊥
+
+-- a failed read is answered only where one failed
+abbrev pub IsReadDue : Bool → CheckFault → Type 0
+IsReadDue has_failed fault = fault ≡ Read → has_failed ≡ true
 
 -- the first two lines tell the model's counts, in at most 18 digits
 abbrev pub HasCounts : Model → Header → Type 0
