@@ -1,5 +1,5 @@
 -- What a contract sees of a certificate's writer, and what a call that fails leaves.
-use Rattle.std.specs.Prelude.{ℕ, List, Option}
+use Rattle.std.specs.Prelude.{ℕ, Bool, List, Option}
 use Rattle.std.specs.Io.KnownBytes.{Keeps}
 use Rattle.std.specs.Borrow.{GName}
 use Rattle.fzn_streams.specs.Output.{AppendsFront}
@@ -14,6 +14,14 @@ use Rattle.fzn_cert.specs.Spelling.{HasRoom}
 -- what the writer below holds
 abbrev pub contents_of : {W : Type 0} → (W → Option (List ℕ)) → StepWriter W → Option (List ℕ)
 contents_of contents writer = contents writer.out.now
+
+-- which stream the writer below is
+abbrev pub stream_of : {W S : Type 0} → (W → S) → StepWriter W → S
+stream_of stream writer = stream writer.out.now
+
+-- whether a call on the writer below failed
+abbrev pub has_failed_in : {W : Type 0} → (W → Bool) → StepWriter W → Bool
+has_failed_in has_failed writer = has_failed writer.out.now
 
 -- by this name a caller knows the writer below
 abbrev pub out_name : {W : Type 0} → StepWriter W → GName

@@ -1,19 +1,18 @@
 // The writer of a certificate.
 ghost use Rattle.std.specs.Prelude.{◌≡◌, ℕ, ◌+◌, ◌<◌, ◌^◌, Bool, string_bytes, OnOk, OnErr, IfOk, IfErr, Err};
 ghost use Rattle.std.specs.Io.KnownBytes.{Appends, Keeps};
-ghost use Rattle.fzn_streams.specs.Output.{Puts};
+ghost use Rattle.fzn_streams.specs.Output.{Puts, IsDue};
 ghost use Rattle.fzn_cert.specs.declared.step.Version.TheVariants.{One};
 ghost use Rattle.fzn_cert.specs.declared.writer.Stage.TheVariants.{Fresh, Open, Shut};
 ghost use Rattle.fzn_cert.specs.Spelling.{step_line, IsSpelled, HasRoom, version_text, header_text, end_line};
-ghost use Rattle.fzn_cert.specs.Writer.{contents_of, out_name, version_of, step_count, stage_of, Leaves, IsLineFault, IsStepFault};
+ghost use Rattle.fzn_cert.specs.Writer.{contents_of, stream_of, has_failed_in, out_name, version_of, step_count, stage_of, Leaves, IsLineFault, IsStepFault};
 
 use crate::fault::FaultKind;
 use crate::limits::{LAST_STEP, LINE_LIMIT};
 use crate::line::push_step;
 use crate::step::{Step, Version};
-use fzn_streams::{WriteFailed, put};
+use fzn_streams::{TrackedWrite, WriteFailed, put};
 use std::alloc::Global;
-use std::io::Write;
 
 /// Which lines a writer may write next.
 #[derive(Clone, Copy, Debug, PartialEq, Eq)]
@@ -28,14 +27,14 @@ pub enum Stage {
 
 /// Writes the lines of a certificate, one after the other. After a fault, and after the last line, each call answers `Failed`.
 #[derive(Drop)]
-pub struct StepWriter<'w, W: Write> {
+pub struct StepWriter<'w, W: TrackedWrite> {
     out: &'w mut W,
     version: Version,
     steps: u64,
     stage: Stage,
 }
 
-impl<'w, W: Write> StepWriter<'w, W> {
+impl<'w, W: TrackedWrite> StepWriter<'w, W> {
     /// Writes nothing: `begin` writes the first two lines. So what stands after its fault is known too.
     pub fn over(out: &'w mut W) -> StepWriter<'w, W>
         ensures same { contents_of W.contents result ≡ W.contents out.old }
@@ -162,7 +161,7 @@ impl<'w, W: Write> StepWriter<'w, W> {
         ensures shut { OnErr result (stage_of self.new ≡ Shut) }
     {
         self.take_open()?;
-        match self.out.flush() {
+        match self.out.flush_all() {
             Ok(()) => {
                 self.stage = Stage::Open;
                 Ok(())
@@ -185,7 +184,7 @@ impl<'w, W: Write> StepWriter<'w, W> {
         if put_end(self.out, closed).is_err() {
             return Err(FaultKind::Write);
         }
-        if self.out.flush().is_err() {
+        if self.out.flush_all().is_err() {
             return Err(FaultKind::Write);
         }
         Ok(())
@@ -222,8 +221,9 @@ fn header_of(
     Ok(format!(in alloc; "{first}\nvars {variables} cons {constraints}\n")?)
 }
 
-fn put_end<W: Write>(out: &mut W, closed: bool) -> Result<(), WriteFailed>
-    ensures { Puts (W.contents out.old) (W.contents out.new) result (end_line closed) }
+fn put_end<W: TrackedWrite>(out: &mut W, closed: bool) -> Result<(), WriteFailed>
+    ensures text { Puts (W.contents out.old) (W.contents out.new) result (end_line closed) }
+    ensures due { IsDue W.stream W.has_failed out.old out.new result }
 {
     if closed {
         put(out, b"e closed\n")

@@ -1,7 +1,7 @@
 // A whole answer.
 ghost use Rattle.std.specs.Prelude.{◌≡◌, length};
 ghost use Rattle.std.specs.List.{All, flat_map};
-ghost use Rattle.fzn_streams.specs.Output.{Puts};
+ghost use Rattle.fzn_streams.specs.Output.{Puts, IsDue};
 ghost use Rattle.fzn_meaning.specs.WellFormed.{IsOutputItem, IsWellFormed};
 ghost use Rattle.fzn_meaning.specs.Solutions.{IsAssignment};
 ghost use Rattle.fzn_printer.specs.Shown.{shown};
@@ -11,13 +11,12 @@ use crate::item::put_solution;
 use crate::printer::ending_line;
 use fzn_list::Items;
 use fzn_meaning::{Goal, Model};
-use fzn_streams::{WriteFailed, put};
-use std::io::Write;
+use fzn_streams::{TrackedWrite, WriteFailed, put};
 
 /// Prints the solutions that are to be seen, and how the answer ends, and flushes the writer. In an optimisation the last solution
 /// alone is printed, but for a wish to see all.
 #[tactic(auto, using(fzn_streams::proofs::CallerLemmas::puts))]
-pub fn put_answer<W: Write>(
+pub fn put_answer<W: TrackedWrite>(
     out: &mut W,
     model: &Model,
     found: &[Items<i64>],
@@ -26,7 +25,8 @@ pub fn put_answer<W: Write>(
 ) -> Result<(), WriteFailed>
     requires model { IsWellFormed model.now }
     requires found { All (IsAssignment model.now) found.now }
-    ensures { Puts (W.contents out.old) (W.contents out.new) result (answer_text model.now found.now closed show_all) }
+    ensures text { Puts (W.contents out.old) (W.contents out.new) result (answer_text model.now found.now closed show_all) }
+    ensures due { IsDue W.stream W.has_failed out.old out.new result }
 {
     let first = first_shown(model.goal, show_all, found.len());
     put_solutions(out, model, &found[first..])?;
@@ -34,24 +34,23 @@ pub fn put_answer<W: Write>(
 }
 
 /// Writes the bytes, and flushes the writer.
-fn put_last<W: Write>(out: &mut W, bytes: &[u8]) -> Result<(), WriteFailed>
-    ensures { Puts (W.contents out.old) (W.contents out.new) result bytes.now }
+fn put_last<W: TrackedWrite>(out: &mut W, bytes: &[u8]) -> Result<(), WriteFailed>
+    ensures text { Puts (W.contents out.old) (W.contents out.new) result bytes.now }
+    ensures due { IsDue W.stream W.has_failed out.old out.new result }
 {
     put(out, bytes)?;
-    match out.flush() {
-        Ok(()) => Ok(()),
-        Err(_) => Err(WriteFailed),
-    }
+    out.flush_all()
 }
 
-fn put_solutions<W: Write>(
+fn put_solutions<W: TrackedWrite>(
     out: &mut W,
     model: &Model,
     found: &[Items<i64>],
 ) -> Result<(), WriteFailed>
     requires model { IsWellFormed model.now }
     requires found { All (IsAssignment model.now) found.now }
-    ensures { Puts (W.contents out.old) (W.contents out.new) result (flat_map (shown model.now) found.now) }
+    ensures text { Puts (W.contents out.old) (W.contents out.new) result (flat_map (shown model.now) found.now) }
+    ensures due { IsDue W.stream W.has_failed out.old out.new result }
 {
     for values in found {
         put_assignment(out, model, values)?;
@@ -59,14 +58,15 @@ fn put_solutions<W: Write>(
     Ok(())
 }
 
-fn put_assignment<W: Write>(
+fn put_assignment<W: TrackedWrite>(
     out: &mut W,
     model: &Model,
     values: &Items<i64>,
 ) -> Result<(), WriteFailed>
     requires model { IsWellFormed model.now }
     requires assignment { IsAssignment model.now values.now }
-    ensures { Puts (W.contents out.old) (W.contents out.new) result (shown model.now values.now) }
+    ensures text { Puts (W.contents out.old) (W.contents out.new) result (shown model.now values.now) }
+    ensures due { IsDue W.stream W.has_failed out.old out.new result }
 {
     put_solution(out, model, values.as_slice())
 }

@@ -5,12 +5,11 @@ ghost use Rattle.fzn_streams.specs.Output.{AppendsFront};
 ghost use Rattle.fzn_meaning.specs.Solutions.{IsAssignment};
 ghost use Rattle.fzn_meaning.specs.WellFormed.{IsWellFormed};
 ghost use Rattle.fzn_printer.specs.Shown.{shown, ending_text, is_closed};
-ghost use Rattle.fzn_printer.specs.Printer.{contents_of, out_name, is_open, has_printed};
+ghost use Rattle.fzn_printer.specs.Printer.{contents_of, stream_of, has_failed_in, out_name, is_open, has_printed};
 
 use crate::item::put_solution;
 use fzn_meaning::Model;
-use fzn_streams::put;
-use std::io::Write;
+use fzn_streams::{TrackedWrite, put};
 use thiserror::Error;
 
 /// Why an answer ends.
@@ -51,16 +50,17 @@ pub enum PrintFault {
 
 /// Prints an answer, solution by solution. It takes no memory.
 #[derive(Drop)]
-pub struct Printer<'w, W: Write> {
+pub struct Printer<'w, W: TrackedWrite> {
     out: &'w mut W,
     printed: bool,
     open: bool,
 }
 
-impl<'w, W: Write> Printer<'w, W> {
+impl<'w, W: TrackedWrite> Printer<'w, W> {
     /// Over this writer, with nothing printed.
     pub fn new(out: &'w mut W) -> Printer<'w, W>
         ensures same { contents_of W.contents result ≡ W.contents out.old }
+        ensures same_stream { stream_of W.stream result ≡ W.stream out.old }
         ensures same_writer { out_name result ≡ out.entry.ghost_name }
         ensures fresh { (is_open result ≡ true) × (has_printed result ≡ false) }
     {
@@ -81,7 +81,9 @@ impl<'w, W: Write> Printer<'w, W> {
         // After a failed write a beginning of the text stands, and any later call answers `Failed`.
         ensures front { OnErr result (AppendsFront (contents_of W.contents self.old) (contents_of W.contents self.new) (shown model.now values.now)) }
         ensures err { OnErr result (is_open self.new ≡ false) }
+        ensures same_stream { stream_of W.stream self.new ≡ stream_of W.stream self.old }
         ensures same_writer { out_name self.new ≡ out_name self.old }
+        ensures due { is_open self.old ≡ true → OnErr result (has_failed_in W.has_failed self.new ≡ true) }
         ensures failed { is_open self.old ≡ false → (result ≡ Err PrintFault.Failed) × Keeps (contents_of W.contents self.old) (contents_of W.contents self.new) }
         ensures failed_only { is_open self.old ≡ true → result ≢ Err PrintFault.Failed }
     {
@@ -102,14 +104,16 @@ impl<'w, W: Write> Printer<'w, W> {
         ensures kept { Keeps (contents_of W.contents self.old) (contents_of W.contents self.new) }
         ensures ok { OnOk result ((is_open self.new ≡ true) × (has_printed self.new ≡ has_printed self.old)) }
         ensures err { OnErr result (is_open self.new ≡ false) }
+        ensures same_stream { stream_of W.stream self.new ≡ stream_of W.stream self.old }
         ensures same_writer { out_name self.new ≡ out_name self.old }
+        ensures due { is_open self.old ≡ true → OnErr result (has_failed_in W.has_failed self.new ≡ true) }
         ensures failed { is_open self.old ≡ false → result ≡ Err PrintFault.Failed }
         ensures failed_only { is_open self.old ≡ true → result ≢ Err PrintFault.Failed }
     {
         if !self.open {
             return Err(PrintFault::Failed);
         }
-        if self.out.flush().is_err() {
+        if self.out.flush_all().is_err() {
             self.open = false;
             return Err(PrintFault::Write);
         }
@@ -121,7 +125,9 @@ impl<'w, W: Write> Printer<'w, W> {
         ensures written { OnOk result (Appends (contents_of W.contents self.old) (contents_of W.contents self.new) (ending_text (is_closed ending) (has_printed self.old))) }
         ensures front { OnErr result (AppendsFront (contents_of W.contents self.old) (contents_of W.contents self.new) (ending_text (is_closed ending) (has_printed self.old))) }
         ensures shut { is_open self.new ≡ false }
+        ensures same_stream { stream_of W.stream self.new ≡ stream_of W.stream self.old }
         ensures same_writer { out_name self.new ≡ out_name self.old }
+        ensures due { is_open self.old ≡ true → OnErr result (has_failed_in W.has_failed self.new ≡ true) }
         ensures failed { is_open self.old ≡ false → (result ≡ Err PrintFault.Failed) × Keeps (contents_of W.contents self.old) (contents_of W.contents self.new) }
         ensures failed_only { is_open self.old ≡ true → result ≢ Err PrintFault.Failed }
     {
@@ -133,7 +139,7 @@ impl<'w, W: Write> Printer<'w, W> {
         if put(self.out, line).is_err() {
             return Err(PrintFault::Write);
         }
-        if self.out.flush().is_err() {
+        if self.out.flush_all().is_err() {
             return Err(PrintFault::Write);
         }
         Ok(())

@@ -7,9 +7,9 @@ use Rattle.fzn_printer.specs.Shown.{shown}
 use Rattle.fzn_printer.proofs.answer.put_answer.Goals as goal
 
 -- the slice from the first solution that is printed on is the rest of the list
-pub returns : goal.returns
-returns g c =
+pub returns-clause-text : goal.returns-clause-text
+returns-clause-text g c =
     let rest : List (List ℤ) = drop c.first_shown-first.result c.args.found.now in
     let whole : take (length c.args.found.now - c.first_shown-first.result) rest ≡ rest = take_all _ rest (omega (arith, length-drop c.first_shown-first.result c.args.found.now)) in
     rw (← c.first_shown-first.ensures, ← c.is_empty.ensures, ← c.ending_line.ensures)
-    (Puts-last _ _ _ _ _ _ (subst (λ (xs : List (List ℤ)). Appends (g.W.Write.contents c.args.out.now) (g.W.Write.contents c.put_solutions.new.out) (flat_map (shown c.args.model.now) xs)) whole c.in_ok-put_solutions.ensures) c.put_last.ensures)
+    (Puts-last _ _ _ _ _ _ (subst (λ (xs : List (List ℤ)). Appends (g.W.Write.contents c.args.out.now) (g.W.Write.contents c.put_solutions.new.out) (flat_map (shown c.args.model.now) xs)) whole c.in_ok-put_solutions.ensures.text) c.put_last.ensures.text)

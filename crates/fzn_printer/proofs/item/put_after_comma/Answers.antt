@@ -1,8 +1,8 @@
 use Rattle.fzn_streams.proofs.CallerLemmas.{Appends-then, front-left, front-then, front-each, front-each-at, Puts-last, Puts-stopped}
 use Rattle.fzn_printer.proofs.item.put_after_comma.Goals as goal
 
-pub returns-in_err-put : goal.returns-in_err-put
-returns-in_err-put g c = Puts-stopped _ _ _ _ c.from_residual.ensures.0 (front-left _ _ _ _ c.in_err-put.ensures)
+pub returns-in_err-put-clause-text : goal.returns-in_err-put-clause-text
+returns-in_err-put-clause-text g c = Puts-stopped _ _ _ _ c.from_residual.ensures.0 (front-left _ _ _ _ c.in_err-put.ensures.text)
 
-pub returns : goal.returns
-returns g c = Puts-last _ _ _ _ _ _ c.in_ok-put.ensures c.put_entry.ensures
+pub returns-clause-text : goal.returns-clause-text
+returns-clause-text g c = Puts-last _ _ _ _ _ _ c.in_ok-put.ensures.text c.put_entry.ensures.text
