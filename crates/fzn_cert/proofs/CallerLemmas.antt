@@ -1,4 +1,5 @@
--- What callers may cite: numbers, steps and counts that are written are read again.
+-- What callers may cite: a trivial clause is accepted; numbers, steps and counts that are written are read again.
+pub use Rattle.fzn_cert.proofs.AcceptedLaws.{justified-trivial}
 pub use Rattle.fzn_cert.proofs.NumberLaws.{AreDigits, own_digits}
 pub use Rattle.fzn_cert.proofs.WordLaws.{some_is}
 pub use Rattle.fzn_cert.proofs.LineLaws.{and_true, text_again}

@@ -1,3 +1,4 @@
+mod AcceptedLaws
 pub mod CallerLemmas
 pub mod HeaderLaws
 pub mod LineLaws

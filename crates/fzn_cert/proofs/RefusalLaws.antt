@@ -20,7 +20,7 @@ neither (inr b) p q = q b
 pub not_accepted : (model : Model) (past : Past) (step : Step) (fault : Refusal) → HasFault model past step fault → IsAccepted model past step → ⊥
 not_accepted model past (Infer c rule clause) NoSuchVariable f a = f a.0
 not_accepted model past (Infer c rule clause) NoSuchConstraint f a = f.1 a.1
-not_accepted model past (Infer c rule clause) RuleFails f a = neither a.2 f.2 f.3
+not_accepted model past (Infer c rule clause) RuleFails f a = f.2 a.2
 not_accepted model past (Infer c rule clause) _ f a = f
 not_accepted model past (Resolve clause ids) NoSuchVariable f a = f a.0
 not_accepted model past (Resolve clause ids) NoSuchClause f a = f.1 a.1

@@ -16,12 +16,12 @@ use Rattle.fzn_meaning.specs.Solutions.{declared_sets, IsSolution, IsProper, IsE
 use Rattle.fzn_meaning.specs.WellFormed.{IsWellFormed}
 use Rattle.fzn_meaning.proofs.CutLemmas.{cut_of-variables, bits-choice, proper-from_cuts, exhausted-from_cuts}
 use Rattle.fzn_rules.specs.declared.rule.Rule.{Rule}
-use Rattle.fzn_rules.specs.Rules.{IsMet, IsAcceptedBy}
+use Rattle.fzn_rules.specs.Rules.{IsAcceptedBy}
 use Rattle.fzn_rules.proofs.CallerLemmas.{accepted_by_sound}
 use Rattle.fzn_cert.specs.declared.step.Step.{Step}
 use Rattle.fzn_cert.specs.declared.step.Step.TheVariants.{Infer, Resolve, Solution, Delete}
 use Rattle.fzn_cert.specs.Past.{Past, start, clause_held, IsHeld, clauses_held, is_empty_clause, after_clause, after_solution, without, after_deletion}
-use Rattle.fzn_cert.specs.Accepted.{HasVariables, denying, IsTrivial, IsAccepted, AllAcceptedAfter, AllAccepted, after, past_of}
+use Rattle.fzn_cert.specs.Accepted.{HasVariables, IsAccepted, AllAcceptedAfter, AllAccepted, after, past_of}
 use Rattle.fzn_cert.specs.Sound.{IsSound}
 
 -- as many sets as variables
@@ -36,23 +36,14 @@ formed_sets model constraint h = subst (λ n. IsWellFormedConstraint n constrain
 
 -- ---- the clause of an accepted step is true at every solution that passes the cuts so far
 
-as_rule : (model : Model) (c : ℕ) (rule : Rule) (clause : List Lit) (constraint : Constraint) → IsTrivial model clause ⊎ IsMet constraint (denying model clause) rule → IsAcceptedBy constraint rule (declared_sets model.vars) clause
-as_rule model c rule clause constraint (inl trivial) = inl trivial
-as_rule model c rule clause constraint (inr met) = inr met
-
 infer_true : (model : Model) (past : Past) (c : ℕ) (rule : Rule) (clause : List Lit) (a : List ℤ) → IsWellFormed model → IsAccepted model past (Infer c rule clause) → IsSolution model a → is_clause_true a clause ≡ true
 infer_true model past c rule clause a wf accepted solution =
     elim (slice_get_cases model.constraints (c - 1)).1 [
       | inl (constraint, within, is, at) ↦
-          let reason : IsTrivial model clause ⊎ IsMet constraint (denying model clause) rule =
-          elim accepted.2 [
-            | inl trivial ↦ inl trivial
-            | inr met ↦ inr (subst (λ o. IfSome o (λ k. IsMet k (denying model clause) rule)) is met)
-          ] in
           accepted_by_sound constraint rule (declared_sets model.vars) clause
           (formed_sets model constraint (subst (λ k. IsWellFormedConstraint (length model.vars) k) at (wf.constraints (c - 1) constraint within)))
           (over_sets model clause accepted.0)
-          (as_rule model c rule clause constraint reason) a solution.0
+          (subst (λ o. IfSome o (λ k. IsAcceptedBy k rule (declared_sets model.vars) clause)) is accepted.2) a solution.0
           (bits-choice (declared_sets model.vars) a constraint solution.0 (subst (λ k. HasBooleanSets (declared_sets model.vars) k) at (wf.booleans (c - 1) constraint within)))
           (subst (λ k. Meets k a) at (solution.1 (c - 1) constraint within))
       | inr past_end ↦ absurd (omega (arith, past_end.0, accepted.1.0, accepted.1.1))

@@ -1,13 +1,13 @@
 -- Which steps are accepted, given the model and what came before, and what is wrong with the others.
-use Rattle.std.specs.Prelude.{ℕ, ◌-◌, ◌≤◌, ◌≡◌, ◌⊎◌, true, List, [], ◌∷◌, length, slice_get, IfSome, MatchOption, Option}
+use Rattle.std.specs.Prelude.{ℕ, ◌-◌, ◌≤◌, ◌≡◌, true, List, [], ◌∷◌, length, slice_get, IfSome, MatchOption, Option}
 use Rattle.std.specs.List.{All, fold}
 use Rattle.fzn_domain.specs.declared.literal.Lit.{Lit}
 use Rattle.fzn_domain.specs.IntSet.{IntSet}
-use Rattle.fzn_domain.specs.Narrow.{IsClauseOver, denied, is_some_empty, chain_outcome, accepted, not_unit, no_conflict}
+use Rattle.fzn_domain.specs.Narrow.{IsClauseOver, denied, is_some_empty, chain_outcome, not_unit, no_conflict, IsAcceptedFrom}
 use Rattle.fzn_meaning.specs.declared.model.Model.{Model}
 use Rattle.fzn_meaning.specs.Solutions.{declared_sets, IsSolution, PassesCuts, cut_of}
 use Rattle.fzn_rules.specs.declared.rule.Rule.{Rule}
-use Rattle.fzn_rules.specs.Rules.{IsMet}
+use Rattle.fzn_rules.specs.Rules.{IsAcceptedBy}
 use Rattle.fzn_cert.specs.declared.step.Step.{Step}
 use Rattle.fzn_cert.specs.declared.step.Step.TheVariants.{Infer, Resolve, Solution, Delete}
 use Rattle.fzn_cert.specs.declared.refusal.Refusal.{Refusal}
@@ -30,17 +30,16 @@ IsTrivial model clause = is_some_empty (denying model clause) ≡ true
 abbrev pub IsConstraintNumber : Model → ℕ → Type 0
 IsConstraintNumber model c = (1 ≤ c) × (c ≤ length model.constraints)
 
--- the rule is met for the numbered constraint where the clause is denied
-abbrev pub IsRuleMet : Model → ℕ → Rule → List Lit → Type 0
-IsRuleMet model c rule clause = IfSome (slice_get model.constraints (c - 1)) (λ constraint. IsMet constraint (denying model clause) rule)
+-- the clause is accepted from the numbered constraint, by the rule
+abbrev pub IsJustifiedBy : Model → ℕ → Rule → List Lit → Type 0
+IsJustifiedBy model c rule clause =
+    IfSome (slice_get model.constraints (c - 1)) (λ constraint. IsAcceptedBy constraint rule (declared_sets model.vars) clause)
 
 -- A step from a constraint, one from clauses, a solution, a deletion.
 abbrev pub IsAccepted : Model → Past → Step → Type 0
-IsAccepted model past (Infer c rule clause) =
-    HasVariables model clause × IsConstraintNumber model c × (IsTrivial model clause ⊎ IsRuleMet model c rule clause)
+IsAccepted model past (Infer c rule clause) = HasVariables model clause × IsConstraintNumber model c × IsJustifiedBy model c rule clause
 IsAccepted model past (Resolve clause ids) =
-    HasVariables model clause × All (IsHeld past) ids
-    × (IsTrivial model clause ⊎ (chain_outcome (denying model clause) (clauses_held past ids) ≡ accepted))
+    HasVariables model clause × All (IsHeld past) ids × IsAcceptedFrom (declared_sets model.vars) clause (clauses_held past ids)
 IsAccepted model past (Solution values) = IsSolution model values × PassesCuts model past.solutions values
 IsAccepted model past (Delete ids) = All (IsHeld past) ids
 
@@ -49,7 +48,7 @@ abbrev pub HasFault : Model → Past → Step → Refusal → Type 0
 HasFault model past (Infer c rule clause) NoSuchVariable = ¬ HasVariables model clause
 HasFault model past (Infer c rule clause) NoSuchConstraint = HasVariables model clause × ¬ IsConstraintNumber model c
 HasFault model past (Infer c rule clause) RuleFails =
-    HasVariables model clause × IsConstraintNumber model c × ¬ IsTrivial model clause × ¬ IsRuleMet model c rule clause
+    HasVariables model clause × IsConstraintNumber model c × ¬ IsJustifiedBy model c rule clause
 HasFault model past (Resolve clause ids) NoSuchVariable = ¬ HasVariables model clause
 HasFault model past (Resolve clause ids) NoSuchClause = HasVariables model clause × ¬ All (IsHeld past) ids
 HasFault model past (Resolve clause ids) NotUnit =

@@ -1,5 +1,5 @@
 // The writer of a certificate.
-ghost use Rattle.std.specs.Prelude.{◌≡◌, ℕ, ◌+◌, ◌<◌, ◌^◌, Bool, string_bytes, OnOk, OnErr, IfOk, IfErr, Err};
+ghost use Rattle.std.specs.Prelude.{◌≡◌, ℕ, ◌+◌, ◌<◌, ◌^◌, Bool, true, string_bytes, OnOk, OnErr, IfOk, IfErr, Err};
 ghost use Rattle.std.specs.Io.KnownBytes.{Appends, Keeps};
 ghost use Rattle.fzn_streams.specs.Output.{Puts, IsDue};
 ghost use Rattle.fzn_cert.specs.declared.step.Version.TheVariants.{One};
@@ -35,9 +35,10 @@ pub struct StepWriter<'w, W: TrackedWrite> {
 }
 
 impl<'w, W: TrackedWrite> StepWriter<'w, W> {
-    /// Writes nothing: `begin` writes the first two lines. So what stands after its fault is known too.
+    /// Writes nothing: `begin` writes the first two lines. So what stands after its fault is known too, and whether the writer below failed.
     pub fn over(out: &'w mut W) -> StepWriter<'w, W>
         ensures same { contents_of W.contents result ≡ W.contents out.old }
+        ensures same_stream { stream_of W.stream result ≡ W.stream out.old }
         ensures same_writer { out_name result ≡ out.entry.ghost_name }
         ensures fresh { stage_of result ≡ Fresh }
     {
@@ -60,6 +61,7 @@ impl<'w, W: TrackedWrite> StepWriter<'w, W> {
         requires constraints { constraints < 10 ^ 18 }
         ensures ok { IfOk result (λ writer. Appends (W.contents out.old) (contents_of W.contents writer) (header_text One variables constraints)) }
         ensures begun { IfOk result (λ writer. (stage_of writer ≡ Open) × (version_of writer ≡ One) × (step_count writer ≡ 0)) }
+        ensures same_stream { IfOk result (λ writer. stream_of W.stream writer ≡ W.stream out.old) }
         ensures same_writer { IfOk result (λ writer. out_name writer ≡ out.entry.ghost_name) }
         ensures fault { IfErr result IsLineFault }
     {
@@ -78,6 +80,7 @@ impl<'w, W: TrackedWrite> StepWriter<'w, W> {
         requires constraints { constraints < 10 ^ 18 }
         ensures ok { IfOk result (λ writer. Appends (W.contents out.old) (contents_of W.contents writer) (header_text version variables constraints)) }
         ensures begun { IfOk result (λ writer. (stage_of writer ≡ Open) × (version_of writer ≡ version) × (step_count writer ≡ 0)) }
+        ensures same_stream { IfOk result (λ writer. stream_of W.stream writer ≡ W.stream out.old) }
         ensures same_writer { IfOk result (λ writer. out_name writer ≡ out.entry.ghost_name) }
         ensures fault { IfErr result IsLineFault }
     {
@@ -99,9 +102,11 @@ impl<'w, W: TrackedWrite> StepWriter<'w, W> {
         requires constraints { constraints < 10 ^ 18 }
         ensures ok { OnOk result (Appends (contents_of W.contents self.old) (contents_of W.contents self.new) (header_text version variables constraints)) }
         ensures begun { OnOk result ((stage_of self.new ≡ Open) × (version_of self.new ≡ version) × (step_count self.new ≡ 0)) }
+        ensures same_stream { stream_of W.stream self.new ≡ stream_of W.stream self.old }
         ensures same_writer { out_name self.new ≡ out_name self.old }
         ensures err { IfErr result (Leaves (header_text version variables constraints) (contents_of W.contents self.old) (contents_of W.contents self.new)) }
         ensures fault { stage_of self.old ≡ Fresh → IfErr result IsLineFault }
+        ensures due { IfErr result (λ fault. fault ≡ FaultKind.Write → has_failed_in W.has_failed self.new ≡ true) }
         ensures failed { ¬ (stage_of self.old ≡ Fresh) → result ≡ Err FaultKind.Failed }
         ensures shut { OnErr result (stage_of self.new ≡ Shut) }
     {
@@ -127,9 +132,11 @@ impl<'w, W: TrackedWrite> StepWriter<'w, W> {
         requires { IsSpelled (version_of self.old) step.now }
         ensures ok { OnOk result (Appends (contents_of W.contents self.old) (contents_of W.contents self.new) (step_line step.now)) }
         ensures counted { OnOk result ((stage_of self.new ≡ Open) × (step_count self.new ≡ step_count self.old + 1) × HasRoom (step_count self.old) step.now) }
+        ensures same_stream { stream_of W.stream self.new ≡ stream_of W.stream self.old }
         ensures same_writer { (out_name self.new ≡ out_name self.old) × (version_of self.new ≡ version_of self.old) }
         ensures err { IfErr result (Leaves (step_line step.now) (contents_of W.contents self.old) (contents_of W.contents self.new)) }
         ensures fault { stage_of self.old ≡ Open → IfErr result (IsStepFault (step_count self.old) step.now) }
+        ensures due { IfErr result (λ fault. fault ≡ FaultKind.Write → has_failed_in W.has_failed self.new ≡ true) }
         ensures failed { ¬ (stage_of self.old ≡ Open) → result ≡ Err FaultKind.Failed }
         ensures shut { OnErr result (stage_of self.new ≡ Shut) }
     {
@@ -155,8 +162,10 @@ impl<'w, W: TrackedWrite> StepWriter<'w, W> {
     pub fn flush(&mut self) -> Result<(), FaultKind>
         ensures kept { Keeps (contents_of W.contents self.old) (contents_of W.contents self.new) }
         ensures ok { OnOk result ((stage_of self.new ≡ Open) × (step_count self.new ≡ step_count self.old)) }
+        ensures same_stream { stream_of W.stream self.new ≡ stream_of W.stream self.old }
         ensures same_writer { (out_name self.new ≡ out_name self.old) × (version_of self.new ≡ version_of self.old) }
         ensures fault { stage_of self.old ≡ Open → IfErr result (λ fault. fault ≡ FaultKind.Write) }
+        ensures due { IfErr result (λ fault. fault ≡ FaultKind.Write → has_failed_in W.has_failed self.new ≡ true) }
         ensures failed { ¬ (stage_of self.old ≡ Open) → result ≡ Err FaultKind.Failed }
         ensures shut { OnErr result (stage_of self.new ≡ Shut) }
     {
@@ -171,20 +180,18 @@ impl<'w, W: TrackedWrite> StepWriter<'w, W> {
     }
 
     /// Writes the last line, and flushes the writer below. Its faults are `Write` and `Failed`.
-    #[tactic(auto, using(crate::proofs::WriteLaws::AppendsFront_whole))]
     pub fn finish(&mut self, closed: bool) -> Result<(), FaultKind>
         ensures ok { OnOk result (Appends (contents_of W.contents self.old) (contents_of W.contents self.new) (end_line closed)) }
+        ensures same_stream { stream_of W.stream self.new ≡ stream_of W.stream self.old }
         ensures same_writer { out_name self.new ≡ out_name self.old }
         ensures err { IfErr result (Leaves (end_line closed) (contents_of W.contents self.old) (contents_of W.contents self.new)) }
         ensures fault { stage_of self.old ≡ Open → IfErr result (λ fault. fault ≡ FaultKind.Write) }
+        ensures due { IfErr result (λ fault. fault ≡ FaultKind.Write → has_failed_in W.has_failed self.new ≡ true) }
         ensures failed { ¬ (stage_of self.old ≡ Open) → result ≡ Err FaultKind.Failed }
         ensures shut { stage_of self.new ≡ Shut }
     {
         self.take_open()?;
         if put_end(self.out, closed).is_err() {
-            return Err(FaultKind::Write);
-        }
-        if self.out.flush_all().is_err() {
             return Err(FaultKind::Write);
         }
         Ok(())
@@ -195,6 +202,7 @@ impl<'w, W: TrackedWrite> StepWriter<'w, W> {
         ensures ok { OnOk result (stage_of self.old ≡ Open) }
         ensures err { IfErr result (λ fault. fault ≡ FaultKind.Failed × ¬ (stage_of self.old ≡ Open)) }
         ensures same { contents_of W.contents self.new ≡ contents_of W.contents self.old }
+        ensures same_stream { stream_of W.stream self.new ≡ stream_of W.stream self.old }
         ensures same_writer { (out_name self.new ≡ out_name self.old) × (version_of self.new ≡ version_of self.old) }
         ensures same_steps { step_count self.new ≡ step_count self.old }
         ensures shut { stage_of self.new ≡ Shut }
@@ -221,15 +229,20 @@ fn header_of(
     Ok(format!(in alloc; "{first}\nvars {variables} cons {constraints}\n")?)
 }
 
+/// Writes the last line, and flushes the writer.
+#[tactic(auto, using(crate::proofs::WriteLaws::AppendsFront_whole))]
 fn put_end<W: TrackedWrite>(out: &mut W, closed: bool) -> Result<(), WriteFailed>
     ensures text { Puts (W.contents out.old) (W.contents out.new) result (end_line closed) }
     ensures due { IsDue W.stream W.has_failed out.old out.new result }
 {
-    if closed {
-        put(out, b"e closed\n")
-    } else {
-        put(out, b"e open\n")
-    }
+    put(out, end_line(closed))?;
+    out.flush_all()
+}
+
+fn end_line(closed: bool) -> &'static [u8]
+    ensures { result.now ≡ end_line closed }
+{
+    if closed { b"e closed\n" } else { b"e open\n" }
 }
 
 fn version_text(version: Version) -> &'static str

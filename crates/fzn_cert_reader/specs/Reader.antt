@@ -1,7 +1,6 @@
 -- What a contract sees of a certificate's reader, and what one call of it does.
 use Rattle.std.specs.Prelude.{◌≡◌, ◌+◌, ℕ, Bool, List, [], ◌++◌, length, Option, Some, None}
 use Rattle.std.specs.List.{flat_map}
-use Rattle.std.specs.declared.io.traits.Read.{Ghosts}
 use Rattle.std.specs.Io.KnownBytes.{Consumes, IsAtEnd}
 use Rattle.fzn_cert.specs.declared.fault.CertFault.{CertFault}
 use Rattle.fzn_cert.specs.declared.fault.FaultKind.TheVariants.{Trailing}
@@ -25,7 +24,7 @@ pub record Progress : Type 0 where
   -- the line of the fault, after one
   pub fault_line : Option ℕ
 
-abbrev pub progress : {R : Type 0} {ghosts : Ghosts R} → (R → Option (List ℕ)) → StepReader R ghosts → Progress
+abbrev pub progress : {R : Type 0} → (R → Option (List ℕ)) → StepReader R → Progress
 progress remaining reader = record {
   left = left_in remaining reader.lines.bytes;
   header = reader.header;
@@ -33,6 +32,10 @@ progress remaining reader = record {
   closing = reader.lines.closed;
   fault_line = reader.fault_line;
 }
+
+-- the reader below
+abbrev pub input_of : {R : Type 0} → StepReader R → R
+input_of reader = reader.lines.bytes.input
 
 -- before anything was read
 abbrev pub IsFresh : Option (List ℕ) → Progress → Type 0

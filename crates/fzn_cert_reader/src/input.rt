@@ -1,19 +1,15 @@
 // Bytes from a reader, through a fixed chunk.
-ghost use Rattle.std.specs.Prelude.{◌≡◌, ◌≤◌, ◌+◌, ◌++◌, ◌∷◌, [], length, IfOk, OnOk, OnErr, IfNone, option_to_list};
+ghost use Rattle.std.specs.Prelude.{◌≡◌, ◌≤◌, ◌+◌, ◌++◌, ◌∷◌, [], true, length, IfOk, OnOk, OnErr, IfNone, option_to_list};
 ghost use Rattle.std.specs.Io.KnownBytes.{Consumes, Keeps, IsAtEnd};
 
-use std::io::Read;
+use fzn_streams::{ReadFailed, TrackedRead};
 
 /// How many bytes one read asks for.
 const CHUNK_LEN: usize = 4_096;
 
-/// A read failed.
-#[derive(Clone, Copy, Debug, PartialEq, Eq)]
-pub struct ReadFailed;
-
 /// The bytes of a reader, one by one.
 #[derive(Drop)]
-pub struct Bytes<R: Read> {
+pub struct Bytes<R> {
     pub input: R,
     pub chunk: [u8; 4_096],
     pub start: usize,
@@ -22,11 +18,11 @@ pub struct Bytes<R: Read> {
     ghost in_chunk: { end ≤ 4096 },
 }
 
-impl<R: Read + Drop> Bytes<R> {
-    ghost use Rattle.fzn_cert_reader.specs.Input.{left_in};
+impl<R: TrackedRead + Drop> Bytes<R> {
+    ghost use Rattle.fzn_cert_reader.specs.Input.{input_of, left_in};
 
     pub fn new(input: R) -> Bytes<R>
-        ensures input { result.input ≡ input }
+        ensures input { input_of result ≡ input }
         ensures empty { result.start ≡ result.end }
     {
         Bytes {
@@ -42,6 +38,7 @@ impl<R: Read + Drop> Bytes<R> {
         ensures taken { IfOk result (λ byte. Consumes (left_in R.remaining self.old) (left_in R.remaining self.new) (option_to_list byte)) }
         ensures end { IfOk result (λ byte. IfNone byte (IsAtEnd (left_in R.remaining self.new))) }
         ensures err { OnErr result (Keeps (left_in R.remaining self.old) (left_in R.remaining self.new)) }
+        ensures due { OnErr result (R.has_failed (input_of self.new) ≡ true) }
     {
         if self.start == self.end {
             self.refill()?;
@@ -66,14 +63,11 @@ impl<R: Read + Drop> Bytes<R> {
         requires { self.old.start ≡ self.old.end }
         ensures kept { Keeps (left_in R.remaining self.old) (left_in R.remaining self.new) }
         ensures end { OnOk result (self.new.start ≡ self.new.end → IsAtEnd (left_in R.remaining self.new)) }
+        ensures due { OnErr result (R.has_failed (input_of self.new) ≡ true) }
     {
-        match self.input.read(&mut self.chunk) {
-            Ok(count) => {
-                self.start = 0;
-                self.end = count;
-                Ok(())
-            }
-            Err(_) => Err(ReadFailed),
-        }
+        let count = self.input.read_some(&mut self.chunk)?;
+        self.start = 0;
+        self.end = count;
+        Ok(())
     }
 }

@@ -1,14 +1,14 @@
 // Lines of a reader, one at a time.
-ghost use Rattle.std.specs.Prelude.{◌≡◌, ◌≤◌, ◌+◌, ◌++◌, ◌∷◌, [], length, ◌⊎◌, IfOk, IfErr, OnOk};
+ghost use Rattle.std.specs.Prelude.{◌≡◌, ◌≤◌, ◌+◌, ◌++◌, ◌∷◌, [], true, length, ◌⊎◌, IfOk, IfErr, OnOk};
 ghost use Rattle.std.specs.Io.KnownBytes.{Consumes};
 ghost use Rattle.fzn_cert.specs.declared.fault.FaultKind.TheVariants.{Memory, Read};
 ghost use Rattle.fzn_cert.specs.Stream.{HasNoLineFeed};
-ghost use Rattle.fzn_cert_reader.specs.Input.{left_in};
+ghost use Rattle.fzn_cert_reader.specs.Input.{input_of, left_in};
 ghost use Rattle.fzn_cert_reader.specs.Lines.{bytes_taken, EndsLine};
 
 use crate::input::Bytes;
 use fzn_cert::{FaultKind, LINE_LIMIT};
-use std::io::Read;
+use fzn_streams::{ReadFailed, TrackedRead};
 
 /// How a line ended.
 #[derive(Clone, Copy, Debug, PartialEq, Eq)]
@@ -22,7 +22,7 @@ pub enum LineEnd {
 }
 
 /// Reads the next line, without its line feed.
-pub fn next_line<R: Read + Drop>(
+pub fn next_line<R: TrackedRead + Drop>(
     bytes: &mut Bytes<R>,
     line: &mut Vec<u8>,
 ) -> Result<LineEnd, FaultKind>
@@ -30,6 +30,7 @@ pub fn next_line<R: Read + Drop>(
     ensures inside { OnOk result (HasNoLineFeed line.new.items) }
     ensures fault { IfErr result (λ fault. (fault ≡ Memory) ⊎ (fault ≡ Read)) }
     ensures end { IfOk result (λ end. EndsLine end (left_in R.remaining bytes.new) line.new.items) }
+    ensures due { IfErr result (λ fault. fault ≡ Read → R.has_failed (input_of bytes.new) ≡ true) }
 {
     line.clear();
     for _ in 0..LINE_LIMIT + 1 {
@@ -37,7 +38,7 @@ pub fn next_line<R: Read + Drop>(
             Ok(Some(b'\n')) => return Ok(LineEnd::Whole),
             Ok(Some(byte)) => line.push(byte)?,
             Ok(None) => return Ok(LineEnd::Truncated),
-            Err(_) => return Err(FaultKind::Read),
+            Err(ReadFailed) => return Err(FaultKind::Read),
         }
     }
     Ok(LineEnd::TooLong)

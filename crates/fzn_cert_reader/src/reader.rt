@@ -1,9 +1,9 @@
 // The lines of a certificate from a reader, each with its fault.
-ghost use Rattle.std.specs.Prelude.{◌≡◌, ◌≤◌, ◌+◌, ◌++◌, ◌∷◌, [], Bool, Some, None, IfOk, IfErr, IfSome, IfNone, OnOk, OnErr};
+ghost use Rattle.std.specs.Prelude.{◌≡◌, ◌≤◌, ◌+◌, ◌++◌, ◌∷◌, [], Bool, true, Some, None, IfOk, IfErr, IfSome, IfNone, OnOk, OnErr};
 ghost use Rattle.std.specs.Io.KnownBytes.{Consumes, IsAtEnd};
 ghost use Rattle.fzn_cert.specs.Spelling.{step_text, step_line, end_line, version_text, counts_text, HasLine, IsSized};
-ghost use Rattle.fzn_cert_reader.specs.Input.{left_in};
-ghost use Rattle.fzn_cert.specs.declared.fault.FaultKind.TheVariants.{Trailing};
+ghost use Rattle.fzn_cert_reader.specs.Input.{input_of, left_in};
+ghost use Rattle.fzn_cert.specs.declared.fault.FaultKind.TheVariants.{Read, Trailing};
 ghost use Rattle.fzn_cert.specs.Stream.{IsFaultOf, IsTrailedBy, IsHeaderFaultOf, IsVersionText, IsCountsText};
 
 use crate::ending::closed_of_line;
@@ -12,12 +12,12 @@ use crate::input::Bytes;
 use crate::lines::{LineEnd, next_line};
 use crate::parse::step_after;
 use fzn_cert::{FaultKind, Step, Version};
+use fzn_streams::{ReadFailed, TrackedRead};
 use std::alloc::Global;
-use std::io::Read;
 
 /// The lines of a certificate, read one at a time: the bytes, the line that was read last, and how far it came.
 #[derive(Drop)]
-pub struct StepLines<R: Read> {
+pub struct StepLines<R> {
     pub bytes: Bytes<R>,
     pub line: Vec<u8>,
     pub steps: u64,
@@ -25,9 +25,10 @@ pub struct StepLines<R: Read> {
     ghost few: { steps ≤ 999999999999999999 },
 }
 
-impl<R: Read + Drop> StepLines<R> {
+impl<R: TrackedRead + Drop> StepLines<R> {
     /// Reads nothing.
     pub fn new(alloc: Global, input: R) -> StepLines<R>
+        ensures input { input_of result.bytes ≡ input }
         ensures fresh { left_in R.remaining result.bytes ≡ R.remaining input }
         ensures none { (result.steps ≡ 0) × (result.closed ≡ None) }
     {
@@ -57,6 +58,7 @@ impl<R: Read + Drop> StepLines<R> {
         ensures err { IfErr result (IsFaultOf version self.old.steps (left_in R.remaining self.old.bytes)) }
         ensures same_steps { OnErr result (self.new.steps ≡ self.old.steps) }
         ensures trailed { IfErr result (λ kind. kind ≡ Trailing → IsTrailedBy (left_in R.remaining self.old.bytes) self.new.closed) }
+        ensures due { IfErr result (λ kind. kind ≡ Read → R.has_failed (input_of self.new.bytes) ≡ true) }
         ensures held { IfOk result (λ found. IfSome found (λ step. self.new.line.items ≡ step_text step)) }
         ensures held_end { IfOk result (λ found. IfNone found (IfSome self.new.closed (λ closed. self.new.line.items ++ 10 ∷ [] ≡ end_line closed))) }
     {
@@ -69,7 +71,7 @@ impl<R: Read + Drop> StepLines<R> {
                     match self.bytes.next_byte() {
                         Ok(None) => Ok(None),
                         Ok(Some(_)) => Err(FaultKind::Trailing),
-                        Err(_) => Err(FaultKind::Read),
+                        Err(ReadFailed) => Err(FaultKind::Read),
                     }
                 }
                 None => match step_after(alloc, &self.line, version, self.steps)? {
@@ -87,6 +89,7 @@ impl<R: Read + Drop> StepLines<R> {
     pub fn read_version(&mut self) -> Result<Version, FaultKind>
         ensures ok { IfOk result (λ version. Consumes (left_in R.remaining self.old.bytes) (left_in R.remaining self.new.bytes) (version_text version ++ 10 ∷ [])) }
         ensures err { IfErr result (IsHeaderFaultOf IsVersionText (left_in R.remaining self.old.bytes)) }
+        ensures due { IfErr result (λ kind. kind ≡ Read → R.has_failed (input_of self.new.bytes) ≡ true) }
         ensures same { (self.new.steps ≡ self.old.steps) × (self.new.closed ≡ self.old.closed) }
     {
         match next_line(&mut self.bytes, &mut self.line)? {
@@ -105,6 +108,7 @@ impl<R: Read + Drop> StepLines<R> {
         ensures sized { IfOk result (λ counts. IsSized counts.0 × IsSized counts.1) }
         ensures held { IfOk result (λ counts. self.new.line.items ≡ counts_text counts.0 counts.1) }
         ensures err { IfErr result (IsHeaderFaultOf IsCountsText (left_in R.remaining self.old.bytes)) }
+        ensures due { IfErr result (λ kind. kind ≡ Read → R.has_failed (input_of self.new.bytes) ≡ true) }
         ensures same { (self.new.steps ≡ self.old.steps) × (self.new.closed ≡ self.old.closed) }
     {
         match next_line(&mut self.bytes, &mut self.line)? {

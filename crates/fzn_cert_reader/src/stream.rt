@@ -1,5 +1,5 @@
 // The reader of a certificate.
-ghost use Rattle.std.specs.Prelude.{◌≡◌, ◌<◌, ◌^◌, Ok, Err, None, Some, IfErr, IfOk, IfSome, IfNone, OnOk, OnErr, IsSome};
+ghost use Rattle.std.specs.Prelude.{◌≡◌, ◌<◌, ◌^◌, true, Ok, Err, None, Some, IfErr, IfOk, IfSome, IfNone, OnOk, OnErr, IsSome};
 ghost use Rattle.std.specs.Option.{option_map, ForSome};
 ghost use Rattle.std.specs.Io.KnownBytes.{Consumes};
 ghost use Rattle.fzn_cert.specs.Spelling.{IsHeader};
@@ -8,23 +8,24 @@ ghost use Rattle.fzn_cert.specs.Stream.{IsHeaderFault, line_of};
 
 use crate::reader::StepLines;
 use fzn_cert::{CertFault, FaultKind, Header, Step, Version};
+use fzn_streams::TrackedRead;
 use std::alloc::Global;
-use std::io::Read;
 
 /// Reads the steps of a certificate, one at a time. After a fault each call answers `Failed`, at the line of that fault.
 #[derive(Drop)]
-pub struct StepReader<R: Read> {
+pub struct StepReader<R> {
     lines: StepLines<R>,
     header: Option<Header>,
     fault_line: Option<u64>,
     ghost sized: { ForSome header IsHeader },
 }
 
-impl<R: Read + Drop> StepReader<R> {
-    ghost use Rattle.fzn_cert_reader.specs.Reader.{progress, lines_read, IsFresh, IsReading, HasEnded, Gives, Ends, IsNextFault, Finds};
+impl<R: TrackedRead + Drop> StepReader<R> {
+    ghost use Rattle.fzn_cert_reader.specs.Reader.{input_of, progress, lines_read, IsFresh, IsReading, HasEnded, Gives, Ends, IsNextFault, Finds};
 
     /// Reads nothing.
     pub fn new(alloc: Global, input: R) -> StepReader<R>
+        ensures input { input_of result ≡ input }
         ensures fresh { IsFresh (R.remaining input) (progress R.remaining result) }
     {
         StepReader {
@@ -74,6 +75,7 @@ impl<R: Read + Drop> StepReader<R> {
         ensures err { IsReading (progress R.remaining self.old) → IfErr result (Finds (progress R.remaining self.old) (progress R.remaining self.new)) }
         ensures ended { HasEnded (progress R.remaining self.old) → (result ≡ Ok None) × (self.new ≡ self.old) }
         ensures failed { IfSome (progress R.remaining self.old).fault_line (λ line. (result ≡ Err (record { kind = FaultKind.Failed; line = line })) × (self.new ≡ self.old)) }
+        ensures due { IfErr result (λ fault. fault.kind ≡ FaultKind.Read → R.has_failed (input_of self.new) ≡ true) }
         ensures same { IsSome (progress R.remaining self.old).header → (progress R.remaining self.new).header ≡ (progress R.remaining self.old).header }
     {
         if let Some(line) = self.fault_line {
@@ -102,6 +104,7 @@ impl<R: Read + Drop> StepReader<R> {
         ensures err { IfErr result (IsNextFault (progress R.remaining self.old) self.new.header self.new.lines.closed) }
         ensures same { (self.new.fault_line ≡ self.old.fault_line) × (IsSome self.old.header → self.new.header ≡ self.old.header) }
         ensures same_steps { OnErr result (self.new.lines.steps ≡ self.old.lines.steps) }
+        ensures due { IfErr result (λ fault. fault.kind ≡ FaultKind.Read → R.has_failed (input_of self.new) ≡ true) }
     {
         let header = self.read_header()?;
         match self.lines.next_step(alloc, header.version) {
@@ -121,6 +124,7 @@ impl<R: Read + Drop> StepReader<R> {
         ensures err { IfErr result (λ fault. (self.new.header ≡ None) × IsHeaderFault (left_in R.remaining self.old.lines.bytes) fault) }
         ensures same { (self.new.lines.steps ≡ self.old.lines.steps) × (self.new.lines.closed ≡ self.old.lines.closed) × (self.new.fault_line ≡ self.old.fault_line) }
         ensures same_header { IsSome self.old.header → self.new.header ≡ self.old.header }
+        ensures due { IfErr result (λ fault. fault.kind ≡ FaultKind.Read → R.has_failed (input_of self.new) ≡ true) }
     {
         if let Some(header) = self.header {
             return Ok(header);

@@ -9,7 +9,7 @@ use Rattle.fzn_meaning.specs.Solutions.{declared_sets}
 use Rattle.fzn_cert.specs.declared.step.Step.{Step}
 use Rattle.fzn_cert.specs.declared.step.Step.TheVariants.{Resolve}
 use Rattle.fzn_cert.specs.Past.{clauses_held}
-use Rattle.fzn_cert.specs.Accepted.{IsTrivial, IsAccepted, denying, past_of}
+use Rattle.fzn_cert.specs.Accepted.{IsAccepted, past_of}
 use Rattle.fzn_trail.specs.declared.trail.ClauseId.{ClauseId}
 use Rattle.fzn_trail.specs.declared.trail.Reason.TheVariants.{Clause}
 use Rattle.fzn_trail.specs.Levels.{Levels, level_of, asserted, returned}
@@ -53,11 +53,7 @@ module _ (model : Model) (learn : Learn) (stock : Stock) (steps : List Step) (tr
       let O : ℕ → Type 0 = λ n. IsClauseOver n clause in
       let A : List IntSet → Type 0 = λ d. IsAcceptedFrom d clause (map (clause_of (known_in stock)) sources) in
       let chain = Give-chain (past_of model steps) numbers (map (clause_of (known_in stock)) sources) give in
-      (subst O sizes over, chain.0, by (subst A e follows) chain.1)
-    where
-      by : IsAcceptedFrom (declared_sets model.vars) clause (map (clause_of (known_in stock)) sources) → clauses_held (past_of model steps) numbers ≡ map (clause_of (known_in stock)) sources → IsTrivial model clause ⊎ (chain_outcome (denying model clause) (clauses_held (past_of model steps) numbers) ≡ accepted)
-      by (inl trivial) same = inl trivial
-      by (inr ends) same = inr (ap (chain_outcome (denying model clause)) same ∙ ends)
+      (subst O sizes over, chain.0, subst (IsAcceptedFrom (declared_sets model.vars) clause) (sym chain.1) (subst A e follows))
 
 module _ (model : Model) (learn : Learn) (stock : Stock) (steps : List Step) (trail : Levels) (nodes : ℕ) (h : StateOf model learn stock steps trail nodes) (learned : Learned) (conflict : Source) (is : IsLearned (known_in stock) trail learned) (plain : learn ≡ Plain → IsPlain trail conflict learned) (numbers : List ℕ) (give : GiveSources (past_of model steps) (known_in stock) numbers learned.sources) where
   -- the learned clause is an accepted step

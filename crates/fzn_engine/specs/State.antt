@@ -9,7 +9,7 @@ use Rattle.fzn_meaning.specs.Solutions.{declared_sets, cut_of}
 use Rattle.fzn_cert.specs.declared.step.Step.{Step}
 use Rattle.fzn_cert.specs.declared.step.Step.TheVariants.{Infer}
 use Rattle.fzn_cert.specs.declared.step.Version.TheVariants.{One}
-use Rattle.fzn_cert.specs.Accepted.{IsConstraintNumber, IsTrivial, IsRuleMet, AllAccepted, past_of}
+use Rattle.fzn_cert.specs.Accepted.{IsConstraintNumber, IsJustifiedBy, AllAccepted, past_of}
 use Rattle.fzn_cert.specs.Past.{Past, clause_held, IsHeld as IsGiven}
 use Rattle.fzn_cert.specs.Spelling.{IsSpelled}
 use Rattle.fzn_inferences.specs.declared.inferences.Inferred.{Inferred}
@@ -72,7 +72,7 @@ pub record AreNumbered (past : Past) (numbers : List ℕ) (held : Held) : Type 0
 pub record IsJustified (model : Model) (past : Past) (it : Inferred) : Type 0 where
   pub over : IsClauseOver (length model.vars) it.clause
   pub numbered : IsConstraintNumber model it.constraint
-  pub justified : IsTrivial model it.clause ⊎ IsRuleMet model it.constraint it.rule it.clause
+  pub justified : IsJustifiedBy model it.constraint it.rule it.clause
   pub spelled : IsSpelled One (Infer it.constraint it.rule it.clause)
   pub written : IfSome it.number (λ n. clause_held past n ≡ Some it.clause)
 

@@ -13,7 +13,7 @@ use Rattle.fzn_meaning.specs.Meaning.{HasBooleanSets}
 use Rattle.fzn_meaning.specs.Solutions.{declared_sets}
 use Rattle.fzn_rules.specs.declared.rule.Rule.{Rule}
 use Rattle.fzn_rules.specs.Rules.{IsMet, IsAcceptedBy}
-use Rattle.fzn_cert.specs.Accepted.{IsTrivial, IsRuleMet}
+use Rattle.fzn_cert.specs.Accepted.{IsJustifiedBy}
 use Rattle.fzn_trail.specs.Levels.{Levels, IsNarrower}
 use Rattle.fzn_propagators.specs.declared.kinds.AnyPropagator.{AnyPropagator}
 use Rattle.fzn_propagator.specs.declared.propagator.Inference.{Inference}
@@ -33,16 +33,13 @@ module _ (model : Model) (trail : Levels) (declared : trail.declared ≡ declare
   as-many = ap length declared ∙ length-map model.vars (λ (var : Var). var.domain)
 
   -- it is justified from the constraint at place k, whose number is k + 1
-  justified-at : (k : ℕ) (constraint : Constraint) (c : ℕ) (rule : Rule) (clause : List Lit) → k < length model.constraints → c ≡ k + 1 → IsAcceptedBy (get_or model.constraints k constraint) rule trail.declared clause → IsTrivial model clause ⊎ IsRuleMet model c rule clause
+  justified-at : (k : ℕ) (constraint : Constraint) (c : ℕ) (rule : Rule) (clause : List Lit) → k < length model.constraints → c ≡ k + 1 → IsAcceptedBy (get_or model.constraints k constraint) rule trail.declared clause → IsJustifiedBy model c rule clause
   justified-at k constraint c rule clause inside is accepted =
       let A : List IntSet → Type 0 = λ sets. IsAcceptedBy (get_or model.constraints k constraint) rule sets clause in
-      let P : Option Constraint → Type 0 = λ o. IfSome o (λ (x : Constraint). IsMet x (denied (declared_sets model.vars) clause) rule) in
+      let P : Option Constraint → Type 0 = λ o. IfSome o (λ (x : Constraint). IsAcceptedBy x rule (declared_sets model.vars) clause) in
       let place : c - 1 ≡ k = omega arith in
       let here : slice_get model.constraints (c - 1) ≡ Some (get_or model.constraints k constraint) = ap (slice_get model.constraints) place ∙ slice_get-get_or model.constraints k constraint inside in
-      elim (subst A declared accepted) [
-        | inl trivial ↦ inl trivial
-        | inr met ↦ inr (subst P (sym here) met)
-      ]
+      subst P (sym here) (subst A declared accepted)
 
   justified-by : (k : ℕ) (constraint : Constraint) (found : Inference) → length model.vars ≤ 100000 → length model.constraints ≤ 100000 → k < length model.constraints → IsFound (k + 1) (get_or model.constraints k constraint) trail found → IsJustified model found
   justified-by k constraint found few_vars few_constraints inside h =

@@ -1,8 +1,9 @@
 //! From bytes to a model with its search annotations.
 
-ghost use Rattle.std.specs.Prelude.{IfOk, IfSome};
+ghost use Rattle.std.specs.Prelude.{◌≡◌, true, IfOk, IfErr, IfSome};
 ghost use Rattle.fzn_meaning.specs.WellFormed.{IsWellFormed};
 ghost use Rattle.fzn_reading.specs.Annotated.{model_in, model_read};
+ghost use Rattle.fzn_reading.specs.declared.fault.ModelFault.TheVariants.{Read as Failed};
 ghost use Rattle.fzn_reading.specs.Reads.{Answers, Reads};
 
 use crate::fault::ModelFault;
@@ -11,9 +12,9 @@ use fzn_annotations::{Annotation, annotations_of};
 use fzn_lexer::{Fault, Halt, tokens};
 use fzn_meaning::Model;
 use fzn_parser::parse;
+use fzn_streams::TrackedRead;
 use fzn_typing::type_check_named;
 use std::alloc::Global;
-use std::io::Read;
 
 /// A model, and what its file asks of a search.
 #[derive(Drop)]
@@ -40,10 +41,12 @@ fn annotated_of(alloc: Global, bytes: &[u8]) -> Result<Annotated, Halt<Fault>>
     })
 }
 
-/// The model of the file that the reader has left, with the search annotations. After an error the reader stands anywhere.
-pub fn read_annotated<R: Read>(alloc: Global, input: &mut R) -> Result<Annotated, ModelFault>
+/// The model of the file that the reader has left, with the search annotations. After an error the reader stands anywhere, and
+/// the fault `Read` is answered only after a read that failed.
+pub fn read_annotated<R: TrackedRead>(alloc: Global, input: &mut R) -> Result<Annotated, ModelFault>
     ensures right { IfSome (R.remaining input.old) (λ bytes. Answers bytes (model_read result)) }
     ensures well_formed { IfOk result (λ read. IsWellFormed read.model) }
+    ensures due { IfErr result (λ fault. fault ≡ Failed → R.has_failed input.new ≡ true) }
 {
     let bytes = read_bytes(alloc, input)?;
     match annotated_of(alloc, bytes.as_slice()) {

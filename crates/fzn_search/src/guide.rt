@@ -1,4 +1,5 @@
-// What to decide next. Nothing here is trusted: whoever asks tests the answer.
+// What to decide next: what the annotations want, and once they leave nothing to decide, what conflicts told. Nothing here is trusted:
+// whoever asks tests the answer.
 ghost use Rattle.std.specs.Prelude.{◌≡◌, length};
 
 use crate::choice::{Annotation, Choice, Ties};
@@ -12,22 +13,21 @@ use fzn_meaning::Var;
 use fzn_trail::Trail;
 use std::alloc::Global;
 
-/// The order of the annotations, and beside it what conflicts told.
+/// The order of the annotations, and beside it what conflicts told of the variables that stand in none.
 #[derive(Drop)]
 pub struct Guide {
     order: Order,
     /// By variable: the least and the greatest declared value.
     bounds: Vec<(i64, i64)>,
-    /// By variable: the value that it had last.
+    /// By variable: the value that it had last, where activity decides it.
     last_values: Vec<Option<i64>>,
     comparisons: Comparisons,
     /// The variables by their activity.
     activity: Heap,
     ties: Ties,
     restarts: Option<Restarts>,
+    /// Whether activity decides every variable, and not only those that stand in no annotation.
     free: bool,
-    /// Whether activity decides at present.
-    by_activity: bool,
 }
 
 impl Guide {
@@ -49,7 +49,6 @@ impl Guide {
             ties,
             restarts: choice.restart_after.map(|first| Restarts::new(first)),
             free: choice.free,
-            by_activity: choice.free,
         })
     }
 
@@ -60,19 +59,20 @@ impl Guide {
         self.order.first_open(trail, vars)
     }
 
-    /// The literal to assume next.
+    /// The literal to assume next, if one is known.
     pub fn next(&mut self, trail: &Trail, vars: usize) -> Option<Lit>
         requires { vars ≡ length trail.now.declared }
     {
-        if self.by_activity {
-            if let Some(comparison) = self.comparisons.most_active(trail, vars) {
-                return Some(self.as_last(comparison));
-            }
-            if let Some(number) = self.most_active(trail, vars) {
-                return least_value(trail, vars, number);
+        if !self.free {
+            if let Some(lit) = self.order.next(trail, vars) {
+                return Some(lit);
             }
         }
-        self.order.next(trail, vars)
+        if let Some(comparison) = self.comparisons.most_active(trail, vars) {
+            return Some(self.as_last(comparison));
+        }
+        let number = self.most_active(trail, vars)?;
+        least_value(trail, vars, number)
     }
 
     /// The most active variable with more than one value, counted from 0.
@@ -107,64 +107,55 @@ impl Guide {
         }
     }
 
-    /// Whether conflicts and values count for activity: while it decides, and before the first restart. What is met in the order of
-    /// the annotations would only lead it astray.
-    fn is_told(&self) -> bool {
-        self.by_activity
-            || match &self.restarts {
-                Some(restarts) => restarts.is_first(),
-                None => false,
-            }
+    /// Whether activity decides the variable of this number, counted from 0.
+    fn is_by_activity(&self, number: usize) -> bool {
+        self.free || !self.order.is_annotated(number)
     }
 
     /// The entries from this place on will be dropped.
     pub fn undo(&mut self, trail: &Trail, from: usize) {
         self.order.undo(from);
-        let is_told = self.is_told();
         for place in from..trail.len() {
             let lit = trail.entry(place).lit;
             let number = lit.var.0.saturating_sub(1);
-            if is_told && number < self.last_values.len() {
-                if let Some(value) = value_left(trail.domain_before(place), lit) {
-                    self.last_values[number] = Some(value);
-                }
-            }
             self.order.set_free(number);
-            self.activity.put(number);
-            self.comparisons.set_free(number);
+            if self.is_by_activity(number) {
+                if let Some(value) = value_left(trail.domain_before(place), lit) {
+                    self.keep_value(number, value);
+                }
+                self.activity.put(number);
+                self.comparisons.set_free(number);
+            }
+        }
+    }
+
+    fn keep_value(&mut self, number: usize, value: i64) {
+        if number < self.last_values.len() {
+            self.last_values[number] = Some(value);
         }
     }
 
     /// The present conflict rests on these literals.
     pub fn bump(&mut self, lits: &[Lit]) -> Result<(), Memory> {
-        if !self.is_told() {
-            return Ok(());
-        }
         for lit in lits {
             let number = lit.var.0.saturating_sub(1);
-            if let Some((least, greatest)) = self.bounds.get(number).copied() {
-                self.activity.bump(number);
-                self.comparisons
-                    .bump(comparison_of(*lit, least, greatest), &mut self.ties)?;
+            if self.is_by_activity(number) {
+                if let Some((least, greatest)) = self.bounds.get(number).copied() {
+                    self.activity.bump(number);
+                    self.comparisons
+                        .bump(comparison_of(*lit, least, greatest), &mut self.ties)?;
+                }
             }
         }
         Ok(())
     }
 
-    /// The present conflict is over. Answers whether a restart is due, after which activity and the annotations may take turns.
+    /// The present conflict is over. Answers whether a restart is due.
     pub fn conflict(&mut self) -> bool {
-        if self.is_told() {
-            self.comparisons.decay();
-            self.activity.decay();
-        }
+        self.comparisons.decay();
+        self.activity.decay();
         match &mut self.restarts {
-            Some(restarts) => {
-                let is_due = restarts.is_due();
-                if is_due {
-                    self.by_activity = self.free || !restarts.is_by_order();
-                }
-                is_due
-            }
+            Some(restarts) => restarts.is_due(),
             None => false,
         }
     }

@@ -3,7 +3,7 @@ ghost use Rattle.std.specs.Prelude.{◌≡◌, length};
 
 use crate::choice::{Annotation, Ties, ValueChoice, VarChoice};
 use crate::heap::Heap;
-use crate::open::{least_value, open_domain};
+use crate::open::open_domain;
 use crate::pool::Pool;
 use fzn_domain::{Domain, Lit, Memory, Op, VarId};
 use fzn_trail::Trail;
@@ -92,19 +92,19 @@ impl Order {
         None
     }
 
-    /// What the first annotation with a variable to decide wants; after all annotations the first variable's least value.
+    /// What the first annotation with a variable to decide wants, if one has such a variable.
     pub fn next(&mut self, trail: &Trail, vars: usize) -> Option<Lit>
         requires { vars ≡ length trail.now.declared }
     {
         let first = self.first_open(trail, vars)?;
+        let seat = self.seats.get(first).copied().flatten()?;
         self.look(trail, vars);
-        match self.seats.get(first).copied().flatten() {
-            Some(seat) => match self.groups.get_mut(seat.group) {
-                Some(group) => group.next(trail, vars, first),
-                None => None,
-            },
-            None => least_value(trail, vars, first),
-        }
+        self.groups.get_mut(seat.group)?.next(trail, vars, first)
+    }
+
+    /// Whether the variable of this number, counted from 0, stands in an annotation.
+    pub fn is_annotated(&self, number: usize) -> bool {
+        self.seats.get(number).copied().flatten().is_some()
     }
 
     /// Each group looks at its variables whose values may have changed.

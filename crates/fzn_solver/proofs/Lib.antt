@@ -1,6 +1,7 @@
 mod Made
 mod StandingLemmas
 mod WritersLemmas
+mod CauseLemmas
 mod ClosedLemmas
 mod AnswerLemmas
 mod LeftLemmas

@@ -1,5 +1,7 @@
 -- The faults of the parts as those of a run, and their exit statuses.
 use Rattle.std.specs.Prelude.{ℕ}
+use Rattle.fzn_cert.specs.declared.fault.FaultKind.{FaultKind}
+use Rattle.fzn_cert.specs.declared.fault.FaultKind.TheVariants as certificate
 use Rattle.fzn_engine.specs.declared.fault.Fault.{Fault}
 use Rattle.fzn_engine.specs.declared.fault.Fault.TheVariants as engine
 use Rattle.fzn_reading.specs.declared.fault.ModelFault.{ModelFault}
@@ -11,6 +13,12 @@ abbrev pub fault_of_model : ModelFault → RunFault
 fault_of_model (reading.File fault) = File fault
 fault_of_model reading.Memory = Memory
 fault_of_model reading.Read = Read
+
+-- that of a certificate's writer, which answers no other but of a failed write
+abbrev pub fault_of_certificate : FaultKind → Fault
+fault_of_certificate certificate.Memory = engine.Memory
+fault_of_certificate certificate.StepTooLong = engine.StepTooLong
+fault_of_certificate _ = engine.WriteCert
 
 abbrev pub fault_of_engine : Fault → RunFault
 fault_of_engine engine.Memory = Memory

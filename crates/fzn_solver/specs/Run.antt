@@ -1,5 +1,5 @@
 -- What a run leaves, from the bytes of a file.
-use Rattle.std.specs.Prelude.{◌⊎◌, ℕ, Bool, List, Option, IfSome, Ok, Err}
+use Rattle.std.specs.Prelude.{◌≡◌, ◌⊎◌, ℕ, Bool, true, List, Option, IfSome, Ok, Err}
 use Rattle.std.specs.Io.KnownBytes.{Keeps}
 use Rattle.fzn_lexer.specs.declared.halt.Halt.TheVariants as errors
 use Rattle.fzn_meaning.specs.declared.model.Model.{Model}
@@ -8,6 +8,7 @@ use Rattle.fzn_solver.specs.declared.fault.RunFault.{RunFault}
 use Rattle.fzn_solver.specs.declared.fault.RunFault.TheVariants.{File, Memory, Read}
 use Rattle.fzn_solver.specs.declared.report.Report.{Report}
 use Rattle.fzn_solver.specs.Answer.{IsAnswer}
+use Rattle.fzn_solver.specs.Causes.{HasCause}
 use Rattle.fzn_solver.specs.Left.{IsLeft}
 use Rattle.fzn_words.specs.declared.solve.Options.{Options}
 
@@ -31,3 +32,10 @@ IsRunFault file all out_old out_new cert_old cert_new (File fault) = Keeps out_o
 IsRunFault file all out_old out_new cert_old cert_new Read = Keeps out_old out_new × Keeps cert_old cert_new
 IsRunFault file all out_old out_new cert_old cert_new Memory = (Keeps out_old out_new × Keeps cert_old cert_new) ⊎ IsLeftOf file all out_old out_new cert_old cert_new Memory
 IsRunFault file all out_old out_new cert_old cert_new fault = IsLeftOf file all out_old out_new cert_old cert_new fault
+
+-- Each fault has its cause: a failed read, a failed write or flush of the output or of the certificate, a line that would be too long.
+abbrev pub IsDue : Bool → Bool → Bool → Option (List ℕ) → Option (List ℕ) → Option (List ℕ) → RunFault → Type 0
+IsDue read out cert file cert_old cert_new (File fault) = Unit {0}
+IsDue read out cert file cert_old cert_new Memory = Unit {0}
+IsDue read out cert file cert_old cert_new Read = read ≡ true
+IsDue read out cert file cert_old cert_new fault = (model : Model) × States file model × HasCause out cert model cert_old cert_new fault

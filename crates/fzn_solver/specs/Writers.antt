@@ -42,6 +42,7 @@ pub record IsFresh {W C : Type 0} (outs : W → Option (List ℕ)) (certs : C �
   pub none_shown : has_printed now.out ≡ false
   pub none_taken : taken now ≡ []
   pub none_waits : now.last.now ≡ None
+  pub none_stopped : now.stopped ≡ None
 
 -- What stands, after a fault too; and while the writers can go on, just what these steps ask for.
 pub record IsKeptBy {W C : Type 0} (outs : W → Option (List ℕ)) (certs : C → Option (List ℕ)) (model : Model) (cert : StepWriter C) (out : Printer W) (alone : Bool) (last : Option (List ℤ)) (steps : List Step) (first : W × C) : Type 0 where

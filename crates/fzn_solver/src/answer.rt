@@ -1,14 +1,15 @@
 // From the bytes of a file to its answer and its certificate.
 ghost use Rattle.std.specs.Prelude.{◌≡◌, IfOk, IfErr};
 ghost use Rattle.fzn_meaning.specs.WellFormed.{IsWellFormed};
-ghost use Rattle.fzn_cert.specs.Writer.{contents_of as cert_contents, out_name as cert_name};
-ghost use Rattle.fzn_printer.specs.Printer.{contents_of as out_contents, out_name};
+ghost use Rattle.fzn_cert.specs.Writer.{contents_of as cert_contents, out_name as cert_name, has_failed_in as cert_failed};
+ghost use Rattle.fzn_printer.specs.Printer.{contents_of as out_contents, out_name, has_failed_in as out_failed};
 ghost use Rattle.fzn_propagators.specs.Propagators.{StandFor};
 ghost use Rattle.fzn_solver.specs.Answer.{wanted, IsAnswer};
+ghost use Rattle.fzn_solver.specs.Causes.{HasCause, AreSameStreams, AreStreamsAsAtFirst};
 ghost use Rattle.fzn_solver.specs.Left.{IsLeft};
 ghost use Rattle.fzn_solver.specs.Standing.{is_alone};
 ghost use Rattle.fzn_solver.specs.Writers.{IsFresh};
-ghost use Rattle.fzn_solver.specs.Run.{IsRun, IsRunFault};
+ghost use Rattle.fzn_solver.specs.Run.{IsRun, IsRunFault, IsDue};
 
 use crate::choice::{choice_for, for_search};
 use crate::fault::RunFault;
@@ -24,13 +25,15 @@ use fzn_printer::Printer;
 use fzn_propagators::Propagators;
 use fzn_reading::read_annotated;
 use fzn_search::Annotation;
+use fzn_streams::{TrackedRead, TrackedReader, TrackedWrite, TrackedWriter};
 use fzn_words::Options;
 use std::alloc::Global;
 use std::io::{Read, Write};
 
 /// Solves a file: prints its answer on `out`, and writes a certificate of the answer on `cert`. The paths among the options are not
 /// looked at. The line of a solution stands on the certificate, flushed, before the solution is printed, and the whole certificate
-/// before the line that ends the answer. After decisions and conflicts `watch` is told how far the search has come.
+/// before the line that ends the answer. After decisions and conflicts `watch` is told how far the search has come. It hands on to
+/// `run_tracked`, which promises besides that each fault has its cause.
 pub fn run<R: Read + Drop, W: Write, C: Write, P: Watch>(
     alloc: Global,
     input: R,
@@ -42,8 +45,29 @@ pub fn run<R: Read + Drop, W: Write, C: Write, P: Watch>(
     ensures ran { IfOk result (IsRun (R.remaining input) options.now (W.contents out.old) (W.contents out.new) (C.contents cert.old) (C.contents cert.new)) }
     ensures fault { IfErr result (IsRunFault (R.remaining input) options.now.all (W.contents out.old) (W.contents out.new) (C.contents cert.old) (C.contents cert.new)) }
 {
-    let mut input = input;
-    let read = read_annotated(alloc, &mut input)?;
+    let mut input = TrackedReader::new(input);
+    let mut out = TrackedWriter::new(out);
+    let mut cert = TrackedWriter::new(cert);
+    run_tracked(alloc, &mut input, options, &mut out, &mut cert, watch)
+}
+
+/// Solves a file as `run` does, on streams that remember whether a call on them failed. `Read` is answered only after a failed read,
+/// `WriteOutput` only after a failed write or flush of `out`, `WriteCert` only after one of `cert`, and `StepTooLong` only where the line
+/// of a step would pass its limit.
+pub fn run_tracked<R: TrackedRead, W: TrackedWrite, C: TrackedWrite, P: Watch>(
+    alloc: Global,
+    input: &mut R,
+    options: &Options,
+    out: &mut W,
+    cert: &mut C,
+    watch: &mut P,
+) -> Result<Report, RunFault>
+    ensures ran { IfOk result (IsRun (R.remaining input.old) options.now (W.contents out.old) (W.contents out.new) (C.contents cert.old) (C.contents cert.new)) }
+    ensures fault { IfErr result (IsRunFault (R.remaining input.old) options.now.all (W.contents out.old) (W.contents out.new) (C.contents cert.old) (C.contents cert.new)) }
+    ensures due { IfErr result (IsDue (R.has_failed input.new) (W.has_failed out.new) (C.has_failed cert.new) (R.remaining input.old) (C.contents cert.old) (C.contents cert.new)) }
+    ensures same_streams { (W.stream out.new ≡ W.stream out.old) × (C.stream cert.new ≡ C.stream cert.old) }
+{
+    let read = read_annotated(alloc, input)?;
     let annotations = for_search(alloc, read.annotations)?;
     let model = read.model;
     let mut propagators = Propagators::new(alloc, &model)?;
@@ -60,7 +84,7 @@ pub fn run<R: Read + Drop, W: Write, C: Write, P: Watch>(
 }
 
 /// Searches a model for its answer, by its annotations.
-fn answer<W: Write, C: Write, P: Watch>(
+fn answer<W: TrackedWrite, C: TrackedWrite, P: Watch>(
     alloc: Global,
     model: &Model,
     annotations: &[Annotation],
@@ -74,6 +98,8 @@ fn answer<W: Write, C: Write, P: Watch>(
     requires propagators { StandFor propagators.old model.now }
     ensures answer { IfOk result (IsAnswer model.now options.now (W.contents out.old) (W.contents out.new) (C.contents cert.old) (C.contents cert.new)) }
     ensures left { IfErr result (IsLeft model.now options.now.all (W.contents out.old) (W.contents out.new) (C.contents cert.old) (C.contents cert.new)) }
+    ensures cause { IfErr result (HasCause (W.has_failed out.new) (C.has_failed cert.new) model.now (C.contents cert.old) (C.contents cert.new)) }
+    ensures same_streams { (W.stream out.new ≡ W.stream out.old) × (C.stream cert.new ≡ C.stream cert.old) }
 {
     let mut last = None;
     let first_out = Initial::of(&*out);
@@ -83,6 +109,7 @@ fn answer<W: Write, C: Write, P: Watch>(
         out: Printer::new(out),
         alone: is_alone(model.goal, options.all),
         last: &mut last,
+        stopped: None,
         taken: History::new(),
         first_out,
         first_cert,
@@ -99,7 +126,7 @@ fn answer<W: Write, C: Write, P: Watch>(
 }
 
 /// Searches a model for its answer, on fresh writers.
-fn search<W: Write, C: Write, P: Watch>(
+fn search<W: TrackedWrite, C: TrackedWrite, P: Watch>(
     alloc: Global,
     model: &Model,
     annotations: &[Annotation],
@@ -111,9 +138,12 @@ fn search<W: Write, C: Write, P: Watch>(
     requires model { IsWellFormed model.now }
     requires propagators { StandFor propagators.old model.now }
     requires fresh { IsFresh W.contents C.contents writers.old }
+    requires at_first { AreStreamsAsAtFirst W.stream C.stream writers.old }
     requires alone { writers.old.alone ≡ is_alone model.now.goal options.now.all }
     ensures answer { IfOk result (IsAnswer model.now options.now (out_contents W.contents writers.old.out) (out_contents W.contents writers.new.out) (cert_contents C.contents writers.old.cert) (cert_contents C.contents writers.new.cert)) }
     ensures left { IfErr result (IsLeft model.now options.now.all (out_contents W.contents writers.old.out) (out_contents W.contents writers.new.out) (cert_contents C.contents writers.old.cert) (cert_contents C.contents writers.new.cert)) }
+    ensures cause { IfErr result (HasCause (out_failed W.has_failed writers.new.out) (cert_failed C.has_failed writers.new.cert) model.now (cert_contents C.contents writers.old.cert) (cert_contents C.contents writers.new.cert)) }
+    ensures same_streams { AreSameStreams W.stream C.stream writers.old writers.new }
     ensures same_out { out_name writers.new.out ≡ out_name writers.old.out }
     ensures same_cert { cert_name writers.new.cert ≡ cert_name writers.old.cert }
 {
@@ -123,7 +153,7 @@ fn search<W: Write, C: Write, P: Watch>(
         solutions: wanted(options.all, options.limit),
     };
     let learn = learn_for(options.learn);
-    let outcome = solve_watched(
+    let outcome = match solve_watched(
         alloc,
         model,
         limits,
@@ -133,7 +163,10 @@ fn search<W: Write, C: Write, P: Watch>(
         propagators,
         writers,
         watch,
-    )?;
+    ) {
+        Ok(outcome) => outcome,
+        Err(_) => return Err(writers.fault().into()),
+    };
     let ending = ending_for(outcome.ending, outcome.solutions);
     writers.close(model, ending)?;
     Ok(Report {

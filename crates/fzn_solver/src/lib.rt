@@ -6,7 +6,7 @@
 //! reached.
 #![tactic(auto)]
 
-pub use answer::run;
+pub use answer::{run, run_tracked};
 pub use fault::RunFault;
 pub use progress::{Progress, Unwatched, Watch};
 pub use report::Report;

@@ -1,19 +1,21 @@
 // The certificate and the output of a run.
-ghost use Rattle.std.specs.Prelude.{⊤, ◌≡◌, ◌++◌, ◌∷◌, [], ◌<◌, ◌^◌, true, false, length, OnOk, OnErr, IfOk, IfSome, IfErr, None, Bool, List};
+ghost use Rattle.std.specs.Prelude.{⊤, ◌≡◌, ◌++◌, ◌∷◌, [], ◌<◌, ◌^◌, true, false, length, OnOk, OnErr, IfOk, IfSome, IfErr, None, Bool, List, unwrap_or};
 ghost use Rattle.fzn_meaning.specs.Solutions.{IsAssignment};
 ghost use Rattle.fzn_meaning.specs.WellFormed.{IsWellFormed};
 ghost use Rattle.fzn_cert.specs.Accepted.{AllAccepted};
 ghost use Rattle.fzn_cert.specs.Spelling.{IsSpelled};
-ghost use Rattle.fzn_cert.specs.Writer.{contents_of as cert_contents, out_name as cert_name, version_of, stage_of, step_count};
+ghost use Rattle.fzn_cert.specs.Writer.{contents_of as cert_contents, out_name as cert_name, stream_of as cert_stream, has_failed_in as cert_failed, version_of, stage_of, step_count};
 ghost use Rattle.fzn_cert.specs.declared.step.Step.TheVariants.{Solution};
 ghost use Rattle.fzn_cert.specs.declared.writer.Stage.TheVariants.{Open, Shut};
 ghost use Rattle.std.specs.Io.KnownBytes.{Keeps};
 ghost use Rattle.std.specs.Borrow.{GName};
 ghost use Rattle.fzn_cert.specs.declared.step.Version.TheVariants.{Two};
-ghost use Rattle.fzn_printer.specs.Printer.{contents_of as out_contents, out_name, is_open};
+ghost use Rattle.fzn_printer.specs.Printer.{contents_of as out_contents, out_name, stream_of as out_stream, has_failed_in as out_failed, is_open};
 ghost use Rattle.std.specs.Option.{option_to_list};
-ghost use Rattle.fzn_engine.specs.declared.fault.Fault.TheVariants.{WriteOutput};
+ghost use Rattle.fzn_engine.specs.declared.fault.Fault.TheVariants.{Memory, WriteOutput, WriteCert};
 ghost use Rattle.fzn_printer.specs.Shown.{is_closed};
+ghost use Rattle.fzn_solver.specs.Causes.{IsCause, IsLineCause, IsUnderWay, AreOpen, AreSameStreams, AreStreamsAsAtFirst};
+ghost use Rattle.fzn_solver.specs.FaultsFrom.{fault_of_certificate};
 ghost use Rattle.fzn_solver.specs.Standing.{is_alone, shown_all};
 ghost use Rattle.fzn_solver.specs.Writers.{taken, origin, IsFresh, IsKept, IsLineTaken, IsLineRefused, IsLogged, IsRestSame, IsAllSame, IsPrinted, IsLastShown, IsClosed, IsUnbegun, IsUnprinted, IsUnclosed};
 
@@ -24,17 +26,19 @@ use fzn_engine::{Fault, Sink};
 use fzn_list::Items;
 use fzn_meaning::{Goal, Model};
 use fzn_printer::{Ending, Printer};
+use fzn_streams::TrackedWrite;
 use std::alloc::Global;
-use std::io::Write;
 
 /// Writes each step on the certificate, and its solution on the output once its line was written and flushed. Where the last solution
 /// alone is printed, it waits for the end.
 #[derive(Drop)]
-pub struct Writers<'o, 'c, 'l, W: Write, C: Write> {
+pub struct Writers<'o, 'c, 'l, W: TrackedWrite, C: TrackedWrite> {
     pub cert: StepWriter<'c, C>,
     pub out: Printer<'o, W>,
     pub alone: bool,
     pub last: &'l mut Option<Items<i64>>,
+    /// The fault that stopped it, after which it takes nothing more.
+    pub stopped: Option<Fault>,
     /// The steps whose lines stand.
     pub taken: History<Step>,
     /// Both writers as they were at first.
@@ -42,12 +46,15 @@ pub struct Writers<'o, 'c, 'l, W: Write, C: Write> {
     pub first_cert: Initial<C>,
 }
 
-impl<'o, 'c, 'l, W: Write, C: Write> Writers<'o, 'c, 'l, W, C> {
+impl<'o, 'c, 'l, W: TrackedWrite, C: TrackedWrite> Writers<'o, 'c, 'l, W, C> {
     /// Writes the first two lines of the certificate.
     pub fn begin(&mut self, alloc: Global, model: &Model) -> Result<(), Fault>
         requires model { IsWellFormed model.now }
         requires fresh { IsFresh W.contents C.contents self.old }
         ensures kept { OnOk result (IsKept W.contents C.contents model.now self.new) }
+        ensures under_way { OnOk result (IsUnderWay W.has_failed C.has_failed model.now self.new) }
+        ensures cause { IfErr result (IsCause W.has_failed C.has_failed model.now self.new) }
+        ensures same_streams { AreSameStreams W.stream C.stream self.old self.new }
         ensures none_taken { OnOk result (taken self.new ≡ []) }
         ensures err { OnErr result (IsUnbegun C.contents model.now self.old self.new) }
         ensures same { origin self.new ≡ origin self.old }
@@ -65,8 +72,12 @@ impl<'o, 'c, 'l, W: Write, C: Write> Writers<'o, 'c, 'l, W, C> {
     fn line(&mut self, alloc: Global, step: &Step) -> Result<(), Fault>
         requires spelled { IsSpelled Two step.now }
         requires version { version_of self.old.cert ≡ Two }
+        requires open { stage_of self.old.cert ≡ Open }
         ensures ok { OnOk result (IsLineTaken C.contents step.now self.old self.new) }
         ensures err { OnErr result (IsLineRefused C.contents step.now self.old self.new) }
+        ensures cause { IfErr result (IsLineCause C.has_failed step.now (step_count self.old.cert) self.new.cert) }
+        ensures same_stream { cert_stream C.stream self.new.cert ≡ cert_stream C.stream self.old.cert }
+        ensures same_stopped { self.new.stopped ≡ self.old.stopped }
     {
         match self.cert.write(alloc, step) {
             Ok(()) => {
@@ -78,7 +89,7 @@ impl<'o, 'c, 'l, W: Write, C: Write> Writers<'o, 'c, 'l, W, C> {
     }
 }
 
-impl<'o, 'c, 'l, W: Write, C: Write> Writers<'o, 'c, 'l, W, C> {
+impl<'o, 'c, 'l, W: TrackedWrite, C: TrackedWrite> Writers<'o, 'c, 'l, W, C> {
     /// Writes the line of a solution, which waits for the end.
     fn hold_back(
         &mut self,
@@ -90,7 +101,12 @@ impl<'o, 'c, 'l, W: Write, C: Write> Writers<'o, 'c, 'l, W, C> {
         requires spelled { IsSpelled Two step.now }
         requires accepted { AllAccepted model.now (taken self.old ++ step.now ∷ []) }
         requires kept { IsKept W.contents C.contents model.now self.old }
+        requires open { AreOpen self.old }
         requires is { (step.now ≡ Solution values.now) × (self.old.alone ≡ true) }
+        ensures open { OnOk result (AreOpen self.new) }
+        ensures cause { IfErr result (IsCause W.has_failed C.has_failed model.now self.new) }
+        ensures same_streams { AreSameStreams W.stream C.stream self.old self.new }
+        ensures same_stopped { self.new.stopped ≡ self.old.stopped }
         ensures logged { IsLogged step.now self.old self.new }
         ensures ok { OnOk result (taken self.new ≡ taken self.old ++ step.now ∷ []) }
         ensures few { OnOk result (length (taken self.new) < 10 ^ 18) }
@@ -115,7 +131,12 @@ impl<'o, 'c, 'l, W: Write, C: Write> Writers<'o, 'c, 'l, W, C> {
         requires spelled { IsSpelled Two step.now }
         requires accepted { AllAccepted model.now (taken self.old ++ step.now ∷ []) }
         requires kept { IsKept W.contents C.contents model.now self.old }
+        requires open { AreOpen self.old }
         requires is { (step.now ≡ Solution values.now) × (self.old.alone ≡ false) }
+        ensures open { OnOk result (AreOpen self.new) }
+        ensures cause { IfErr result (IsCause W.has_failed C.has_failed model.now self.new) }
+        ensures same_streams { AreSameStreams W.stream C.stream self.old self.new }
+        ensures same_stopped { self.new.stopped ≡ self.old.stopped }
         ensures logged { IsLogged step.now self.old self.new }
         ensures ok { OnOk result (taken self.new ≡ taken self.old ++ step.now ∷ []) }
         ensures few { OnOk result (length (taken self.new) < 10 ^ 18) }
@@ -127,12 +148,43 @@ impl<'o, 'c, 'l, W: Write, C: Write> Writers<'o, 'c, 'l, W, C> {
         self.show(model, values)
     }
 
+    /// Writes the line of a step, and prints the solution that it may be.
+    fn take(&mut self, alloc: Global, model: &Model, step: &Step) -> Result<(), Fault>
+        requires model { IsWellFormed model.now }
+        requires spelled { IsSpelled Two step.now }
+        requires accepted { AllAccepted model.now (taken self.old ++ step.now ∷ []) }
+        requires kept { IsKept W.contents C.contents model.now self.old }
+        requires open { AreOpen self.old }
+        ensures open { OnOk result (AreOpen self.new) }
+        ensures cause { IfErr result (IsCause W.has_failed C.has_failed model.now self.new) }
+        ensures same_streams { AreSameStreams W.stream C.stream self.old self.new }
+        ensures same_stopped { self.new.stopped ≡ self.old.stopped }
+        ensures logged { IsLogged step.now self.old self.new }
+        ensures ok { OnOk result (taken self.new ≡ taken self.old ++ step.now ∷ []) }
+        ensures few { OnOk result (length (taken self.new) < 10 ^ 18) }
+        ensures kept { IsKept W.contents C.contents model.now self.new }
+        ensures same { origin self.new ≡ origin self.old }
+    {
+        match step {
+            Step::Solution(values) => {
+                if self.alone {
+                    self.hold_back(alloc, model, step, values)
+                } else {
+                    self.print(alloc, model, step, values)
+                }
+            }
+            _ => self.line(alloc, step),
+        }
+    }
+
     /// Prints a solution, and flushes the output.
     fn show(&mut self, model: &Model, values: &Items<i64>) -> Result<(), Fault>
         requires model { IsWellFormed model.now }
         requires assignment { IsAssignment model.now values.now }
         ensures printed { IsPrinted W.contents model.now values.now ⊤ self.old.out self.new.out }
         ensures ok { OnOk result (is_open self.new.out ≡ true) }
+        ensures cause { is_open self.old.out ≡ true → IfErr result (λ fault. (fault ≡ WriteOutput) × (out_failed W.has_failed self.new.out ≡ true)) }
+        ensures same_stream { out_stream W.stream self.new.out ≡ out_stream W.stream self.old.out }
         ensures same { (self.new.cert ≡ self.old.cert) × IsAllSame self.old self.new }
     {
         if self.out.solution(model, values.as_slice()).is_err() {
@@ -144,14 +196,27 @@ impl<'o, 'c, 'l, W: Write, C: Write> Writers<'o, 'c, 'l, W, C> {
         Ok(())
     }
 
-    /// Writes the end of the certificate, and then prints what is left of the answer.
+    /// What stopped it; where nothing did, it is memory that ran out.
+    pub fn fault(&self) -> Fault
+        ensures { result ≡ unwrap_or self.now.stopped Memory }
+    {
+        self.stopped.unwrap_or(Fault::Memory)
+    }
+
+    /// Writes the end of the certificate, and then prints what is left of the answer. Nothing where a fault stopped it before.
     pub fn close(&mut self, model: &Model, ending: Ending) -> Result<(), Fault>
         requires model { IsWellFormed model.now }
         requires kept { IsKept W.contents C.contents model.now self.old }
+        requires under_way { IsUnderWay W.has_failed C.has_failed model.now self.old }
+        ensures cause { IfErr result (IsCause W.has_failed C.has_failed model.now self.new) }
+        ensures same_streams { AreSameStreams W.stream C.stream self.old self.new }
         ensures closed { OnOk result (IsClosed W.contents C.contents model.now (is_closed ending) self.old self.new) }
         ensures err { IfErr result (IsUnclosed W.contents C.contents model.now (is_closed ending) self.old self.new) }
         ensures same_writers { (cert_name self.new.cert ≡ cert_name self.old.cert) × (out_name self.new.out ≡ out_name self.old.out) }
     {
+        if let Some(fault) = self.stopped {
+            return Err(fault);
+        }
         match self.cert.finish(ending.is_closed()) {
             Ok(()) => {}
             Err(fault) => return Err(fault_of(fault)),
@@ -168,6 +233,9 @@ impl<'o, 'c, 'l, W: Write, C: Write> Writers<'o, 'c, 'l, W, C> {
         requires model { IsWellFormed model.now }
         requires assignment { IfSome self.old.last.now (IsAssignment model.now) }
         ensures shown { OnOk result (IsLastShown W.contents model.now self.old.last.now self.old.out self.new.out) }
+        ensures cause { is_open self.old.out ≡ true → OnErr result (out_failed W.has_failed self.new.out ≡ true) }
+        ensures open { OnOk result (is_open self.new.out ≡ is_open self.old.out) }
+        ensures same_stream { out_stream W.stream self.new.out ≡ out_stream W.stream self.old.out }
         ensures err { IfErr result (λ fault. (fault ≡ WriteOutput) × IsUnprinted W.contents (shown_all model.now (option_to_list self.old.last.now)) self.old.out self.new.out) }
         ensures same_writer { out_name self.new.out ≡ out_name self.old.out }
         ensures same { (self.new.cert ≡ self.old.cert) × IsAllSame self.old self.new }
@@ -186,6 +254,9 @@ impl<'o, 'c, 'l, W: Write, C: Write> Writers<'o, 'c, 'l, W, C> {
         ensures err { OnErr result (stage_of self.new.cert ≡ Shut) }
         ensures same_cert { (cert_name self.new.cert ≡ cert_name self.old.cert) × (version_of self.new.cert ≡ version_of self.old.cert) }
         ensures same_rest { IsRestSame self.old self.new × (self.new.taken ≡ self.old.taken) }
+        ensures cause { stage_of self.old.cert ≡ Open → IfErr result (λ fault. (fault ≡ WriteCert) × (cert_failed C.has_failed self.new.cert ≡ true)) }
+        ensures same_stream { cert_stream C.stream self.new.cert ≡ cert_stream C.stream self.old.cert }
+        ensures same_stopped { self.new.stopped ≡ self.old.stopped }
     {
         match self.cert.flush() {
             Ok(()) => Ok(()),
@@ -194,25 +265,29 @@ impl<'o, 'c, 'l, W: Write, C: Write> Writers<'o, 'c, 'l, W, C> {
     }
 }
 
-impl<'o, 'c, 'l, W: Write, C: Write> Sink for Writers<'o, 'c, 'l, W, C> {
+impl<'o, 'c, 'l, W: TrackedWrite, C: TrackedWrite> Sink for Writers<'o, 'c, 'l, W, C> {
     ghost written = { λ writers. taken writers };
 
     ghost Origin = { (W × C) × Bool × GName × GName };
 
     ghost origin = { λ writers. origin writers };
 
-    ghost keeps = { λ model writers. IsKept W.contents C.contents model writers };
+    ghost keeps = {
+        λ model writers. IsKept W.contents C.contents model writers
+            × IsUnderWay W.has_failed C.has_failed model writers
+            × AreStreamsAsAtFirst W.stream C.stream writers
+    };
 
     fn step(&mut self, alloc: Global, model: &Model, step: &Step) -> Result<(), Fault> {
-        match step {
-            Step::Solution(values) => {
-                if self.alone {
-                    self.hold_back(alloc, model, step, values)
-                } else {
-                    self.print(alloc, model, step, values)
-                }
+        if let Some(fault) = self.stopped {
+            return Err(fault);
+        }
+        match self.take(alloc, model, step) {
+            Ok(()) => Ok(()),
+            Err(fault) => {
+                self.stopped = Some(fault);
+                Err(fault)
             }
-            _ => self.line(alloc, step),
         }
     }
 }
@@ -227,7 +302,10 @@ fn copied(alloc: Global, values: &[i64]) -> Result<Items<i64>, Memory>
     Ok(copy)
 }
 
-fn fault_of(fault: FaultKind) -> Fault {
+/// A fault of the certificate's writer as one of a run.
+fn fault_of(fault: FaultKind) -> Fault
+    ensures { result ≡ fault_of_certificate fault }
+{
     match fault {
         FaultKind::Memory => Fault::Memory,
         FaultKind::StepTooLong => Fault::StepTooLong,

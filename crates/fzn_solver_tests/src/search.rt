@@ -71,12 +71,17 @@ fn is_restart_due(search: &mut Search, named: &[Lit; 2], again: Lit) -> Result<b
     Ok(search.conflict() && !is_early)
 }
 
-/// Whether what conflicts named most is decided after a restart.
-fn is_most_named_decided(alloc: Global, model: &Model, trail: &Trail) -> Result<bool, Memory>
+/// Whether what conflicts named most is decided after a restart, also where it is only what the annotations leave open.
+fn is_most_named_decided(
+    alloc: Global,
+    model: &Model,
+    trail: &Trail,
+    free: bool,
+) -> Result<bool, Memory>
     requires declared { trail.now.declared ≡ declared_sets model.now.vars }
     requires filled { NoneEmpty trail.now.sets }
 {
-    let mut search = search_of(alloc, model, &[], true)?;
+    let mut search = search_of(alloc, model, &[], free)?;
     let named = [lit(2, Op::AtLeast, -3), lit(2, Op::Equal, -1)];
     let most = lit(2, Op::NotEqual, -1);
     let is_due = is_restart_due(&mut search, &named, most)?;
@@ -110,7 +115,8 @@ fn are_decided(alloc: Global, model: &Model) -> Result<bool, Memory> {
     Ok(
         is_first_decided(alloc, model, &trail)?
             && is_annotation_followed(alloc, model, &trail)?
-            && is_most_named_decided(alloc, model, &trail)?
+            && is_most_named_decided(alloc, model, &trail, true)?
+            && is_most_named_decided(alloc, model, &trail, false)?
             && is_decided_as_before(alloc, model, &before, &trail)?,
     )
 }
@@ -119,6 +125,69 @@ fn are_decided(alloc: Global, model: &Model) -> Result<bool, Memory> {
 fn decisions(rt: HostRuntime) -> Result<(), Fail> {
     let model = model_of(rt.alloc(), "var 5..5: x; var -4..1: y; solve satisfy;")?;
     assert!(rt; are_decided(rt.alloc(), &model)?);
+    Ok(())
+}
+
+/// The first variable that is open, its greatest value first.
+fn greatest_first(alloc: Global) -> Result<Annotation, Memory> {
+    Ok(Annotation {
+        vars: Items::from_slice(alloc, [VarId(1), VarId(2)].as_slice())?,
+        var_choice: VarChoice::InputOrder,
+        value_choice: ValueChoice::Max,
+    })
+}
+
+/// Whether the greatest value of x is decided, which is 3.
+fn is_greatest_decided(search: &mut Search, trail: &Trail) -> bool
+    requires two { length trail.now.declared ≡ 2 }
+    requires variables { search.old.vars ≡ 2 }
+    ensures same { search.new.vars ≡ search.old.vars }
+{
+    if !is_filled(trail, 2) || search.nodes() > 9 {
+        return false;
+    }
+    search.decide(trail) == Some(lit(1, Op::AtLeast, 3))
+}
+
+/// Whether a restart is due at a conflict that names y alone.
+fn is_restarted_by_conflict(search: &mut Search, trail: &mut Trail) -> Result<bool, Memory>
+    ensures same { search.new ≡ search.old }
+    ensures declared { trail.new.declared ≡ trail.old.declared }
+{
+    search.bump([lit(2, Op::NotEqual, -1)].as_slice())?;
+    let is_due = search.conflict();
+    search.restart(trail);
+    Ok(is_due)
+}
+
+/// Whether the annotation decides before and after two restarts.
+fn is_followed_after_restarts(alloc: Global, model: &Model) -> Result<bool, Memory> {
+    if model.vars.len() != 2 {
+        return Ok(false);
+    }
+    let mut trail = trail_of(alloc, model)?;
+    let annotation = greatest_first(alloc)?;
+    let choice = Choice {
+        free: false,
+        seed: None,
+        restart_after: Some(1),
+        keep: 0,
+    };
+    let annotations = slice::from_ref(&annotation);
+    let mut search = Search::new(alloc, model.vars.as_slice(), annotations, choice)?;
+    Ok(
+        is_greatest_decided(&mut search, &trail)
+            && is_restarted_by_conflict(&mut search, &mut trail)?
+            && is_greatest_decided(&mut search, &trail)
+            && is_restarted_by_conflict(&mut search, &mut trail)?
+            && is_greatest_decided(&mut search, &trail),
+    )
+}
+
+#[test]
+fn restarts_keep_to_the_annotations(rt: HostRuntime) -> Result<(), Fail> {
+    let model = model_of(rt.alloc(), "var 0..3: x; var -4..1: y; solve satisfy;")?;
+    assert!(rt; is_followed_after_restarts(rt.alloc(), &model)?);
     Ok(())
 }
 

@@ -1,5 +1,7 @@
 // Why words give no options.
 ghost use Rattle.std.specs.Prelude.{◌≡◌, ◌≢◌};
+ghost use Rattle.std.specs.IoError.{error_kind};
+ghost use Rattle.std.specs.declared.io.ErrorKind.TheVariants.{OutOfMemory};
 ghost use Rattle.clap.specs.Values.{kind_of};
 ghost use Rattle.fzn_words.specs.Words.{status_of};
 ghost use Rattle.fzn_words.specs.declared.fault.OptionsFault.TheVariants.{CommandLine, Memory};
@@ -7,6 +9,7 @@ ghost use Rattle.fzn_words.specs.declared.fault.OptionsFault.TheVariants.{Comman
 use clap::Error as ClapError;
 use clap::error::ErrorKind;
 use std::alloc::{AllocError, Global};
+use std::io;
 use thiserror::Error;
 
 /// Why words give no options. Its message is the line that the program prints.
@@ -39,6 +42,18 @@ impl From<AllocError> for OptionsFault {
 
     fn from(_e: AllocError) -> OptionsFault {
         OptionsFault::Memory
+    }
+}
+
+/// The fault of words that the system did not hand over: one of them is not UTF-8, or memory is out.
+impl From<io::Error> for OptionsFault {
+    ghost from_gives = { λ error fault. (error_kind error ≡ OutOfMemory → fault ≡ Memory) × (error_kind error ≢ OutOfMemory → fault ≡ CommandLine) };
+
+    fn from(error: io::Error) -> OptionsFault {
+        match error.kind() {
+            io::ErrorKind::OutOfMemory => OptionsFault::Memory,
+            _ => OptionsFault::CommandLine,
+        }
     }
 }
 

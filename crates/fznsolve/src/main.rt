@@ -44,10 +44,7 @@ fn main(rt: HostRuntime) -> ExitCode {
 fn options(rt: &HostRuntime) -> Result<Options, OptionsFault> {
     let alloc = rt.alloc();
     let mut words: Vec<String> = Vec::new(alloc);
-    let Ok(args) = env::args(rt) else {
-        return Err(OptionsFault::Memory);
-    };
-    for word in args.skip(1) {
+    for word in env::args(rt)?.skip(1) {
         if words.push(word).is_err() {
             return Err(OptionsFault::Memory);
         }

@@ -1,0 +1,68 @@
+-- What each fault of a run comes of.
+use Rattle.std.proofs.Common.{◌≡◌, ℕ, Bool, true, List, [], ◌∷◌, ◌++◌, length, Option, Some, None, IfSome, refl, sym, ap, subst, ◌∙◌, Result, Ok, Err, IfErr, unwrap_or}
+use Rattle.std.specs.Result.{IsErrAnd}
+use Rattle.fzn_meaning.specs.declared.model.Model.{Model}
+use Rattle.fzn_cert.specs.declared.fault.FaultKind.{FaultKind}
+use Rattle.fzn_cert.specs.declared.fault.FaultKind.TheVariants as faults
+use Rattle.fzn_cert.specs.declared.step.Step.{Step}
+use Rattle.fzn_cert.specs.declared.writer.StepWriter.{StepWriter}
+use Rattle.fzn_cert.specs.Accepted.{AllAccepted}
+use Rattle.fzn_cert.specs.Spelling.{HasRoom}
+use Rattle.fzn_cert.specs.Writer.{IsLineFault, IsStepFault, step_count, has_failed_in as cert_failed}
+use Rattle.fzn_engine.specs.declared.fault.Fault.{Fault}
+use Rattle.fzn_engine.specs.declared.fault.Fault.TheVariants as engine
+use Rattle.fzn_printer.specs.Printer.{has_failed_in as out_failed}
+use Rattle.fzn_solver.specs.declared.writers.Writers.{Writers}
+use Rattle.fzn_solver.specs.Causes.{IsTooLong, HasCause, IsCause, IsLineCause}
+use Rattle.fzn_solver.specs.FaultsFrom.{fault_of_certificate, fault_of_engine}
+use Rattle.fzn_solver.specs.Left.{HasLines}
+use Rattle.fzn_solver.specs.Writers.{taken}
+
+-- a fault of the line of a step
+pub line-cause : {C : Type 0} (certs : C → Bool) (step : Step) (count : ℕ) (cert : StepWriter C) (fault : FaultKind) → IsStepFault count step fault → (fault ≡ faults.Write → cert_failed certs cert ≡ true)
+    → IsLineCause certs step count cert (fault_of_certificate fault)
+line-cause certs step count cert faults.Memory is due = tt
+line-cause certs step count cert faults.Write is due = due refl
+line-cause certs step count cert faults.StepTooLong is due = is
+line-cause certs step count cert faults.Read is due = absurd is
+line-cause certs step count cert faults.Header is due = absurd is
+line-cause certs step count cert faults.Spelling is due = absurd is
+line-cause certs step count cert faults.Truncated is due = absurd is
+line-cause certs step count cert faults.Trailing is due = absurd is
+line-cause certs step count cert faults.LineTooLong is due = absurd is
+line-cause certs step count cert faults.Failed is due = absurd is
+
+module _ {W C : Type 0} (outs : W → Bool) (certs : C → Bool) (model : Model) where
+  -- a fault of the first two lines
+  pub begin-cause : (now : Writers W C) (fault : FaultKind) → IsLineFault fault → (fault ≡ faults.Write → cert_failed certs now.cert ≡ true) → IsCause outs certs model now (fault_of_certificate fault)
+  begin-cause now faults.Memory is due = tt
+  begin-cause now faults.Write is due = due refl
+  begin-cause now faults.StepTooLong is due = absurd is
+  begin-cause now faults.Read is due = absurd is
+  begin-cause now faults.Header is due = absurd is
+  begin-cause now faults.Spelling is due = absurd is
+  begin-cause now faults.Truncated is due = absurd is
+  begin-cause now faults.Trailing is due = absurd is
+  begin-cause now faults.LineTooLong is due = absurd is
+  begin-cause now faults.Failed is due = absurd is
+
+  -- the fault of the line of a step that is accepted after those that were taken
+  pub step-cause : (step : Step) (steps : List Step) (count : ℕ) (now : Writers W C) (fault : Fault) → AllAccepted model (steps ++ step ∷ []) → count ≡ length steps → taken now ≡ steps → IsLineCause certs step count now.cert fault → IsCause outs certs model now fault
+  step-cause step steps count now engine.Memory accepted counted same cause = tt
+  step-cause step steps count now engine.WriteOutput accepted counted same cause = absurd cause
+  step-cause step steps count now engine.WriteCert accepted counted same cause = cause
+  step-cause step steps count now engine.StepTooLong accepted counted same cause =
+      subst (IsTooLong model) (sym same) (record { step = step; accepted = accepted; long = subst (λ (n : ℕ). ¬ HasRoom n step) counted cause })
+
+  -- as a fault of the run
+  pub run-cause : (now : Writers W C) (fault : Fault) (cert_old cert_new : Option (List ℕ)) → HasLines model (taken now) cert_old cert_new → IsCause outs certs model now fault
+      → HasCause (out_failed outs now.out) (cert_failed certs now.cert) model cert_old cert_new (fault_of_engine fault)
+  run-cause now engine.Memory cert_old cert_new lines cause = tt
+  run-cause now engine.WriteOutput cert_old cert_new lines cause = cause
+  run-cause now engine.WriteCert cert_old cert_new lines cause = cause
+  run-cause now engine.StepTooLong cert_old cert_new lines cause = (taken now, lines, cause)
+
+  -- what stopped it, or want of memory
+  pub fault-cause : (now : Writers W C) (stopped : Option Fault) → IfSome stopped (IsCause outs certs model now) → IsCause outs certs model now (unwrap_or stopped engine.Memory)
+  fault-cause now None cause = tt
+  fault-cause now (Some fault) cause = cause
