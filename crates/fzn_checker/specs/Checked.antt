@@ -10,7 +10,7 @@ use Rattle.fzn_cert.specs.declared.step.Step.{Step}
 use Rattle.fzn_cert.specs.Spelling.{IsHeader}
 use Rattle.fzn_cert.specs.Past.{Past, start}
 use Rattle.fzn_cert.specs.Accepted.{IsAccepted, HasFault, after}
-use Rattle.fzn_cert_reader.specs.Reader.{Progress, IsReading}
+use Rattle.fzn_cert_reader.specs.Reader.{Progress, IsReading, IsFresh}
 use Rattle.fzn_cert.specs.Verdict.{Outcome, accepted, refused, MayEnd, VerdictOn, VerdictFrom}
 use Rattle.fzn_checker.specs.declared.fault.CheckFault.{CheckFault}
 use Rattle.fzn_checker.specs.declared.fault.CheckFault.TheVariants.{Refused, Memory, Read}
@@ -26,6 +26,10 @@ IsFaultWhere Holds _ = ⊥
 -- a failed read is answered only where one failed
 abbrev pub IsReadDue : Bool → CheckFault → Type 0
 IsReadDue has_failed fault = fault ≡ Read → has_failed ≡ true
+
+-- no line was read, and there was no fault
+abbrev pub IsUnread : Progress → Type 0
+IsUnread now = IsFresh now.left now
 
 -- the first two lines tell the model's counts, in at most 18 digits
 abbrev pub HasCounts : Model → Header → Type 0

@@ -1,6 +1,7 @@
 // A file and its certificate checked from their bytes, and the answer printed.
 ghost use Rattle.std.specs.Prelude.{◌≡◌, IfOk, IfErr};
-ghost use Rattle.fzn_cert_reader.specs.Reader.{progress, input_of, IsUnread};
+ghost use Rattle.fzn_cert_reader.specs.Reader.{progress, input_of};
+ghost use Rattle.fzn_checker.specs.Checked.{IsUnread};
 ghost use Rattle.fzn_checker.specs.Answered.{IsAnswered, IsCheckFault, IsCheckDue};
 
 use crate::certificate::{Accepted, Verdict, check_certificate};

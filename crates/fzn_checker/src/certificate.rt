@@ -3,8 +3,8 @@ ghost use Rattle.std.specs.Prelude.{◌≡◌, true, IfOk, IfErr, length};
 ghost use Rattle.fzn_meaning.specs.Solutions.{declared_sets, IsProper, IsExhausted};
 ghost use Rattle.fzn_meaning.specs.WellFormed.{IsWellFormed};
 ghost use Rattle.fzn_cert.specs.Verdict.{accepted, VerdictOn};
-ghost use Rattle.fzn_cert_reader.specs.Reader.{progress, input_of, IsUnread};
-ghost use Rattle.fzn_checker.specs.Checked.{IsFaultWhere, IsReadDue};
+ghost use Rattle.fzn_cert_reader.specs.Reader.{progress, input_of};
+ghost use Rattle.fzn_checker.specs.Checked.{IsUnread, IsFaultWhere, IsReadDue};
 
 use crate::fault::CheckFault;
 use crate::given::Given;
