@@ -1,5 +1,5 @@
 -- A fault of the reader carries a verdict on, and what that makes of the whole certificate.
-use Rattle.std.proofs.Common.{◌≡◌, ℕ, ◌+◌, ◌-◌, Bool, true, false, List, [], ◌∷◌, ◌++◌, Option, Some, None, Result, Ok, Err, IsSome, IfSome, IfOk, IfErr, unwrap_or, refl, sym, ap, subst, ◌∙◌, inl, inr, arith, if◌then◌else◌}
+use Rattle.std.proofs.Common.{◌≡◌, ℕ, ◌+◌, ◌-◌, Bool, true, false, List, [], ◌∷◌, ◌++◌, Option, Some, None, Result, Ok, Err, IsSome, IfSome, IfOk, IfErr, unwrap_or, refl, sym, ap, subst, ◌∙◌, inl, inr, arith}
 use Rattle.std.specs.Prelude.{MatchOption, IfNone}
 use Rattle.std.specs.Io.KnownBytes.{Consumes}
 use Rattle.std.proofs.lemmas.Bool.{false≢true}
@@ -20,7 +20,7 @@ use Rattle.fzn_cert.proofs.VerdictLaws.{verdict-ends}
 use Rattle.fzn_checker.specs.declared.fault.CheckFault.{CheckFault}
 use Rattle.fzn_checker.specs.declared.fault.CheckFault.TheVariants.{File, Refused, NotVersionOne, Memory, Read, WriteOutput, WriteCert}
 use Rattle.fzn_checker.specs.Checked.{IsFaultWhere, HasCounts, Standing, IsMidway, Accepts}
-use Rattle.fzn_checker.specs.Faults.{fault_of_kind, fault_after, may_end}
+use Rattle.fzn_checker.specs.Faults.{fault_of_kind, fault_after}
 use Rattle.fzn_checker.proofs.StandingLaws.{Consumes-split, standing-from, other-counts, none_is}
 
 -- ---- a fault of the reader
@@ -88,16 +88,6 @@ finds-fault model past old new fault midway same counts finds = by_header new.he
         (rest, subst (λ o. Consumes old.left rest (lines_read old.header o)) (sym is) taken, v))
         (subst (λ n. IsFaultWhere (VerdictFrom model header.version past old.steps rest) (fault_of_kind fault.kind n new.closing past.refuted)) (sym line)
         (line-fault model header.version past old.steps rest fault.kind new.closing f trailed))
-
--- the fault is that of a failed read only where the reader says so
-pub read-failed : (kind : FaultKind) (line : ℕ) (closing : Option Bool) (is_refuted : Bool) → fault_of_kind kind line closing is_refuted ≡ Read → kind ≡ faults.Read
-read-failed faults.Read line closing is_refuted same = refl
-read-failed faults.Trailing line closing is_refuted same = by_ending (may_end closing is_refuted) same
-  where
-    by_ending : (may : Bool) → (if may then Refused line refusals.Trailing else Refused (line - 1) refusals.NotClosed) ≡ Read → faults.Trailing ≡ faults.Read
-    by_ending true same = cc
-    by_ending false same = cc
-read-failed _ line closing is_refuted same = cc
 
 -- ---- other counts, whatever comes after the second line
 

@@ -73,7 +73,7 @@ returns-in-Ok-clause-ok g c =
     let same = on_false c.in_ok-copy_line.field-0 (c.copy_line.new.lines.steps ≡ count) c.if-branch.false c.in_ok-copy_line.ensures.same in
     rewritten-kept (left_in g.C.Read.remaining c.args.lines.now.bytes) left next (g.W.Write.contents c.args.new.now) now after (g.W.Write.contents c.flush_all.new.self) count c.copy_line.new.lines.steps c.loop.invariant.copied end c.flush_all.ensures.kept same
 
-pub returns-in-Err-clause-err : goal.returns-clause-err
+pub returns-in-Err-clause-err : goal.returns-in-Err-clause-err
 returns-in-Err-clause-err g c =
     let left = left_in g.C.Read.remaining c.loop.lines.bytes in
     let next = left_in g.C.Read.remaining c.copy_line.new.lines.bytes in
