@@ -12,9 +12,9 @@ use Rattle.fzn_meaning.specs.Meaning.{IsWellFormed as IsWellFormedConstraint}
 use Rattle.fzn_meaning.specs.Solutions.{declared_sets}
 use Rattle.fzn_meaning.specs.WellFormed.{IsWellFormed}
 use Rattle.fzn_rules.specs.declared.rule.Rule.{Rule}
-use Rattle.fzn_rules.specs.Rules.{IsMet}
+use Rattle.fzn_rules.specs.Rules.{IsMet, IsAcceptedBy}
 use Rattle.fzn_sets.specs.Sets.{Narrowed, start}
-use Rattle.fzn_cert.specs.Accepted.{denying, IsTrivial, IsRuleMet}
+use Rattle.fzn_cert.specs.Accepted.{denying, IsTrivial, IsJustifiedBy}
 
 -- the present sets that began with the declared ones, after a clause was denied
 pub denied_from : (model : Model) (old : Narrowed) (new : List IntSet) (clause : List Lit) → old ≡ start (declared_sets model.vars) → new ≡ denied old.present clause → new ≡ denying model clause
@@ -35,22 +35,25 @@ constraint_fits model new clause k constraint wf is below at =
     subst (λ n. IsWellFormedConstraint n constraint) (sym (count-denied model new clause is))
     (subst (IsWellFormedConstraint (length model.vars)) (sym at) (wf.constraints k constraint below))
 
--- the rule is met on what is left exactly where it is met for the number
-pub rule_met : (model : Model) (new : List IntSet) (c : ℕ) (rule : Rule) (clause : List Lit) (constraint : Constraint) → new ≡ denying model clause → c - 1 < length model.constraints → constraint ≡ get_or model.constraints (c - 1) constraint → IsMet constraint new rule → IsRuleMet model c rule clause
-rule_met model new c rule clause constraint is below at met = elim (slice_get_cases model.constraints (c - 1)).1 [
+-- a rule that is met on what is left justifies the clause
+pub rule_justifies : (model : Model) (new : List IntSet) (c : ℕ) (rule : Rule) (clause : List Lit) (constraint : Constraint) → new ≡ denying model clause → c - 1 < length model.constraints → constraint ≡ get_or model.constraints (c - 1) constraint → IsMet constraint new rule → IsJustifiedBy model c rule clause
+rule_justifies model new c rule clause constraint is below at met = elim (slice_get_cases model.constraints (c - 1)).1 [
   | inl (found, within, got, here) ↦
       let same : constraint ≡ found = at ∙ get_or_default model.constraints (c - 1) constraint found within ∙ here in
-      subst (λ o. IfSome o (λ k. IsMet k (denying model clause) rule)) (sym got)
-      (subst (λ k. IsMet k (denying model clause) rule) same (subst (λ s. IsMet constraint s rule) is met))
+      subst (λ o. IfSome o (λ k. IsAcceptedBy k rule (declared_sets model.vars) clause)) (sym got)
+      (inr (subst (λ k. IsMet k (denying model clause) rule) same (subst (λ s. IsMet constraint s rule) is met)))
   | inr past_end ↦ absurd (omega (arith, past_end.0, below))
 ]
 
-pub rule_not_met : (model : Model) (new : List IntSet) (c : ℕ) (rule : Rule) (clause : List Lit) (constraint : Constraint) → new ≡ denying model clause → c - 1 < length model.constraints → constraint ≡ get_or model.constraints (c - 1) constraint → (IsMet constraint new rule → ⊥) → IsRuleMet model c rule clause → ⊥
-rule_not_met model new c rule clause constraint is below at not_met met = elim (slice_get_cases model.constraints (c - 1)).1 [
+-- one that is not justifies none, but for a trivial one
+pub rule_fails : (model : Model) (new : List IntSet) (c : ℕ) (rule : Rule) (clause : List Lit) (constraint : Constraint) → new ≡ denying model clause → c - 1 < length model.constraints → constraint ≡ get_or model.constraints (c - 1) constraint → (IsTrivial model clause → ⊥) → (IsMet constraint new rule → ⊥) → IsJustifiedBy model c rule clause → ⊥
+rule_fails model new c rule clause constraint is below at not_trivial not_met justified = elim (slice_get_cases model.constraints (c - 1)).1 [
   | inl (found, within, got, here) ↦
       let same : constraint ≡ found = at ∙ get_or_default model.constraints (c - 1) constraint found within ∙ here in
-      not_met (subst (λ s. IsMet constraint s rule) (sym is)
-      (subst (λ k. IsMet k (denying model clause) rule) (sym same) (subst (λ o. IfSome o (λ k. IsMet k (denying model clause) rule)) got met)))
+      elim (subst (λ o. IfSome o (λ k. IsAcceptedBy k rule (declared_sets model.vars) clause)) got justified) [
+        | inl trivial ↦ not_trivial trivial
+        | inr met ↦ not_met (subst (λ s. IsMet constraint s rule) (sym is) (subst (λ k. IsMet k (denying model clause) rule) (sym same) met))
+      ]
   | inr past_end ↦ absurd (omega (arith, past_end.0, below))
 ]
 

@@ -220,6 +220,12 @@ put-failed a b (Err e) text some puts = puts
 pub first-write_fault : (old left before after : Option (List ℕ)) (fault : CheckFault) → Consumes old left (first_line One) → (fault ≡ WriteCert) × AppendsFront before after (first_line Two) → IsRewriteFault old before after fault
 first-write_fault old left before after fault taken (is, front) = subst (IsRewriteFault old before after) (sym is) (begins-front old left before after [] taken front)
 
+-- the same of streams with the same bytes
+pub rewrite_fault-same : {A : Type 0} (result : Result A CheckFault) (old left before begun after now : Option (List ℕ)) → old ≡ left → before ≡ begun → after ≡ now → IfErr result (IsRewriteFault old before after) → IfErr result (IsRewriteFault left begun now)
+rewrite_fault-same result old left before begun after now same_old same_before same_after fault =
+    subst (λ o. IfErr result (IsRewriteFault o begun now)) same_old (subst (λ o. IfErr result (IsRewriteFault old o now)) same_before
+    (subst (λ o. IfErr result (IsRewriteFault old before o)) same_after fault))
+
 -- ---- the last line, and a flush after it
 
 pub rewritten-kept : (old left next before now after final : Option (List ℕ)) (count steps : ℕ) → IsCopied old left before now count → CopiesEnd left next now after → Keeps after final → steps ≡ count → IsRewritten old before final steps

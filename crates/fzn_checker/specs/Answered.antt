@@ -1,5 +1,5 @@
 -- What checking the bytes of a file and those of a certificate answers.
-use Rattle.std.specs.Prelude.{◌≡◌, ℕ, Bool, true, ℤ, List, length, Option, IfSome, Ok, Err}
+use Rattle.std.specs.Prelude.{◌≡◌, ◌⊎◌, ℕ, Bool, true, ℤ, List, length, Option, IfSome, Ok, Err}
 use Rattle.std.specs.Io.KnownBytes.{Appends, Keeps}
 use Rattle.fzn_streams.specs.Output.{AppendsFront}
 use Rattle.fzn_lexer.specs.declared.halt.Halt.TheVariants as errors
@@ -43,3 +43,9 @@ IsCheckFault file cert all old new NotVersionOne = ⊥
 IsCheckFault file cert all old new WriteCert = ⊥
 IsCheckFault file cert all old new WriteOutput =
     (model : Model) × (found : List (List ℤ)) × (closed : Bool) × Shows file cert model found closed × AppendsFront old new (answer_text model found closed all)
+
+-- A failed read is answered only where one of the file or of the certificate failed, and a failed write only where one of the
+-- answer failed, or its flush.
+pub record IsCheckDue (file cert out : Bool) (fault : CheckFault) : Type 0 where
+  pub read : fault ≡ Read → (file ≡ true) ⊎ (cert ≡ true)
+  pub write : fault ≡ WriteOutput → out ≡ true

@@ -1,5 +1,5 @@
 -- How far the check of a certificate came, and what its faults say.
-use Rattle.std.specs.Prelude.{◌≡◌, ◌+◌, ◌<◌, Bool, length, Some, None, IfSome, MatchOption}
+use Rattle.std.specs.Prelude.{◌≡◌, ◌+◌, ◌<◌, Bool, true, length, Some, None, IfSome, MatchOption}
 use Rattle.fzn_meaning.specs.declared.model.Model.{Model}
 use Rattle.fzn_cert.specs.declared.fault.FaultKind.{FaultKind}
 use Rattle.fzn_cert.specs.declared.fault.FaultKind.TheVariants as faults
@@ -10,7 +10,7 @@ use Rattle.fzn_cert.specs.declared.step.Step.{Step}
 use Rattle.fzn_cert.specs.Spelling.{IsHeader}
 use Rattle.fzn_cert.specs.Past.{Past, start}
 use Rattle.fzn_cert.specs.Accepted.{IsAccepted, HasFault, after}
-use Rattle.fzn_cert_reader.specs.Reader.{Progress, IsReading}
+use Rattle.fzn_cert_reader.specs.Reader.{Progress, IsReading, IsFresh}
 use Rattle.fzn_cert.specs.Verdict.{Outcome, accepted, refused, MayEnd, VerdictOn, VerdictFrom}
 use Rattle.fzn_checker.specs.declared.fault.CheckFault.{CheckFault}
 use Rattle.fzn_checker.specs.declared.fault.CheckFault.TheVariants.{Refused, Memory, Read}
@@ -22,6 +22,14 @@ IsFaultWhere Holds (Refused line refusal) = Holds (refused line refusal)
 IsFaultWhere Holds Memory = Unit {0}
 IsFaultWhere Holds Read = Unit {0}
 IsFaultWhere Holds _ = ⊥
+
+-- a failed read is answered only where one failed
+abbrev pub IsReadDue : Bool → CheckFault → Type 0
+IsReadDue has_failed fault = fault ≡ Read → has_failed ≡ true
+
+-- no line was read, and there was no fault
+abbrev pub IsUnread : Progress → Type 0
+IsUnread now = IsFresh now.left now
 
 -- the first two lines tell the model's counts, in at most 18 digits
 abbrev pub HasCounts : Model → Header → Type 0

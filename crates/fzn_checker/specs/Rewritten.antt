@@ -1,5 +1,5 @@
 -- A certificate of version 1 written anew as one of version 2.
-use Rattle.std.specs.Prelude.{◌≡◌, ℕ, ◌↔◌, Bool, List, [], ◌∷◌, ◌++◌, length, Option, IfSome}
+use Rattle.std.specs.Prelude.{◌≡◌, ℕ, ◌↔◌, Bool, true, List, [], ◌∷◌, ◌++◌, length, Option, IfSome}
 use Rattle.std.specs.Io.KnownBytes.{Consumes, IsAtEnd, Appends, Keeps}
 use Rattle.fzn_streams.specs.Output.{AppendsFront}
 use Rattle.fzn_meaning.specs.declared.model.Model.{Model}
@@ -81,6 +81,12 @@ IsRewriteFault old before after Read = Begins old before after
 IsRewriteFault old before after WriteCert = Begins old before after
 IsRewriteFault old before after WriteOutput = ⊥
 IsRewriteFault old before after (File fault) = ⊥
+
+-- a failed read is answered only where one of the old bytes failed, and a failed write only where one of the new ones failed, or their
+-- flush
+pub record IsRewriteDue (old new : Bool) (fault : CheckFault) : Type 0 where
+  pub read : fault ≡ Read → old ≡ true
+  pub write : fault ≡ WriteCert → new ≡ true
 
 -- ---- line by line
 

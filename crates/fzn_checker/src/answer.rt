@@ -1,12 +1,16 @@
 // A file and its certificate checked from their bytes, and the answer printed.
-ghost use Rattle.std.specs.Prelude.{IfOk, IfErr};
-ghost use Rattle.fzn_checker.specs.Answered.{IsAnswered, IsCheckFault};
+ghost use Rattle.std.specs.Prelude.{◌≡◌, IfOk, IfErr};
+ghost use Rattle.fzn_cert_reader.specs.Reader.{progress, input_of};
+ghost use Rattle.fzn_checker.specs.Checked.{IsUnread};
+ghost use Rattle.fzn_checker.specs.Answered.{IsAnswered, IsCheckFault, IsCheckDue};
 
 use crate::certificate::{Accepted, Verdict, check_certificate};
 use crate::fault::CheckFault;
+use fzn_cert_reader::StepReader;
 use fzn_meaning::Model;
 use fzn_printer::put_answer;
 use fzn_reading::read_model;
+use fzn_streams::{TrackedRead, TrackedReader, TrackedWrite, TrackedWriter, WriteFailed};
 use std::alloc::Global;
 use std::io::{Read, Write};
 
@@ -23,11 +27,32 @@ pub fn check<R: Read + Drop, C: Read + Drop, W: Write>(
     ensures answered { IfOk result (IsAnswered (R.remaining file) (C.remaining cert) show_all (W.contents out.old) (W.contents out.new)) }
     ensures fault { IfErr result (IsCheckFault (R.remaining file) (C.remaining cert) show_all (W.contents out.old) (W.contents out.new)) }
 {
-    let mut file = file;
-    let model = read_model(alloc, &mut file)?;
+    let mut file = TrackedReader::new(file);
+    let mut cert = StepReader::new(alloc, TrackedReader::new(cert));
+    let mut out = TrackedWriter::new(out);
+    check_tracked(alloc, &mut file, &mut cert, show_all, &mut out)
+}
+
+/// Checks as `check` does, on streams that remember whether a call on them failed. Of the certificate no line may have been read before.
+/// `Read` is answered only after a failed read of the file or of the certificate, and `WriteOutput` only after a failed write or flush
+/// of `out`.
+pub fn check_tracked<R: TrackedRead, C: TrackedRead + Drop, W: TrackedWrite>(
+    alloc: Global,
+    file: &mut R,
+    cert: &mut StepReader<C>,
+    show_all: bool,
+    out: &mut W,
+) -> Result<Verdict, CheckFault>
+    requires unread { IsUnread (progress C.remaining cert.old) }
+    ensures answered { IfOk result (IsAnswered (R.remaining file.old) (progress C.remaining cert.old).left show_all (W.contents out.old) (W.contents out.new)) }
+    ensures fault { IfErr result (IsCheckFault (R.remaining file.old) (progress C.remaining cert.old).left show_all (W.contents out.old) (W.contents out.new)) }
+    ensures due { IfErr result (IsCheckDue (R.has_failed file.new) (C.has_failed (input_of cert.new)) (W.has_failed out.new)) }
+    ensures same_stream { W.stream out.new ≡ W.stream out.old }
+{
+    let model = read_model(alloc, file)?;
     let accepted = check_certificate(alloc, &model, cert)?;
     match put_answer(out, &model, &accepted.solutions, accepted.closed, show_all) {
         Ok(()) => Ok(accepted.verdict()),
-        Err(_) => Err(CheckFault::WriteOutput),
+        Err(WriteFailed) => Err(CheckFault::WriteOutput),
     }
 }

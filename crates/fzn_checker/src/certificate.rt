@@ -3,7 +3,8 @@ ghost use Rattle.std.specs.Prelude.{◌≡◌, true, IfOk, IfErr, length};
 ghost use Rattle.fzn_meaning.specs.Solutions.{declared_sets, IsProper, IsExhausted};
 ghost use Rattle.fzn_meaning.specs.WellFormed.{IsWellFormed};
 ghost use Rattle.fzn_cert.specs.Verdict.{accepted, VerdictOn};
-ghost use Rattle.fzn_checker.specs.Checked.{IsFaultWhere};
+ghost use Rattle.fzn_cert_reader.specs.Reader.{progress, input_of};
+ghost use Rattle.fzn_checker.specs.Checked.{IsUnread, IsFaultWhere, IsReadDue};
 
 use crate::fault::CheckFault;
 use crate::given::Given;
@@ -15,8 +16,8 @@ use fzn_domain::{Domain, Memory};
 use fzn_list::Items;
 use fzn_meaning::{Model, Var};
 use fzn_sets::Sets;
+use fzn_streams::TrackedRead;
 use std::alloc::Global;
-use std::io::Read;
 
 /// What an accepted certificate shows.
 #[derive(Drop)]
@@ -45,26 +46,27 @@ impl Accepted {
     }
 }
 
-/// Checks the bytes of a certificate, line by line. Whoever wrote it: what is accepted is a proper list of solutions, and an exhausted
-/// one where it is closed.
-pub fn check_certificate<C: Read + Drop>(
+/// Checks a certificate, line by line, of which no line was read before. Whoever wrote it: what is accepted is a proper list of solutions,
+/// and an exhausted one where it is closed. `Read` is answered only after a failed read.
+pub fn check_certificate<C: TrackedRead + Drop>(
     alloc: Global,
     model: &Model,
-    cert: C,
+    cert: &mut StepReader<C>,
 ) -> Result<Accepted, CheckFault>
-    requires { IsWellFormed model.now }
-    ensures ok { IfOk result (λ answer. VerdictOn model.now (C.remaining cert) (accepted answer.solutions.items answer.closed)) }
-    ensures err { IfErr result (IsFaultWhere (VerdictOn model.now (C.remaining cert))) }
+    requires model { IsWellFormed model.now }
+    requires unread { IsUnread (progress C.remaining cert.old) }
+    ensures ok { IfOk result (λ answer. VerdictOn model.now (progress C.remaining cert.old).left (accepted answer.solutions.items answer.closed)) }
+    ensures err { IfErr result (IsFaultWhere (VerdictOn model.now (progress C.remaining cert.old).left)) }
+    ensures due { IfErr result (IsReadDue (C.has_failed (input_of cert.new))) }
     ensures proper { IfOk result (λ answer. IsProper model.now answer.solutions.items) }
     ensures exhausted { IfOk result (λ answer. answer.closed ≡ true → IsExhausted model.now answer.solutions.items) }
 {
-    let mut reader = StepReader::new(alloc, cert);
     let mut sets = Sets::new(alloc, domains_of(alloc, model.vars.as_slice())?)?;
     let has_empty = sets.has_empty();
     let mut history = History::new(alloc);
     let mut given = Given::new(alloc);
     let mut line = 3;
-    while let Some(step) = next_step(alloc, model, &history, line, &mut reader)? {
+    while let Some(step) = next_step(alloc, model, &history, line, cert)? {
         let refusal = take_step(
             alloc,
             model,
@@ -81,7 +83,7 @@ pub fn check_certificate<C: Read + Drop>(
     }
     Ok(Accepted {
         solutions: history.into_solutions(),
-        closed: reader.closed().unwrap_or(false),
+        closed: cert.closed().unwrap_or(false),
     })
 }
 

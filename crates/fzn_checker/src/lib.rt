@@ -2,13 +2,14 @@
 //!
 //! In: a model, and the bytes of a certificate from any source. Out: the solutions of the certificate and whether they are all that there
 //! are, or the first faulty line and what is wrong with it. Proved against `Verdict` of `fzn_cert`, and against the words of `fzn_meaning`
-//! on lists of solutions: what is accepted is a proper list, and an exhausted one where it is closed.
+//! on lists of solutions: what is accepted is a proper list, and an exhausted one where it is closed. `check` and `to2` take streams of any
+//! kind; `check_tracked` and `to2_tracked` take those that remember a failed call, and answer that a stream failed only where it did.
 #![tactic(auto)]
 
-pub use answer::check;
+pub use answer::{check, check_tracked};
 pub use certificate::{Accepted, Verdict, check_certificate};
 pub use fault::CheckFault;
-pub use rewrite::to2;
+pub use rewrite::{to2, to2_tracked};
 
 mod answer;
 mod certificate;

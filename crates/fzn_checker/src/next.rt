@@ -1,8 +1,8 @@
 // The next line of a certificate.
 ghost use Rattle.std.specs.Prelude.{◌≡◌, ◌↔◌, ◌+◌, ◌≤◌, IfOk, IfErr, IfSome, IfNone, IsTrue};
-ghost use Rattle.fzn_cert_reader.specs.Reader.{progress};
+ghost use Rattle.fzn_cert_reader.specs.Reader.{progress, input_of};
 ghost use Rattle.fzn_cert.specs.Spelling.{IsHeader};
-ghost use Rattle.fzn_checker.specs.Checked.{IsFaultWhere, HasCounts, Standing, IsMidway, Offers, Accepts, IsReadFault};
+ghost use Rattle.fzn_checker.specs.Checked.{IsFaultWhere, HasCounts, Standing, IsMidway, Offers, Accepts, IsReadFault, IsReadDue};
 ghost use Rattle.fzn_checker.specs.Faults.{may_end, fault_after};
 
 use crate::fault::CheckFault;
@@ -10,11 +10,11 @@ use crate::history::History;
 use fzn_cert::{CertFault, FaultKind, Refusal, Step};
 use fzn_cert_reader::StepReader;
 use fzn_meaning::Model;
+use fzn_streams::TrackedRead;
 use std::alloc::Global;
-use std::io::Read;
 
 /// The step of the next line, where the lines up to it are right; none after an ending that is right.
-pub fn next_step<R: Read + Drop>(
+pub fn next_step<R: TrackedRead + Drop>(
     alloc: Global,
     model: &Model,
     history: &History,
@@ -26,6 +26,7 @@ pub fn next_step<R: Read + Drop>(
     ensures step { IfOk result (λ found. IfSome found (Offers model.now history.now (progress R.remaining reader.old) (progress R.remaining reader.new))) }
     ensures end { IfOk result (λ found. IfNone found (Accepts model.now history.now (progress R.remaining reader.old) (progress R.remaining reader.new))) }
     ensures err { IfErr result (IsFaultWhere (Standing model.now history.now (progress R.remaining reader.old))) }
+    ensures due { IfErr result (IsReadDue (R.has_failed (input_of reader.new))) }
 {
     let next = reader.next(alloc);
     if !has_counts(model, reader) {
@@ -58,7 +59,7 @@ fn may_end(closed: Option<bool>, is_refuted: bool) -> bool
 }
 
 /// Whether the first two lines tell the model's counts, where they were read.
-fn has_counts<R: Read + Drop>(model: &Model, reader: &StepReader<R>) -> bool
+fn has_counts<R: TrackedRead + Drop>(model: &Model, reader: &StepReader<R>) -> bool
     ensures value { IsTrue result ↔ IfSome (progress R.remaining reader.now).header (HasCounts model.now) }
     ensures sized { IfSome (progress R.remaining reader.now).header IsHeader }
 {

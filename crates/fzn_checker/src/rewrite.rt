@@ -2,19 +2,19 @@
 ghost use Rattle.std.specs.Prelude.{◌≡◌, ◌≤◌, ◌+◌, ◌++◌, ◌∷◌, [], OnOk, None, true, IfOk, IfErr};
 ghost use Rattle.std.specs.Bool.{OnTrue, OnFalse};
 ghost use Rattle.std.specs.Io.KnownBytes.{Consumes, Appends};
-ghost use Rattle.fzn_streams.specs.Output.{AppendsFront};
-ghost use Rattle.fzn_cert_reader.specs.Input.{left_in};
+ghost use Rattle.fzn_streams.specs.Output.{AppendsFront, IsDue};
+ghost use Rattle.fzn_cert_reader.specs.Input.{left_in, input_of};
 ghost use Rattle.fzn_cert.specs.declared.step.Version.TheVariants.{One};
 ghost use Rattle.fzn_checker.specs.Faults.{fault_of_kind};
-ghost use Rattle.fzn_checker.specs.Checked.{IsReadFault};
+ghost use Rattle.fzn_checker.specs.Checked.{IsReadFault, IsReadDue};
 ghost use Rattle.fzn_checker.specs.declared.fault.CheckFault.TheVariants.{WriteCert};
-ghost use Rattle.fzn_checker.specs.Rewritten.{first_line, IsRewritten, IsRewriteFault, IsFirstFault, CopiesCounts, CopiesStep, CopiesEnd, IsCountsCopyFault, IsLineCopyFault};
+ghost use Rattle.fzn_checker.specs.Rewritten.{first_line, IsRewritten, IsRewriteFault, IsRewriteDue, IsFirstFault, CopiesCounts, CopiesStep, CopiesEnd, IsCountsCopyFault, IsLineCopyFault};
 
 use crate::fault::CheckFault;
 use crate::next::fault_after;
 use fzn_cert::{CertFault, FaultKind, Version};
 use fzn_cert_reader::{StepLines, line_of};
-use fzn_streams::put;
+use fzn_streams::{TrackedRead, TrackedReader, TrackedWrite, TrackedWriter, WriteFailed, put};
 use std::alloc::Global;
 use std::io::{Read, Write};
 
@@ -27,21 +27,39 @@ pub fn to2<C: Read + Drop, W: Write>(alloc: Global, old: C, new: &mut W) -> Resu
     ensures ok { IfOk result (IsRewritten (C.remaining old) (W.contents new.old) (W.contents new.new)) }
     ensures err { IfErr result (IsRewriteFault (C.remaining old) (W.contents new.old) (W.contents new.new)) }
 {
-    let mut lines = StepLines::new(alloc, old);
-    take_version(&mut lines)?;
+    let mut lines = StepLines::new(alloc, TrackedReader::new(old));
+    let mut new = TrackedWriter::new(new);
+    to2_tracked(alloc, &mut lines, &mut new)
+}
+
+/// Writes as `to2` does, on streams that remember whether a call on them failed. Of the lines none may have been read before. `Read` is
+/// answered only after a failed read, and `WriteCert` only after a failed write or flush of `new`.
+pub fn to2_tracked<C: TrackedRead + Drop, W: TrackedWrite>(
+    alloc: Global,
+    lines: &mut StepLines<C>,
+    new: &mut W,
+) -> Result<u64, CheckFault>
+    requires unread { lines.old.steps ≡ 0 }
+    ensures ok { IfOk result (IsRewritten (left_in C.remaining lines.old.bytes) (W.contents new.old) (W.contents new.new)) }
+    ensures err { IfErr result (IsRewriteFault (left_in C.remaining lines.old.bytes) (W.contents new.old) (W.contents new.new)) }
+    ensures due { IfErr result (IsRewriteDue (C.has_failed (input_of lines.new.bytes)) (W.has_failed new.new)) }
+    ensures same_stream { W.stream new.new ≡ W.stream new.old }
+{
+    take_version(lines)?;
     put_line(new, b"fzc 2")?;
-    copy_counts(&mut lines, new)?;
-    while copy_line(alloc, &mut lines, new)? {}
-    match new.flush() {
+    copy_counts(lines, new)?;
+    while copy_line(alloc, lines, new)? {}
+    match new.flush_all() {
         Ok(()) => Ok(lines.steps),
-        Err(_) => Err(CheckFault::WriteCert),
+        Err(WriteFailed) => Err(CheckFault::WriteCert),
     }
 }
 
 /// Reads the first line, which has to say version 1.
-fn take_version<R: Read + Drop>(lines: &mut StepLines<R>) -> Result<(), CheckFault>
+fn take_version<R: TrackedRead + Drop>(lines: &mut StepLines<R>) -> Result<(), CheckFault>
     ensures ok { OnOk result (Consumes (left_in R.remaining lines.old.bytes) (left_in R.remaining lines.new.bytes) (first_line One)) }
     ensures err { IfErr result (IsFirstFault (left_in R.remaining lines.old.bytes)) }
+    ensures due { IfErr result (IsReadDue (R.has_failed (input_of lines.new.bytes))) }
     ensures same { lines.new.steps ≡ lines.old.steps }
 {
     match lines.read_version() {
@@ -52,12 +70,14 @@ fn take_version<R: Read + Drop>(lines: &mut StepLines<R>) -> Result<(), CheckFau
 }
 
 /// Copies the second line.
-fn copy_counts<R: Read + Drop, W: Write>(
+fn copy_counts<R: TrackedRead + Drop, W: TrackedWrite>(
     lines: &mut StepLines<R>,
     new: &mut W,
 ) -> Result<(), CheckFault>
     ensures ok { OnOk result (CopiesCounts (left_in R.remaining lines.old.bytes) (left_in R.remaining lines.new.bytes) (W.contents new.old) (W.contents new.new)) }
     ensures err { IfErr result (IsCountsCopyFault (left_in R.remaining lines.old.bytes) (W.contents new.old) (W.contents new.new)) }
+    ensures due { IfErr result (IsRewriteDue (R.has_failed (input_of lines.new.bytes)) (W.has_failed new.new)) }
+    ensures same_stream { W.stream new.new ≡ W.stream new.old }
     ensures same { lines.new.steps ≡ lines.old.steps }
 {
     match lines.read_counts() {
@@ -67,7 +87,7 @@ fn copy_counts<R: Read + Drop, W: Write>(
 }
 
 /// Copies the next line, and says whether it is that of a step. Nothing follows the last one.
-fn copy_line<R: Read + Drop, W: Write>(
+fn copy_line<R: TrackedRead + Drop, W: TrackedWrite>(
     alloc: Global,
     lines: &mut StepLines<R>,
     new: &mut W,
@@ -77,6 +97,8 @@ fn copy_line<R: Read + Drop, W: Write>(
     ensures end { IfOk result (λ more. OnFalse more (CopiesEnd (left_in R.remaining lines.old.bytes) (left_in R.remaining lines.new.bytes) (W.contents new.old) (W.contents new.new))) }
     ensures same { IfOk result (λ more. OnFalse more (lines.new.steps ≡ lines.old.steps)) }
     ensures err { IfErr result (IsLineCopyFault lines.old.steps (left_in R.remaining lines.old.bytes) (W.contents new.old) (W.contents new.new)) }
+    ensures due { IfErr result (IsRewriteDue (R.has_failed (input_of lines.new.bytes)) (W.has_failed new.new)) }
+    ensures same_stream { W.stream new.new ≡ W.stream new.old }
 {
     match lines.next_step(alloc, Version::One) {
         Ok(Some(_)) => {
@@ -92,9 +114,10 @@ fn copy_line<R: Read + Drop, W: Write>(
 }
 
 /// Puts a line and its line feed.
-fn put_line<W: Write>(out: &mut W, line: &[u8]) -> Result<(), CheckFault>
+fn put_line<W: TrackedWrite>(out: &mut W, line: &[u8]) -> Result<(), CheckFault>
     ensures ok { OnOk result (Appends (W.contents out.old) (W.contents out.new) (line.now ++ 10 ∷ [])) }
     ensures err { IfErr result (λ fault. (fault ≡ WriteCert) × AppendsFront (W.contents out.old) (W.contents out.new) (line.now ++ 10 ∷ [])) }
+    ensures due { IsDue W.stream W.has_failed out.old out.new result }
 {
     if put(out, line).is_err() {
         return Err(CheckFault::WriteCert);

@@ -14,7 +14,7 @@ pub returns-in_err-step-clause-err : goal.returns-in_err-step-clause-err
 returns-in_err-step-clause-err g c =
     let p = err_from_is_err_and c.from_residual-in_err-step.result c.from_residual-in_err-step.ensures.1 in
     rw (p.1, p.2)
-    (fault-found c.args.model.now (g.C.Read.remaining c.args.cert) c.loop-given.history (progress g.C.Read.remaining c.loop-given.reader) c.in_err-step.field-0.0
+    (fault-found c.args.model.now (progress g.C.Read.remaining c.args.cert.now).left c.loop-given.history (progress g.C.Read.remaining c.loop-given.cert) c.in_err-step.field-0.0
     c.loop-given.invariant.goes_on c.in_err-step.ensures.err)
 
 -- the fault of a step is that of its line
@@ -22,22 +22,22 @@ pub returns-in-Some-refusal-clause-err : goal.returns-in-Some-refusal-clause-err
 returns-in-Some-refusal-clause-err g c =
     let model = c.args.model.now in
     let past = c.loop-given.history in
-    let old = progress g.C.Read.remaining c.loop-given.reader in
+    let old = progress g.C.Read.remaining c.loop-given.cert in
     let new = progress g.C.Read.remaining c.next_step.new.reader in
     let offers : Offers model past old new c.in-Some.step = subst (λ o. IfSome o (Offers model past old new)) c.in-Some.is c.in_ok-step.ensures.step in
     let refusal = c.in-Some-refusal.refusal in
-    subst (λ n. VerdictOn model (g.C.Read.remaining c.args.cert) (refused n refusal)) (sym c.loop-given.invariant.line)
+    subst (λ n. VerdictOn model (progress g.C.Read.remaining c.args.cert.now).left (refused n refusal)) (sym c.loop-given.invariant.line)
     (c.loop-given.invariant.goes_on (refused _ refusal) (offers.refuses refusal (subst (IsJudged model past c.in-Some.step) c.in-Some-refusal.is c.in_ok-refusal.ensures.judged)))
 
 pub returns-clause-ok : goal.returns-clause-ok
 returns-clause-ok g c =
     let model = c.args.model.now in
     let past = c.loop-given.history in
-    let old = progress g.C.Read.remaining c.loop-given.reader in
+    let old = progress g.C.Read.remaining c.loop-given.cert in
     let new = progress g.C.Read.remaining c.next_step.new.reader in
     let accepts : Accepts model past old new = subst (λ o. IfNone o (Accepts model past old new)) c.in_default.is c.in_ok-step.ensures.end in
-    subst (λ found. VerdictOn model (g.C.Read.remaining c.args.cert) (accepted found c.unwrap_or.result)) (sym c.into_solutions.ensures)
-    (found-accepted model (g.C.Read.remaining c.args.cert) past old new c.unwrap_or.result c.loop-given.invariant.goes_on accepts
+    subst (λ found. VerdictOn model (progress g.C.Read.remaining c.args.cert.now).left (accepted found c.unwrap_or.result)) (sym c.into_solutions.ensures)
+    (found-accepted model (progress g.C.Read.remaining c.args.cert.now).left past old new c.unwrap_or.result c.loop-given.invariant.goes_on accepts
     (c.unwrap_or.ensures ∙ ap (λ o. unwrap_or o false) c.closed.ensures))
 
 pub returns-clause-proper : goal.returns-clause-proper
@@ -48,7 +48,7 @@ pub returns-clause-exhausted : goal.returns-clause-exhausted
 returns-clause-exhausted g c =
     let model = c.args.model.now in
     let past = c.loop-given.history in
-    let old = progress g.C.Read.remaining c.loop-given.reader in
+    let old = progress g.C.Read.remaining c.loop-given.cert in
     let new = progress g.C.Read.remaining c.next_step.new.reader in
     let accepts : Accepts model past old new = subst (λ o. IfNone o (Accepts model past old new)) c.in_default.is c.in_ok-step.ensures.end in
     λ closed. subst (IsExhausted model) (sym c.into_solutions.ensures) (exhausted-sound model past c.loop-given.invariant.sound

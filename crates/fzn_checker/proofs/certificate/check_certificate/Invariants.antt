@@ -11,13 +11,13 @@ use Rattle.fzn_checker.proofs.certificate.check_certificate.Given as goal
 
 abbrev pub invariant-loop-given : goal.invariant-loop-given
 invariant-loop-given g l = record {
-  midway : IsMidway l.model l.history (progress g.C.Read.remaining l.reader);
-  line : l.line ≡ (progress g.C.Read.remaining l.reader).steps + 3;
-  goes_on : (outcome : Outcome) → Standing l.model l.history (progress g.C.Read.remaining l.reader) outcome → VerdictOn l.model (g.C.Read.remaining l.fn.cert) outcome;
+  midway : IsMidway l.model l.history (progress g.C.Read.remaining l.cert);
+  line : l.line ≡ (progress g.C.Read.remaining l.cert).steps + 3;
+  goes_on : (outcome : Outcome) → Standing l.model l.history (progress g.C.Read.remaining l.cert) outcome → VerdictOn l.model (progress g.C.Read.remaining l.fn.cert).left outcome;
   sound : IsSound l.model l.history;
   given : AreGiven l.model l.history.solutions l.given;
   sets : l.sets ≡ start (declared_sets l.model.vars);
 }
 
 abbrev pub decreases-loop-given : goal.decreases-loop-given
-decreases-loop-given g l = LAST_STEP - (progress g.C.Read.remaining l.reader).steps
+decreases-loop-given g l = LAST_STEP - (progress g.C.Read.remaining l.cert).steps

@@ -1,6 +1,6 @@
-use Rattle.std.proofs.Common.{◌-◌, subst, refl, inr, arith}
+use Rattle.std.proofs.Common.{◌-◌, subst, refl, arith}
 use Rattle.fzn_domain.specs.Narrow.{IsClauseOver}
-use Rattle.fzn_checker.proofs.JudgeLemmas.{denied_from, constraint_fits, rule_met, rule_not_met, not_trivial}
+use Rattle.fzn_checker.proofs.JudgeLemmas.{denied_from, constraint_fits, rule_justifies, rule_fails, not_trivial}
 use Rattle.fzn_checker.proofs.judge.judge_infer.Goals as goal
 
 pub refutes-requires-clause-constraint : goal.refutes-requires-clause-constraint
@@ -15,11 +15,11 @@ returns-then-refutes-clause-judged c =
     λ past. (
       subst (λ n. IsClauseOver n c.args.clause.now) c.len.ensures (c.if-not-has_variables.ensures.0 refl),
       (omega (arith, c.if-constraint-eq0.false), omega (arith, c.if-constraint-len.false, c.len-else-constraint-eq0.ensures)),
-      inr (rule_met c.args.model.now c.deny.new.sets.present c.args.constraint c.args.rule.now c.args.clause.now c.index-as_slice-constraint.result
+      rule_justifies c.args.model.now c.deny.new.sets.present c.args.constraint c.args.rule.now c.args.clause.now c.index-as_slice-constraint.result
           (denied_from c.args.model.now c.args.sets.now c.deny.new.sets.present c.args.clause.now c.requires.sets c.in_ok-emptied.ensures.sets)
           (omega (arith, c.if-constraint-eq0.false, c.if-constraint-len.false, c.len-else-constraint-eq0.ensures))
           (rw c.as_slice.ensures at c.index-as_slice-constraint.is)
-          (c.if-refutes.ensures.met.0 refl)),
+          (c.if-refutes.ensures.met.0 refl),
     )
 
 pub returns-else-refutes-clause-judged : goal.returns-else-refutes-clause-judged
@@ -28,9 +28,9 @@ returns-else-refutes-clause-judged c =
     λ past. (
       subst (λ n. IsClauseOver n c.args.clause.now) c.len.ensures (c.if-not-has_variables.ensures.0 refl),
       (omega (arith, c.if-constraint-eq0.false), omega (arith, c.if-constraint-len.false, c.len-else-constraint-eq0.ensures)),
-      not_trivial c.args.model.now c.args.sets.now c.deny.new.sets.present c.args.clause.now c.args.has_empty c.in_ok-emptied.emptied c.requires.sets now c.in_ok-emptied.ensures.emptied c.requires.empty c.if-has_empty.false c.if-emptied.false,
-      rule_not_met c.args.model.now c.deny.new.sets.present c.args.constraint c.args.rule.now c.args.clause.now c.index-as_slice-constraint.result now
+      rule_fails c.args.model.now c.deny.new.sets.present c.args.constraint c.args.rule.now c.args.clause.now c.index-as_slice-constraint.result now
           (omega (arith, c.if-constraint-eq0.false, c.if-constraint-len.false, c.len-else-constraint-eq0.ensures))
           (rw c.as_slice.ensures at c.index-as_slice-constraint.is)
+          (not_trivial c.args.model.now c.args.sets.now c.deny.new.sets.present c.args.clause.now c.args.has_empty c.in_ok-emptied.emptied c.requires.sets now c.in_ok-emptied.ensures.emptied c.requires.empty c.if-has_empty.false c.if-emptied.false)
           (λ met. let e = c.if-refutes.ensures.met.1 met in cc),
     )

@@ -11,6 +11,6 @@ returns-then-is_err-2-clause-err g c =
     let after = g.W.Write.contents c.put-2.new.out in (
       refl,
       front-then before between after c.args.line.now (10 ∷ [])
-          (put-done before between c.put.result c.args.line.now (sym c.is_err.ensures.value ∙ c.if-is_err.false) c.put.ensures)
-          (put-failed between after c.put-2.result (10 ∷ []) (sym c.is_err-2.ensures.value ∙ c.if-is_err-2.true) c.put-2.ensures),
+          (put-done before between c.put.result c.args.line.now (sym c.is_err.ensures.value ∙ c.if-is_err.false) c.put.ensures.text)
+          (put-failed between after c.put-2.result (10 ∷ []) (sym c.is_err-2.ensures.value ∙ c.if-is_err-2.true) c.put-2.ensures.text),
     )
