@@ -1,6 +1,7 @@
 // Runs that restart after each conflict, and keep no learned clause but the newest.
-use super::{is_answered, options_of, text_of};
+use super::{is_answered, options_of, solve, text_of};
 use fzn_checker::check;
+use fzn_solver::Unwatched;
 use fzn_words::{Learning, Options};
 use std::alloc::Global;
 use std::test::Fail;
@@ -21,11 +22,11 @@ const ONE_ANSWER: &[u8] = b"----------\n";
 
 const NO_ANSWER: &[u8] = b"=====UNSATISFIABLE=====\n";
 
-fn forget(options: &mut Options, learn: Learning, seed: Option<u64>) {
+fn forget(options: &mut Options, learn: Learning, seed: Option<u64>, keep: u64) {
     options.learn = learn;
     options.seed = seed;
     options.restart_after = 1;
-    options.keep = 0;
+    options.keep = keep;
 }
 
 /// Whether the checker gives this answer by the certificate.
@@ -40,11 +41,12 @@ fn certificate_of(
     alloc: Global,
     learn: Learning,
     seed: Option<u64>,
+    keep: u64,
     file: &str,
     answer: &[u8],
 ) -> Result<Vec<u8>, Fail> {
     let mut options = options_of(alloc, false, 10_000_000);
-    forget(&mut options, learn, seed);
+    forget(&mut options, learn, seed, keep);
     let mut cert: Vec<u8> = Vec::new(alloc);
     let is_right = is_answered(alloc, file, &options, answer, &mut cert)
         && is_accepted(alloc, file, answer, &cert);
@@ -57,7 +59,7 @@ fn certificate_of(
 
 /// Whether a run that is satisfied learns this clause.
 fn learns(alloc: Global, learn: Learning, file: &str, clause: &str) -> Result<bool, Fail> {
-    let cert = certificate_of(alloc, learn, None, file, ONE_ANSWER)?;
+    let cert = certificate_of(alloc, learn, None, 0, file, ONE_ANSWER)?;
     Ok(text_of(&cert).contains(clause))
 }
 
@@ -76,7 +78,7 @@ fn a_restart_deletes(rt: HostRuntime) -> Result<(), Fail> {
 
 #[test]
 fn plain_learning_deletes_nothing(rt: HostRuntime) -> Result<(), Fail> {
-    let cert = certificate_of(rt.alloc(), Learning::Plain, None, PIGEONS, NO_ANSWER)?;
+    let cert = certificate_of(rt.alloc(), Learning::Plain, None, 0, PIGEONS, NO_ANSWER)?;
     assert!(rt; !text_of(&cert).contains("\nd "));
     Ok(())
 }
@@ -133,11 +135,72 @@ fn learns_each_once(certificate: &str) -> bool {
     is_learned
 }
 
+/// Whether runs on the pigeons that keep so many learned clauses learn each once, with any of ten seeds.
+fn learns_pigeons_once(alloc: Global, keep: u64) -> Result<bool, Fail> {
+    for seed in 0..10 {
+        let cert = certificate_of(alloc, Learning::First, Some(seed), keep, PIGEONS, NO_ANSWER)?;
+        if !learns_each_once(text_of(&cert)) {
+            return Ok(false);
+        }
+    }
+    Ok(true)
+}
+
 #[test]
 fn each_clause_is_learned_once(rt: HostRuntime) -> Result<(), Fail> {
-    for seed in 0..10 {
-        let cert = certificate_of(rt.alloc(), Learning::First, Some(seed), PIGEONS, NO_ANSWER)?;
-        assert!(rt; learns_each_once(text_of(&cert)), "{seed}");
-    }
+    assert!(rt; learns_pigeons_once(rt.alloc(), 0)?);
+    assert!(rt; learns_pigeons_once(rt.alloc(), 2_000)?);
     Ok(())
+}
+
+/// The options of runs that restart after each conflict.
+fn restarting(alloc: Global, learn: Learning, seed: u64, keep: u64) -> Options {
+    let mut options = options_of(alloc, true, 10_000_000);
+    forget(&mut options, learn, Some(seed), keep);
+    options
+}
+
+/// Whether two runs with the same options write the same bytes to both writers.
+fn is_repeated(alloc: Global, file: &str, options: &Options) -> bool {
+    let mut first: Vec<u8> = Vec::new(alloc);
+    let mut answer: Vec<u8> = Vec::new(alloc);
+    let mut second: Vec<u8> = Vec::new(alloc);
+    let is_ended = is_written(alloc, file, options, &mut answer, &mut first)
+        && is_answered(alloc, file, options, &answer, &mut second);
+    is_ended && !first.is_empty() && first == second
+}
+
+/// Whether a run ends without a fault.
+fn is_written(
+    alloc: Global,
+    file: &str,
+    options: &Options,
+    out: &mut Vec<u8>,
+    cert: &mut Vec<u8>,
+) -> bool {
+    solve(alloc, file.as_bytes(), options, out, cert, &mut Unwatched).is_ok()
+}
+
+/// Three different numbers, with a sum that is made the least.
+const NUMBERS: &str =
+    "var 0..6: x :: output_var; var 0..6: y :: output_var; var 0..6: z :: output_var; var 0..40: sum :: output_var; constraint fzn_all_different_int([x,y,z]); constraint int_lin_le([-1,-2,-3,1],[x,y,z,sum],0); constraint int_lin_le([1,2,3,-1],[x,y,z,sum],0); constraint int_lin_le([-1,-1,-1],[x,y,z],-8); solve minimize sum;";
+
+/// Whether runs on these files are repeated, with any of ten seeds.
+fn are_repeated(alloc: Global, learn: Learning, keep: u64) -> bool {
+    for seed in 0..10 {
+        let options = restarting(alloc, learn, seed, keep);
+        for file in [PIGEONS, FOUR_CLAUSES, ONE_LITERAL, NUMBERS] {
+            if !is_repeated(alloc, file, &options) {
+                return false;
+            }
+        }
+    }
+    true
+}
+
+#[test]
+fn a_seed_decides_all_bytes(rt: HostRuntime) {
+    assert!(rt; are_repeated(rt.alloc(), Learning::First, 0));
+    assert!(rt; are_repeated(rt.alloc(), Learning::First, 2_000));
+    assert!(rt; are_repeated(rt.alloc(), Learning::Plain, 2_000));
 }

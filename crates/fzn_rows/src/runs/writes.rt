@@ -263,3 +263,38 @@ fn certificate_before_answer(rt: HostRuntime) -> Result<(), Fail> {
     );
     Ok(())
 }
+
+/// Twelve solutions.
+const TWELVE: &str =
+    "var 0..3: x :: output_var; var 0..3: y :: output_var; constraint int_ne(x,y); solve satisfy;";
+
+/// Whether a solution is shown right behind the flush of its line: `..s X Y<cert>x = X;y = Y;----------`, with line feeds.
+fn is_behind_its_line(alloc: Global, calls: &str) -> Result<bool, Fail> {
+    let (written, shown) = calls.rsplit_once("<cert>").ok_or("no flush")?;
+    let (_, line) = written.rsplit_once("\ns ").ok_or("no solution")?;
+    let (x, y) = line.trim().split_once(' ').ok_or("two values")?;
+    let wanted = format!(in alloc; "x = {x};\ny = {y};\n----------\n")?;
+    Ok(shown == wanted.as_str() && line.ends_with("\n"))
+}
+
+/// How many solutions are shown, each in a flush of its own; none where one is not behind its line.
+fn count_behind_lines(alloc: Global, calls: &str) -> Result<usize, Fail> {
+    let mut count = 0usize;
+    for part in calls.split("<out>") {
+        if part.contains("x = ") {
+            if !is_behind_its_line(alloc, part)? {
+                return Ok(0);
+            }
+            count = count.saturating_add(1);
+        }
+    }
+    Ok(count)
+}
+
+#[test]
+fn each_solution_behind_its_line(rt: HostRuntime) -> Result<(), Fail> {
+    let calls = calls_of(rt.alloc(), true, TWELVE)?;
+    assert!(rt; count_behind_lines(rt.alloc(), text_of(&calls))? == 12);
+    assert!(rt; text_of(&calls).ends_with("\ne closed\n<cert>==========\n<out>"));
+    Ok(())
+}
