@@ -8,12 +8,12 @@
 #[cfg(test)]
 mod checker;
 #[cfg(test)]
-mod output;
-#[cfg(test)]
 mod printer;
 #[cfg(test)]
 mod reader;
 #[cfg(test)]
 mod rewrite;
+#[cfg(test)]
+mod streams;
 #[cfg(test)]
 mod writer;

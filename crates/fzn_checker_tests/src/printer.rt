@@ -6,13 +6,16 @@ use crate::checker::least_bit;
 use fzn_checker::{Accepted, CheckFault, check_certificate};
 use fzn_meaning::{Model, is_solution};
 use fzn_printer::{Ending, PrintFault, Printer, put_answer};
+use fzn_streams::TrackedWriter;
 use std::alloc::Global;
 use std::test::Fail;
 
 /// Whether an answer without a solution is this line.
 fn is_ended(alloc: Global, ending: Ending, line: &[u8]) -> bool {
     let mut text: Vec<u8> = Vec::new(alloc);
-    let is_closed = Printer::new(&mut text).close(ending).is_ok();
+    let mut out = TrackedWriter::new(&mut text);
+    let is_closed = Printer::new(&mut out).close(ending).is_ok();
+    let _ = out;
     is_closed && text.as_slice() == line
 }
 
@@ -31,7 +34,8 @@ fn endings_without_a_solution(rt: HostRuntime) {
 /// Whether nothing is printed after the end.
 fn is_shut(alloc: Global) -> bool {
     let mut text: Vec<u8> = Vec::new(alloc);
-    let mut printer = Printer::new(&mut text);
+    let mut out = TrackedWriter::new(&mut text);
+    let mut printer = Printer::new(&mut out);
     let is_closed = printer.flush().is_ok() && printer.close(Ending::NodeLimit).is_ok();
     is_closed && printer.close(Ending::Complete) == Err(PrintFault::Failed)
 }
@@ -54,7 +58,8 @@ fn prints_one(model: &Model, text: &mut Vec<u8>) -> bool
     if !is_solution(model, &[1]) {
         return false;
     }
-    let mut printer = Printer::new(text);
+    let mut out = TrackedWriter::new(text);
+    let mut printer = Printer::new(&mut out);
     printer.solution(model, &[1]).is_ok() && printer.close(Ending::Complete).is_ok()
 }
 
@@ -84,8 +89,9 @@ fn prints_both(model: &Model, answer: &Accepted, text: &mut Vec<u8>) -> bool
     requires model { IsWellFormed model.now }
     requires answer { IsProper model.now answer.now.solutions.items }
 {
-    put_answer(text, model, answer.solutions.as_slice(), false, false).is_ok()
-        && put_answer(text, model, answer.solutions.as_slice(), true, true).is_ok()
+    let mut out = TrackedWriter::new(text);
+    put_answer(&mut out, model, answer.solutions.as_slice(), false, false).is_ok()
+        && put_answer(&mut out, model, answer.solutions.as_slice(), true, true).is_ok()
 }
 
 const BOTH: &[u8] = b"x = 0;\n----------\nx = 1;\n----------\nx = 0;\n----------\n==========\n";

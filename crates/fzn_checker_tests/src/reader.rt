@@ -3,6 +3,7 @@ use fzn_cert::{CertFault, FaultKind, Step, StepWriter, Version};
 use fzn_cert_reader::StepReader;
 use fzn_list::Items;
 use fzn_rules::Rule;
+use fzn_streams::{TrackedReader, TrackedWriter};
 use std::alloc::Global;
 use std::io;
 use std::io::Read;
@@ -38,12 +39,19 @@ pub(crate) fn cut_in(bytes: &[u8], most: usize, fails: bool) -> Cut<'_> {
     Cut { bytes, most, fails }
 }
 
+/// The steps of bytes that come in pieces.
+type Steps<'a> = StepReader<TrackedReader<Cut<'a>>>;
+
+fn reader_of(alloc: Global, input: Cut<'_>) -> Steps<'_> {
+    StepReader::new(alloc, TrackedReader::new(input))
+}
+
 /// Whether a step comes next.
-fn has_step(alloc: Global, reader: &mut StepReader<Cut<'_>>) -> bool {
+fn has_step(alloc: Global, reader: &mut Steps<'_>) -> bool {
     matches!(reader.next(alloc), Ok(Some(_)))
 }
 
-fn has_steps(alloc: Global, reader: &mut StepReader<Cut<'_>>, count: u8) -> bool {
+fn has_steps(alloc: Global, reader: &mut Steps<'_>, count: u8) -> bool {
     for _ in 0..count {
         if !has_step(alloc, reader) {
             return false;
@@ -52,13 +60,13 @@ fn has_steps(alloc: Global, reader: &mut StepReader<Cut<'_>>, count: u8) -> bool
     true
 }
 
-fn has_ended(alloc: Global, reader: &mut StepReader<Cut<'_>>) -> bool {
+fn has_ended(alloc: Global, reader: &mut Steps<'_>) -> bool {
     matches!(reader.next(alloc), Ok(None))
 }
 
 /// Whether so many steps come before the end, which says whether the answer is closed.
 fn is_read(alloc: Global, bytes: &[u8], most: usize, steps: u8, closed: bool) -> bool {
-    let mut reader = StepReader::new(alloc, cut_in(bytes, most, false));
+    let mut reader = reader_of(alloc, cut_in(bytes, most, false));
     has_steps(alloc, &mut reader, steps)
         && has_ended(alloc, &mut reader)
         && reader.closed() == Some(closed)
@@ -78,12 +86,12 @@ fn reads_a_step_of_each_kind(rt: HostRuntime) {
 }
 
 /// The fault that comes next, if one does.
-fn fault_of(alloc: Global, reader: &mut StepReader<Cut<'_>>) -> Option<CertFault> {
+fn fault_of(alloc: Global, reader: &mut Steps<'_>) -> Option<CertFault> {
     reader.next(alloc).err()
 }
 
 /// The first fault within nine steps.
-fn first_fault(alloc: Global, reader: &mut StepReader<Cut<'_>>) -> Option<CertFault> {
+fn first_fault(alloc: Global, reader: &mut Steps<'_>) -> Option<CertFault> {
     for _ in 0..9u8 {
         let fault = fault_of(alloc, reader);
         if fault.is_some() {
@@ -95,7 +103,7 @@ fn first_fault(alloc: Global, reader: &mut StepReader<Cut<'_>>) -> Option<CertFa
 
 /// Whether the bytes, behind which a read fails, have this fault, and each call after it fails at its line.
 fn is_torn(alloc: Global, bytes: &[u8], kind: FaultKind, line: u64) -> bool {
-    let mut reader = StepReader::new(alloc, cut_in(bytes, 1, true));
+    let mut reader = reader_of(alloc, cut_in(bytes, 1, true));
     let failed = CertFault {
         kind: FaultKind::Failed,
         line,
@@ -112,7 +120,7 @@ fn a_failed_read_comes_after_what_was_read(rt: HostRuntime) {
 }
 
 /// Whether the reader tells nothing of the first two lines and of the last.
-fn is_untold(reader: &StepReader<Cut<'_>>) -> bool {
+fn is_untold(reader: &Steps<'_>) -> bool {
     reader.header().is_none()
         && reader.counts().is_none()
         && reader.version().is_none()
@@ -120,14 +128,14 @@ fn is_untold(reader: &StepReader<Cut<'_>>) -> bool {
 }
 
 /// Whether it tells the first two lines, and nothing of the last.
-fn is_told(reader: &StepReader<Cut<'_>>) -> bool {
+fn is_told(reader: &Steps<'_>) -> bool {
     reader.counts() == Some((2, 2))
         && reader.version() == Some(Version::One)
         && reader.closed().is_none()
 }
 
 /// Whether the next step is from constraint 2 by the rule `lin`.
-fn has_lin(alloc: Global, reader: &mut StepReader<Cut<'_>>) -> bool {
+fn has_lin(alloc: Global, reader: &mut Steps<'_>) -> bool {
     matches!(
         reader.next(alloc),
         Ok(Some(Step::Infer {
@@ -140,13 +148,16 @@ fn has_lin(alloc: Global, reader: &mut StepReader<Cut<'_>>) -> bool {
 
 #[test]
 fn tells_what_the_lines_say(rt: HostRuntime) {
-    let mut reader = StepReader::new(rt.alloc(), cut_in(ROW, 4096, false));
+    let mut reader = reader_of(rt.alloc(), cut_in(ROW, 4096, false));
     assert!(rt; is_untold(&reader));
     assert!(rt; has_lin(rt.alloc(), &mut reader) && is_told(&reader));
 }
 
 /// Writes an inference, a solution and the end.
-fn write_two(alloc: Global, writer: &mut StepWriter<'_, Vec<u8>>) -> Result<(), FaultKind> {
+fn write_two(
+    alloc: Global,
+    writer: &mut StepWriter<'_, TrackedWriter<'_, Vec<u8>>>,
+) -> Result<(), FaultKind> {
     let step = Step::Infer {
         constraint: 8,
         rule: Rule::Hall(2, -3),
@@ -158,7 +169,7 @@ fn write_two(alloc: Global, writer: &mut StepWriter<'_, Vec<u8>>) -> Result<(), 
 }
 
 /// Whether the next step is the inference.
-fn has_hall(alloc: Global, reader: &mut StepReader<Cut<'_>>) -> bool {
+fn has_hall(alloc: Global, reader: &mut Steps<'_>) -> bool {
     matches!(
         reader.next(alloc),
         Ok(Some(Step::Infer {
@@ -170,17 +181,19 @@ fn has_hall(alloc: Global, reader: &mut StepReader<Cut<'_>>) -> bool {
 }
 
 fn begins_with_hall(alloc: Global, bytes: &[u8]) -> bool {
-    let mut reader = StepReader::new(alloc, cut_in(bytes, 4096, false));
+    let mut reader = reader_of(alloc, cut_in(bytes, 4096, false));
     has_hall(alloc, &mut reader) && reader.counts() == Some((2, 8))
 }
 
 #[test]
 fn reads_what_was_written(rt: HostRuntime) -> Result<(), Fail> {
-    let mut out: Vec<u8> = Vec::new(rt.alloc());
+    let mut text: Vec<u8> = Vec::new(rt.alloc());
+    let mut out = TrackedWriter::new(&mut text);
     let mut writer = StepWriter::new(rt.alloc(), &mut out, 2, 8)?;
     write_two(rt.alloc(), &mut writer)?;
     let _ = writer;
-    assert!(rt; is_read(rt.alloc(), &out, 4096, 2, true));
-    assert!(rt; begins_with_hall(rt.alloc(), &out));
+    let _ = out;
+    assert!(rt; is_read(rt.alloc(), &text, 4096, 2, true));
+    assert!(rt; begins_with_hall(rt.alloc(), &text));
     Ok(())
 }

@@ -89,16 +89,23 @@ fn the_first_faulty_line(rt: HostRuntime) -> Result<(), Fail> {
     Ok(())
 }
 
-fn is_unread(alloc: Global) -> bool {
-    let mut new: Vec<u8> = Vec::new(alloc);
-    let torn: Cut<'static> = cut_in(&OLD[..30], 7, true);
-    fault_of(alloc, torn, &mut new) == Some(CheckFault::Read)
+/// Whether a beginning of the new certificate stands.
+fn is_begun(new: &[u8]) -> bool {
+    NEW.starts_with(new)
 }
 
-fn is_unwritten(alloc: Global) -> bool {
-    let mut new = with_room(alloc, 40, true);
+/// Whether it is told that the read behind so many bytes failed.
+fn is_unread(alloc: Global, count: usize) -> bool {
+    let mut new: Vec<u8> = Vec::new(alloc);
+    let torn: Cut<'static> = cut_in(&OLD[..count.min(OLD.len())], 7, true);
+    fault_of(alloc, torn, &mut new) == Some(CheckFault::Read) && is_begun(&new)
+}
+
+/// Whether it is told that the write behind so many bytes failed.
+fn is_unwritten(alloc: Global, room: usize, fails: bool) -> bool {
+    let mut new = with_room(alloc, room, fails);
     let fault = fault_of(alloc, OLD, &mut new);
-    fault == Some(CheckFault::WriteCert) && new.taken.as_slice() == &NEW[..40]
+    fault == Some(CheckFault::WriteCert) && is_begun(&new.taken) && new.taken.len() == room
 }
 
 fn is_unflushed(alloc: Global) -> bool {
@@ -109,7 +116,12 @@ fn is_unflushed(alloc: Global) -> bool {
 
 #[test]
 fn reads_and_writes_that_fail(rt: HostRuntime) {
-    assert!(rt; is_unread(rt.alloc()));
-    assert!(rt; is_unwritten(rt.alloc()));
+    for count in 0..OLD.len() + 1 {
+        assert!(rt; is_unread(rt.alloc(), count), "the first {count} bytes");
+    }
+    for room in 0..NEW.len() {
+        assert!(rt; is_unwritten(rt.alloc(), room, false), "room {room}");
+        assert!(rt; is_unwritten(rt.alloc(), room, true), "room {room}");
+    }
     assert!(rt; is_unflushed(rt.alloc()));
 }

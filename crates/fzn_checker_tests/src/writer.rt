@@ -8,6 +8,7 @@ use fzn_cert::{FaultKind, Refusal, Step, StepWriter, Version, one_line, one_verd
 use fzn_domain::{Lit, Memory, Op, VarId};
 use fzn_list::Items;
 use fzn_rules::Rule;
+use fzn_streams::TrackedWriter;
 use std::alloc::Global;
 use std::io;
 use std::io::Write;
@@ -124,7 +125,7 @@ pub(crate) const LINES: &[u8] =
 /// Writes the step, where there is memory for it.
 fn put(
     alloc: Global,
-    writer: &mut StepWriter<'_, Narrow>,
+    writer: &mut StepWriter<'_, TrackedWriter<'_, Narrow>>,
     step: Result<Step, Memory>,
 ) -> Result<(), FaultKind>
     requires version { version_of writer.old ≡ Two }
@@ -134,7 +135,10 @@ fn put(
     writer.write(alloc, &step?)
 }
 
-fn write_steps(alloc: Global, writer: &mut StepWriter<'_, Narrow>) -> Result<(), FaultKind>
+fn write_steps(
+    alloc: Global,
+    writer: &mut StepWriter<'_, TrackedWriter<'_, Narrow>>,
+) -> Result<(), FaultKind>
     requires { version_of writer.old ≡ Two }
 {
     put(alloc, writer, cut_step(alloc))?;
@@ -148,7 +152,8 @@ fn write_steps(alloc: Global, writer: &mut StepWriter<'_, Narrow>) -> Result<(),
 
 // Writes one step of each kind.
 fn write_all(alloc: Global, out: &mut Narrow) -> Result<(), FaultKind> {
-    let mut writer = StepWriter::over(out);
+    let mut out = TrackedWriter::new(out);
+    let mut writer = StepWriter::over(&mut out);
     writer.begin(alloc, Version::Two, 2, 1)?;
     write_steps(alloc, &mut writer)
 }
@@ -172,7 +177,7 @@ fn writes_the_lines_or_a_beginning(rt: HostRuntime) {
 }
 
 /// Whether of three solutions one is written, the next fails, and each call fails from then on.
-fn is_shut(alloc: Global, writer: &mut StepWriter<'_, Narrow>) -> bool {
+fn is_shut(alloc: Global, writer: &mut StepWriter<'_, TrackedWriter<'_, Narrow>>) -> bool {
     let step = Step::Solution(Items::new(alloc));
     writer.write(alloc, &step) == Ok(())
         && writer.write(alloc, &step) == Err(FaultKind::Write)
@@ -182,11 +187,13 @@ fn is_shut(alloc: Global, writer: &mut StepWriter<'_, Narrow>) -> bool {
 }
 
 fn is_shut_by_a_fault(alloc: Global) -> Result<bool, FaultKind> {
-    let mut out = with_room(alloc, 23, true);
+    let mut narrow = with_room(alloc, 23, true);
+    let mut out = TrackedWriter::new(&mut narrow);
     let mut writer = StepWriter::with_version(alloc, &mut out, Version::One, 0, 0)?;
     let is_shut = is_shut(alloc, &mut writer);
     let _ = writer;
-    Ok(is_shut && out.taken.as_slice() == b"fzc 1\nvars 0 cons 0\ns\ns".as_slice())
+    let _ = out;
+    Ok(is_shut && narrow.taken.as_slice() == b"fzc 1\nvars 0 cons 0\ns\ns".as_slice())
 }
 
 #[test]
@@ -207,7 +214,8 @@ fn ones(alloc: Global, count: u32) -> Result<Items<u64>, Memory>
 
 /// Writes a step with so many ids, and says how many bytes stand then where it is written or is too long.
 fn written(alloc: Global, count: u32, is_short: bool) -> Result<usize, FaultKind> {
-    let mut out: Vec<u8> = Vec::new(alloc);
+    let mut text: Vec<u8> = Vec::new(alloc);
+    let mut out = TrackedWriter::new(&mut text);
     let mut writer = StepWriter::new(alloc, &mut out, 1, 1)?;
     let step = Step::Resolve {
         clause: Items::new(alloc),
@@ -215,13 +223,14 @@ fn written(alloc: Global, count: u32, is_short: bool) -> Result<usize, FaultKind
     };
     let written = writer.write(alloc, &step);
     let _ = writer;
+    let _ = out;
     let want = if is_short {
         Ok(())
     } else {
         Err(FaultKind::StepTooLong)
     };
     if written == want {
-        Ok(out.len())
+        Ok(text.len())
     } else {
         Err(FaultKind::Failed)
     }
