@@ -14,6 +14,8 @@ mod inferences;
 #[cfg(test)]
 mod models;
 #[cfg(test)]
+mod restarts;
+#[cfg(test)]
 mod search;
 #[cfg(test)]
 mod words;

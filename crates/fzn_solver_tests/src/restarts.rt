@@ -1,0 +1,52 @@
+// How many conflicts there are from one restart to the next.
+use fzn_domain::Memory;
+use fzn_search::{Choice, Search};
+use std::alloc::Global;
+use std::test::*;
+
+/// A search of nothing, with its first restart after so many conflicts.
+fn search_of(alloc: Global, first: u64) -> Result<Search, Memory> {
+    let choice = Choice {
+        free: false,
+        seed: None,
+        restart_after: Some(first),
+        keep: 0,
+    };
+    Search::new(alloc, &[], &[], choice)
+}
+
+/// How many conflicts there are up to the next restart, where these are fewer than a thousand.
+fn next_interval(search: &mut Search) -> u64 {
+    for count in 1..1_000u64 {
+        if search.conflict() {
+            return count;
+        }
+    }
+    0
+}
+
+/// Whether these are the conflicts from one restart to the next, the first of them up to the first restart.
+fn are_intervals(alloc: Global, intervals: &[u64]) -> Result<bool, Memory> {
+    let first = intervals.first().copied().unwrap_or(0);
+    let mut search = search_of(alloc, first)?;
+    for wanted in intervals {
+        if next_interval(&mut search) != *wanted {
+            return Ok(false);
+        }
+    }
+    Ok(true)
+}
+
+/// Each is the one before times 3 divided by 2, rounded down.
+#[test]
+fn intervals_grow_by_half(rt: HostRuntime) -> Result<(), Fail> {
+    assert!(rt;
+        are_intervals(
+            rt.alloc(),
+            &[2, 3, 4, 6, 9, 13, 19, 28, 42, 63, 94, 141, 211, 316, 474]
+        )?
+    );
+    assert!(rt; are_intervals(rt.alloc(), &[100, 150, 225, 337, 505, 757])?);
+    assert!(rt; are_intervals(rt.alloc(), &[1, 1, 1, 1])?);
+    Ok(())
+}
