@@ -12,14 +12,14 @@ import tempfile
 
 HERE = os.path.dirname(os.path.abspath(__file__))
 CHECK = os.path.join(HERE, '..', 'crates', 'fzncheck', 'out', 'fzncheck')
-MODEL = 'var bool: a;\nvar bool: b;\nconstraint bool_clause([a,b],[]);\nconstraint bool_clause([],[a]);\n'
+CONSTRAINTS = 'constraint bool_clause([z1,z2],[]);\nconstraint bool_clause([],[z1]);\n'
 LINE = 4_194_304
 MILLION = 1_000_000
 
 
 def model(variables):
     """Two constraints on two Booleans, and other Booleans beside them."""
-    return MODEL + ''.join(f'var bool: z{k};\n' for k in range(variables - 2)) + 'solve satisfy;\n'
+    return ''.join(f'var bool: z{k + 1};\n' for k in range(variables)) + CONSTRAINTS + 'solve satisfy;\n'
 
 
 def filled(start, unit):

@@ -62,8 +62,9 @@ fn a_write_that_takes_none_has_failed(rt: HostRuntime) {
 fn is_read(fails: bool) -> bool {
     let mut input = TrackedReader::new(cut_in(b"bytes", 3, fails));
     let mut buffer = [0u8; 8];
-    let is_front = input.read_some(&mut buffer) == Ok(3) && buffer[..3] == *b"byt";
-    let is_back = input.read(&mut buffer).is_ok_and(|count| count == 2) && buffer[..2] == *b"es";
+    let is_front = input.read_some(&mut buffer) == Ok(3) && &buffer[..3] == b"byt".as_slice();
+    let is_back = input.read(&mut buffer).is_ok_and(|count| count == 2)
+        && &buffer[..2] == b"es".as_slice();
     let end = if fails { Err(ReadFailed) } else { Ok(0) };
     is_front && is_back && input.read_some(&mut buffer) == end
 }
