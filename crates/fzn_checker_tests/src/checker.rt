@@ -4,10 +4,12 @@ ghost use Rattle.fzn_domain.specs.Limits.{IsInLimits};
 ghost use Rattle.fzn_meaning.specs.WellFormed.{IsWellFormed};
 
 use fzn_cert::Refusal;
+use fzn_cert_reader::StepReader;
 use fzn_checker::{Accepted, CheckFault, Verdict, check_certificate};
 use fzn_domain::{Domain, Memory, VarId};
 use fzn_list::{Items, Text};
 use fzn_meaning::{Goal, Kind, Model, OutputItem, Var};
+use fzn_streams::TrackedReader;
 use std::alloc::Global;
 use std::test::Fail;
 
@@ -66,7 +68,8 @@ fn told(alloc: Global, answer: &Accepted) -> Result<String, Memory> {
 fn judged(alloc: Global, model: &Model, certificate: &str) -> Result<String, Memory>
     requires { IsWellFormed model.now }
 {
-    match check_certificate(alloc, model, certificate.as_bytes()) {
+    let mut reader = StepReader::new(alloc, TrackedReader::new(certificate.as_bytes()));
+    match check_certificate(alloc, model, &mut reader) {
         Ok(answer) => told(alloc, &answer),
         Err(fault) => format!(in alloc; "{fault}"),
     }

@@ -3,10 +3,11 @@ ghost use Rattle.fzn_meaning.specs.Solutions.{IsProper};
 ghost use Rattle.fzn_meaning.specs.WellFormed.{IsWellFormed};
 
 use crate::checker::least_bit;
+use fzn_cert_reader::StepReader;
 use fzn_checker::{Accepted, CheckFault, check_certificate};
 use fzn_meaning::{Model, is_solution};
 use fzn_printer::{Ending, PrintFault, Printer, put_answer};
-use fzn_streams::TrackedWriter;
+use fzn_streams::{TrackedReader, TrackedWriter};
 use std::alloc::Global;
 use std::test::Fail;
 
@@ -77,11 +78,9 @@ fn both(alloc: Global, model: &Model) -> Result<Accepted, CheckFault>
     requires { IsWellFormed model.now }
     ensures { IfOk result (λ answer. IsProper model.now answer.solutions.items) }
 {
-    check_certificate(
-        alloc,
-        model,
-        b"fzc 1\nvars 1 cons 0\ns 1\ns 0\ne open\n".as_slice(),
-    )
+    let certificate = b"fzc 1\nvars 1 cons 0\ns 1\ns 0\ne open\n".as_slice();
+    let mut reader = StepReader::new(alloc, TrackedReader::new(certificate));
+    check_certificate(alloc, model, &mut reader)
 }
 
 /// Prints the last of the solutions, and then all of them and the end; says whether all is printed.

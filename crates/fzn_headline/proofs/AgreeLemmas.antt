@@ -1,9 +1,7 @@
 -- One model and one verdict for the run and the check.
-use Rattle.std.proofs.Common.{◌≡◌, ◌≢◌, ℕ, ◌++◌, Bool, false, [], ℤ, List, length, Option, Some, Result, Ok, Err, refl, sym, ap, subst, ◌∙◌}
+use Rattle.std.proofs.Common.{◌≡◌, ◌≢◌, ℕ, ◌++◌, Bool, true, false, [], ℤ, List, length, Result, Ok, Err, sym, ap, subst, ◌∙◌}
 use Rattle.std.proofs.lemmas.List.{append_cancel_left}
 use Rattle.fzn_cert.specs.Verdict.{Outcome, accepted, refused, Verdict}
-use Rattle.fzn_cert.specs.declared.refusal.Refusal.{Refusal}
-use Rattle.fzn_checker.specs.Answered.{IsAnswered, IsCheckFault}
 use Rattle.fzn_checker.specs.declared.certificate.Verdict.{Verdict as Checked}
 use Rattle.fzn_checker.specs.declared.fault.CheckFault.{CheckFault}
 use Rattle.fzn_checker.specs.declared.fault.CheckFault.TheVariants.{File, Refused, NotVersionOne, Memory, Read, WriteOutput, WriteCert}
@@ -14,28 +12,40 @@ use Rattle.fzn_meaning.specs.declared.model.Model.{Model}
 use Rattle.fzn_printer.specs.Answer.{answer_text}
 use Rattle.fzn_printer.specs.Shown.{is_closed}
 use Rattle.fzn_reading.specs.Reads.{Reads}
-use Rattle.fzn_solver.specs.Run.{IsRun}
 use Rattle.fzn_solver.specs.Standing.{found_by, certificate}
 use Rattle.fzn_solver.specs.declared.report.Report.{Report}
 use Rattle.fzn_words.specs.declared.solve.Options.{Options}
 use Rattle.fzn_headline.specs.Headline.{Ran, Checked as IsChecked, Agrees}
 
-same_ok : (a b : Model) → Ok {E = Halt Fault} a ≡ Ok b → a ≡ b
-same_ok a b refl = refl
+-- what was read, and another model after a fault
+abbrev model_of : Result Model (Halt Fault) → Model → Model
+model_of (Ok model) other = model
+model_of (Err fault) other = other
+
+abbrev is_ok : Result Model (Halt Fault) → Bool
+is_ok (Ok model) = true
+is_ok (Err fault) = false
 
 -- the solutions, and whether there are no others, of one outcome
-solutions : Outcome → List (List ℤ)
+abbrev solutions : Outcome → List (List ℤ)
 solutions (accepted found closed) = found
 solutions (refused line refusal) = []
 
-closing : Outcome → Bool
+abbrev is_accepted : Outcome → Bool
+is_accepted (accepted found closed) = true
+is_accepted (refused line refusal) = false
+
+true_false : true ≡ false → ⊥
+true_false h = cc
+
+abbrev closing : Outcome → Bool
 closing (accepted found closed) = closed
 closing (refused line refusal) = false
 
 module _ (one_model : (bytes : List ℕ) (x y : Result Model (Halt Fault)) → Reads bytes x → Reads bytes y → x ≢ Err errors.Memory → y ≢ Err errors.Memory → x ≡ y)
     (one_verdict : (model : Model) (bytes : List ℕ) (x y : Outcome) → Verdict model bytes x → Verdict model bytes y → x ≡ y) where
   model-same : (file : List ℕ) (a b : Model) → Reads file (Ok a) → Reads file (Ok b) → a ≡ b
-  model-same file a b p q = same_ok a b (one_model file (Ok a) (Ok b) p q (λ e. cc) (λ e. cc))
+  model-same file a b p q = ap (λ (r : Result Model (Halt Fault)). model_of r a) (one_model file (Ok a) (Ok b) p q (λ e. cc) (λ e. cc))
 
   pub agrees : (file answer bytes printed : List ℕ) (options : Options) (report : Report) (result : Result Checked CheckFault) → Ran file options answer bytes report → IsChecked file bytes options.all printed result → Agrees report answer printed result
   agrees file answer bytes printed options report (Ok v) (out, cert, ran) (to, answered, _) =
@@ -54,22 +64,16 @@ module _ (one_model : (bytes : List ℕ) (x y : Result Model (Halt Fault)) → R
         append_cancel_left to printed answer (answered.printed ∙ ap (λ (t : List ℕ). to ++ t) (rw (same, found, closed) (sym (append_cancel_left out answer (answer_text model (found_by model steps) (is_closed report.ending) options.all) certified.printed)))),
       )
   agrees file answer bytes printed options report (Err (File fault)) (out, cert, ran) (to, _, wrong) =
-      absurd (ok_err (one_model file (Ok ran.model) (Err (errors.Fault fault)) ran.states wrong.1 (λ e. cc) (λ e. cc)))
-    where
-      ok_err : {A E : Type 0} {a : A} {e : E} → Ok a ≡ Err e → ⊥
-      ok_err h = cc
+      absurd (true_false (ap is_ok (one_model file (Ok ran.model) (Err (errors.Fault fault)) ran.states wrong.1 (λ e. cc) (λ e. cc))))
   agrees file answer bytes printed options report (Err (Refused line refusal)) (out, cert, ran) (to, _, wrong) =
       let model = ran.model in
       let certified = ran.answer.certified in
       let steps = ran.answer.steps in
-      let same = model-same file wrong.1.0 model wrong.1.1.0 ran.states in
+      let same = model-same file wrong.1.0 model wrong.1.1 ran.states in
       let text : bytes ≡ certificate model steps (is_closed report.ending) = append_cancel_left cert bytes (certificate model steps (is_closed report.ending)) certified.written in
       let here = subst (λ (t : List ℕ). Verdict model t (accepted (found_by model steps) (is_closed report.ending))) (sym text) certified.verdict in
-      let there = subst (λ (m : Model). Verdict m bytes (refused line refusal)) same wrong.1.1.1 in
-      absurd (not_both (one_verdict model bytes (accepted (found_by model steps) (is_closed report.ending)) (refused line refusal) here there))
-    where
-      not_both : {f : List (List ℤ)} {c : Bool} {l : ℕ} {r : Refusal} → accepted f c ≡ refused l r → ⊥
-      not_both h = cc
+      let there = subst (λ (m : Model). Verdict m bytes (refused line refusal)) same wrong.1.2 in
+      absurd (true_false (ap is_accepted (one_verdict model bytes (accepted (found_by model steps) (is_closed report.ending)) (refused line refusal) here there)))
   agrees file answer bytes printed options report (Err NotVersionOne) ran (to, _, wrong) = absurd wrong
   agrees file answer bytes printed options report (Err Memory) ran checked = tt
   agrees file answer bytes printed options report (Err Read) ran checked = tt

@@ -1,5 +1,5 @@
 -- What a run and a check of its certificate say of each other.
-use Rattle.std.specs.Prelude.{◌≡◌, ℕ, ◌++◌, Bool, List, Option, Some, Result, MatchResult, IfOk, IfErr}
+use Rattle.std.specs.Prelude.{◌≡◌, ℕ, ◌++◌, Bool, List, Some, Result, MatchResult, IfOk, IfErr}
 use Rattle.fzn_checker.specs.Answered.{IsAnswered, IsCheckFault}
 use Rattle.fzn_checker.specs.declared.certificate.Verdict.{Verdict}
 use Rattle.fzn_checker.specs.declared.fault.CheckFault.{CheckFault}

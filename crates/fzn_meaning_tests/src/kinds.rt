@@ -4,6 +4,7 @@ ghost use Rattle.fzn_meaning.specs.WellFormed.{IsWellFormed};
 
 use fzn_meaning::{Model, holds};
 use fzn_reading::read_model;
+use fzn_streams::TrackedReader;
 use std::alloc::{AllocError, Global};
 use std::test::*;
 
@@ -75,7 +76,7 @@ var 0..3: a; var 0..3: b; var 0..3: c; var 0..3: d; constraint fzn_inverse([a,b]
 pub(crate) fn model_of(alloc: Global, file: &str) -> Result<Model, Fail>
     ensures { IfOk result IsWellFormed }
 {
-    Ok(read_model(alloc, &mut file.as_bytes())?)
+    Ok(read_model(alloc, &mut TrackedReader::new(file.as_bytes()))?)
 }
 
 /// The least value of each variable.

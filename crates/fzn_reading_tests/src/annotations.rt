@@ -2,6 +2,7 @@
 use fzn_annotations::{Annotation, ValueChoice, VarChoice};
 use fzn_domain::VarId;
 use fzn_reading::read_annotated;
+use fzn_streams::TrackedReader;
 use std::alloc::Global;
 use std::test::*;
 
@@ -19,7 +20,7 @@ fn are_read(annotations: &[Annotation]) -> bool {
 }
 
 fn is_annotated(alloc: Global) -> Result<bool, Fail> {
-    let mut file = FILE;
+    let mut file = TrackedReader::new(FILE);
     let read = read_annotated(alloc, &mut file)?;
     Ok(read.model.vars.len() == 2 && are_read(read.annotations.as_slice()))
 }

@@ -1,6 +1,7 @@
 // Reading a file from a reader that gives its bytes in pieces or fails.
 use fzn_lexer::{Fault, FaultKind, Place};
 use fzn_reading::{ModelFault, one_model, read_model};
+use fzn_streams::TrackedReader;
 use std::alloc::{AllocError, Global};
 use std::io;
 use std::io::Read;
@@ -34,11 +35,11 @@ fn fault_of(
     most: usize,
     fails: Option<io::ErrorKind>,
 ) -> Option<ModelFault> {
-    let mut input = Pieces {
+    let mut input = TrackedReader::new(Pieces {
         bytes: file.as_bytes(),
         most,
         fails,
-    };
+    });
     read_model(alloc, &mut input).err()
 }
 

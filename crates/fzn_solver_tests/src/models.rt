@@ -7,6 +7,7 @@ ghost use Rattle.fzn_trail.specs.Levels.{fresh};
 use fzn_domain::{Domain, Memory};
 use fzn_meaning::{Model, Var};
 use fzn_reading::read_model;
+use fzn_streams::TrackedReader;
 use fzn_trail::Trail;
 use std::alloc::Global;
 use std::test::*;
@@ -14,7 +15,7 @@ use std::test::*;
 pub(crate) fn model_of(alloc: Global, file: &str) -> Result<Model, Fail>
     ensures { IfOk result IsWellFormed }
 {
-    Ok(read_model(alloc, &mut file.as_bytes())?)
+    Ok(read_model(alloc, &mut TrackedReader::new(file.as_bytes()))?)
 }
 
 /// The declared sets.
