@@ -16,7 +16,11 @@ use fzn_meaning::{IndexRange, Kind, Model, OutputItem, Term};
 use fzn_streams::{TrackedWrite, WriteFailed, put};
 
 /// The lines of the marked declarations, and ten dashes.
-pub fn put_solution<W: TrackedWrite>(out: &mut W, model: &Model, values: &[i64]) -> Result<(), WriteFailed>
+pub fn put_solution<W: TrackedWrite>(
+    out: &mut W,
+    model: &Model,
+    values: &[i64],
+) -> Result<(), WriteFailed>
     requires { All (IsOutputItem (length values.now)) model.now.shown }
     ensures text { Puts (W.contents out.old) (W.contents out.new) result (shown model.now values.now) }
     ensures due { IsDue W.stream W.has_failed out.old out.new result }
@@ -27,7 +31,11 @@ pub fn put_solution<W: TrackedWrite>(out: &mut W, model: &Model, values: &[i64])
 
 /// The lines of these declarations.
 #[tactic(auto, using(fzn_streams::proofs::CallerLemmas::puts))]
-fn put_items<W: TrackedWrite>(out: &mut W, items: &[OutputItem], values: &[i64]) -> Result<(), WriteFailed>
+fn put_items<W: TrackedWrite>(
+    out: &mut W,
+    items: &[OutputItem],
+    values: &[i64],
+) -> Result<(), WriteFailed>
     requires { All (IsOutputItem (length values.now)) items.now }
     ensures text { Puts (W.contents out.old) (W.contents out.new) result (flat_map (item_text values.now) items.now) }
     ensures due { IsDue W.stream W.has_failed out.old out.new result }
@@ -39,7 +47,11 @@ fn put_items<W: TrackedWrite>(out: &mut W, items: &[OutputItem], values: &[i64])
 }
 
 #[tactic(auto, using(fzn_streams::proofs::CallerLemmas::puts))]
-fn put_item<W: TrackedWrite>(out: &mut W, item: &OutputItem, values: &[i64]) -> Result<(), WriteFailed>
+fn put_item<W: TrackedWrite>(
+    out: &mut W,
+    item: &OutputItem,
+    values: &[i64],
+) -> Result<(), WriteFailed>
     requires { IsOutputItem (length values.now) item.now }
     ensures text { Puts (W.contents out.old) (W.contents out.new) result (item_text values.now item.now) }
     ensures due { IsDue W.stream W.has_failed out.old out.new result }
