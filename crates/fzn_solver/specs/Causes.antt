@@ -11,7 +11,7 @@ use Rattle.fzn_engine.specs.declared.fault.Fault.{Fault}
 use Rattle.fzn_engine.specs.declared.fault.Fault.TheVariants as engine
 use Rattle.fzn_printer.specs.Printer.{is_open, stream_of as out_stream, has_failed_in as out_failed}
 use Rattle.fzn_solver.specs.declared.fault.RunFault.{RunFault}
-use Rattle.fzn_solver.specs.declared.fault.RunFault.TheVariants.{Read, WriteOutput, WriteCert, StepTooLong}
+use Rattle.fzn_solver.specs.declared.fault.RunFault.TheVariants.{WriteOutput, WriteCert, StepTooLong}
 use Rattle.fzn_solver.specs.declared.writers.Writers.{Writers}
 use Rattle.fzn_solver.specs.Left.{HasLines}
 use Rattle.fzn_solver.specs.Writers.{taken, at_first}
