@@ -6,12 +6,8 @@
 #![tactic(auto)]
 
 #[cfg(test)]
-mod certificates;
-#[cfg(test)]
 mod failing;
 #[cfg(test)]
 mod runs;
-#[cfg(test)]
-mod streams;
 #[cfg(test)]
 mod sweeps;

@@ -1,6 +1,7 @@
 // A file with each form of items, with each byte changed: solver and checker give an answer, or the same fault.
 use crate::runs::{options_of, solve};
 use fzn_checker::{CheckFault, check};
+use fzn_checker_tests::put_at;
 use fzn_solver::{RunFault, Unwatched};
 use fzn_words::Options;
 use std::alloc::{AllocError, Global};
@@ -42,13 +43,6 @@ fn is_replied_to(alloc: Global, options: &Options, file: &[u8]) -> bool {
     let is_nothing = out.is_empty() && cert.is_empty();
     let is_same = out.as_slice() == printed.as_slice();
     is_same && (is_answered || is_nothing && are_refused(solver, checker))
-}
-
-/// Puts the byte at the place, where the bytes have it.
-pub(crate) fn put_at(bytes: &mut [u8], at: usize, byte: u8) {
-    if at < bytes.len() {
-        bytes[at] = byte;
-    }
 }
 
 /// Whether the file with another byte at the place is answered or refused, for each byte.

@@ -1,7 +1,7 @@
 // The calls of `check`.
 use super::{CASES, Case, Outcome, case_of, outcome_of};
-use crate::streams::{Calls, Flaw, Sink, Source};
 use fzn_checker::{CheckFault, check};
+use fzn_checker_tests::{Calls, Flaw, Sink, Source};
 use std::alloc::Global;
 use std::io::{Read, Write};
 use std::test::Fail;

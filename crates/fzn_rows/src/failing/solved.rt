@@ -1,6 +1,6 @@
 // The calls of `run`.
 use super::{CASES, Case, Outcome, begun, case_of, fault_of, given, outcome_of};
-use crate::streams::{Calls, Flaw, Sink, Source};
+use fzn_checker_tests::{Calls, Flaw, Sink, Source};
 use fzn_solver::RunFault;
 use std::alloc::Global;
 use std::test::Fail;

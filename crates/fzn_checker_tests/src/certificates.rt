@@ -1,7 +1,6 @@
 // A certificate of two Booleans cut off, with each byte changed, and changed in a line, however it is read: the checker prints what is
 // true of the file, or nothing.
-use crate::streams::{Calls, Source};
-use crate::sweeps::put_at;
+use crate::flawed::{Calls, Source, put_at};
 use fzn_checker::{CheckFault, check};
 use std::alloc::{AllocError, Global};
 use std::test::Fail;

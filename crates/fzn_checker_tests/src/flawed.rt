@@ -1,4 +1,4 @@
-// Readers and writers of which one call goes wrong.
+// Readers and writers of which one call goes wrong, and bytes with one changed.
 use std::alloc::Global;
 use std::cell::Cell;
 use std::io;
@@ -6,7 +6,7 @@ use std::io::{Read, Write};
 
 /// What goes wrong at a call.
 #[derive(Clone, Copy, Debug, PartialEq, Eq)]
-pub(crate) enum Flaw {
+pub enum Flaw {
     /// It fails.
     Fails,
     /// A write takes none of its bytes.
@@ -17,7 +17,7 @@ pub(crate) enum Flaw {
 
 /// Which call of a stream goes wrong, counted from 0, and how; and what came of it.
 #[derive(Drop)]
-pub(crate) struct Calls {
+pub struct Calls {
     flaw: Flaw,
     at: u64,
     count: Cell<u64>,
@@ -26,7 +26,8 @@ pub(crate) struct Calls {
 }
 
 impl Calls {
-    pub(crate) fn with(flaw: Flaw, at: u64) -> Calls {
+    /// The call of this number goes wrong so.
+    pub fn with(flaw: Flaw, at: u64) -> Calls {
         Calls {
             flaw,
             at,
@@ -37,27 +38,27 @@ impl Calls {
     }
 
     /// None goes wrong.
-    pub(crate) fn sound() -> Calls {
+    pub fn sound() -> Calls {
         Calls::with(Flaw::Fails, u64::MAX)
     }
 
     /// How many calls there were.
-    pub(crate) fn count(&self) -> u64 {
+    pub fn count(&self) -> u64 {
         self.count.get()
     }
 
     /// Whether a call failed.
-    pub(crate) fn has_failed(&self) -> bool {
+    pub fn has_failed(&self) -> bool {
         self.has_failed.get()
     }
 
     /// Whether a call came after one that failed.
-    pub(crate) fn is_late(&self) -> bool {
+    pub fn is_late(&self) -> bool {
         self.is_late.get()
     }
 
     /// Whether there were more calls than come before the one that goes wrong.
-    pub(crate) fn is_reached(&self) -> bool {
+    pub fn is_reached(&self) -> bool {
         self.count.get() > self.at
     }
 
@@ -90,14 +91,15 @@ impl Calls {
 
 /// Keeps what it takes, at most so many bytes a call.
 #[derive(Drop)]
-pub(crate) struct Sink<'a> {
-    pub(crate) taken: Vec<u8>,
+pub struct Sink<'a> {
+    pub taken: Vec<u8>,
     most: usize,
     calls: &'a Calls,
 }
 
 impl<'a> Sink<'a> {
-    pub(crate) fn new(alloc: Global, most: usize, calls: &'a Calls) -> Sink<'a> {
+    /// Has taken nothing.
+    pub fn new(alloc: Global, most: usize, calls: &'a Calls) -> Sink<'a> {
         Sink {
             taken: Vec::new(alloc),
             most,
@@ -121,14 +123,15 @@ impl Write for Sink<'_> {
 
 /// Gives its bytes, at most so many a call.
 #[derive(Drop)]
-pub(crate) struct Source<'a> {
+pub struct Source<'a> {
     bytes: &'a [u8],
     most: usize,
     calls: &'a Calls,
 }
 
 impl<'a> Source<'a> {
-    pub(crate) fn new(bytes: &'a [u8], most: usize, calls: &'a Calls) -> Source<'a> {
+    /// Has given nothing.
+    pub fn new(bytes: &'a [u8], most: usize, calls: &'a Calls) -> Source<'a> {
         Source { bytes, most, calls }
     }
 }
@@ -140,5 +143,12 @@ impl Read for Source<'_> {
         buf[..count].copy_from_slice(&self.bytes[..count]);
         self.bytes = &self.bytes[count..];
         Ok(count)
+    }
+}
+
+/// Puts the byte at the place, where the bytes have it.
+pub fn put_at(bytes: &mut [u8], at: usize, byte: u8) {
+    if at < bytes.len() {
+        bytes[at] = byte;
     }
 }
