@@ -2,7 +2,7 @@
 use Rattle.std.specs.Prelude.{ℕ}
 use Rattle.std.specs.List.{All}
 use Rattle.fzn_domain.specs.Narrow.{IsVariable}
-use Rattle.fzn_annotations.specs.declared.annotation.Annotation.{Annotation}
+use Rattle.fzn_strategy.specs.declared.annotation.Annotation.{Annotation}
 
 -- each is one of this many
 abbrev pub IsOver : ℕ → Annotation → Type 0

@@ -1,6 +1,6 @@
 // The form of an annotation as it is written.
-use crate::annotation::{ValueChoice, VarChoice};
 use fzn_list::Items;
+use fzn_strategy::{ValueChoice, VarChoice};
 use fzn_tree::{Ann, AnnArg, AnnTerm};
 
 /// `int_search` or `bool_search`, with the variables as they are written.

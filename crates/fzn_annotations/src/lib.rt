@@ -5,9 +5,7 @@
 //! answer speaks of them: contracts see that each variable is one of the model's.
 #![tactic(auto)]
 
-pub use annotation::{Annotation, ValueChoice, VarChoice};
 pub use taken::annotations_of;
 
-mod annotation;
 mod form;
 mod taken;

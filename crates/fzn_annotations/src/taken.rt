@@ -5,11 +5,11 @@ ghost use Rattle.fzn_domain.specs.Narrow.{IsVariable};
 ghost use Rattle.fzn_annotations.specs.Over.{IsOver};
 ghost use Rattle.fzn_annotations.specs.Taken.{count_of, StaysOver, IsSame};
 
-use crate::annotation::Annotation;
 use crate::form::{Form, Search, form_of, name_alone};
 use fzn_domain::VarId;
 use fzn_list::{Items, Text};
 use fzn_meaning::Term;
+use fzn_strategy::Annotation;
 use fzn_symbols::{Declared, Names};
 use fzn_tree::{Ann, AnnArg, AnnTerm, Literal};
 use indexmap::IndexMap;
@@ -19,7 +19,7 @@ use std::alloc::{AllocError, Global};
 const LEVELS: u32 = 64;
 
 /// The search annotations of a solve item over this many variables, in order. A variable stands only where it is named first: by a later
-/// annotation it is decided already. So there is no more of them than there are variables.
+/// annotation it is decided already. So there is no more of them than there are variables. It answers `Err` where memory runs out.
 pub fn annotations_of(
     alloc: Global,
     names: &Names,
@@ -147,7 +147,7 @@ impl Taken {
         let Some(Declared::Array(_, terms)) = names.meaning(name) else {
             return Ok(vars);
         };
-        if !self.is_first(alloc, name)? {
+        if !self.take_name(alloc, name)? {
             return Ok(vars);
         }
         for term in terms.as_slice() {
@@ -158,8 +158,8 @@ impl Taken {
         Ok(vars)
     }
 
-    /// Whether the array is named here first.
-    fn is_first(&mut self, alloc: Global, name: &Text) -> Result<bool, AllocError>
+    /// Takes the name of an array, and answers whether it is named here first.
+    fn take_name(&mut self, alloc: Global, name: &Text) -> Result<bool, AllocError>
         ensures { IsSame self.old self.new }
     {
         if self.arrays.get(name.as_slice()).is_some() {

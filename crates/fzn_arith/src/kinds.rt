@@ -19,6 +19,7 @@ use fzn_propagator::{Findings, Propagator};
 use fzn_trail::Trail;
 use std::alloc::Global;
 
+/// What reasons for one constraint that has a form as a sum.
 #[derive(Debug, Drop)]
 pub enum ArithPropagator {
     /// A sum compares with a bound.
@@ -42,7 +43,8 @@ impl Propagator for ArithPropagator {
     }
 }
 
-/// The propagator of the constraint of this number, where this crate has one for it.
+/// The propagator of the constraint of this number, counted from 1, where this crate has one for it: it has a form as a sum. It answers
+/// `Err` where memory runs out.
 pub fn propagator_of(
     alloc: Global,
     model: &Model,

@@ -19,7 +19,9 @@ use std::alloc::Global;
 /// What reasons for one constraint that is no sum.
 #[derive(Drop)]
 pub struct BuiltinPropagator {
+    /// The number of the constraint, counted from 1.
     pub number: u64,
+    /// The constraint, with its inputs and its result.
     pub parts: Parts,
 }
 
@@ -47,7 +49,8 @@ impl Propagator for BuiltinPropagator {
     }
 }
 
-/// The propagator of the constraint of this number, where this crate has one for it: it is no sum, and none of the five globals.
+/// The propagator of the constraint of this number, counted from 1, where this crate has one for it: it is no sum, and none of the five
+/// globals. It answers `Err` where memory runs out.
 pub fn propagator_of(
     alloc: Global,
     model: &Model,

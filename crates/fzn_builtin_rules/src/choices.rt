@@ -14,7 +14,7 @@ use fzn_sets::Sets;
 /// The most choices that `enum` goes over.
 const MOST_CHOICES: usize = 4096;
 
-/// Whether the one choice for the inputs leaves no value for the result.
+/// Whether there is one choice for the inputs, and it leaves no value for the result. No set may be empty. `false` for the five globals.
 pub fn is_fixed_met(constraint: &Constraint, sets: &Sets) -> bool
     requires constraint { IsWellFormed (length sets.now.present) constraint.now }
     requires nonempty { is_some_empty sets.now.present ≡ false }
@@ -27,7 +27,7 @@ pub fn is_fixed_met(constraint: &Constraint, sets: &Sets) -> bool
 }
 
 /// Whether there are at most 4,096 choices for the inputs, and none leaves a value for the result. It goes over the inputs once for
-/// each choice.
+/// each choice. No set may be empty. `false` for the five globals.
 pub fn is_enum_met(constraint: &Constraint, sets: &Sets) -> bool
     requires constraint { IsWellFormed (length sets.now.present) constraint.now }
     requires nonempty { is_some_empty sets.now.present ≡ false }

@@ -12,10 +12,12 @@ use crate::form::Places;
 use fzn_meaning::Place;
 use fzn_sets::{Sets, greatest_value, least_value};
 
-/// What a place gives at least and at most.
+/// What a place gives at least and at most: its coefficient times a value of its term, so from -10^18 to 10^18.
 #[derive(Clone, Copy, Debug)]
 pub struct Products {
+    /// The least.
     pub least: i64,
+    /// The greatest.
     pub greatest: i64,
 }
 
@@ -44,8 +46,11 @@ pub fn products_of(sets: &Sets, place: Place) -> Products
 /// The least and the greatest value of a sum, and how much more than its least any one place may give.
 #[derive(Clone, Copy, Debug)]
 pub struct Ends {
+    /// The least value.
     pub least: i128,
+    /// The greatest value.
     pub greatest: i128,
+    /// At least the greatest less the least of each place.
     pub widest: i64,
 }
 

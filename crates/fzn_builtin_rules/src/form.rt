@@ -30,9 +30,13 @@ pub enum Places<'a> {
 /// The sum over the places compares so with the bound; with a switch, exactly where this term is 1.
 #[derive(Clone, Copy)]
 pub struct Form<'a> {
+    /// The places of the sum.
     pub places: Places<'a>,
+    /// How the sum compares with the bound.
     pub comparison: Comparison,
+    /// The bound.
     pub bound: i64,
+    /// The switch, if there is one.
     pub switch: Option<Term>,
 }
 

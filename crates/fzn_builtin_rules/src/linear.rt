@@ -11,7 +11,8 @@ use crate::form::{Form, form_of};
 use fzn_meaning::{Comparison, Constraint};
 use fzn_sets::{Sets, is_fixed_to};
 
-/// Whether the ends of the sum of the constraint's form leave no way to meet it.
+/// Whether the ends of the sum of the constraint's form leave no way to meet it. No set may be empty. `false` for a constraint without a
+/// form.
 pub fn is_lin_met(constraint: &Constraint, sets: &Sets) -> bool
     requires constraint { IsWellFormed (length sets.now.present) constraint.now }
     requires nonempty { is_some_empty sets.now.present ≡ false }

@@ -11,7 +11,7 @@ ghost use Rattle.fzn_builtin_rules.specs.Product.{corners, IsProductOut, IsArith
 use fzn_meaning::{Constraint, Operation, Term};
 use fzn_sets::{Sets, greatest_value, least_value};
 
-/// Whether the bounds of a product exclude each value of the result.
+/// Whether the bounds of a product exclude each value of the result. No set may be empty. `false` for any constraint but `int_times`.
 #[tactic(auto, unfolding(crate::specs::Product::IsBoxMet, fzn_meaning::specs::Meaning::IsWellFormed))]
 pub fn is_box_met(constraint: &Constraint, sets: &Sets) -> bool
     requires constraint { IsWellFormed (length sets.now.present) constraint.now }

@@ -11,7 +11,8 @@ use fzn_domain::Domain;
 use fzn_meaning::{Constraint, Extreme, Relation, Term};
 use fzn_sets::{Sets, greatest_value, is_fixed_to, least_value, may_be};
 
-/// Whether the sets leave no value, no entry that the constraint asks for.
+/// Whether the sets leave no value or no entry that the constraint asks for. No set may be empty. `false` for a constraint that the rule is
+/// not for.
 #[tactic(auto, unfolding(crate::specs::Rows::IsRowsMet, fzn_meaning::specs::Meaning::IsWellFormed))]
 pub fn is_rows_met(constraint: &Constraint, sets: &Sets) -> bool
     requires constraint { IsWellFormed (length sets.now.present) constraint.now }

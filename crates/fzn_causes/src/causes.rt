@@ -13,7 +13,9 @@ use std::alloc::Global;
 /// than the entry's own literal, where it moved over values that were out before.
 #[derive(Clone, Copy, Debug)]
 pub struct Cause {
+    /// The place of the entry, counted from 0.
     pub place: usize,
+    /// What is needed of it.
     pub need: Lit,
 }
 
@@ -91,8 +93,8 @@ impl Causes {
         self.found.get(i).copied()
     }
 
-    /// All that were found are marked.
-    pub fn are_marked(&mut self) -> Result<(), Memory> {
+    /// Notes that all that were found are marked. It answers `Err` where memory runs out, and nothing is said then of what is marked.
+    pub fn note_marked(&mut self) -> Result<(), Memory> {
         for (place, crossing) in &self.fresh {
             for _ in self.crossings.len()..place.saturating_add(1) {
                 self.crossings.push(None)?;
@@ -110,7 +112,8 @@ impl Causes {
         Ok(())
     }
 
-    /// Adds the entries that made the literal false. None is added where it is false on the declared set.
+    /// Adds the entries that made the literal false. None is added where it is false on the declared set. It answers `Err` where memory
+    /// runs out, and some may be added then.
     pub fn add(&mut self, graph: Implications, lit: Lit) -> Result<(), Memory> {
         let Some(declared) = graph.declared(lit.var) else {
             return Ok(());
@@ -174,7 +177,8 @@ impl Causes {
     }
 
     /// Adds what stands behind an entry above level 0 of which a bound is needed that says more than its literal: the entries that took
-    /// out the values that the bound moved over, and behind an inequality the bound before it.
+    /// out the values that the bound moved over, and behind an inequality the bound before it. It answers `Err` where memory runs out, and
+    /// some may be added then.
     pub fn add_behind(&mut self, graph: Implications, cause: Cause) -> Result<(), Memory> {
         let Cause { place, need } = cause;
         let Some(entry) = graph.entry(place) else {

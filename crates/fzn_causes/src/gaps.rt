@@ -10,8 +10,11 @@ use std::collections::HashMap;
 /// The values of a variable between two others.
 #[derive(Clone, Copy, Debug, PartialEq, Eq, Hash, Drop)]
 pub struct Gap {
+    /// The number of the variable, counted from 1.
     pub var: usize,
+    /// The value below the gap.
     pub below: i64,
+    /// The value above it.
     pub above: i64,
 }
 
@@ -64,7 +67,8 @@ impl Gaps {
         self.clauses.get(number).copied().flatten()
     }
 
-    /// Notes that a clause is wanted for the gap, if it is the first time.
+    /// Notes that a clause is wanted for the gap, if it is the first time. It answers `Err` where memory runs out, and nothing is said of
+    /// the gaps then.
     pub fn want(&mut self, gap: Gap) -> Result<(), Memory> {
         if self.numbers.get(&gap).is_none() {
             let number = self.gaps.len();
@@ -81,7 +85,7 @@ impl Gaps {
         self.wanted.pop()
     }
 
-    /// The gap of this number.
+    /// The gap of this number, counted from 0.
     pub fn gap(&self, number: usize) -> Option<Gap> {
         self.gaps.get(number).copied()
     }

@@ -13,15 +13,19 @@ use fzn_trail::{Entry, Reason, Trail};
 /// The entries of a trail, and the clauses of their reasons.
 #[derive(Clone, Copy)]
 pub struct Implications<'a> {
+    /// The entries.
     pub trail: &'a Trail,
+    /// The held clauses, which may be reasons.
     pub clauses: &'a Clauses,
+    /// The inferences that stand, which may be reasons.
     pub inferences: &'a Inferences,
+    /// How many variables there are.
     pub vars: usize,
     ghost variables: { vars ≡ length trail.now.declared },
 }
 
 impl<'a> Implications<'a> {
-    /// The entry at this place, where there is one.
+    /// The entry at this place, counted from 0, where there is one.
     pub fn entry(self, place: usize) -> Option<Entry> {
         if place < self.trail.len() {
             Some(self.trail.entry(place))
@@ -82,7 +86,8 @@ impl<'a> Implications<'a> {
         }
     }
 
-    /// Finds what made the literals of the source's clause false, but for the one that it forced.
+    /// Finds what made the literals of the source's clause false, but for the one that it forced. It answers `Err` where memory runs out,
+    /// and some may be found then.
     pub fn find_causes(
         self,
         causes: &mut Causes,

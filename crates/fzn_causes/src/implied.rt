@@ -6,7 +6,7 @@ ghost use Rattle.fzn_causes.specs.Implied.{Implies, AreAlike};
 
 use fzn_domain::{Domain, Lit, Op};
 
-/// The literal that is true where this one is false.
+/// The literal that is true where this one is false. Where that is beyond 64 bits, its number stays at the end.
 pub fn opposite(lit: Lit) -> Lit
     ensures { i64.MIN <ℤ lit.value → lit.value <ℤ i64.MAX → result ≡ negated lit }
 {

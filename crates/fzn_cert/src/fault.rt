@@ -43,7 +43,9 @@ pub enum FaultKind {
 /// A fault, and the line where it stands, counted from 1.
 #[derive(Clone, Copy, Debug, PartialEq, Eq)]
 pub struct CertFault {
+    /// What is wrong.
     pub kind: FaultKind,
+    /// The line, which is 1 or 2 for a fault of the header.
     pub line: u64,
 }
 

@@ -3,5 +3,5 @@
 /// The most bytes of a line before its line feed.
 pub const LINE_LIMIT: usize = 4_194_304;
 
-/// The number of the last step.
+/// The number of the last step. No certificate has more steps.
 pub const LAST_STEP: u64 = 999_999_999_999_999_999;

@@ -6,13 +6,13 @@ use fzn_rules::Rule;
 /// One line of a certificate. Each kind but `Delete` gives a clause, which later steps may cite by the number of its step.
 #[derive(Debug, Drop)]
 pub enum Step {
-    /// The clause follows from the constraint of this number, by the rule.
+    /// The clause follows from the constraint of this number, counted from 1, by the rule.
     Infer {
         constraint: u64,
         rule: Rule,
         clause: Items<Lit>,
     },
-    /// The clause follows from the clauses cited, by unit propagation.
+    /// The clause follows from the clauses of the steps cited, by unit propagation in the order of the citations.
     Resolve {
         clause: Items<Lit>,
         ids: Items<u64>,
@@ -28,6 +28,8 @@ pub enum Step {
 /// Which steps a certificate may have: version one has no `Delete`.
 #[derive(Clone, Copy, Debug, PartialEq, Eq)]
 pub enum Version {
+    /// No `Delete`.
     One,
+    /// Each kind of step.
     Two,
 }

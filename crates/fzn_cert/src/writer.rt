@@ -158,7 +158,8 @@ impl<'w, W: TrackedWrite> StepWriter<'w, W> {
         Ok(())
     }
 
-    /// Flushes the writer below. Its faults are `Write` and `Failed`.
+    /// Flushes the writer below. It answers `Write` only where the flush failed, and `Failed` before the first two lines and after a fault
+    /// or the last line.
     pub fn flush(&mut self) -> Result<(), FaultKind>
         ensures kept { Keeps (contents_of W.contents self.old) (contents_of W.contents self.new) }
         ensures ok { OnOk result ((stage_of self.new ≡ Open) × (step_count self.new ≡ step_count self.old)) }
@@ -179,7 +180,8 @@ impl<'w, W: TrackedWrite> StepWriter<'w, W> {
         }
     }
 
-    /// Writes the last line, and flushes the writer below. Its faults are `Write` and `Failed`.
+    /// Writes the last line, and flushes the writer below. It answers `Write` only where a write or the flush failed, and `Failed` before
+    /// the first two lines and after a fault or the last line.
     pub fn finish(&mut self, closed: bool) -> Result<(), FaultKind>
         ensures ok { OnOk result (Appends (contents_of W.contents self.old) (contents_of W.contents self.new) (end_line closed)) }
         ensures same_stream { stream_of W.stream self.new ≡ stream_of W.stream self.old }

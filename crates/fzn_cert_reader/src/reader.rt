@@ -19,9 +19,13 @@ use std::alloc::Global;
 /// The lines of a certificate, read one at a time: the bytes, the line that was read last, and how far it came.
 #[derive(Drop)]
 pub struct StepLines<R> {
+    /// What is left to read.
     pub bytes: Bytes<R>,
+    /// The line that was read last, without its line feed.
     pub line: Vec<u8>,
+    /// How many steps were read, at most `LAST_STEP`.
     pub steps: u64,
+    /// What the last line says, once it was read.
     pub closed: Option<bool>,
     ghost few: { steps ≤ 999999999999999999 },
 }
@@ -48,7 +52,10 @@ impl<R: TrackedRead + Drop> StepLines<R> {
         &self.line
     }
 
-    /// The step of the next line, and none once the last line was read and nothing follows it.
+    /// The step of the next line, and none once the last line was read and nothing follows it. It answers `Memory` where memory runs out,
+    /// `Read` only after a read that failed, `Truncated` where the input ends before the line, `LineTooLong` past `LINE_LIMIT` bytes,
+    /// `Spelling` where the line spells no step of the version and no end, and `Trailing` at a byte behind the last line. After an error no
+    /// step is counted.
     pub fn next_step(&mut self, alloc: Global, version: Version) -> Result<Option<Step>, FaultKind>
         ensures line { IfOk result (λ found. IfSome found (HasLine version self.old.steps)) }
         ensures step { IfOk result (λ found. IfSome found (λ step. Consumes (left_in R.remaining self.old.bytes) (left_in R.remaining self.new.bytes) (step_line step)
@@ -87,7 +94,8 @@ impl<R: TrackedRead + Drop> StepLines<R> {
         }
     }
 
-    /// Reads the first line.
+    /// Reads the first line. It answers `Memory`, `Read`, `Truncated` and `LineTooLong` as `next_step` does, and `Header` where the line
+    /// spells no version.
     pub fn read_version(&mut self) -> Result<Version, FaultKind>
         ensures ok { IfOk result (λ version. Consumes (left_in R.remaining self.old.bytes) (left_in R.remaining self.new.bytes) (version_text version ++ 10 ∷ [])) }
         ensures err { IfErr result (IsHeaderFaultOf IsVersionText (left_in R.remaining self.old.bytes)) }
@@ -105,7 +113,8 @@ impl<R: TrackedRead + Drop> StepLines<R> {
         }
     }
 
-    /// Reads the second line: how many variables and constraints there are.
+    /// Reads the second line: how many variables and constraints there are, both below 10^18. It answers `Memory`, `Read`, `Truncated` and
+    /// `LineTooLong` as `next_step` does, and `Header` where the line spells no two counts.
     pub fn read_counts(&mut self) -> Result<(u64, u64), FaultKind>
         ensures ok { IfOk result (λ counts. Consumes (left_in R.remaining self.old.bytes) (left_in R.remaining self.new.bytes) (counts_text counts.0 counts.1 ++ 10 ∷ [])) }
         ensures sized { IfOk result (λ counts. IsSized counts.0 × IsSized counts.1) }

@@ -153,7 +153,8 @@ impl<R: TrackedRead + Drop> StepReader<R> {
     }
 }
 
-/// The line of a fault after so many steps.
+/// The line of a fault after so many steps, counted from 1 with the first two lines. It is one line further on for `Trailing`, which stands
+/// behind the last line.
 pub fn line_of(kind: FaultKind, steps: u64) -> u64
     requires { steps < 10 ^ 18 }
     ensures { result ≡ line_of kind steps }

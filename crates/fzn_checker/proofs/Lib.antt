@@ -3,7 +3,6 @@ mod ChainLemmas
 mod FaultLaws
 mod GivenLemmas
 mod JudgeLemmas
-mod OrderLemmas
 mod RewriteLemmas
 mod StandingLaws
 mod VersionLemmas

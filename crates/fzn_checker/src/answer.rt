@@ -16,7 +16,9 @@ use std::io::{Read, Write};
 
 /// Checks the certificate of a file, and prints the answer that it shows. Whatever the bytes of the certificate are, the answer is true
 /// of the file. Nothing is printed before the whole certificate is accepted. In an optimisation `show_all` prints every solution, and
-/// the last alone without it.
+/// the last alone without it. It prints nothing either where it answers `File` with the first fault of the file, `Refused` with the first
+/// faulty line of the certificate, `Memory` where memory runs out, or `Read` where a read of either fails. It answers `WriteOutput` where a
+/// write or the flush of `out` fails, and a beginning of the answer stands then.
 pub fn check<R: Read + Drop, C: Read + Drop, W: Write>(
     alloc: Global,
     file: R,

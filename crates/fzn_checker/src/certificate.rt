@@ -31,11 +31,14 @@ pub struct Accepted {
 /// How many solutions an accepted certificate has, and whether there are no others to be found.
 #[derive(Clone, Copy, Debug, PartialEq, Eq)]
 pub struct Verdict {
+    /// How many solutions it has.
     pub solutions: usize,
+    /// Whether there are no others to be found.
     pub closed: bool,
 }
 
 impl Accepted {
+    /// How many solutions there are, and whether there are no others to be found.
     pub fn verdict(&self) -> Verdict
         ensures { result ≡ record { solutions = length self.now.solutions.items; closed = self.now.closed } }
     {
@@ -47,7 +50,8 @@ impl Accepted {
 }
 
 /// Checks a certificate, line by line, of which no line was read before. Whoever wrote it: what is accepted is a proper list of solutions,
-/// and an exhausted one where it is closed. `Read` is answered only after a failed read.
+/// and an exhausted one where it is closed. It answers `Refused` with the first faulty line, `Memory` where memory runs out, and `Read`
+/// only after a failed read.
 pub fn check_certificate<C: TrackedRead + Drop>(
     alloc: Global,
     model: &Model,

@@ -21,18 +21,23 @@ pub enum CheckFault {
     /// The certificate that is to be written anew says version 2 in its first line.
     #[error("certificate line 1: fault 50 NotVersionOne")]
     NotVersionOne,
+    /// Memory was wanted and not there.
     #[error("fault 19 Memory")]
     Memory,
+    /// A read of the file or of the certificate failed.
     #[error("fault 20 Read")]
     Read,
+    /// A write or a flush of the answer failed.
     #[error("fault 21 WriteOutput")]
     WriteOutput,
+    /// A write or a flush of the certificate that is written anew failed.
     #[error("fault 22 WriteCert")]
     WriteCert,
 }
 
 impl CheckFault {
-    /// The exit status of a program that answers it.
+    /// The exit status of a program that answers it: 1 where a certificate is refused, 2 for a fault of the file, 4 for a failed read or
+    /// write, 5 for want of memory.
     pub fn status(self) -> u8
         ensures { result ≡ status_of self }
     {

@@ -33,7 +33,7 @@ pub fn to2<C: Read + Drop, W: Write>(alloc: Global, old: C, new: &mut W) -> Resu
 }
 
 /// Writes as `to2` does, on streams that remember whether a call on them failed. Of the lines none may have been read before. `Read` is
-/// answered only after a failed read, and `WriteCert` only after a failed write or flush of `new`.
+/// answered only after a failed read, and `WriteCert` only after a failed write or flush of `new`. Its faults are those of `to2`.
 pub fn to2_tracked<C: TrackedRead + Drop, W: TrackedWrite>(
     alloc: Global,
     lines: &mut StepLines<C>,

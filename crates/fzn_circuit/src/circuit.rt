@@ -26,7 +26,8 @@ use fzn_terms::{explain, force};
 use fzn_trail::Trail;
 use std::alloc::Global;
 
-/// `true`: the clause, emptied first, is an inference by `rows`, that the successor at place k, counted from 0, is at least 1.
+/// `true`: the clause, emptied first, is an inference by `rows`, that the successor at place k, counted from 0, is at least 1. `false`: it
+/// has no smaller value. It answers `Err` where memory runs out.
 pub fn explain_below(
     trail: &Trail,
     successors: &[Term],
@@ -43,6 +44,7 @@ pub fn explain_below(
 }
 
 /// `true`: the clause, emptied first, is an inference by `rows`, that the successor at place k, counted from 0, is no more than there are.
+/// `false`: it has no greater value. It answers `Err` where memory runs out.
 pub fn explain_above(
     trail: &Trail,
     successors: &[Term],
@@ -65,7 +67,7 @@ pub fn explain_above(
 }
 
 /// `true`: the clause, emptied first, is an inference by `hall`, that the successors at places i and j, counted from 0, of which the
-/// first has this one value, are not the same.
+/// first has this one value, are not the same. `false`: the second has not this value. It answers `Err` where memory runs out.
 pub fn explain_same(
     trail: &Trail,
     successors: &[Term],
@@ -156,7 +158,8 @@ pub(crate) fn rising(alloc: Global, values: &[i64]) -> Result<Items<i64>, Memory
 }
 
 /// Some places: the clause, emptied first, is an inference by `cut` with them, that the way from the start through fixed successors does
-/// not come back before it has been at all places.
+/// not come back before it has been at all places. The start is counted from 1. `None`: it comes to all places first, or it cannot go back
+/// from where it ends. It answers `Err` where memory runs out.
 pub fn explain_cut(
     alloc: Global,
     trail: &Trail,

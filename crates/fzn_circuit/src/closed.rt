@@ -170,7 +170,8 @@ fn explain_within(
     explain_between(trail, var, places, &low, &high, clause)
 }
 
-/// `true`: the clause, emptied first, is an inference by `cut` with these places, that one of them leads to another place.
+/// `true`: the clause, emptied first, is an inference by `cut` with these places, counted from 1 and in rising order, that one of them
+/// leads to another place. `false` promises nothing. It answers `Err` where memory runs out.
 pub fn explain_closed(
     trail: &Trail,
     successors: &[Term],

@@ -28,10 +28,13 @@ use fzn_rules::Rule;
 use fzn_trail::Trail;
 use std::alloc::Global;
 
-/// What reasons for one `fzn_circuit`.
+/// What reasons for one `fzn_circuit`. Places that lead only to one another are found by the walk of R. Tarjan, Depth-first search and
+/// linear graph algorithms, 1972.
 #[derive(Drop)]
 pub struct CircuitPropagator {
+    /// The number of the constraint, counted from 1.
     pub number: u64,
+    /// The successor of each place, both counted from 1.
     pub successors: Shared<Term>,
 }
 
@@ -47,7 +50,7 @@ impl Propagator for CircuitPropagator {
     }
 }
 
-/// The propagator of the constraint of this number, where it is a circuit.
+/// The propagator of the constraint of this number, counted from 1, where it is a circuit. It answers `Err` where memory runs out.
 pub fn propagator_of(model: &Model, c: usize) -> Result<Option<CircuitPropagator>, Memory>
     requires model { IsWellFormed model.now }
     requires number { (1 ≤ c) × (c ≤ length model.now.constraints) }

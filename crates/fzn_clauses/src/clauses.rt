@@ -64,7 +64,8 @@ enum Visit {
     Leaves,
 }
 
-/// Clauses by their numbers, from 0 in the order in which they were added.
+/// Clauses by their numbers, from 0 in the order in which they were added. Two literals of each are watched (Moskewicz, Madigan, Zhao,
+/// Zhang and Malik, Chaff, 2001).
 #[derive(Drop)]
 pub struct Clauses {
     arena: Arena,
@@ -91,7 +92,7 @@ impl Clauses {
         }
     }
 
-    /// Holds one more clause.
+    /// Holds one more clause. It answers `Err` where memory runs out, and the clauses are as before.
     pub fn add(&mut self, clause: &[Lit]) -> Result<ClauseId, Memory>
         ensures ok { OnOk result (held_by self.new ≡ held_by self.old ++ Some clause.now ∷ []) }
         ensures id { IfOk result (λ id. id.0 ≡ length (held_by self.old)) }
@@ -104,7 +105,7 @@ impl Clauses {
         Ok(ClauseId(k as u64))
     }
 
-    /// Holds a clause under the number of one that was taken out.
+    /// Holds a clause under the number of one that was taken out. It answers `Err` where memory runs out, and the clauses are as before.
     pub fn put(&mut self, id: ClauseId, clause: &[Lit]) -> Result<(), Memory>
         requires in_range { id.0 < length (held_by self.old) }
         requires free { IsHeld (held_by self.old) id → ⊥ }
@@ -160,7 +161,7 @@ impl Clauses {
         self.arena.len()
     }
 
-    /// How many times the literals of a clause were read by `propagate`.
+    /// How many times the literals of a clause were read by `propagate`; it stays at 2^64 - 1 once it is there.
     pub fn looked(&self) -> u64 {
         self.looked
     }

@@ -3,31 +3,24 @@ ghost use Rattle.std.specs.Prelude.{◌≡◌, IfOk, IfSome, OnOk, length};
 ghost use Rattle.std.specs.List.{All};
 ghost use Rattle.fzn_domain.specs.Limits.{IsLimited};
 ghost use Rattle.fzn_sets.specs.Sets.{start};
-ghost use Rattle.fzn_conflict.specs.declared.analysis.Learn.TheVariants.{Plain};
+ghost use Rattle.fzn_strategy.specs.declared.learn.Learn.TheVariants.{Plain};
 ghost use Rattle.fzn_learned.specs.Learned.{IsConflicting, IsDerived, IsLearned, IsPlain};
 ghost use Rattle.fzn_learned.specs.Reasoned.{known_of, AreOver, IsReasoned};
 
 use crate::first_uip::{first_uip, wanted_clause};
-use crate::marks::Marks;
+use crate::marks::{Marks, Wanted};
 use fzn_causes::Implications;
 use fzn_clauses::Clauses;
 use fzn_domain::Memory;
 use fzn_inferences::Inferences;
 use fzn_learned::{Learned, Source, is_derived, is_sound, plain_learned};
 use fzn_sets::Sets;
+use fzn_strategy::Learn;
 use fzn_trail::Trail;
 use std::alloc::Global;
 
-/// Which clause is learned.
-#[derive(Clone, Copy, Debug, PartialEq, Eq)]
-pub enum Learn {
-    /// One of the decisions is wrong.
-    Plain,
-    /// That of the first unique implication point, and where it does not serve the plain one.
-    First,
-}
-
-/// What is learned from a known clause that is false on the trail. The sets are the declared ones, and are restored.
+/// What is learned from a known clause that is false on the trail. The sets are the declared ones, and are restored. It answers `Err` where
+/// memory runs out, and the sets may be narrowed then.
 pub fn analyse(
     alloc: Global,
     trail: &Trail,
@@ -84,8 +77,9 @@ fn first_or_plain(
     plain_learned(alloc, trail, clauses, inferences, conflict)
 }
 
-/// The literal of an entry of level 0 as a clause of its own, where it follows from what stands for the entries that it rests on, and
-/// its reason. The sets are the declared ones, and are restored.
+/// The clause for what it is wanted for, where it follows: the literal of an entry of level 0 as a clause of its own, from what stands for
+/// the entries that it rests on and its reason; of a gap, from what stands for the entries that took its values out. The sets are the
+/// declared ones, and are restored. It answers `Err` where memory runs out, and the sets may be narrowed then.
 pub fn unit_of(
     alloc: Global,
     trail: &Trail,
@@ -93,7 +87,7 @@ pub fn unit_of(
     inferences: &Inferences,
     sets: &mut Sets,
     marks: &mut Marks,
-    place: usize,
+    wanted: Wanted,
 ) -> Result<Option<Learned>, Memory>
     requires over { AreOver (length trail.now.declared) (known_of clauses.now inferences.now) }
     requires fresh { sets.old ≡ start trail.now.declared }
@@ -106,7 +100,7 @@ pub fn unit_of(
         inferences,
         vars: sets.len(),
     };
-    let Some(unit) = wanted_clause(alloc, graph, marks, place)? else {
+    let Some(unit) = wanted_clause(alloc, graph, marks, wanted)? else {
         return Ok(None);
     };
     if is_derived(trail, clauses, inferences, sets, &unit)? {

@@ -1,6 +1,6 @@
 // The clause of the first unique implication point (Zhang, Madigan, Moskewicz, Malik, Efficient Conflict Driven Learning, 2001).
 // Nothing is promised of it: what is learned is tested.
-use crate::marks::Marks;
+use crate::marks::{Marks, Wanted};
 use fzn_causes::{Implications, canonical, implies, opposite, source_of};
 use fzn_domain::{Lit, Memory};
 use fzn_learned::{Learned, Source};
@@ -267,17 +267,16 @@ fn marked_literals(
     Ok(items)
 }
 
-/// The clause for what has this number among what is wanted: the literal of an entry of level 0, or what stands for a gap.
+/// The clause for what it is wanted for: the literal of an entry of level 0, or what stands for a gap.
 pub fn wanted_clause(
     alloc: Global,
     graph: Implications,
     marks: &mut Marks,
-    wanted: usize,
+    wanted: Wanted,
 ) -> Result<Option<Learned>, Memory> {
-    if wanted % 2 == 0 {
-        unit_clause(alloc, graph, marks, wanted / 2)
-    } else {
-        gap_clause(alloc, graph, marks, wanted / 2)
+    match wanted {
+        Wanted::Entry(place) => unit_clause(alloc, graph, marks, place),
+        Wanted::Gap(number) => gap_clause(alloc, graph, marks, number),
     }
 }
 
@@ -292,16 +291,8 @@ fn gap_clause(
         return Ok(None);
     };
     let (low, high) = gap.literals();
-    let mut clause = Items::new(alloc);
-    clause.push(low)?;
-    clause.push(high)?;
-    Ok(Some(Learned {
-        clause,
-        sources: marks.gap_sources(alloc, graph, gap)?,
-        level: 0,
-        levels: 1,
-        marked: Items::new(alloc),
-    }))
+    let sources = marks.gap_sources(alloc, graph, gap)?;
+    Ok(Some(at_level_0(alloc, [low, high].as_slice(), sources)?))
 }
 
 /// The literal of an entry of level 0 as a clause of its own.
@@ -317,13 +308,18 @@ fn unit_clause(
     let Some(declared) = graph.declared(entry.lit.var) else {
         return Ok(None);
     };
-    let mut clause = Items::new(alloc);
-    clause.push(canonical(entry.lit, declared))?;
-    Ok(Some(Learned {
-        clause,
-        sources: marks.root_sources(alloc, graph, entry)?,
+    let lit = canonical(entry.lit, declared);
+    let sources = marks.root_sources(alloc, graph, entry)?;
+    Ok(Some(at_level_0(alloc, [lit].as_slice(), sources)?))
+}
+
+/// A clause that holds at level 0, with the sources that it follows from.
+fn at_level_0(alloc: Global, clause: &[Lit], sources: Items<Source>) -> Result<Learned, Memory> {
+    Ok(Learned {
+        clause: Items::from_slice(alloc, clause)?,
+        sources,
         level: 0,
         levels: 1,
         marked: Items::new(alloc),
-    }))
+    })
 }

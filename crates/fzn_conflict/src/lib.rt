@@ -5,8 +5,8 @@
 //! `fzn_learned` passes it, else the plain one. Proved against `specs/Learned.antt` of `fzn_learned`.
 #![tactic(auto)]
 
-pub use analysis::{Learn, analyse, unit_of};
-pub use marks::Marks;
+pub use analysis::{analyse, unit_of};
+pub use marks::{Marks, Wanted};
 
 mod analysis;
 mod first_uip;

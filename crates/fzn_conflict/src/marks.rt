@@ -7,7 +7,17 @@ use fzn_list::Items;
 use fzn_trail::{ClauseId, Entry};
 use std::alloc::Global;
 
-/// What an analysis notes of the entries of a trail. It is kept from one analysis to the next, so that each costs what it touches.
+/// What a clause is wanted for.
+#[derive(Clone, Copy, Debug, PartialEq, Eq)]
+pub enum Wanted {
+    /// The entry of level 0 at this place.
+    Entry(usize),
+    /// The gap of this number.
+    Gap(usize),
+}
+
+/// What an analysis notes of the entries of a trail, by their places from 0. It is kept from one analysis to the next, so that each costs
+/// what it touches. Each call that answers `Err` does so where memory runs out, and nothing is said then of what is marked until `begin`.
 #[derive(Drop)]
 pub struct Marks {
     /// The literal that is needed of each marked entry.
@@ -213,23 +223,22 @@ impl Marks {
         Ok(None)
     }
 
-    /// What a clause is wanted for, as a number: an entry of level 0, those first on which others rest, and then a gap.
-    pub fn next_wanted(&mut self) -> Option<usize> {
+    /// What a clause is wanted for, which is no longer noted: an entry of level 0, those first on which others rest, and then a gap.
+    pub fn next_wanted(&mut self) -> Option<Wanted> {
         match self.roots.next_wanted() {
-            Some(place) => Some(place.saturating_mul(2)),
+            Some(place) => Some(Wanted::Entry(place)),
             None => {
                 let number = self.causes.gaps.next_wanted()?;
-                Some(number.saturating_mul(2).saturating_add(1))
+                Some(Wanted::Gap(number))
             }
         }
     }
 
-    /// The clause stands for what has this number.
-    pub fn stand_for(&mut self, wanted: usize, id: ClauseId) {
-        if wanted % 2 == 0 {
-            self.roots.stand_for(wanted / 2, id);
-        } else {
-            self.causes.gaps.stand_for(wanted / 2, id);
+    /// The clause stands for what it was wanted for.
+    pub fn stand_for(&mut self, wanted: Wanted, id: ClauseId) {
+        match wanted {
+            Wanted::Entry(place) => self.roots.stand_for(place, id),
+            Wanted::Gap(number) => self.causes.gaps.stand_for(number, id),
         }
     }
 
@@ -268,14 +277,7 @@ impl Marks {
             }
             last = graph.before(place);
         }
-        places.sort_unstable();
-        let mut sources = Items::new(alloc);
-        for place in &places {
-            if let Some(cited) = self.cited(graph, *place) {
-                sources.push(cited)?;
-            }
-        }
-        Ok(sources)
+        self.all_cited(alloc, graph, places)
     }
 
     /// What the literal of an entry of level 0 follows from: what stands for those that it rests on, then its reason.
@@ -285,23 +287,35 @@ impl Marks {
         graph: Implications,
         entry: Entry,
     ) -> Result<Items<Source>, Memory> {
+        let Some(source) = source_of(entry.reason) else {
+            return Ok(Items::new(alloc));
+        };
+        self.causes.begin();
+        graph.find_causes(&mut self.causes, source, Some(entry.lit))?;
+        let mut places = Vec::new(alloc);
+        for i in 0..self.causes.len() {
+            if let Some(cause) = self.causes.get(i) {
+                places.push(cause.place)?;
+            }
+        }
+        let mut sources = self.all_cited(alloc, graph, places)?;
+        sources.push(source)?;
+        Ok(sources)
+    }
+
+    /// What stands for these entries of level 0, in the order of the trail.
+    fn all_cited(
+        &self,
+        alloc: Global,
+        graph: Implications,
+        mut places: Vec<usize>,
+    ) -> Result<Items<Source>, Memory> {
+        places.sort_unstable();
         let mut sources = Items::new(alloc);
-        if let Some(source) = source_of(entry.reason) {
-            self.causes.begin();
-            graph.find_causes(&mut self.causes, source, Some(entry.lit))?;
-            let mut places = Vec::new(alloc);
-            for i in 0..self.causes.len() {
-                if let Some(cause) = self.causes.get(i) {
-                    places.push(cause.place)?;
-                }
+        for place in &places {
+            if let Some(cited) = self.cited(graph, *place) {
+                sources.push(cited)?;
             }
-            places.sort_unstable();
-            for place in &places {
-                if let Some(cited) = self.cited(graph, *place) {
-                    sources.push(cited)?;
-                }
-            }
-            sources.push(source)?;
         }
         Ok(sources)
     }
@@ -320,7 +334,7 @@ impl Marks {
                 self.mark(graph, cause)?;
             }
         }
-        self.causes.are_marked()
+        self.causes.note_marked()
     }
 
     /// Whether what is needed of an entry follows from what is needed of other marked entries, and from entries of level 0, which are

@@ -16,7 +16,8 @@ pub trait Constraints {
     /// The models for whose constraints it reasons.
     ghost is_for: { Self → Model → Type 0 };
 
-    /// An inference, where some constraint has one that is asked. Where each variable has one value, all are asked.
+    /// An inference, where some constraint has one that is asked. Where each variable has one value, all are asked. It answers `Err` where
+    /// memory runs out.
     fn infer(
         &mut self,
         alloc: Global,

@@ -1,8 +1,8 @@
 -- The changes of a search: what holds of it is kept, and less work is left.
-use Rattle.std.proofs.Common.{◌≡◌, ℕ, ◌+◌, ◌-◌, ◌*◌, ◌<◌, ◌≤◌, true, List, [], ◌∷◌, ◌++◌, length, All, Contains, Some, refl, sym, ◌∙◌, ap, subst, arith, ℤ}
+use Rattle.std.proofs.Common.{◌≡◌, ℕ, ◌+◌, ◌-◌, ◌*◌, ◌<◌, ◌≤◌, ◌≢◌, Bool, true, List, [], ◌∷◌, ◌++◌, length, All, Some, refl, sym, ◌∙◌, ap, subst, arith, ℤ}
 use Rattle.std.proofs.lemmas.Bool.{or_right}
 use Rattle.std.proofs.lemmas.List.{length_push, length-map, append-nil}
-use Rattle.std.proofs.lemmas.List.Elements.{All-push, Contains-push}
+use Rattle.std.proofs.lemmas.List.Elements.{All-push, All-weaker}
 use Rattle.fzn_domain.specs.declared.literal.Lit.{Lit}
 use Rattle.fzn_domain.specs.Literal.{negated}
 use Rattle.fzn_domain.specs.IntSet.{IntSet, is_possible}
@@ -20,17 +20,20 @@ use Rattle.fzn_trail.specs.declared.trail.Reason.{Reason}
 use Rattle.fzn_trail.specs.declared.trail.Reason.TheVariants.{Decision, Clause}
 use Rattle.fzn_trail.specs.Levels.{Levels, level_of, pushed, asserted, returned}
 use Rattle.fzn_trail.proofs.CallerLemmas.{declared-returned, level_of-returned}
-use Rattle.fzn_conflict.specs.declared.analysis.Learn.{Learn}
-use Rattle.fzn_conflict.specs.declared.analysis.Learn.TheVariants.{Plain}
+use Rattle.fzn_clauses.proofs.HeldLemmas.{at_number-newest}
+use Rattle.fzn_strategy.specs.declared.learn.Learn.{Learn}
+use Rattle.fzn_strategy.specs.declared.learn.Learn.TheVariants.{Plain}
 use Rattle.fzn_learned.specs.declared.source.Source.{Source}
 use Rattle.fzn_learned.specs.declared.source.Source.TheVariants.{Held}
 use Rattle.fzn_learned.specs.Reasoned.{IsBelow, IsReasoned, Open, opens, reason_of}
 use Rattle.fzn_learned.proofs.CallerLemmas.{IsReasoned-returned}
+use Rattle.fzn_upkeep.specs.Forgetting.{is_cut}
 use Rattle.fzn_engine.specs.Volume.{volume, slack}
 use Rattle.fzn_engine.specs.Learned.{resolved, FreshAfter, negations}
-use Rattle.fzn_engine.specs.State.{Stock, known_in, with_held, with_inference, with_stack, IsJustified, CoreOf, PlainOf, StateOf, work}
+use Rattle.fzn_engine.specs.State.{Stock, known_in, with_held, with_cuts, with_inference, with_stack, IsHeldCut, IsJustified, CoreOf, PlainOf, StateOf, work}
 use Rattle.fzn_engine.specs.Outcome.{IsCertified, IsRefuted}
 use Rattle.fzn_engine.proofs.AcceptedLemmas.{past_of-push, AllAccepted-push, resolved-append}
+use Rattle.fzn_engine.proofs.HeldCutLemmas.{IsHeldCut-grown, IsHeldCut-flagged}
 use Rattle.fzn_engine.proofs.VolumeLemmas.{volume-narrowed_le, slack-narrowed_le, slack-narrowed_lt, work-less, work-lower, spread-filled}
 use Rattle.fzn_engine.proofs.WithinLemmas.{Within, Within-narrowed}
 use Rattle.fzn_engine.proofs.TakenLemmas.{Leads-within, Leads-length, Leads-filled, Leads-slack, Leads-certain, opens-asserted, opens-parts, last_level, negations-unit}
@@ -100,14 +103,17 @@ module _ (model : Model) (learn : Learn) (stock : Stock) (steps : List Step) (tr
 
   -- ---- a solution, with its cut
 
-  pub State-found : StateOf model learn stock steps trail nodes → (values : List ℤ) (number : ℕ) → number ≡ length steps + 1 → IsAccepted model (past_of model steps) (Solution values) → IsClauseOver (length trail.declared) (cut_of model values) → IsReasoned (known_in (with_held (cut_of model values) number stock)) trail → StateOf model learn (with_held (cut_of model values) number stock) (steps ++ Solution values ∷ []) trail nodes
-  State-found h values number newest accepted over reasoned =
+  pub State-found : StateOf model learn stock steps trail nodes → (values : List ℤ) (number : ℕ) (flags : List Bool) (id : ClauseId) → id.0 ≡ length stock.held → is_cut flags id ≡ true → ((other : ClauseId) → other.0 ≢ id.0 → is_cut flags other ≡ is_cut stock.cuts other) → number ≡ length steps + 1 → IsAccepted model (past_of model steps) (Solution values) → IsClauseOver (length trail.declared) (cut_of model values) → IsReasoned (known_in (with_held (cut_of model values) number stock)) trail → StateOf model learn (with_cuts flags (with_held (cut_of model values) number stock)) (steps ++ Solution values ∷ []) trail nodes
+  State-found h values number flags id there flagged others newest accepted over reasoned =
       let same : resolved (steps ++ Solution values ∷ []) ≡ resolved steps = resolved-append steps (Solution values ∷ []) ∙ append-nil (resolved steps) in
       let N : List (List Lit) → Type 0 = λ cs. nodes + slack trail.sets ≤ (length cs + 1) * slack trail.declared in
       let P : List (List Lit) → Type 0 = λ cs. PlainOf trail.declared trail.sets (opens trail.declared trail.entries) cs nodes in
-      let cuts = All-push (λ a. Contains (stock.held ++ Some (cut_of model values) ∷ []) (Some (cut_of model a))) (past_of model steps).solutions values (cuts-grown model stock steps trail nodes h.core (cut_of model values)) (Contains-push stock.held (Some (cut_of model values))) in
+      let Cut : List ℤ → Type 0 = λ a. IsHeldCut (stock.held ++ Some (cut_of model values) ∷ []) flags (cut_of model a) in
+      let before = All-weaker (λ a. IsHeldCut stock.held stock.cuts (cut_of model a)) Cut
+      (λ a cut. IsHeldCut-grown stock.held flags (cut_of model a) (IsHeldCut-flagged stock.held stock.cuts (cut_of model a) cut flags id (omega arith) others) (Some (cut_of model values) ∷ [])) (past_of model steps).solutions h.core.cuts_held in
+      let cuts = All-push Cut (past_of model steps).solutions values before (id, flagged, at_number-newest stock.held (cut_of model values) id there) in
       record {
-        core = Core-step model stock steps trail nodes h.core (Solution values) (cut_of model values) number newest accepted refl cuts over trail refl reasoned (subst N (sym same) h.core.nodes_by_conflicts);
+        core = Core-step model stock steps trail nodes h.core (Solution values) (cut_of model values) number flags newest accepted refl cuts over trail refl reasoned (subst N (sym same) h.core.nodes_by_conflicts);
         plain = λ in_plain. subst P (sym same) (h.plain in_plain);
       }
 
@@ -138,7 +144,7 @@ module _ (model : Model) (learn : Learn) (stock : Stock) (steps : List Step) (tr
       let conflicts = core.nodes_by_conflicts in
       let N : List (List Lit) → Type 0 = λ cs. nodes + slack new.sets ≤ (length cs + 1) * slack trail.declared in
       let M : ℕ → Type 0 = λ n. nodes + slack new.sets ≤ (n + 1) * slack trail.declared in
-      Core-step model stock steps trail nodes core (Resolve clause ids) clause number newest accepted refl (cuts-grown model stock steps trail nodes core clause) (subst O (sym sizes) accepted.0) new declared reasoned
+      Core-step model stock steps trail nodes core (Resolve clause ids) clause number stock.cuts newest accepted refl (cuts-grown model stock steps trail nodes core clause) (subst O (sym sizes) accepted.0) new declared reasoned
       (subst N (sym (learned_is clause ids)) (subst M (sym one) (omega arith)))
 
   -- back at a level with what the learned clause forces there: one change, since between its parts the accounts do not hold

@@ -24,7 +24,7 @@ use Rattle.fzn_engine.specs.Volume.{slack}
 use Rattle.fzn_engine.specs.Learned.{resolved}
 use Rattle.fzn_engine.specs.Outcome.{count}
 use Rattle.fzn_engine.specs.Search.{IsAfter, IsTended, stock_of}
-use Rattle.fzn_engine.specs.State.{Stock, AreNumbered, IsJustified, CoreOf, PlainOf, StateOf}
+use Rattle.fzn_engine.specs.State.{Stock, IsHeldCut, AreNumbered, IsJustified, CoreOf, PlainOf, StateOf}
 use Rattle.fzn_engine.proofs.AcceptedLemmas.{past_of-push, AllAccepted-push, resolved-append, logged-accepted, length-past_of}
 use Rattle.fzn_engine.proofs.NumberLemmas.{number-of, clause_held-grown, given-clause}
 
@@ -109,13 +109,13 @@ module _ (model : Model) (stock : Stock) (steps : List Step) (trail : Levels) (n
   pub same_learned : resolved (steps ++ Delete ids ∷ []) ≡ resolved steps
   same_learned = resolved-append steps (Delete ids ∷ []) ∙ append-nil (resolved steps)
 
-  pub Core-deleted : (used : List ℕ) → All (IsInUse stock.held stock.numbers stock.stack) used → CoreOf model (record { held = stock.held; numbers = stock.numbers; stack = stock.stack; alive = used }) (steps ++ Delete ids ∷ []) trail nodes
+  pub Core-deleted : (used : List ℕ) → All (IsInUse stock.held stock.numbers stock.stack) used → CoreOf model (record stock { alive = used }) (steps ++ Delete ids ∷ []) trail nodes
   Core-deleted used only =
       let is : past_of model (steps ++ Delete ids ∷ []) ≡ now = past_of-push model steps (Delete ids) in
       let A : Past → Type 0 = λ p. AreNumbered p stock.numbers stock.held in
       let J : Past → Type 0 = λ p. All (IsJustified model p) stock.stack in
       let G : Past → Type 0 = λ p. All (IsGiven p) used in
-      let S : Past → Type 0 = λ p. All (λ values. Contains stock.held (Some (cut_of model values))) p.solutions in
+      let S : Past → Type 0 = λ p. All (λ values. IsHeldCut stock.held stock.cuts (cut_of model values)) p.solutions in
       let N : List (List Lit) → Type 0 = λ cs. nodes + slack trail.sets ≤ (length cs + 1) * slack trail.declared in
       record {
         declared = core.declared;
@@ -171,7 +171,7 @@ module _ (model : Model) (old : Solver) (before : List Step) (h : IsAfter model 
       let core = Core-deleted model (stock_of old) before old.trail old.search.nodes h.state.core ids alive idle left (subst V numbers_is (subst W (sym left_is) only)) in
       let same = same_learned model (stock_of old) before old.trail old.search.nodes h.state.core ids alive idle in
       let R : List (List Lit) → Type 0 = λ cs. PlainOf old.trail.declared old.trail.sets (opens old.trail.declared old.trail.entries) cs old.search.nodes in
-      let stock : Stock = record { held = held_by old.clauses; numbers = old.numbers; stack = old.inferences; alive = left } in
+      let stock : Stock = record (stock_of old) { alive = left } in
       let S : List Step → Type 0 = λ s. StateOf model old.learn stock s old.trail old.search.nodes in
       let lengths : length now ≡ length before + 1 = ap length now_is ∙ length_push before (Delete ids) in
       let counts : count model now ≡ count model before =

@@ -1,8 +1,8 @@
 -- A held clause that is neither a reason nor a cut may be forgotten.
-use Rattle.std.proofs.Common.{◌≡◌, ◌≢◌, ℕ, ℤ, zero, suc, ◌<◌, Bool, true, false, List, [], ◌∷◌, ◌++◌, length, get_or, set, All, Contains, Option, Some, None, refl, sym, ap, ◌∙◌, subst, inl, inr, ◌⊎◌, arith}
+use Rattle.std.proofs.Common.{◌≡◌, ◌≢◌, ℕ, zero, suc, ◌<◌, Bool, true, false, List, [], ◌∷◌, ◌++◌, length, get_or, set, All, Option, Some, None, refl, sym, ap, ◌∙◌, subst, arith}
 use Rattle.std.specs.Prelude.{IsSome, IfSome}
 use Rattle.std.specs.Option.{unwrap_or}
-use Rattle.std.proofs.lemmas.Bool.{cases_lt, false≢true}
+use Rattle.std.proofs.lemmas.Bool.{false≢true}
 use Rattle.std.proofs.lemmas.List.{length-map, length-set, get_or-set_other}
 use Rattle.std.proofs.lemmas.List.Elements.{All-get_or, All-weaker}
 use Rattle.fzn_domain.specs.declared.literal.Lit.{Lit}
@@ -27,9 +27,10 @@ use Rattle.fzn_learned.specs.Reasoned.{IsOther}
 use Rattle.fzn_learned.proofs.CallerLemmas.{IsReasoned-grown, IsReasoned-without}
 use Rattle.fzn_upkeep.specs.declared.notes.Notes.{Notes}
 use Rattle.fzn_engine.specs.declared.solver.Solver.{Solver}
-use Rattle.fzn_upkeep.specs.Forgetting.{IsFlagged}
+use Rattle.fzn_upkeep.specs.Forgetting.{IsFlagged, is_cut}
 use Rattle.fzn_engine.specs.Search.{IsAfter, IsTended, stock_of}
-use Rattle.fzn_engine.specs.State.{known_in, with_clause, AreNumbered, IsJustified, CoreOf, StateOf}
+use Rattle.fzn_engine.specs.State.{known_in, with_clause, IsHeldCut, AreNumbered, IsJustified, CoreOf, StateOf}
+use Rattle.fzn_engine.proofs.HeldCutLemmas.{IsHeldCut-left}
 use Rattle.fzn_engine.proofs.NumberLemmas.{AreNumbered-push}
 use Rattle.fzn_engine.proofs.StateLemmas.{cuts-grown}
 
@@ -38,12 +39,6 @@ none_at [] zero = refl
 none_at [] (suc k) = refl
 none_at (x ∷ held) zero = refl
 none_at (x ∷ held) (suc k) = none_at held k
-
-same_or_other : (j k : ℕ) → (j ≡ k) ⊎ (j ≢ k)
-same_or_other j k = elim (cases_lt j k) [
-  | inl below ↦ inr (λ e. absurd (omega arith))
-  | inr here ↦ elim (cases_lt k j) [ inl above ↦ inr (λ e. absurd (omega arith)) | inr there ↦ inl (omega arith) ]
-]
 
 -- ---- the clauses that are left
 
@@ -69,17 +64,6 @@ module _ (held : Held) (gone : ClauseId) where
     gives = λ id is. h.gives id (held_left id is) ∙ ap Some (sym (clause_left id is));
   }
 
-  Contains-left : (clause : List Lit) → (at_number held gone ≡ Some clause → ⊥) → Contains held (Some clause) → Contains (set held gone.0 None) (Some clause)
-  Contains-left clause apart there = elim (same_or_other there.0 gone.0) [
-    | inl same ↦ absurd (apart (default_same held gone.0 (Some clause) (subst (λ (n : ℕ). n < length held) same there.1) (ap (λ (n : ℕ). get_or held n (Some clause)) (sym same) ∙ there.2)))
-    | inr other ↦ (there.0, omega (arith, length-set held gone.0 None, there.1), get_or-set_other held gone.0 there.0 None (Some clause) other ∙ there.2)
-  ]
-    where
-      default_same : (xs : Held) (k : ℕ) (o : Option (List Lit)) → k < length xs → get_or xs k o ≡ o → get_or xs k None ≡ o
-      default_same [] k o below e = absurd (omega arith)
-      default_same (x ∷ xs) zero o below e = e
-      default_same (x ∷ xs) (suc k) o below e = default_same xs k o (omega arith) e
-
 -- ---- the search that is left
 
 module _ (model : Model) (old : Solver) (steps : List Step) (h : IsAfter model old steps) where
@@ -102,8 +86,8 @@ module _ (model : Model) (old : Solver) (steps : List Step) (h : IsAfter model o
   pub nothing-tended : (notes : Notes) → IsTended model old (record old { notes = notes }) steps
   nothing-tended notes = noted-tended old.scratch h.scratch notes
 
-  module _ (clauses : Clauses) (gone : ClauseId) (held_is : held_by clauses ≡ set (held_by old.clauses) gone.0 None) (keeps : KeepsWatching old.clauses clauses) (apart : All (λ (entry : Entry). IsOther gone entry.reason) old.trail.entries) (no_cut : (values : List ℤ) → at_number (held_by old.clauses) gone ≡ Some (cut_of model values) → ⊥) where
-    left-core : CoreOf model (record { held = set (held_by old.clauses) gone.0 None; numbers = old.numbers; stack = old.inferences; alive = old.alive }) steps old.trail old.search.nodes
+  module _ (clauses : Clauses) (gone : ClauseId) (held_is : held_by clauses ≡ set (held_by old.clauses) gone.0 None) (keeps : KeepsWatching old.clauses clauses) (apart : All (λ (entry : Entry). IsOther gone entry.reason) old.trail.entries) (no_cut : is_cut old.cuts gone ≡ false) where
+    left-core : CoreOf model (record (stock_of old) { held = set (held_by old.clauses) gone.0 None }) steps old.trail old.search.nodes
     left-core =
         let core = h.state.core in
         record {
@@ -113,8 +97,8 @@ module _ (model : Model) (old : Solver) (steps : List Step) (h : IsAfter model o
           numbered = AreNumbered-left (held_by old.clauses) gone (past_of model steps) old.numbers core.numbered;
           justified = core.justified;
           alive = core.alive;
-          cuts_held = All-weaker (λ values. Contains (held_by old.clauses) (Some (cut_of model values))) (λ values. Contains (set (held_by old.clauses) gone.0 None) (Some (cut_of model values)))
-              (λ values there. Contains-left (held_by old.clauses) gone (cut_of model values) (no_cut values) there) (past_of model steps).solutions core.cuts_held;
+          cuts_held = All-weaker (λ values. IsHeldCut (held_by old.clauses) old.cuts (cut_of model values)) (λ values. IsHeldCut (set (held_by old.clauses) gone.0 None) old.cuts (cut_of model values))
+              (λ values cut. IsHeldCut-left (held_by old.clauses) old.cuts (cut_of model values) cut gone no_cut) (past_of model steps).solutions core.cuts_held;
           held_over = AllHeld-left (held_by old.clauses) gone (IsClauseOver (length old.trail.declared)) core.held_over;
           reasoned = IsReasoned-without (known_in (stock_of old)) gone old.trail apart core.reasoned;
           nodes_by_conflicts = core.nodes_by_conflicts;
@@ -122,7 +106,7 @@ module _ (model : Model) (old : Solver) (steps : List Step) (h : IsAfter model o
 
     pub dropped-tended : IsTended model old (record old { clauses = clauses }) steps
     dropped-tended =
-        let H : Held → Type 0 = λ held. StateOf model old.learn (record { held = held; numbers = old.numbers; stack = old.inferences; alive = old.alive }) steps old.trail old.search.nodes in
+        let H : Held → Type 0 = λ held. StateOf model old.learn (record (stock_of old) { held = held }) steps old.trail old.search.nodes in
         record {
           state = record {
             state = subst H (sym held_is) (record { core = left-core; plain = h.state.plain });
@@ -165,7 +149,7 @@ module _ (model : Model) (old : Solver) (steps : List Step) (h : IsAfter model o
 
     pub more-tended : (notes : Notes) → IsTended model old (record old { clauses = clauses; numbers = old.numbers ++ number ∷ []; notes = notes }) steps
     more-tended notes =
-        let H : Held → Type 0 = λ held. StateOf model old.learn (record { held = held; numbers = old.numbers ++ number ∷ []; stack = old.inferences; alive = old.alive }) steps old.trail old.search.nodes in
+        let H : Held → Type 0 = λ held. StateOf model old.learn (record (stock_of old) { held = held; numbers = old.numbers ++ number ∷ [] }) steps old.trail old.search.nodes in
         record {
           state = record {
             state = subst H (sym held_is) (record { core = more-core; plain = h.state.plain });
@@ -206,7 +190,3 @@ other-of flags gone within clear (Inference place) h = tt
 pub unflagged-apart : (flags : List Bool) (gone : ClauseId) (entries : List Entry) → gone.0 < length flags → get_or flags gone.0 false ≡ false → All (λ (entry : Entry). IsFlagged flags entry.reason) entries → All (λ (entry : Entry). IsOther gone entry.reason) entries
 unflagged-apart flags gone entries within clear flagged =
     All-weaker (λ (entry : Entry). IsFlagged flags entry.reason) (λ (entry : Entry). IsOther gone entry.reason) (λ entry one. other-of flags gone within clear entry.reason one) entries flagged
-
--- nor is another clause than each cut one of them
-pub uncut : (model : Model) (held : Held) (gone : ClauseId) → ((values : List ℤ) → clause_of held gone ≡ cut_of model values → ⊥) → (values : List ℤ) → at_number held gone ≡ Some (cut_of model values) → ⊥
-uncut model held gone other values e = other values (ap (λ (o : Option (List Lit)). unwrap_or o []) e)

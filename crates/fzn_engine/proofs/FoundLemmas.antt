@@ -1,5 +1,5 @@
 -- What the values are where each variable has one.
-use Rattle.std.proofs.Common.{◌≡◌, ◌≢◌, ℕ, zero, suc, ◌+◌, ◌-◌, ◌*◌, ◌<◌, ℤ, List, [], ◌∷◌, ◌++◌, length, get_or, All, Some, sym, ap, ◌∙◌, subst, arith}
+use Rattle.std.proofs.Common.{◌≡◌, ◌≢◌, ℕ, zero, suc, ◌+◌, ◌-◌, ◌*◌, ◌<◌, Bool, true, ℤ, List, [], ◌∷◌, ◌++◌, length, get_or, All, Some, sym, ap, ◌∙◌, subst, arith}
 use Rattle.std.proofs.lemmas.List.{length-map}
 use Rattle.std.proofs.lemmas.List.Elements.{All-head, All-tail}
 use Rattle.fzn_domain.specs.IntSet.{IntSet, size, no_values}
@@ -12,14 +12,16 @@ use Rattle.fzn_meaning.proofs.CutLemmas.{cut_of-variables}
 use Rattle.fzn_cert.specs.declared.step.Step.{Step}
 use Rattle.fzn_cert.specs.declared.step.Step.TheVariants.{Solution}
 use Rattle.fzn_cert.specs.Accepted.{IsAccepted, past_of}
+use Rattle.fzn_trail.specs.declared.trail.ClauseId.{ClauseId}
 use Rattle.fzn_trail.specs.Levels.{Levels}
 use Rattle.fzn_clauses.specs.Held.{AllHeld}
-use Rattle.fzn_conflict.specs.declared.analysis.Learn.{Learn}
-use Rattle.fzn_conflict.specs.declared.analysis.Learn.TheVariants.{Plain}
+use Rattle.fzn_strategy.specs.declared.learn.Learn.{Learn}
+use Rattle.fzn_strategy.specs.declared.learn.Learn.TheVariants.{Plain}
 use Rattle.fzn_learned.proofs.CallerLemmas.{IsReasoned-grown}
 use Rattle.fzn_search.specs.Fixed.{AllFixed}
+use Rattle.fzn_upkeep.specs.Forgetting.{is_cut}
 use Rattle.fzn_engine.specs.Volume.{volume}
-use Rattle.fzn_engine.specs.State.{Stock, known_in, with_held, StateOf}
+use Rattle.fzn_engine.specs.State.{Stock, known_in, with_held, with_cuts, StateOf}
 use Rattle.fzn_engine.proofs.VolumeLemmas.{volume-filled}
 use Rattle.fzn_engine.proofs.WithinLemmas.{IsWithin-larger}
 use Rattle.fzn_engine.proofs.CutLemmas.{cut_of-false}
@@ -62,12 +64,13 @@ module _ (model : Model) (learn : Learn) (stock : Stock) (steps : List Step) (tr
         let D : List IntSet → Type 0 = λ d. IsWithin d values in
         let H : ℕ → Type 0 = λ n. AllHeld (IsClauseOver n) stock.held in (
           (subst D h.core.declared (IsWithin-larger trail.sets trail.declared values same (State-within model learn stock steps trail nodes h) within), meets),
-          passes-held trail.sets values fixed within model stock.held (past_of model steps).solutions (subst H (sym same) h.core.held_over) quiet h.core.cuts_held,
+          passes-held trail.sets values fixed within model stock.held stock.cuts (past_of model steps).solutions (subst H (sym same) h.core.held_over) quiet h.core.cuts_held,
         )
 
-    pub solution-state : (number : ℕ) → number ≡ length steps + 1 → IsAccepted model (past_of model steps) (Solution values) → StateOf model learn (with_held (cut_of model values) number stock) (steps ++ Solution values ∷ []) trail nodes
-    solution-state number next accepted =
-        State-found model learn stock steps trail nodes h values number next accepted cut-over (IsReasoned-grown (known_in stock) (Some (cut_of model values) ∷ []) trail h.core.reasoned)
+    -- and its cut is held, and flagged
+    pub solution-state : (number : ℕ) (flags : List Bool) (id : ClauseId) → id.0 ≡ length stock.held → is_cut flags id ≡ true → ((other : ClauseId) → other.0 ≢ id.0 → is_cut flags other ≡ is_cut stock.cuts other) → number ≡ length steps + 1 → IsAccepted model (past_of model steps) (Solution values) → StateOf model learn (with_cuts flags (with_held (cut_of model values) number stock)) (steps ++ Solution values ∷ []) trail nodes
+    solution-state number flags id newest flagged others next accepted =
+        State-found model learn stock steps trail nodes h values number flags id newest flagged others next accepted cut-over (IsReasoned-grown (known_in stock) (Some (cut_of model values) ∷ []) trail h.core.reasoned)
 
     -- the cut is false there
     pub cut-impossible : possible_in trail.sets (cut_of model values) ≡ []

@@ -15,8 +15,8 @@ use Rattle.fzn_trail.specs.declared.trail.Reason.TheVariants.{Clause}
 use Rattle.fzn_trail.specs.Levels.{Levels, level_of, asserted, returned}
 use Rattle.fzn_trail.proofs.CallerLemmas.{declared-returned}
 use Rattle.fzn_clauses.proofs.HeldLemmas.{IsHeld-newest, clause_of-newest}
-use Rattle.fzn_conflict.specs.declared.analysis.Learn.{Learn}
-use Rattle.fzn_conflict.specs.declared.analysis.Learn.TheVariants.{Plain}
+use Rattle.fzn_strategy.specs.declared.learn.Learn.{Learn}
+use Rattle.fzn_strategy.specs.declared.learn.Learn.TheVariants.{Plain}
 use Rattle.fzn_learned.specs.declared.learned.Learned.{Learned}
 use Rattle.fzn_learned.specs.declared.source.Source.{Source}
 use Rattle.fzn_learned.specs.declared.source.Source.TheVariants.{Held}

@@ -1,5 +1,5 @@
 -- The clause of a written inference is held under a number that no held clause has.
-use Rattle.std.proofs.Common.{◌≡◌, ◌≢◌, ℕ, zero, suc, ◌<◌, List, [], ◌∷◌, length, get_or, set, Contains, Option, Some, None, refl, sym, ap, ◌∙◌, subst, inl, inr, arith, get_or-set_same, get_or-set_other}
+use Rattle.std.proofs.Common.{◌≡◌, ◌≢◌, ℕ, ◌<◌, List, [], ◌∷◌, length, get_or, set, Option, Some, None, refl, sym, ap, ◌∙◌, subst, inl, inr, arith, get_or-set_same, get_or-set_other}
 use Rattle.std.specs.Prelude.{IsSome, IfSome}
 use Rattle.std.specs.Option.{unwrap_or}
 use Rattle.std.proofs.lemmas.Bool.{cases_eq}
@@ -27,12 +27,8 @@ use Rattle.fzn_learned.specs.Reasoned.{IsForced, IsReason, IsReasoned, Known, Le
 use Rattle.fzn_upkeep.specs.declared.notes.Notes.{Notes}
 use Rattle.fzn_engine.specs.declared.solver.Solver.{Solver}
 use Rattle.fzn_engine.specs.Search.{IsAfter, IsTended, stock_of}
-use Rattle.fzn_engine.specs.State.{known_in, AreNumbered, IsJustified, CoreOf, StateOf}
-
-some_at : (held : Held) (k : ℕ) (clause : List Lit) → k < length held → get_or held k (Some clause) ≡ Some clause → get_or held k None ≡ Some clause
-some_at [] k clause below e = absurd (omega arith)
-some_at (x ∷ held) zero clause below e = e
-some_at (x ∷ held) (suc k) clause below e = some_at held k clause (omega arith) e
+use Rattle.fzn_engine.specs.State.{known_in, IsHeldCut, AreNumbered, IsJustified, CoreOf, StateOf}
+use Rattle.fzn_engine.proofs.HeldCutLemmas.{IsHeldCut-put}
 
 -- ---- one more clause, under a free number
 
@@ -78,12 +74,6 @@ module _ (held : Held) (id : ClauseId) (clause : List Lit) (free : IsHeld held i
       ];
     }
 
-  Contains-put : (one : List Lit) → Contains held (Some one) → Contains now (Some one)
-  Contains-put one there =
-      let here : ClauseId = record { 0 = there.0 } in
-      let apart : there.0 ≢ id.0 = other_id here (subst IsSome (sym (some_at held there.0 one there.1 there.2)) refl) in
-      (there.0, omega (arith, length-set held id.0 (Some clause), there.1), get_or-set_other held id.0 there.0 (Some clause) (Some one) apart ∙ there.2)
-
   -- ---- what the entries rest on is still held
 
   module _ (stacked : List (List Lit)) where
@@ -123,7 +113,7 @@ module _ (held : Held) (id : ClauseId) (clause : List Lit) (free : IsHeld held i
 -- ---- the search that has it
 
 module _ (model : Model) (old : Solver) (steps : List Step) (h : IsAfter model old steps) (clauses : Clauses) (place : ℕ) (stacked : place < length old.inferences) (number : ℕ) (written : (inference_at old.inferences place).number ≡ Some number) (id : ClauseId) (within : id.0 < length (held_by old.clauses)) (free : IsHeld (held_by old.clauses) id → ⊥) (held_is : held_by clauses ≡ set (held_by old.clauses) id.0 (Some (inference_at old.inferences place).clause)) (keeps : KeepsWatching old.clauses clauses) where
-  put-core : CoreOf model (record { held = set (held_by old.clauses) id.0 (Some (inference_at old.inferences place).clause); numbers = set old.numbers id.0 number; stack = old.inferences; alive = old.alive }) steps old.trail old.search.nodes
+  put-core : CoreOf model (record (stock_of old) { held = set (held_by old.clauses) id.0 (Some (inference_at old.inferences place).clause); numbers = set old.numbers id.0 number }) steps old.trail old.search.nodes
   put-core =
       let core = h.state.core in
       let held = held_by old.clauses in
@@ -139,8 +129,8 @@ module _ (model : Model) (old : Solver) (steps : List Step) (h : IsAfter model o
         numbered = AreNumbered-put held id it.clause free within (past_of model steps) old.numbers number core.numbered (subst W written just.written);
         justified = core.justified;
         alive = core.alive;
-        cuts_held = All-weaker (λ values. Contains held (Some (cut_of model values))) (λ values. Contains (set held id.0 (Some it.clause)) (Some (cut_of model values)))
-            (λ values there. Contains-put held id it.clause free (cut_of model values) there) (past_of model steps).solutions core.cuts_held;
+        cuts_held = All-weaker (λ values. IsHeldCut held old.cuts (cut_of model values)) (λ values. IsHeldCut (set held id.0 (Some it.clause)) old.cuts (cut_of model values))
+            (λ values cut. IsHeldCut-put held old.cuts (cut_of model values) cut id it.clause free) (past_of model steps).solutions core.cuts_held;
         held_over = AllHeld-put held id it.clause free within (IsClauseOver (length old.trail.declared)) core.held_over (subst O (sym sizes) just.over);
         reasoned = IsReasoned-put held id it.clause free (known_in (stock_of old)).stacked old.trail core.reasoned;
         nodes_by_conflicts = core.nodes_by_conflicts;
@@ -148,7 +138,7 @@ module _ (model : Model) (old : Solver) (steps : List Step) (h : IsAfter model o
 
   pub put-tended : (notes : Notes) → IsTended model old (record old { clauses = clauses; numbers = set old.numbers id.0 number; notes = notes }) steps
   put-tended notes =
-      let H : Held → Type 0 = λ held. StateOf model old.learn (record { held = held; numbers = set old.numbers id.0 number; stack = old.inferences; alive = old.alive }) steps old.trail old.search.nodes in
+      let H : Held → Type 0 = λ held. StateOf model old.learn (record (stock_of old) { held = held; numbers = set old.numbers id.0 number }) steps old.trail old.search.nodes in
       record {
         state = record {
           state = subst H (sym held_is) (record { core = put-core; plain = h.state.plain });
@@ -170,7 +160,7 @@ module _ (model : Model) (old : Solver) (steps : List Step) (h : IsAfter model o
 
 pub swept-tended : (model : Model) (old : Solver) (steps : List Step) (h : IsAfter model old steps) (clauses : Clauses) (held_is : held_by clauses ≡ held_by old.clauses) (keeps : KeepsWatching old.clauses clauses) (notes : Notes) → IsTended model old (record old { clauses = clauses; notes = notes }) steps
 swept-tended model old steps h clauses held_is keeps notes =
-    let H : Held → Type 0 = λ held. StateOf model old.learn (record { held = held; numbers = old.numbers; stack = old.inferences; alive = old.alive }) steps old.trail old.search.nodes in
+    let H : Held → Type 0 = λ held. StateOf model old.learn (record (stock_of old) { held = held }) steps old.trail old.search.nodes in
     record {
       state = record {
         state = subst H (sym held_is) h.state;

@@ -25,8 +25,8 @@ use Rattle.fzn_clauses.specs.Held.{AllHeld}
 use Rattle.fzn_clauses.specs.Watching.{held_by, IsWatching}
 use Rattle.fzn_clauses.proofs.HeldLemmas.{IsHeld-newest, clause_of-newest}
 use Rattle.fzn_clauses.proofs.WatchingLemmas.{IsWatching-asserted, IsWatching-pushed}
-use Rattle.fzn_conflict.specs.declared.analysis.Learn.{Learn}
-use Rattle.fzn_conflict.specs.declared.analysis.Learn.TheVariants.{Plain}
+use Rattle.fzn_strategy.specs.declared.learn.Learn.{Learn}
+use Rattle.fzn_strategy.specs.declared.learn.Learn.TheVariants.{Plain}
 use Rattle.fzn_learned.specs.declared.source.Source.TheVariants.{Held}
 use Rattle.fzn_learned.specs.Reasoned.{IsKnown, clause_of}
 use Rattle.fzn_learned.proofs.CallerLemmas.{IsReasoned-decided}
@@ -36,10 +36,11 @@ use Rattle.fzn_engine.specs.declared.limits.Ending.TheVariants.{Closed, NodeLimi
 use Rattle.fzn_engine.specs.declared.limits.Limits.{Limits}
 use Rattle.fzn_engine.specs.declared.solver.Solver.{Solver}
 use Rattle.fzn_constraints.specs.Inference.{IsQuiet}
+use Rattle.fzn_upkeep.specs.Forgetting.{is_cut}
 use Rattle.fzn_engine.specs.Volume.{volume}
 use Rattle.fzn_engine.specs.Outcome.{HasRoom, IsReached, count, IsCertified, IsEnded, IsExhaustedIf, IsOutcome}
 use Rattle.fzn_engine.specs.Search.{IsAfter, stock_of, work_of, IsWithinLimits, IsRecorded, IsDecided, IsKeptBy, Goes, Continues, IsOngoing, IsOver, ending_of, Holds}
-use Rattle.fzn_engine.specs.State.{Stock, known_in, with_held, StateOf, work}
+use Rattle.fzn_engine.specs.State.{Stock, known_in, with_held, with_cuts, StateOf, work}
 use Rattle.fzn_engine.proofs.AcceptedLemmas.{past_of-push, logged-accepted}
 use Rattle.fzn_engine.proofs.ChangeLemmas.{State-length, State-within, State-decided, work-decided, State-certified}
 use Rattle.fzn_engine.proofs.FoundLemmas.{choices-left, solution-accepted, solution-state, cut-impossible}
@@ -167,22 +168,22 @@ module _ (model : Model) (good : IsWellFormed model) (old : Solver) (before : Li
     pub record-logged : (now : List Step) → (now ≡ before) ⊎ (now ≡ before ++ Solution values ∷ []) → AllAccepted model now
     record-logged now log = logged-accepted model before now (Solution values) h.state.core.accepted record-accepted log
 
-    pub recorded : (now : List Step) → now ≡ before ++ Solution values ∷ [] → length now < 10 ^ 18 → (id : ClauseId) → id.0 ≡ length (held_by old.clauses) → (held new : Solver) → Holds (cut_of model values) old held → new ≡ record held { found = held.found + 1 } → IsRecorded model old new now id
-    recorded now now_is few id newest held new holds new_is =
+    pub recorded : (now : List Step) → now ≡ before ++ Solution values ∷ [] → length now < 10 ^ 18 → (id : ClauseId) → id.0 ≡ length (held_by old.clauses) → (held new : Solver) → Holds (cut_of model values) old held → (flags : List Bool) → is_cut flags id ≡ true → ((other : ClauseId) → other.0 ≢ id.0 → is_cut flags other ≡ is_cut held.cuts other) → new ≡ record held { cuts = flags; found = held.found + 1 } → IsRecorded model old new now id
+    recorded now now_is few id newest held new holds flags flagged others new_is =
         let next : old.steps + 1 ≡ length before + 1 = ap (λ (n : ℕ). n + 1) h.steps_are in
-        let state = solution-state model old.learn (stock_of old) before old.trail old.search.nodes h.state good values fixed within (old.steps + 1) next record-accepted in
+        let state = solution-state model old.learn (stock_of old) before old.trail old.search.nodes h.state good values fixed within (old.steps + 1) flags id newest flagged (λ other apart. others other apart ∙ ap (λ (k : Stock). is_cut k.cuts other) holds.stock) next record-accepted in
         let stock = with_held (cut_of model values) (old.steps + 1) (stock_of old) in
-        let S : List Step → Type 0 = λ s. StateOf model old.learn stock s old.trail old.search.nodes in
-        let there : Solver = solver_of old.trail held.clauses held.numbers held.inferences held.alive old.search old.scratch old.learn held.notes (old.found + 1) (old.steps + 1) in
+        let S : List Step → Type 0 = λ s. StateOf model old.learn (with_cuts flags stock) s old.trail old.search.nodes in
+        let there : Solver = solver_of old.trail held.clauses held.numbers flags held.inferences held.alive old.search old.scratch old.learn held.notes (old.found + 1) (old.steps + 1) in
         let there_is : new ≡ there =
-        new_is ∙ ap (λ (s : Solver). record s { found = s.found + 1 }) (solver-is held old.trail old.search old.scratch old.learn old.found (old.steps + 1) holds.trail holds.search holds.scratch holds.learn holds.found holds.steps) in
+        new_is ∙ ap (λ (s : Solver). record s { cuts = flags; found = s.found + 1 }) (solver-is held old.trail old.search old.scratch old.learn old.found (old.steps + 1) holds.trail holds.search holds.scratch holds.learn holds.found holds.steps) in
         let P : Solver → Type 0 = λ s. IsRecorded model old s now id in
         let lengths : length now ≡ length before + 1 = ap length now_is ∙ length_push before (Solution values) in
         let solutions : count model now ≡ count model before + 1 =
         ap (λ (s : List Step). length (past_of model s).solutions) now_is ∙ ap (λ (p : Past). length p.solutions) (past_of-push model before (Solution values)) ∙ length_push (past_of model before).solutions values in
         let clause_is : clause_of (known_in (stock_of held)) (Held id) ≡ cut_of model values =
         ap (λ (k : Stock). clause_of (known_in k) (Held id)) holds.stock ∙ clause_of-newest (held_by old.clauses) (cut_of model values) id newest in
-        let K : Stock → Type 0 = λ k. StateOf model old.learn k now old.trail old.search.nodes in
+        let K : Stock → Type 0 = λ k. StateOf model old.learn (with_cuts flags k) now old.trail old.search.nodes in
         let L : Stock → Type 0 = λ k. IsKnown (known_in k) (Held id) in
         let none = cut-impossible model old.learn (stock_of old) before old.trail old.search.nodes h.state good values fixed within in
         subst P (sym there_is) (record {

@@ -29,8 +29,8 @@ use Rattle.fzn_clauses.specs.Propagation.{IsPropagated}
 use Rattle.fzn_clauses.specs.Watching.{held_by, IsWatching}
 use Rattle.fzn_clauses.proofs.HeldLemmas.{IsHeld-newest, clause_of-newest}
 use Rattle.fzn_clauses.proofs.WatchingLemmas.{IsWatching-asserted, IsWatching-returned}
-use Rattle.fzn_conflict.specs.declared.analysis.Learn.{Learn}
-use Rattle.fzn_conflict.specs.declared.analysis.Learn.TheVariants.{Plain}
+use Rattle.fzn_strategy.specs.declared.learn.Learn.{Learn}
+use Rattle.fzn_strategy.specs.declared.learn.Learn.TheVariants.{Plain}
 use Rattle.fzn_learned.specs.declared.learned.Learned.{Learned}
 use Rattle.fzn_learned.specs.declared.source.Source.{Source}
 use Rattle.fzn_learned.specs.declared.source.Source.TheVariants.{Held, Stacked}
@@ -53,18 +53,18 @@ use Rattle.fzn_engine.proofs.TakenLemmas.{Leads-length}
 use Rattle.fzn_engine.proofs.VariableLemmas.{variable-of}
 
 -- a search from its parts
-abbrev pub solver_of : Levels → Clauses → List ℕ → List Inferred → List ℕ → Searching → Narrowed → Learn → Notes → ℕ → ℕ → Solver
-solver_of trail clauses numbers stack alive search scratch learn notes found steps =
-    record { trail = trail; clauses = clauses; numbers = numbers; inferences = stack; alive = alive; search = search; scratch = scratch; learn = learn; notes = notes; found = found; steps = steps }
+abbrev pub solver_of : Levels → Clauses → List ℕ → List Bool → List Inferred → List ℕ → Searching → Narrowed → Learn → Notes → ℕ → ℕ → Solver
+solver_of trail clauses numbers cuts stack alive search scratch learn notes found steps =
+    record { trail = trail; clauses = clauses; numbers = numbers; cuts = cuts; inferences = stack; alive = alive; search = search; scratch = scratch; learn = learn; notes = notes; found = found; steps = steps }
 
-pub solver-is : (new : Solver) (trail : Levels) (search : Searching) (scratch : Narrowed) (learn : Learn) (found steps : ℕ) → new.trail ≡ trail → new.search ≡ search → new.scratch ≡ scratch → new.learn ≡ learn → new.found ≡ found → new.steps ≡ steps → new ≡ solver_of trail new.clauses new.numbers new.inferences new.alive search scratch learn new.notes found steps
+pub solver-is : (new : Solver) (trail : Levels) (search : Searching) (scratch : Narrowed) (learn : Learn) (found steps : ℕ) → new.trail ≡ trail → new.search ≡ search → new.scratch ≡ scratch → new.learn ≡ learn → new.found ≡ found → new.steps ≡ steps → new ≡ solver_of trail new.clauses new.numbers new.cuts new.inferences new.alive search scratch learn new.notes found steps
 solver-is new trail search scratch learn found steps a c d e f g =
-    ap (λ (t : Levels). solver_of t new.clauses new.numbers new.inferences new.alive new.search new.scratch new.learn new.notes new.found new.steps) a
-    ∙ ap (λ (s : Searching). solver_of trail new.clauses new.numbers new.inferences new.alive s new.scratch new.learn new.notes new.found new.steps) c
-    ∙ ap (λ (s : Narrowed). solver_of trail new.clauses new.numbers new.inferences new.alive search s new.learn new.notes new.found new.steps) d
-    ∙ ap (λ (l : Learn). solver_of trail new.clauses new.numbers new.inferences new.alive search scratch l new.notes new.found new.steps) e
-    ∙ ap (λ (n : ℕ). solver_of trail new.clauses new.numbers new.inferences new.alive search scratch learn new.notes n new.steps) f
-    ∙ ap (λ (n : ℕ). solver_of trail new.clauses new.numbers new.inferences new.alive search scratch learn new.notes found n) g
+    ap (λ (t : Levels). solver_of t new.clauses new.numbers new.cuts new.inferences new.alive new.search new.scratch new.learn new.notes new.found new.steps) a
+    ∙ ap (λ (s : Searching). solver_of trail new.clauses new.numbers new.cuts new.inferences new.alive s new.scratch new.learn new.notes new.found new.steps) c
+    ∙ ap (λ (s : Narrowed). solver_of trail new.clauses new.numbers new.cuts new.inferences new.alive search s new.learn new.notes new.found new.steps) d
+    ∙ ap (λ (l : Learn). solver_of trail new.clauses new.numbers new.cuts new.inferences new.alive search scratch l new.notes new.found new.steps) e
+    ∙ ap (λ (n : ℕ). solver_of trail new.clauses new.numbers new.cuts new.inferences new.alive search scratch learn new.notes n new.steps) f
+    ∙ ap (λ (n : ℕ). solver_of trail new.clauses new.numbers new.cuts new.inferences new.alive search scratch learn new.notes found n) g
 
 -- the trail is reasoned with one more held clause
 pub holds-reasoned : (model : Model) (clause : List Lit) (old new : Solver) (steps : List Step) → IsAfter model old steps → Holds clause old new → IsReasoned (known_in (stock_of new)) new.trail
@@ -94,7 +94,7 @@ same_count model before now step same is =
 pub propagated-kept : (model : Model) (steps : List Step) (old : Solver) (trail : Levels) (clauses : Clauses) → held_by clauses ≡ held_by old.clauses → IsPropagated (held_by old.clauses) old.trail trail → IsWatching clauses trail → IsAfter model old steps → IsKeptBy model steps old (record old { trail = trail; clauses = clauses })
 propagated-kept model steps old trail clauses same run watching h =
     let kept = State-propagated model old.learn (stock_of old) steps old.search.nodes old.trail trail run h.state in
-    let C : Numbered → Type 0 = λ cs. StateOf model old.learn (record { held = cs; numbers = old.numbers; stack = old.inferences; alive = old.alive }) steps trail old.search.nodes in
+    let C : Numbered → Type 0 = λ cs. StateOf model old.learn (record (stock_of old) { held = cs }) steps trail old.search.nodes in
     record {
       state = record {
         state = subst C (sym same) kept.state;
@@ -171,7 +171,7 @@ module _ (model : Model) (mid : Solver) (before : List Step) (conflict : Source)
       -- the search at the level, with the clause and fewer inferences
       module _ (held back : Solver) (holds : Holds learned.clause mid held) (at : IsBackAt learned.level held back) where
         abbrev there : Solver
-        there = solver_of (returned learned.level mid.trail) back.clauses back.numbers back.inferences back.alive mid.search mid.scratch mid.learn back.notes mid.found (mid.steps + 1)
+        there = solver_of (returned learned.level mid.trail) back.clauses back.numbers back.cuts back.inferences back.alive mid.search mid.scratch mid.learn back.notes mid.found (mid.steps + 1)
 
         there-is : back ≡ there
         there-is =
@@ -264,7 +264,7 @@ module _ (model : Model) (mid : Solver) (before : List Step) (conflict : Source)
       -- the search back at level 0, with the clause and fewer inferences
       module _ (held back : Solver) (holds : Holds learned.clause mid held) (at : IsBackAt 0 held back) (first : mid.learn ≡ Plain → ⊥) where
         abbrev root : Solver
-        root = solver_of (returned 0 mid.trail) back.clauses back.numbers back.inferences back.alive mid.search mid.scratch mid.learn back.notes mid.found (mid.steps + 1)
+        root = solver_of (returned 0 mid.trail) back.clauses back.numbers back.cuts back.inferences back.alive mid.search mid.scratch mid.learn back.notes mid.found (mid.steps + 1)
 
         root-is : back ≡ root
         root-is =

@@ -1,7 +1,7 @@
 -- Each change of a search keeps what holds of it.
-use Rattle.std.proofs.Common.{◌≡◌, ℕ, ◌+◌, ◌-◌, ◌*◌, ◌≤◌, List, [], ◌∷◌, ◌++◌, length, All, Contains, Some, sym, ◌∙◌, ap, subst, arith}
+use Rattle.std.proofs.Common.{◌≡◌, ℕ, ◌+◌, ◌-◌, ◌*◌, ◌≤◌, Bool, List, [], ◌∷◌, ◌++◌, length, All, Some, sym, ◌∙◌, ap, subst, arith}
 use Rattle.std.proofs.lemmas.List.{map-append, take-map}
-use Rattle.std.proofs.lemmas.List.Elements.{All-push, All-take, All-weaker, Contains-append_left}
+use Rattle.std.proofs.lemmas.List.Elements.{All-push, All-take, All-weaker}
 use Rattle.fzn_domain.specs.declared.literal.Lit.{Lit}
 use Rattle.fzn_domain.specs.Literal.{negated}
 use Rattle.fzn_domain.specs.IntSet.{IntSet}
@@ -20,8 +20,9 @@ use Rattle.fzn_learned.specs.Reasoned.{IsBelow, IsReasoned, Open}
 use Rattle.fzn_learned.proofs.CallerLemmas.{IsReasoned-stacked, IsReasoned-cut}
 use Rattle.fzn_engine.specs.Volume.{volume, slack}
 use Rattle.fzn_engine.specs.Learned.{resolved, FreshAfter, negations, AllCertain, left_open, other_part}
-use Rattle.fzn_engine.specs.State.{Stock, known_in, with_held, with_inference, with_stack, IsJustified, CoreOf, PlainOf}
+use Rattle.fzn_engine.specs.State.{Stock, known_in, with_held, with_cuts, with_inference, with_stack, IsHeldCut, IsJustified, CoreOf, PlainOf}
 use Rattle.fzn_engine.proofs.AcceptedLemmas.{past_of-push, AllAccepted-push, length-past_of}
+use Rattle.fzn_engine.proofs.HeldCutLemmas.{IsHeldCut-grown}
 use Rattle.fzn_engine.proofs.NumberLemmas.{Grows, clause_held-newest, AreGiven-push, AreNumbered-grown, AreNumbered-push, IsJustified-grown}
 use Rattle.fzn_engine.proofs.VolumeLemmas.{decided-accounts}
 use Rattle.fzn_engine.proofs.WithinLemmas.{Within, Within-narrowed, backed-within}
@@ -48,9 +49,9 @@ module _ (model : Model) (stock : Stock) (steps : List Step) (trail : Levels) (n
         nodes_by_conflicts = subst N (sym e) (omega arith);
       }
 
-  -- one more step, and its clause held
-  pub Core-step : CoreOf model stock steps trail nodes → (step : Step) (clause : List Lit) (number : ℕ) → number ≡ length steps + 1 → IsAccepted model (past_of model steps) step → (after model (past_of model steps) step).clauses ≡ (past_of model steps).clauses ++ Some clause ∷ [] → All (λ values. Contains (stock.held ++ Some clause ∷ []) (Some (cut_of model values))) (after model (past_of model steps) step).solutions → IsClauseOver (length trail.declared) clause → (new : Levels) → new.declared ≡ trail.declared → IsReasoned (known_in (with_held clause number stock)) new → nodes + slack new.sets ≤ (length (resolved (steps ++ step ∷ [])) + 1) * slack trail.declared → CoreOf model (with_held clause number stock) (steps ++ step ∷ []) new nodes
-  Core-step h step clause number newest accepted clauses_is cuts over new e reasoned less =
+  -- one more step, and its clause held, with other flags of cuts
+  pub Core-step : CoreOf model stock steps trail nodes → (step : Step) (clause : List Lit) (number : ℕ) (flags : List Bool) → number ≡ length steps + 1 → IsAccepted model (past_of model steps) step → (after model (past_of model steps) step).clauses ≡ (past_of model steps).clauses ++ Some clause ∷ [] → All (λ values. IsHeldCut (stock.held ++ Some clause ∷ []) flags (cut_of model values)) (after model (past_of model steps) step).solutions → IsClauseOver (length trail.declared) clause → (new : Levels) → new.declared ≡ trail.declared → IsReasoned (known_in (with_held clause number stock)) new → nodes + slack new.sets ≤ (length (resolved (steps ++ step ∷ [])) + 1) * slack trail.declared → CoreOf model (with_cuts flags (with_held clause number stock)) (steps ++ step ∷ []) new nodes
+  Core-step h step clause number flags newest accepted clauses_is cuts over new e reasoned less =
       let past : past_of model (steps ++ step ∷ []) ≡ after model (past_of model steps) step = past_of-push model steps step in
       let before = past_of model steps in
       let now = past_of model (steps ++ step ∷ []) in
@@ -60,7 +61,7 @@ module _ (model : Model) (stock : Stock) (steps : List Step) (trail : Levels) (n
       let N : List IntSet → Type 0 = λ s. nodes + slack new.sets ≤ (length (resolved (steps ++ step ∷ [])) + 1) * slack s in
       let F : List IntSet → Type 0 = λ s. NoneEmpty s in
       let O : List IntSet → Type 0 = λ s. AllHeld (IsClauseOver (length s)) (stock.held ++ Some clause ∷ []) in
-      let C : Past → Type 0 = λ p. All (λ values. Contains (stock.held ++ Some clause ∷ []) (Some (cut_of model values))) p.solutions in
+      let C : Past → Type 0 = λ p. All (λ values. IsHeldCut (stock.held ++ Some clause ∷ []) flags (cut_of model values)) p.solutions in
       record {
         declared = e ∙ h.declared;
         filled = subst F (sym e) h.filled;
@@ -75,10 +76,10 @@ module _ (model : Model) (stock : Stock) (steps : List Step) (trail : Levels) (n
       }
 
   -- the cuts held so far, and one more clause
-  pub cuts-grown : CoreOf model stock steps trail nodes → (clause : List Lit) → All (λ values. Contains (stock.held ++ Some clause ∷ []) (Some (cut_of model values))) (past_of model steps).solutions
+  pub cuts-grown : CoreOf model stock steps trail nodes → (clause : List Lit) → All (λ values. IsHeldCut (stock.held ++ Some clause ∷ []) stock.cuts (cut_of model values)) (past_of model steps).solutions
   cuts-grown h clause =
-      All-weaker (λ values. Contains stock.held (Some (cut_of model values))) (λ values. Contains (stock.held ++ Some clause ∷ []) (Some (cut_of model values)))
-      (λ values c. Contains-append_left stock.held (Some clause ∷ []) (Some (cut_of model values)) c) (past_of model steps).solutions h.cuts_held
+      All-weaker (λ values. IsHeldCut stock.held stock.cuts (cut_of model values)) (λ values. IsHeldCut (stock.held ++ Some clause ∷ []) stock.cuts (cut_of model values))
+      (λ values cut. IsHeldCut-grown stock.held stock.cuts (cut_of model values) cut (Some clause ∷ [])) (past_of model steps).solutions h.cuts_held
 
   -- one more inference
   pub Core-stacked : CoreOf model stock steps trail nodes → (it : Inferred) → IsJustified model (past_of model steps) it → CoreOf model (with_inference it stock) steps trail nodes

@@ -10,7 +10,7 @@ use Rattle.fzn_cert.specs.Past.{Past}
 use Rattle.fzn_cert.specs.Accepted.{IsAccepted, AllAccepted, past_of}
 use Rattle.fzn_cert.specs.Spelling.{IsSpelled}
 use Rattle.fzn_trail.specs.Levels.{Levels}
-use Rattle.fzn_conflict.specs.declared.analysis.Learn.TheVariants.{Plain}
+use Rattle.fzn_strategy.specs.declared.learn.Learn.TheVariants.{Plain}
 use Rattle.fzn_learned.specs.declared.learned.Learned.{Learned}
 use Rattle.fzn_learned.specs.Learned.{IsDerived}
 use Rattle.fzn_learned.specs.Reasoned.{Known, clause_of}
@@ -88,7 +88,7 @@ module _ (model : Model) (old mid : Solver) (first before : List Step) (w : IsWr
       let stock = with_held unit.clause (mid.steps + 1) (stock_of mid) in
       let S : List Step → Type 0 = λ s. StateOf model mid.learn stock s mid.trail mid.search.nodes in
       let K : Stock → Type 0 = λ k. StateOf model mid.learn k now mid.trail mid.search.nodes in
-      let there : Solver = solver_of mid.trail held.clauses held.numbers held.inferences held.alive mid.search mid.scratch mid.learn held.notes mid.found (mid.steps + 1) in
+      let there : Solver = solver_of mid.trail held.clauses held.numbers held.cuts held.inferences held.alive mid.search mid.scratch mid.learn held.notes mid.found (mid.steps + 1) in
       let there_is : held ≡ there = solver-is held mid.trail mid.search mid.scratch mid.learn mid.found (mid.steps + 1) holds.trail holds.search holds.scratch holds.learn holds.found holds.steps in
       let P : Solver → Type 0 = λ s. IsTended model old (record s { notes = notes }) now in
       let lengths : length now ≡ length before + 1 = ap length now_is ∙ length_push before (Resolve unit.clause numbers) in

@@ -1,5 +1,5 @@
 -- An inference is written.
-use Rattle.std.proofs.Common.{◌≡◌, ℕ, ◌+◌, ◌*◌, ◌<◌, ◌≤◌, List, [], ◌∷◌, ◌++◌, length, All, Contains, Some, refl, sym, ap, ◌∙◌, subst}
+use Rattle.std.proofs.Common.{◌≡◌, ℕ, ◌+◌, ◌*◌, ◌<◌, ◌≤◌, List, [], ◌∷◌, ◌++◌, length, All, Some, refl, sym, ap, ◌∙◌, subst}
 use Rattle.std.proofs.Math.Seq.{map-set_same}
 use Rattle.std.proofs.lemmas.List.{append-nil}
 use Rattle.std.proofs.lemmas.List.Elements.{All-get_or, All-set, All-weaker}
@@ -16,7 +16,7 @@ use Rattle.fzn_trail.specs.Levels.{Levels}
 use Rattle.fzn_learned.specs.Reasoned.{Known, IsReasoned}
 use Rattle.fzn_engine.specs.Volume.{slack}
 use Rattle.fzn_engine.specs.Learned.{resolved}
-use Rattle.fzn_engine.specs.State.{Stock, known_in, with_step, IsJustified, CoreOf}
+use Rattle.fzn_engine.specs.State.{Stock, known_in, with_step, IsHeldCut, IsJustified, CoreOf}
 use Rattle.fzn_engine.proofs.AcceptedLemmas.{past_of-push, AllAccepted-push, resolved-append, length-past_of}
 use Rattle.fzn_engine.proofs.NumberLemmas.{Grows, clause_held-grown, clause_held-newest, AreGiven-push, AreNumbered-grown, IsJustified-grown}
 
@@ -72,7 +72,7 @@ module _ (model : Model) (stock : Stock) (steps : List Step) (trail : Levels) (n
   Core-written number e =
       let now = past_of model (steps ++ step ∷ []) in
       let J : Inferred → Type 0 = IsJustified model now in
-      let S : Past → Type 0 = λ p. All (λ values. Contains stock.held (Some (cut_of model values))) p.solutions in
+      let S : Past → Type 0 = λ p. All (λ values. IsHeldCut stock.held stock.cuts (cut_of model values)) p.solutions in
       let N : List (List Lit) → Type 0 = λ cs. nodes + slack trail.sets ≤ (length cs + 1) * slack trail.declared in
       let R : Known → Type 0 = λ k. IsReasoned k trail in
       record {

@@ -15,8 +15,8 @@ use Rattle.fzn_trail.specs.declared.trail.Reason.TheVariants.{Decision}
 use Rattle.fzn_trail.specs.Levels.{pushed, asserted, returned}
 use Rattle.fzn_clauses.specs.Kept.{KeepsWatching}
 use Rattle.fzn_clauses.specs.Watching.{held_by, IsWatching}
-use Rattle.fzn_conflict.specs.declared.analysis.Learn.{Learn}
-use Rattle.fzn_conflict.specs.declared.analysis.Learn.TheVariants.{Plain}
+use Rattle.fzn_strategy.specs.declared.learn.Learn.{Learn}
+use Rattle.fzn_strategy.specs.declared.learn.Learn.TheVariants.{Plain}
 use Rattle.fzn_learned.specs.declared.learned.Learned.{Learned}
 use Rattle.fzn_learned.specs.declared.source.Source.{Source}
 use Rattle.fzn_learned.specs.declared.source.Source.TheVariants.{Held}
@@ -32,7 +32,7 @@ use Rattle.fzn_engine.specs.declared.solver.Solver.{Solver}
 
 -- the clauses that a search has
 abbrev pub stock_of : Solver → Stock
-stock_of solver = record { held = held_by solver.clauses; numbers = solver.numbers; stack = solver.inferences; alive = solver.alive }
+stock_of solver = record { held = held_by solver.clauses; numbers = solver.numbers; cuts = solver.cuts; stack = solver.inferences; alive = solver.alive }
 
 -- a search after these steps
 pub record IsAfter (model : Model) (solver : Solver) (steps : List Step) : Type 0 where

@@ -1,6 +1,6 @@
 -- What holds at each moment of a search.
-use Rattle.std.specs.Prelude.{◌≡◌, ◌⊎◌, ℕ, ◌+◌, ◌-◌, ◌*◌, ◌≤◌, List, [], ◌∷◌, ◌++◌, map, take, length, slice_index_or, slice_set, Some, IfSome}
-use Rattle.std.specs.List.{All, Contains}
+use Rattle.std.specs.Prelude.{◌≡◌, ℕ, ◌+◌, ◌-◌, ◌*◌, ◌≤◌, Bool, true, List, [], ◌∷◌, ◌++◌, map, take, length, slice_index_or, slice_set, Some, IfSome}
+use Rattle.std.specs.List.{All}
 use Rattle.fzn_domain.specs.declared.literal.Lit.{Lit}
 use Rattle.fzn_domain.specs.IntSet.{IntSet}
 use Rattle.fzn_domain.specs.Narrow.{IsClauseOver, NoneEmpty}
@@ -16,18 +16,20 @@ use Rattle.fzn_inferences.specs.declared.inferences.Inferred.{Inferred}
 use Rattle.fzn_inferences.specs.Inferences.{inference_at, with_number}
 use Rattle.fzn_trail.specs.declared.trail.ClauseId.{ClauseId}
 use Rattle.fzn_trail.specs.Levels.{Levels}
-use Rattle.fzn_clauses.specs.Held.{Held, IsHeld, AllHeld, clause_of}
-use Rattle.fzn_conflict.specs.declared.analysis.Learn.{Learn}
-use Rattle.fzn_conflict.specs.declared.analysis.Learn.TheVariants.{Plain}
+use Rattle.fzn_clauses.specs.Held.{Held, IsHeld, AllHeld, at_number, clause_of}
+use Rattle.fzn_strategy.specs.declared.learn.Learn.{Learn}
+use Rattle.fzn_strategy.specs.declared.learn.Learn.TheVariants.{Plain}
 use Rattle.fzn_learned.specs.Reasoned.{Known, known_from, IsReasoned, Open, opens}
+use Rattle.fzn_upkeep.specs.Forgetting.{is_cut}
 use Rattle.fzn_engine.specs.Volume.{volume, slack}
 use Rattle.fzn_engine.specs.Learned.{resolved, FreshAfter, HasCertain, LevelsBacked, left_open}
 
--- the clauses that a search has: those that it holds, with the numbers of their steps, its inferences, and the numbers of the
--- steps that may be deleted once nothing of it is theirs
+-- the clauses that a search has: those that it holds, with the numbers of their steps and flags of those that are cuts, its
+-- inferences, and the numbers of the steps that may be deleted once nothing of it is theirs
 pub record Stock : Type 0 where
   pub held : Held
   pub numbers : List ℕ
+  pub cuts : List Bool
   pub stack : List Inferred
   pub alive : List ℕ
 
@@ -41,6 +43,10 @@ with_clause clause number stock = record stock { held = stock.held ++ Some claus
 -- so with a new step
 abbrev pub with_held : List Lit → ℕ → Stock → Stock
 with_held clause number stock = record (with_clause clause number stock) { alive = stock.alive ++ number ∷ [] }
+
+-- other flags of those that are cuts
+abbrev pub with_cuts : List Bool → Stock → Stock
+with_cuts cuts stock = record stock { cuts = cuts }
 
 -- one more inference
 abbrev pub with_inference : Inferred → Stock → Stock
@@ -76,6 +82,10 @@ pub record IsJustified (model : Model) (past : Past) (it : Inferred) : Type 0 wh
   pub spelled : IsSpelled One (Infer it.constraint it.rule it.clause)
   pub written : IfSome it.number (λ n. clause_held past n ≡ Some it.clause)
 
+-- the clause is held under a number that has the flag of cuts
+abbrev pub IsHeldCut : Held → List Bool → List Lit → Type 0
+IsHeldCut held cuts clause = (id : ClauseId) × (is_cut cuts id ≡ true) × (at_number held id ≡ Some clause)
+
 -- what holds in both ways of learning
 pub record CoreOf (model : Model) (stock : Stock) (steps : List Step) (trail : Levels) (nodes : ℕ) : Type 0 where
   pub declared : trail.declared ≡ declared_sets model.vars
@@ -86,8 +96,8 @@ pub record CoreOf (model : Model) (stock : Stock) (steps : List Step) (trail : L
   pub justified : All (IsJustified model (past_of model steps)) stock.stack
   -- each step that may be deleted gives a clause
   pub alive : All (IsGiven (past_of model steps)) stock.alive
-  -- the cut of each solution is held
-  pub cuts_held : All (λ values. Contains stock.held (Some (cut_of model values))) (past_of model steps).solutions
+  -- the cut of each solution is held as one
+  pub cuts_held : All (λ values. IsHeldCut stock.held stock.cuts (cut_of model values)) (past_of model steps).solutions
   pub held_over : AllHeld (IsClauseOver (length trail.declared)) stock.held
   -- each entry of the trail has its reason
   pub reasoned : IsReasoned (known_in stock) trail

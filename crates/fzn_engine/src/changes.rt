@@ -45,6 +45,7 @@ impl Solver {
         let values = values_of(alloc, &self.trail, model.vars.len())?;
         let clause = cut(alloc, model, values.as_slice())?;
         let id = self.hold(clause.as_slice(), [].as_slice(), [].as_slice(), None)?;
+        self.cuts.add(id)?;
         let step = Step::Solution(values);
         sink.step(alloc, model, &step)?;
         self.found += 1;

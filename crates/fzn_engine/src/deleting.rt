@@ -9,10 +9,10 @@ use crate::fault::Fault;
 use crate::sink::Sink;
 use crate::solver::Solver;
 use fzn_cert::Step;
-use fzn_conflict::Learn;
 use fzn_domain::Memory;
 use fzn_list::Items;
 use fzn_meaning::Model;
+use fzn_strategy::Learn;
 use fzn_upkeep::{idle_among, numbers_in_use};
 use std::alloc::Global;
 

@@ -1,19 +1,17 @@
 // Which clauses are forgotten.
-ghost use Rattle.std.specs.Prelude.{◌≡◌, ◌≢◌, ◌<◌, ℤ, List, length, OnOk, IsTrue, Some, false, slice_index_or};
+ghost use Rattle.std.specs.Prelude.{◌≡◌, ◌<◌, List, length, OnOk, IsTrue, false, slice_index_or};
 ghost use Rattle.std.specs.List.{All};
 ghost use Rattle.fzn_meaning.specs.declared.model.Model.{Model};
-ghost use Rattle.fzn_meaning.specs.Solutions.{cut_of};
 ghost use Rattle.fzn_cert.specs.declared.step.Step.{Step};
-ghost use Rattle.fzn_clauses.specs.Held.{IsHeld, at_number};
+ghost use Rattle.fzn_clauses.specs.Held.{IsHeld};
 ghost use Rattle.fzn_clauses.specs.Watching.{held_by};
-ghost use Rattle.fzn_upkeep.specs.Forgetting.{IsFlagged};
+ghost use Rattle.fzn_upkeep.specs.Forgetting.{IsFlagged, is_cut};
 ghost use Rattle.fzn_engine.specs.Search.{IsAfter, IsTended};
 
 use crate::solver::Solver;
 use fzn_cert::Step;
 use fzn_domain::Memory;
 use fzn_meaning::Model;
-use fzn_search::is_like_cut;
 use fzn_trail::ClauseId;
 use fzn_upkeep::reasons_on;
 use std::alloc::Global;
@@ -30,7 +28,7 @@ impl Solver {
         let are_reasons = flags.as_slice();
         let worst = self.notes.take_worst(alloc, are_reasons)?;
         for id in &worst {
-            self.drop_clause(model, *id, are_reasons);
+            self.drop_clause(*id, are_reasons);
         }
         self.notes.forget(worst.as_slice())?;
         self.sweep(model.vars.len());
@@ -48,22 +46,22 @@ impl Solver {
     }
 
     /// Forgets a clause, if it may be forgotten.
-    fn drop_clause(&mut self, model: &Model, id: ClauseId, are_reasons: &[bool])
+    fn drop_clause(&mut self, id: ClauseId, are_reasons: &[bool])
         requires { All (λ entry. IsFlagged are_reasons.now entry.reason) self.old.trail.entries }
-        ensures tended { (steps : List Step) → IsAfter model.now self.old steps → IsTended model.now self.old self.new steps }
+        ensures tended { (model : Model) (steps : List Step) → IsAfter model self.old steps → IsTended model self.old self.new steps }
         ensures trail { self.new.trail ≡ self.old.trail }
     {
-        if !self.is_idle(model, id, are_reasons) {
+        if !self.is_idle(id, are_reasons) {
             return;
         }
         self.clauses.remove(id);
     }
 
-    /// Whether the clause is held, no reason, unlike the cut of a solution, and by its length none that stands for an entry.
-    fn is_idle(&self, model: &Model, id: ClauseId, are_reasons: &[bool]) -> bool
+    /// Whether the clause is held, no reason, not the cut of a solution, and by its length none that stands for an entry.
+    fn is_idle(&self, id: ClauseId, are_reasons: &[bool]) -> bool
         ensures held { IsTrue result → IsHeld (held_by self.now.clauses) id }
         ensures unflagged { IsTrue result → (id.0 < length are_reasons.now) × (slice_index_or are_reasons.now id.0 false ≡ false) }
-        ensures no_cut { IsTrue result → (values : List ℤ) → at_number (held_by self.now.clauses) id ≢ Some (cut_of model.now values) }
+        ensures no_cut { IsTrue result → is_cut self.now.cuts id ≡ false }
     {
         if !self.clauses.is_held(id) {
             return false;
@@ -72,10 +70,9 @@ impl Solver {
         if k >= are_reasons.len() || are_reasons[k] {
             return false;
         }
-        let clause = self.clauses.clause(id);
-        if is_like_cut(model, clause) {
+        if self.cuts.has(id) {
             return false;
         }
-        clause.len() > 1
+        self.clauses.clause(id).len() > 1
     }
 }

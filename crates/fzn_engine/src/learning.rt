@@ -4,7 +4,7 @@ ghost use Rattle.fzn_meaning.specs.declared.model.Model.{Model};
 ghost use Rattle.fzn_meaning.specs.WellFormed.{IsWellFormed};
 ghost use Rattle.fzn_cert.specs.declared.step.Step.{Step};
 ghost use Rattle.fzn_cert.specs.Accepted.{AllAccepted};
-ghost use Rattle.fzn_conflict.specs.declared.analysis.Learn.TheVariants.{First};
+ghost use Rattle.fzn_strategy.specs.declared.learn.Learn.TheVariants.{First};
 ghost use Rattle.fzn_learned.specs.Learned.{IsConflicting};
 ghost use Rattle.fzn_constraints.specs.Inference.{IsInference};
 ghost use Rattle.fzn_engine.specs.State.{known_in};
@@ -14,11 +14,12 @@ use crate::fault::Fault;
 use crate::sink::Sink;
 use crate::solver::Solver;
 use fzn_cert::Step;
-use fzn_conflict::{Learn, analyse};
+use fzn_conflict::analyse;
 use fzn_constraints::Inference;
 use fzn_learned::{Learned, Source};
 use fzn_list::Items;
 use fzn_meaning::Model;
+use fzn_strategy::Learn;
 use std::alloc::Global;
 
 impl Solver {

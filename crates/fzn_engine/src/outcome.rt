@@ -12,23 +12,27 @@ use crate::limits::{Ending, Limits};
 use crate::sink::Sink;
 use crate::solver::Solver;
 use fzn_cert::Step;
-use fzn_conflict::Learn;
 use fzn_constraints::Constraints;
 use fzn_list::Items;
 use fzn_meaning::{Model, Var};
-use fzn_search::{Annotation, Choice};
+use fzn_search::Choice;
+use fzn_strategy::{Annotation, Learn};
 use std::alloc::Global;
 
 /// What a run tells.
 #[derive(Clone, Copy, Debug, PartialEq, Eq)]
 pub struct Outcome {
+    /// How many solutions were found.
     pub solutions: u64,
+    /// How many decisions were made.
     pub nodes: u64,
+    /// Why it ended.
     pub ending: Ending,
 }
 
 /// Searches for solutions of the model, and hands on each step of the argument. How decisions are made is up to the choice and the
-/// annotations; where the choice asks for restarts, they come only where the first unique implication point is learned.
+/// annotations; where the choice asks for restarts, they come only where the first unique implication point is learned. It answers `Memory`
+/// where memory runs out, and else the fault that the sink answered. The steps that the sink has taken are accepted then too.
 pub fn solve<S: Sink, C: Constraints>(
     alloc: Global,
     model: &Model,

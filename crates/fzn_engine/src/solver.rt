@@ -6,24 +6,25 @@ ghost use Rattle.fzn_meaning.specs.Solutions.{declared_sets};
 ghost use Rattle.fzn_engine.specs.Search.{IsAfter};
 
 use fzn_clauses::Clauses;
-use fzn_conflict::Learn;
 use fzn_domain::{Domain, Memory};
 use fzn_inferences::Inferences;
 use fzn_list::Items;
 use fzn_meaning::{Model, Var};
-use fzn_search::{Annotation, Choice, Search};
+use fzn_search::{Choice, Search};
 use fzn_sets::Sets;
+use fzn_strategy::{Annotation, Learn};
 use fzn_trail::Trail;
-use fzn_upkeep::{Notes, Numbers};
+use fzn_upkeep::{Cuts, Notes, Numbers};
 use std::alloc::Global;
 
-/// A search: the trail, the clauses that are held with the numbers of their steps, the inferences that stand, the numbers of the steps
-/// that are not deleted, what decides, and how many solutions were found and steps written.
+/// A search: the trail, the clauses that are held with the numbers of their steps, which of them are cuts, the inferences that stand,
+/// the numbers of the steps that are not deleted, what decides, and how many solutions were found and steps written.
 #[derive(Drop)]
 pub struct Solver {
     pub trail: Trail,
     pub clauses: Clauses,
     pub numbers: Numbers,
+    pub cuts: Cuts,
     pub inferences: Inferences,
     pub alive: Items<u64>,
     pub search: Search,
@@ -57,6 +58,7 @@ impl Solver {
             trail,
             clauses: Clauses::new(alloc),
             numbers: Numbers::new(alloc),
+            cuts: Cuts::new(alloc),
             inferences: Inferences::new(alloc),
             alive: Items::new(alloc),
             search,

@@ -4,15 +4,16 @@ ghost use Rattle.fzn_meaning.specs.declared.model.Model.{Model};
 ghost use Rattle.fzn_meaning.specs.WellFormed.{IsWellFormed};
 ghost use Rattle.fzn_cert.specs.declared.step.Step.{Step};
 ghost use Rattle.fzn_cert.specs.Accepted.{AllAccepted};
-ghost use Rattle.fzn_conflict.specs.declared.analysis.Learn.TheVariants.{First};
+ghost use Rattle.fzn_strategy.specs.declared.learn.Learn.TheVariants.{First};
 ghost use Rattle.fzn_engine.specs.Search.{IsAfter, Learns, IsTended};
 
 use crate::fault::Fault;
 use crate::sink::Sink;
 use crate::solver::Solver;
 use fzn_cert::Step;
-use fzn_conflict::{Learn, unit_of};
+use fzn_conflict::{Wanted, unit_of};
 use fzn_meaning::Model;
+use fzn_strategy::Learn;
 use std::alloc::Global;
 
 impl Solver {
@@ -72,21 +73,21 @@ impl Solver {
         ensures kept { S.keeps model.now sink.new × (S.origin sink.new ≡ S.origin sink.old) }
     {
         'wanted: for _ in 0..self.trail.len() {
-            let Some(place) = self.notes.marks.next_wanted() else {
+            let Some(next) = self.notes.marks.next_wanted() else {
                 return Ok(());
             };
-            self.prove_unit(alloc, model, sink, place)?;
+            self.prove_unit(alloc, model, sink, next)?;
         }
         Ok(())
     }
 
-    /// Learns the literal of an entry of level 0 as a clause of its own, where it follows as it should.
+    /// Learns the clause that is wanted, where it follows as it should.
     fn prove_unit<S: Sink>(
         &mut self,
         alloc: Global,
         model: &Model,
         sink: &mut S,
-        place: usize,
+        wanted: Wanted,
     ) -> Result<(), Fault>
         requires model { IsWellFormed model.now }
         requires state { IsAfter model.now self.old (S.written sink.old) }
@@ -103,7 +104,7 @@ impl Solver {
             &self.inferences,
             &mut self.scratch,
             &mut self.notes.marks,
-            place,
+            wanted,
         )?;
         let Some(unit) = found else {
             return Ok(());
@@ -113,7 +114,7 @@ impl Solver {
         let id = self.hold(clause.as_slice(), [].as_slice(), [].as_slice(), None)?;
         let step = Step::Resolve { clause, ids };
         sink.step(alloc, model, &step)?;
-        self.notes.marks.stand_for(place, id);
+        self.notes.marks.stand_for(wanted, id);
         Ok(())
     }
 }

@@ -19,7 +19,8 @@ use fzn_trail::Trail;
 use std::alloc::Global;
 
 /// A clause that is false or forces a literal: that the switch does not ask for equality, where the two terms have no common value, and
-/// where it does, that one of them has not a value which the other has not.
+/// where it does, that one of them has not a value which the other has not. None where it finds no such clause. It answers `Err` where
+/// memory runs out.
 pub fn infer_equal(
     alloc: Global,
     trail: &Trail,

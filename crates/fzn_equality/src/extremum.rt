@@ -24,7 +24,8 @@ use fzn_trail::Trail;
 use std::alloc::Global;
 
 /// Clauses that are false or force a literal each, where the ends and small sets of the places show some. They go behind what was found.
-/// The values of the result are looked at only where the ends show nothing.
+/// The values of the result are looked at only where the ends show nothing. It answers `Err` where memory runs out; what was found up to
+/// then are inferences all the same.
 pub fn infer_extremum(
     alloc: Global,
     trail: &Trail,

@@ -11,7 +11,8 @@ use fzn_list::Items;
 use fzn_propagator::{Findings, Inference};
 use fzn_rules::Rule;
 
-/// Puts the clause, if there is one, behind what was found: by this rule, from the constraint of this number.
+/// Puts the clause, if there is one, behind what was found: by this rule, from the constraint of this number. It answers `Err` where memory
+/// runs out, and nothing is added.
 pub fn hand_over(
     number: u64,
     rule: Rule,

@@ -16,7 +16,7 @@ use std::alloc::Global;
 /// A number that a term is compared with.
 pub type Bound = (Op, i64);
 
-/// How many values are looked at one by one.
+/// How many values are looked at one by one at the most.
 pub const SMALL: i64 = 4_096;
 
 /// That the value of the term stands so to the number.
@@ -47,7 +47,7 @@ pub fn may_be(trail: &Trail, term: Term, value: i64) -> bool
     }
 }
 
-/// Whether the term has one value.
+/// Whether the term has one value. Each present set has a value.
 pub fn is_fixed(trail: &Trail, term: Term) -> bool
     requires term { IsTerm (length trail.now.declared) term }
     requires filled { NoneEmpty trail.now.sets }

@@ -10,13 +10,16 @@ use fzn_meaning::Term;
 /// That the value of the term stands to the number as the operator says.
 #[derive(Clone, Copy, Debug, PartialEq, Eq)]
 pub struct Claim {
+    /// The constant or variable of which it speaks.
     pub term: Term,
+    /// How its value stands to the number.
     pub op: Op,
+    /// The number.
     pub number: i64,
 }
 
 impl Claim {
-    /// That the value is less than the number.
+    /// That the value is less than the number. The number is not the least of 64 bits.
     pub fn below(term: Term, number: i64) -> Claim
         requires { i64.MIN <ℤ number }
         ensures term { result.term ≡ term }
@@ -29,7 +32,7 @@ impl Claim {
         }
     }
 
-    /// That the value is greater than the number.
+    /// That the value is greater than the number. The number is not the greatest of 64 bits.
     pub fn above(term: Term, number: i64) -> Claim
         requires { number <ℤ i64.MAX }
         ensures term { result.term ≡ term }

@@ -18,7 +18,7 @@ use std::alloc::Global;
 const GREATEST_NUMBER: i64 = 1_000_000_001;
 
 /// A clause of these claims, without the literals that are false of all declared values, which is false or forces one literal. Nothing
-/// where there is none.
+/// where there is none. It answers `Err` where memory runs out.
 pub fn explain(alloc: Global, trail: &Trail, claims: &[Claim]) -> Result<Option<Items<Lit>>, Memory>
     requires { All (λ claim. IsTerm (length trail.now.declared) claim.term) claims.now }
     ensures { IfOk result (λ found. IfSome found (IsExplanation trail.now claims.now)) }

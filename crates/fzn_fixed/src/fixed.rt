@@ -18,7 +18,8 @@ use fzn_meaning::Term;
 use fzn_trail::Trail;
 use std::alloc::Global;
 
-/// A clause by the rule `fixed`.
+/// A clause by the rule `fixed`, where each input has one value: that one of them has another, or that the result is what these give. None
+/// where an input has several, or where the trail says this already. It answers `Err` where memory runs out.
 pub fn refute_fixed(
     alloc: Global,
     trail: &Trail,

@@ -27,7 +27,8 @@ use std::alloc::Global;
 const STEPS: usize = 4_096;
 
 /// A clause that the one place with several values, an input, has not one of them, where it has few and the result is not what that one
-/// gives.
+/// gives. None elsewhere. Of its values those are looked at that are less than 4,096 above the least. It answers `Err` where memory runs
+/// out.
 pub fn infer_last(alloc: Global, trail: &Trail, parts: &Parts) -> Result<Option<Items<Lit>>, Memory>
     requires ready { IsReady (length trail.now.declared) parts.now }
     requires filled { NoneEmpty trail.now.sets }

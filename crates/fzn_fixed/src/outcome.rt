@@ -85,7 +85,7 @@ fn switched_where(switch: Option<Term>, holds: bool) -> Outcome
     }
 }
 
-/// The result of the operation.
+/// The result of the operation on two numbers within the limits of a value. `Fails` where the second is 0 and divides.
 pub fn of_operation(operation: Operation, left: &i64, right: &i64) -> Outcome
     requires left { IsInLimits left.now }
     requires right { IsInLimits right.now }

@@ -13,12 +13,15 @@ use std::alloc::Global;
 /// A constraint that is no sum, with its input places and the place of its result.
 #[derive(Drop)]
 pub struct Parts {
+    /// The constraint itself.
     pub constraint: Constraint,
+    /// The terms whose values make the result, in order.
     pub inputs: Shared<Term>,
+    /// The term of the result, where it has one.
     pub result: Option<Term>,
 }
 
-/// The parts of a constraint, and nothing where it is a sum or one of the five globals.
+/// The parts of a constraint, and nothing where it is a sum or one of the five globals. It answers `Err` where memory runs out.
 #[tactic(auto, unfolding(fzn_builtin_rules::specs::Form::form_of, fzn_builtin_rules::specs::Choices::inputs_of))]
 pub fn parts_of(alloc: Global, constraint: &Constraint) -> Result<Option<Parts>, Memory>
     ensures found { IfOk result (λ found. IfSome found (ArePartsOf constraint.now)) }
@@ -171,9 +174,7 @@ fn odd(inputs: &Shared<Term>) -> Result<Parts, Memory>
 fn listed(alloc: Global, terms: &[Term]) -> Result<Shared<Term>, Memory>
     ensures { IfOk result (λ all. all ≡ terms.now) }
 {
-    let mut all = Items::new(alloc);
-    push_each(&mut all, terms)?;
-    Shared::new(alloc, all)
+    Shared::new(alloc, Items::from_slice(alloc, terms)?)
 }
 
 fn push_each(all: &mut Items<Term>, terms: &[Term]) -> Result<(), Memory>

@@ -14,8 +14,8 @@ use fzn_domain::{Domain, place_of};
 use fzn_meaning::{Constraint, Term};
 use fzn_sets::{Sets, is_index, term_at};
 
-/// Whether the places, in rising order, are some of a circuit's places, but not all, and lead only to one another. It looks
-/// for each run of values of their successors once.
+/// Whether the places, in rising order, are some of a circuit's places, counted from 1, but not all, and lead only to one another. It looks
+/// for each run of values of their successors once. `false` for any other constraint.
 #[tactic(auto, unfolding(crate::specs::Cut::IsCutMet, fzn_meaning::specs::Meaning::IsWellFormed))]
 pub fn is_cut_met(constraint: &Constraint, sets: &Sets, places: &[i64]) -> bool
     requires { IsWellFormed (length sets.now.present) constraint.now }

@@ -14,7 +14,8 @@ use crate::task::{TaskTerms, least_use};
 use fzn_meaning::{Constraint, Term};
 use fzn_sets::{Sets, greatest_value, least_value};
 
-/// Whether the tasks, wherever they start, use more between the two times than the capacity gives. It looks at each task once.
+/// Whether the first time is before the second, and the tasks of a cumulative, wherever they start, use more between the two than the
+/// capacity gives. It looks at each task once. No set may be empty. `false` for any other constraint.
 #[tactic(auto, unfolding(crate::specs::Energy::IsEnergyMet, fzn_meaning::specs::Meaning::IsWellFormed))]
 pub fn is_energy_met(constraint: &Constraint, sets: &Sets, from: &i64, until: &i64) -> bool
     requires constraint { IsWellFormed (length sets.now.present) constraint.now }

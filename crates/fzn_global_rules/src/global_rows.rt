@@ -10,7 +10,7 @@ use fzn_meaning::{Constraint, Term};
 use fzn_sets::{Sets, greatest_value, is_index, may_be};
 
 /// Whether the sets leave no row of a table, no index for an entry of a circuit or of inverse lists, or only amounts below 0. It looks
-/// at each number of a table once, and at each term of the others.
+/// at each number of a table once, and at each term of the others. No set may be empty. `false` for any other constraint.
 #[tactic(auto, unfolding(crate::specs::GlobalRows::IsGlobalRowsMet, fzn_meaning::specs::Meaning::IsWellFormed))]
 pub fn is_global_rows_met(constraint: &Constraint, sets: &Sets) -> bool
     requires constraint { IsWellFormed (length sets.now.present) constraint.now }

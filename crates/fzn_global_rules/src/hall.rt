@@ -9,7 +9,8 @@ ghost use Rattle.fzn_global_rules.specs.Hall.{lies_within, HasExcess, IsHallMet}
 use fzn_meaning::{Constraint, Term};
 use fzn_sets::{Sets, greatest_value, least_value};
 
-/// Whether more places than there are numbers from low to high have their sets within them. It looks at each place once.
+/// Whether more places than there are numbers from low to high have their sets within them: places of an all different, of a circuit, or of
+/// one list of an inverse. It looks at each place once. No set may be empty. `false` for any other constraint.
 #[tactic(auto, unfolding(crate::specs::Hall::IsHallMet, fzn_meaning::specs::Meaning::IsWellFormed))]
 pub fn is_hall_met(constraint: &Constraint, sets: &Sets, low: &i64, high: &i64) -> bool
     requires constraint { IsWellFormed (length sets.now.present) constraint.now }

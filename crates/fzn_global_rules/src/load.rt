@@ -14,7 +14,8 @@ use crate::task::{TaskTerms, least_use};
 use fzn_meaning::{Constraint, Term};
 use fzn_sets::{Sets, greatest_value, least_value};
 
-/// Whether the tasks that run at the time, wherever they start, use more than the capacity. It looks at each task once.
+/// Whether the tasks of a cumulative that run at the time, wherever they start, use more than the capacity. It looks at each task once. No
+/// set may be empty. `false` for any other constraint.
 #[tactic(auto, unfolding(crate::specs::Load::IsLoadMet, fzn_meaning::specs::Meaning::IsWellFormed))]
 pub fn is_load_met(constraint: &Constraint, sets: &Sets, time: &i64) -> bool
     requires constraint { IsWellFormed (length sets.now.present) constraint.now }

@@ -10,7 +10,8 @@ ghost use Rattle.fzn_global_rules.specs.Pair.{HasBrokenPair, IsBroken, IsPairMet
 use fzn_meaning::{Constraint, Term};
 use fzn_sets::{Sets, is_fixed_to, is_index, may_be, term_at};
 
-/// Whether one list has the second number at the first, and the other cannot have the first at the second, or the other way round.
+/// Whether one list of an inverse has the second number at the first, both counted from 1, and the other cannot have the first at the
+/// second, or the other way round. No set may be empty. `false` for any other constraint.
 #[tactic(auto, unfolding(crate::specs::Pair::IsPairMet, fzn_meaning::specs::Meaning::IsWellFormed))]
 pub fn is_pair_met(constraint: &Constraint, sets: &Sets, first: &i64, second: &i64) -> bool
     requires constraint { IsWellFormed (length sets.now.present) constraint.now }

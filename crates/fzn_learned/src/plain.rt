@@ -14,7 +14,8 @@ use fzn_list::Items;
 use fzn_trail::{Reason, Trail};
 use std::alloc::Global;
 
-/// The clause that one of the decisions is wrong, learned from a known clause that is false on the trail.
+/// The clause that one of the decisions is wrong, learned from a known clause that is false on the trail. It answers `Err` where memory
+/// runs out.
 pub fn plain_learned(
     alloc: Global,
     trail: &Trail,

@@ -24,7 +24,7 @@ impl Ranks {
         }
     }
 
-    /// One more clause, the newest.
+    /// One more clause, the newest. It answers `Err` where memory runs out, and nothing is added.
     pub fn push(&mut self, id: ClauseId, rank: usize) -> Result<(), Memory> {
         self.ranks.push((rank, u64::MAX - id.0))?;
         Ok(())
@@ -36,7 +36,7 @@ impl Ranks {
     }
 
     /// Adds the worse half of the clauses to the others, without reasons and the newest clause, where there are many. A tenth more are
-    /// kept from now on, up to a limit.
+    /// kept from now on, up to a limit. It answers `Err` where memory runs out, and nothing is said then of the clauses that are kept.
     pub fn take_worst(
         &mut self,
         alloc: Global,
@@ -57,7 +57,8 @@ impl Ranks {
         Ok(())
     }
 
-    /// Adds the oldest clauses beyond so many to the others, without reasons and the newest clause.
+    /// Adds the oldest clauses beyond so many to the others, without reasons and the newest clause. One at least is kept. It answers `Err`
+    /// where memory runs out, and nothing is said then of the clauses that are kept.
     pub fn take_oldest(
         &mut self,
         alloc: Global,

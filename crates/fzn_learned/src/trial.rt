@@ -20,7 +20,8 @@ use fzn_inferences::Inferences;
 use fzn_sets::Sets;
 use fzn_trail::Trail;
 
-/// Whether the clause may be learned. The sets are used and restored.
+/// Whether the clause may be learned. The sets are used and restored. It answers `Err` where memory runs out, and the sets may be narrowed
+/// then.
 pub fn is_sound(
     trail: &Trail,
     clauses: &Clauses,
@@ -50,7 +51,8 @@ pub fn is_sound(
     ))
 }
 
-/// Whether the clause follows from its sources. The sets are used and restored.
+/// Whether the clause follows from its sources. The sets are used and restored. It answers `Err` where memory runs out, and the sets may be
+/// narrowed then.
 pub fn is_derived(
     trail: &Trail,
     clauses: &Clauses,

@@ -5,10 +5,12 @@ ghost use Rattle.fzn_lexer.specs.declared.halt.Halt.TheVariants.{Memory};
 
 use std::alloc::{AllocError, AllocFailed};
 
-/// Memory was wanted and not there, or there is this fault.
+/// Why there is no answer.
 #[derive(Debug, Drop)]
 pub enum Halt<F> {
+    /// Memory was wanted and not there.
     Memory,
+    /// There is this fault.
     Fault(F),
 }
 

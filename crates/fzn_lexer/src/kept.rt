@@ -8,9 +8,13 @@ use crate::token::Symbol;
 /// What a token is, beside its text.
 #[derive(Clone, Copy, Debug)]
 pub enum Form {
+    /// A reserved word, a sign or the end of the file.
     Symbol(Symbol),
+    /// A word that is not reserved.
     Name,
+    /// A number from -10^9 to 10^9.
     Int(i32),
+    /// A string.
     Text,
 }
 
@@ -19,6 +23,7 @@ impl Form {
     ghost use Rattle.fzn_lexer.specs.Kept.{kind_in};
     ghost use Rattle.fzn_lexer.specs.Kinds.{is_symbol};
 
+    /// Whether it is this symbol.
     pub fn is(self, symbol: Symbol) -> bool
         ensures { (text : List ℕ) → result ≡ is_symbol symbol (kind_in self text) }
     {
@@ -29,16 +34,19 @@ impl Form {
     }
 }
 
-/// A token, the bytes of a file from `start` up to `end`.
+/// A token, the bytes of a file from `start` up to `end`, both counted from 0 and at most `MAX_FILE`.
 #[derive(Clone, Copy, Debug)]
 pub struct Kept {
+    /// What it is.
     pub form: Form,
+    /// The index of its first byte.
     pub start: u32,
+    /// The index behind its last byte.
     pub end: u32,
 }
 
 impl Kept {
-    /// The token's bytes, in the file that has these.
+    /// The token's bytes, in the file that has these. Where the file ends before the token does, the bytes up to the end.
     pub fn text<'a>(&self, bytes: &'a [u8]) -> &'a [u8]
         ensures { result.now ≡ slice_range bytes.now self.now.start self.now.end }
     {
@@ -48,7 +56,7 @@ impl Kept {
     }
 }
 
-/// What stands between the quotes.
+/// What stands between the quotes, the first and the last byte. Nothing where there are fewer than two bytes.
 pub fn inside(text: &[u8]) -> &[u8]
     ensures { result.now ≡ inside text.now }
 {

@@ -74,7 +74,8 @@ fn scan(alloc: Global, bytes: &[u8]) -> Result<TokenList<'_>, Halt<Fault>>
     }
 }
 
-/// The tokens of a file, or its first fault.
+/// The tokens of a file, or its first fault: `FileTooLong` is tested first, then `BadByte` over the whole file, and then `BadToken`,
+/// `Float` and `LiteralRange` token by token. It answers `Halt::Memory` where memory runs out.
 pub fn tokens(alloc: Global, bytes: &[u8]) -> Result<TokenList<'_>, Halt<Fault>>
     ensures right { Lexes bytes.now result }
     ensures ends { IfOk result EndsInEnd }

@@ -56,10 +56,12 @@ fn token_of(alloc: Global, file: &mut Places<'_>, kept: &Kept) -> Result<Token, 
     Ok(Token { kind, span })
 }
 
-/// A file, and its tokens as they are kept.
+/// A file, and its tokens as they are kept, in order.
 #[derive(Drop)]
 pub struct Parts<'a> {
+    /// The bytes, and the places of tokens among them.
     pub file: Places<'a>,
+    /// What each token is, and where it begins and ends.
     pub kept: &'a [Kept],
 }
 
@@ -68,6 +70,7 @@ impl<'a> TokenList<'a> {
     ghost use Rattle.fzn_lexer.specs.declared.token.Token.{Token};
     ghost use Rattle.fzn_lexer.specs.Tokens.{max_file};
 
+    /// The tokens of these bytes, which are at most `MAX_FILE`.
     pub fn new(bytes: &'a [u8], kept: Items<Kept>) -> TokenList<'a>
         requires { length bytes.now ≤ max_file }
         ensures { result ≡ tokens_of bytes.now kept }
@@ -82,6 +85,7 @@ impl<'a> TokenList<'a> {
         self.kept.len()
     }
 
+    /// The file and the tokens, to be read from the left to the right.
     pub fn parts(&self) -> Parts<'_>
         ensures { tokens_of result.file result.kept.now ≡ self.now }
     {
@@ -91,7 +95,7 @@ impl<'a> TokenList<'a> {
         }
     }
 
-    /// The place of the token with this index.
+    /// The place of the token with this index, counted from 0. It goes over the file up to the token.
     pub fn place(&self, index: usize) -> Place
         requires { index < length self.now }
         ensures { (token : Token) → slice_get self.now index ≡ Some token → result ≡ token.span.place }
@@ -100,7 +104,8 @@ impl<'a> TokenList<'a> {
         Places::new(self.bytes).of(kept[index].start as usize)
     }
 
-    /// The token with this index, with its text.
+    /// The token with this index, counted from 0, with its text, and none behind the last. It goes over the file up to the token. It
+    /// answers `Err` where memory runs out.
     pub fn get(&self, alloc: Global, index: usize) -> Result<Option<Token>, AllocError>
         ensures { IfOk result (λ token. token ≡ slice_get self.now index) }
     {

@@ -34,6 +34,7 @@ impl<'a> Model for Places<'a> {
 }
 
 impl<'a> Places<'a> {
+    /// The places of these bytes, which are at most `MAX_FILE`.
     pub fn new(bytes: &'a [u8]) -> Places<'a>
         requires { length bytes.now ≤ max_file }
         ensures { result ≡ bytes.now }
@@ -47,6 +48,7 @@ impl<'a> Places<'a> {
         }
     }
 
+    /// The bytes of the file.
     pub fn bytes(&self) -> &'a [u8]
         ensures { result.now ≡ self.now }
     {
@@ -69,7 +71,8 @@ impl<'a> Places<'a> {
         }
     }
 
-    /// The place of the byte with this index, or that behind the last.
+    /// The place of the byte with this index, counted from 0, or that behind the last. It goes on from the place asked for before, and over
+    /// the file from its start where that lies behind.
     pub fn of(&mut self, index: usize) -> Place
         ensures place { result ≡ place_after (take index self.old) }
         ensures same { self.new ≡ self.old }

@@ -7,7 +7,9 @@ use fzn_list::Text;
 /// A line and a column, both from 1, the column in bytes.
 #[derive(Clone, Copy, Debug, PartialEq, Eq)]
 pub struct Place {
+    /// Counted from 1 by line feeds.
     pub line: u32,
+    /// Counted from 1 in bytes.
     pub column: u32,
 }
 
@@ -51,15 +53,19 @@ impl Place {
     }
 }
 
-/// The bytes from `start` up to `end`, and the place of the first.
+/// The bytes from `start` up to `end`, counted from 0, and the place of the first.
 #[derive(Clone, Copy, Debug, PartialEq, Eq)]
 pub struct Span {
+    /// The index of the first byte.
     pub start: usize,
+    /// The index behind the last byte.
     pub end: usize,
+    /// The place of the first byte.
     pub place: Place,
 }
 
-/// A token that is spelled in one way alone: a reserved word, a sign or the end of the file.
+/// A token that is spelled in one way alone: a reserved word, a sign or the end of the file. The words, `Array` to `Var`, are spelled as
+/// here in small letters.
 #[derive(Clone, Copy, Debug, PartialEq, Eq)]
 pub enum Symbol {
     Array,
@@ -76,32 +82,52 @@ pub enum Symbol {
     Solve,
     True,
     Var,
+    /// `(`
     OpenParen,
+    /// `)`
     CloseParen,
+    /// `[`
     OpenBracket,
+    /// `]`
     CloseBracket,
+    /// `{`
     OpenBrace,
+    /// `}`
     CloseBrace,
+    /// `,`
     Comma,
+    /// `;`
     Semicolon,
+    /// `:`
     Colon,
+    /// `::`
     Colons,
+    /// `=`
     Equals,
+    /// `..`
     Dots,
+    /// The end of the file, which has no bytes.
     End,
 }
 
+/// What a token is, with its text where that is not spelled in one way alone.
 #[derive(Debug, Drop)]
 pub enum Kind {
+    /// A reserved word, a sign or the end of the file.
     Symbol(Symbol),
+    /// A word that is not reserved.
     Name(Text),
+    /// A number from -10^9 to 10^9.
     Int(i64),
     /// What stands between the quotes.
     Text(Text),
 }
 
+/// A token of a file.
 #[derive(Debug, Drop)]
 pub struct Token {
+    /// What it is.
     pub kind: Kind,
+    /// Where its bytes stand.
     pub span: Span,
 }

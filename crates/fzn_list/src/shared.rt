@@ -24,7 +24,7 @@ impl<T> Model for Shared<T> {
 }
 
 impl<T: Drop> Shared<T> {
-    /// The list, for one owner.
+    /// The list, for one owner. It answers `Err` where memory runs out.
     pub fn new(alloc: Global, items: Items<T>) -> Result<Shared<T>, AllocError>
         ensures { IfOk result (λ list. list ≡ items) }
     {
@@ -32,7 +32,7 @@ impl<T: Drop> Shared<T> {
         Ok(Shared { items })
     }
 
-    /// The same list for one more owner. Nothing of it is copied.
+    /// The same list for one more owner. Nothing of it is copied. It answers `Err` only where no further owner can be counted.
     pub fn share(&self) -> Result<Shared<T>, AllocError>
         ensures { IfOk result (λ list. list ≡ self.now) }
     {

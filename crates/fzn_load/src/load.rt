@@ -16,7 +16,7 @@ use fzn_sums::{greatest_value, least_value};
 use fzn_terms::explain;
 use fzn_trail::Trail;
 
-/// What a task uses at least while it runs.
+/// What a task uses at least while it runs, and no less than 0. Each present set has a value.
 pub fn least_use(trail: &Trail, uses: Term) -> i64
     requires uses { IsTerm (length trail.now.declared) uses }
     requires filled { NoneEmpty trail.now.sets }
@@ -27,7 +27,7 @@ pub fn least_use(trail: &Trail, uses: Term) -> i64
     least_value(trail, uses).max(0)
 }
 
-/// The least end of a task.
+/// The least end of a task: its least start and its least duration together. Each present set has a value.
 pub fn least_end(trail: &Trail, start: Term, duration: Term) -> i64
     requires start { IsTerm (length trail.now.declared) start }
     requires duration { IsTerm (length trail.now.declared) duration }
@@ -144,7 +144,8 @@ pub(crate) fn explain_uses(
     Ok(())
 }
 
-/// `true`: the clause, emptied first, is an inference by `load` that the tasks do not use more at the time than the capacity.
+/// `true`: the clause, emptied first, is an inference by `load` that the tasks do not use more at the time than the capacity. `false`: they
+/// do not on the trail. Times lie from -10^9 to 2 * 10^9. It answers `Err` where memory runs out.
 pub fn explain_load(
     trail: &Trail,
     tasks: &Tasks,

@@ -114,7 +114,9 @@ fn force_before(
     force(trail, start, Op::AtLeast, *time - shortest + 1, clause)
 }
 
-/// `true`: the clause, emptied first, is an inference by `load` that the task at place k, counted from 0, starts after the time.
+/// `true`: the clause, emptied first, is an inference by `load` that the task at place k, counted from 0, starts after the time. `false`:
+/// it may end by the time, there is room for it, or it starts later anyway. Times lie from -10^9 to 2 * 10^9. It answers `Err` where memory
+/// runs out.
 pub fn push_after(
     trail: &Trail,
     tasks: &Tasks,
@@ -141,7 +143,9 @@ pub fn push_after(
     force_after(trail, start, duration, uses, time, clause)
 }
 
-/// `true`: the clause, emptied first, is an inference by `load` that the task at place k, counted from 0, ends by the time.
+/// `true`: the clause, emptied first, is an inference by `load` that the task at place k, counted from 0, ends by the time. `false`: it may
+/// start after the time, there is room for it, or it ends by then anyway. Times lie from -10^9 to 2 * 10^9. It answers `Err` where memory
+/// runs out.
 pub fn push_before(
     trail: &Trail,
     tasks: &Tasks,

@@ -11,7 +11,7 @@ ghost use Rattle.fzn_load.specs.Loads.{AreReady, cumulative_of, IsTime, IsAmount
 use crate::load::{explain_uses, least_use, load_at, surely_runs};
 use crate::push::{explain_over, others_at};
 use crate::tasks::Tasks;
-use fzn_domain::{Lit, Memory, Op};
+use fzn_domain::{GREATEST_VALUE, Lit, Memory, Op};
 use fzn_list::Items;
 use fzn_meaning::Term;
 use fzn_sums::{greatest_value, least_value};
@@ -74,7 +74,8 @@ fn force_shorter(
 }
 
 /// `true`: the clause, emptied first, is an inference by `load` that the task at place k, counted from 0, uses no more than is left at
-/// the time.
+/// the time. `false`: it may not run then, or nothing is to be forced of its use. Times lie from -10^9 to 2 * 10^9. It answers `Err` where
+/// memory runs out.
 pub fn push_less(
     trail: &Trail,
     tasks: &Tasks,
@@ -105,7 +106,8 @@ pub fn push_less(
 }
 
 /// `true`: the clause, emptied first, is an inference by `load` that the task at place k, counted from 0, is short enough to end by the
-/// time from its earliest start.
+/// time from its earliest start. `false`: it may start after the time, there is room for it, or it is short enough anyway. Times lie from
+/// -10^9 to 2 * 10^9. It answers `Err` where memory runs out.
 pub fn push_shorter(
     trail: &Trail,
     tasks: &Tasks,
@@ -132,7 +134,8 @@ pub fn push_shorter(
     force_shorter(trail, start, duration, uses, time, clause)
 }
 
-/// `true`: the clause, emptied first, is an inference by `load` that the capacity is no less than what the tasks use at the time.
+/// `true`: the clause, emptied first, is an inference by `load` that the capacity is no less than what the tasks use at the time. `false`:
+/// it is no less anyway, or they use more than any capacity. Times lie from -10^9 to 2 * 10^9. It answers `Err` where memory runs out.
 pub fn push_capacity(
     trail: &Trail,
     tasks: &Tasks,
@@ -145,7 +148,7 @@ pub fn push_capacity(
     ensures { IfOk result (λ found. MatchBool found (IsInferred trail.now (cumulative_of tasks.now) (rule.Load time.now) clause.new) (IsFreeAt trail.now.sets time.now tasks.now)) }
 {
     let load = load_at(trail, tasks, time);
-    if 1_000_000_000 < load {
+    if GREATEST_VALUE < load {
         return Ok(false);
     }
     clause.clear();

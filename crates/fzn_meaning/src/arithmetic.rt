@@ -2,12 +2,17 @@
 ghost use Rattle.std.specs.Prelude.{◌≡◌, ◌≢◌, ◌↔◌, pos, ◌+ℤ◌, ◌*ℤ◌, int_div, int_rem, IsTrue};
 ghost use Rattle.fzn_meaning.specs.Arithmetic.{IsArithmetic, IsIntAbs};
 
-/// What makes the result of two terms. A quotient is rounded toward zero.
+/// What makes the result of two terms (MiniZinc Handbook, FlatZinc builtins: `int_plus`, `int_times`, `int_div`, `int_mod`). A quotient is
+/// rounded toward zero.
 #[derive(Clone, Copy, Debug, PartialEq, Eq)]
 pub enum Operation {
+    /// Their sum.
     Plus,
+    /// Their product.
     Times,
+    /// The first divided by the second, which is not 0.
     Quotient,
+    /// What the first leaves when it is divided by the second: it has the sign of the first.
     Remainder,
 }
 

@@ -6,10 +6,12 @@ ghost use Rattle.fzn_meaning.specs.Booleans.{Passes, IsGated, IsBoolXor, IsArray
 
 use crate::entries::Entries;
 
-/// When a gate gives 1: all inputs are 1, or one at least is.
+/// When a gate gives 1.
 #[derive(Clone, Copy, Debug, PartialEq, Eq)]
 pub enum Gate {
+    /// All inputs are 1.
     And,
+    /// One input at least is 1.
     Or,
 }
 

@@ -10,7 +10,9 @@ use crate::term::Term;
 use fzn_domain::Domain;
 use fzn_list::Shared;
 
-/// A numbered constraint. A switch is a Boolean term that is 1 exactly when the constraint without it holds.
+/// A numbered constraint (MiniZinc Handbook, FlatZinc builtins; Global Constraint Catalog). Each constant in it lies within the limits of a
+/// value, each coefficient and bound from -10^9 to 10^9, and a list has at most 100,000 entries. A switch is a Boolean term that is 1
+/// exactly when the constraint without it holds.
 #[derive(Drop)]
 pub enum Constraint {
     /// `int_eq`, `int_ne`, `int_le`, `int_lt`, `bool_eq`, `bool_le`, `bool_lt`, and with a switch their `_reif` forms.
@@ -20,7 +22,7 @@ pub enum Constraint {
         right: Term,
         switch: Option<Term>,
     },
-    /// The two differ.
+    /// `bool_not`: the two differ.
     BoolNot {
         left: Term,
         right: Term,
@@ -37,7 +39,7 @@ pub enum Constraint {
         bound: i64,
         switch: Option<Term>,
     },
-    /// The sum is the value of a term.
+    /// `bool_lin_eq`: the sum is the value of a term.
     BoolLinEq {
         sum: Sum,
         total: Term,
@@ -49,7 +51,7 @@ pub enum Constraint {
         right: Term,
         result: Term,
     },
-    /// The result is the amount of the other term.
+    /// `int_abs`: the result is the amount of the other term.
     IntAbs {
         of: Term,
         result: Term,
@@ -60,7 +62,7 @@ pub enum Constraint {
         entries: Shared<Term>,
         result: Term,
     },
-    /// The four element constraints.
+    /// The four element constraints: the value is the entry at the index, counted from 1.
     Element {
         index: Term,
         entries: Shared<Term>,
@@ -78,42 +80,43 @@ pub enum Constraint {
         inputs: Shared<Term>,
         result: Term,
     },
-    /// The result is 1 exactly when one of the two is.
+    /// `bool_xor`: the result is 1 exactly when one of the two is.
     BoolXor {
         left: Term,
         right: Term,
         result: Term,
     },
-    /// An odd number of inputs are 1.
+    /// `array_bool_xor`: an odd number of inputs are 1.
     ArrayBoolXor {
         inputs: Shared<Term>,
     },
-    /// Some positive term is 1, or some negative one is 0.
+    /// `bool_clause`: some positive term is 1, or some negative one is 0.
     BoolClause {
         positive: Shared<Term>,
         negative: Shared<Term>,
     },
-    /// No two places have one value.
+    /// `fzn_all_different_int`: no two places have one value.
     AllDifferent {
         places: Shared<Term>,
     },
-    /// Some row equals the places. The rows stand one after another.
+    /// `fzn_table_int`: some row equals the places, of which there is one. The rows stand one after another, each as long as the places.
     Table {
         places: Shared<Term>,
         rows: Rows,
     },
-    /// The tasks that run at one time use no more than the capacity together.
+    /// `fzn_cumulative`: no duration, use or capacity is below 0, and the tasks that run at one time use no more than the capacity
+    /// together. The three lists have one length.
     Cumulative {
         starts: Shared<Term>,
         durations: Shared<Term>,
         uses: Shared<Term>,
         capacity: Term,
     },
-    /// From each place to its successor is one cycle through all places.
+    /// `fzn_circuit`: from each place, counted from 1, to its successor is one cycle through all places.
     Circuit {
         successors: Shared<Term>,
     },
-    /// Each list leads back from the places that the other names.
+    /// `fzn_inverse`: each list leads back from the places that the other names, counted from 1. The two have one length.
     Inverse {
         forward: Shared<Term>,
         backward: Shared<Term>,

@@ -8,7 +8,9 @@ use crate::entries::Entries;
 /// Which entry of a list is meant.
 #[derive(Clone, Copy, Debug, PartialEq, Eq)]
 pub enum Extreme {
+    /// The least.
     Least,
+    /// The greatest.
     Greatest,
 }
 

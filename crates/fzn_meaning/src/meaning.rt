@@ -22,7 +22,7 @@ use crate::set::is_in_set;
 use crate::sum::sum_at;
 use crate::table::is_table;
 
-/// Whether the values meet the constraint.
+/// Whether the values, one for each variable in order, meet the constraint.
 pub fn holds(constraint: &Constraint, values: &[i64]) -> bool
     requires { IsWellFormed (length values.now) constraint.now }
     ensures { IsTrue result ↔ Meets constraint.now values.now }

@@ -13,7 +13,7 @@ use fzn_list::Items;
 use std::alloc::Global;
 
 /// The cut of a solution: in an optimisation "better than this one", in satisfaction "some output variable has another value", so the
-/// empty clause where there is no output variable.
+/// empty clause where there is no output variable. The values are one for each variable, in order. It answers `Err` where memory runs out.
 pub fn cut(alloc: Global, model: &Model, values: &[i64]) -> Result<Items<Lit>, Memory>
     requires model { IsWellFormed model.now }
     requires length { length values.now ≡ length (declared_sets model.now.vars) }

@@ -29,7 +29,8 @@ impl Model for Sum {
 }
 
 impl Sum {
-    /// Each number of the first list with the term of the second that it is multiplied with.
+    /// Each number of the first list with the term of the second that it is multiplied with. A number that is no constant counts as 0, and
+    /// the longer list is cut to the length of the shorter.
     pub fn new(numbers: Shared<Term>, terms: Shared<Term>) -> Sum
         ensures { result ≡ weighted numbers terms }
     {
@@ -55,7 +56,7 @@ impl Sum {
     }
 }
 
-/// One more product in a sum.
+/// One more product in a sum: the coefficient lies from -10^9 to 10^9, the sum from -2^126 to 2^126.
 pub fn plus_product(sum: i128, coefficient: i64, value: i64) -> i128
     requires sum { unsigned_abs sum ≤ 2 ^ 126 }
     requires coefficient { IsSmall coefficient }

@@ -1,10 +1,11 @@
 // Rows of a table.
-ghost use Rattle.std.specs.Prelude.{◌↔◌, ◌≡◌, ◌*◌, ◌+◌, ◌<◌, ◌≤◌, IsTrue, length};
+ghost use Rattle.std.specs.Prelude.{◌↔◌, ◌≡◌, ◌*◌, ◌+◌, ◌<◌, ◌≤◌, IsTrue, IfOk, length};
 ghost use Rattle.fzn_meaning.specs.Table.{row_at, IsTable};
 ghost use Rattle.fzn_meaning.specs.Term.{numbers_in};
 
 use crate::entries::Entries;
 use crate::term::Term;
+use fzn_domain::Memory;
 use fzn_list::Shared;
 use std::marker::Model;
 
@@ -27,14 +28,22 @@ impl Model for Rows {
 }
 
 impl Rows {
-    /// The numbers that these constants are.
+    /// The numbers that these constants are. A variable counts as 0.
     pub fn new(terms: Shared<Term>) -> Rows
         ensures { result ≡ numbers_in terms }
     {
         Rows { terms }
     }
 
-    /// The constants.
+    /// The same rows for one more owner. Nothing of them is copied. It answers `Err` only where no further owner can be counted.
+    pub fn share(&self) -> Result<Rows, Memory>
+        ensures { IfOk result (λ rows. rows ≡ self.now) }
+    {
+        let terms = self.terms.share()?;
+        Ok(Rows { terms })
+    }
+
+    /// The constants, one row after another.
     pub fn constants(&self) -> &[Term]
         ensures { numbers_in result.now ≡ self.now }
     {

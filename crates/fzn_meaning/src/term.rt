@@ -7,7 +7,9 @@ use fzn_domain::VarId;
 /// A constant or a variable.
 #[derive(Clone, Copy, Debug, PartialEq, Eq)]
 pub enum Term {
+    /// This number, within the limits of a value.
     Constant(i64),
+    /// The variable with this number.
     Variable(VarId),
 }
 
@@ -37,6 +39,8 @@ impl Term {
 /// A term with the number that it is multiplied with.
 #[derive(Clone, Copy, Debug, PartialEq, Eq)]
 pub struct Place {
+    /// What the term is multiplied with, from -10^9 to 10^9.
     pub coefficient: i64,
+    /// The constant or variable.
     pub term: Term,
 }

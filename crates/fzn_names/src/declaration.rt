@@ -82,7 +82,8 @@ fn var_names(
     Ok(names)
 }
 
-/// The names of the declarations, or their first fault, beside this many constraints of items.
+/// The names of the declarations, beside this many constraints of items, or their first fault: `SetRefused`, `UnboundedInt`,
+/// `DuplicateName`, `UnknownName`, `Type`, `Length`, `TooMany` or `OutputAnnotation`. It answers `Halt::Memory` where memory runs out.
 pub fn names_of(
     alloc: Global,
     params: &[Param],

@@ -62,7 +62,7 @@ fn flagged(alloc: Global, mut flags: &[bool]) -> Result<Items<VarId>, AllocError
     Ok(vars)
 }
 
-/// The variables among this many that the items show, each once, in rising order.
+/// The variables among this many that the items show, each once, in rising order. It answers `Err` where memory runs out.
 pub fn outputs_of(
     alloc: Global,
     count: usize,

@@ -86,7 +86,7 @@ fn show(
     }
 }
 
-/// What is printed of a solution, in order of declaration.
+/// What is printed of a solution, in order of declaration. It answers `Err` where memory runs out.
 pub fn shown_of(
     alloc: Global,
     names: &Names,

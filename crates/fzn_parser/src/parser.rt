@@ -24,7 +24,8 @@ fn fault_of(tokens: &TokenList<'_>, refusal: Refusal) -> Fault
     }
 }
 
-/// The tree that the tokens spell, or the first fault.
+/// The tree that the tokens spell, the last of which is the end of the file, or the first fault: `Syntax`, `TooDeep` or `TooMany`, and
+/// `Syntax` before the others at one token. It answers `Halt::Memory` where memory runs out.
 pub fn parse(alloc: Global, tokens: &TokenList<'_>) -> Result<Tree, Halt<Fault>>
     requires { EndsInEnd tokens.now }
     ensures right { Parses tokens.now result }

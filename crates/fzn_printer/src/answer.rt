@@ -13,8 +13,9 @@ use fzn_list::Items;
 use fzn_meaning::{Goal, Model};
 use fzn_streams::{TrackedWrite, WriteFailed, put};
 
-/// Prints the solutions that are to be seen, and how the answer ends, and flushes the writer. In an optimisation the last solution
-/// alone is printed, but for a wish to see all.
+/// Prints the solutions that are to be seen (MiniZinc Handbook, FlatZinc output), each a value for each variable, and how the answer ends,
+/// and flushes the writer. In an optimisation the last solution alone is printed, but for a wish to see all. It answers `Err` only where a
+/// write or the flush failed, and then a beginning of the answer stands.
 #[tactic(auto, using(fzn_streams::proofs::CallerLemmas::puts))]
 pub fn put_answer<W: TrackedWrite>(
     out: &mut W,

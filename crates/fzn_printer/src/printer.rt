@@ -71,7 +71,8 @@ impl<'w, W: TrackedWrite> Printer<'w, W> {
         }
     }
 
-    /// Prints the lines of the marked declarations, and ten dashes.
+    /// Prints the lines of the marked declarations, and ten dashes. It answers `Write` only where a write failed, so that a beginning of
+    /// the lines stands, and `Failed` after a fault or `close`, where nothing is printed.
     pub fn solution(&mut self, model: &Model, values: &[i64]) -> Result<(), PrintFault>
         requires model { IsWellFormed model.now }
         requires assignment { IsAssignment model.now values.now }
@@ -99,7 +100,7 @@ impl<'w, W: TrackedWrite> Printer<'w, W> {
         Ok(())
     }
 
-    /// Flushes the writer below.
+    /// Flushes the writer below. It answers `Write` only where the flush failed, and `Failed` after a fault or `close`.
     pub fn flush(&mut self) -> Result<(), PrintFault>
         ensures kept { Keeps (contents_of W.contents self.old) (contents_of W.contents self.new) }
         ensures ok { OnOk result ((is_open self.new ≡ true) × (has_printed self.new ≡ has_printed self.old)) }
@@ -120,7 +121,8 @@ impl<'w, W: TrackedWrite> Printer<'w, W> {
         Ok(())
     }
 
-    /// Prints the line that ends the answer, if it has one, and flushes the writer below. Any later call answers `Failed`.
+    /// Prints the line that ends the answer, if it has one, and flushes the writer below. It answers `Write` only where a write or the
+    /// flush failed, and `Failed` after a fault or an earlier `close`. Any later call answers `Failed`.
     pub fn close(&mut self, ending: Ending) -> Result<(), PrintFault>
         ensures written { OnOk result (Appends (contents_of W.contents self.old) (contents_of W.contents self.new) (ending_text (is_closed ending) (has_printed self.old))) }
         ensures front { OnErr result (AppendsFront (contents_of W.contents self.old) (contents_of W.contents self.new) (ending_text (is_closed ending) (has_printed self.old))) }

@@ -31,7 +31,7 @@ impl Findings {
         }
     }
 
-    /// Puts one behind the others.
+    /// Puts one behind the others. It answers `Err` where memory runs out, and the list is as before.
     pub fn push(&mut self, inference: Inference) -> Result<(), AllocError>
         ensures ok { OnOk result (self.new ≡ self.old ++ inference ∷ []) }
         ensures err { OnErr result (self.new ≡ self.old) }

@@ -17,6 +17,7 @@ use std::alloc::Global;
 pub struct Inference {
     /// From 1 up.
     pub constraint: u64,
+    /// The test that it meets, with its hints.
     pub rule: Rule,
     /// False on the trail, but for at most one literal, which it forces.
     pub clause: Items<Lit>,
@@ -34,7 +35,7 @@ pub trait Propagator {
     ghost fits: { Self → List IntSet → Type 0 };
 
     /// One pass: what it infers goes behind what was found. Each inference is one of the trail as it stands, so that one may force what
-    /// another has forced. `Err` where memory runs out.
+    /// another has forced. It answers `Err` where memory runs out; what was found up to then are inferences all the same.
     fn propagate(&self, alloc: Global, trail: &Trail, found: &mut Findings) -> Result<(), Memory>
         requires fits { fits self.now trail.now.declared }
         requires filled { NoneEmpty trail.now.sets }

@@ -26,8 +26,11 @@ pub enum AnyPropagator {
     Builtin(BuiltinPropagator),
     /// All different and inverse.
     Global(GlobalPropagator),
+    /// A table.
     Table(TablePropagator),
+    /// A circuit.
     Circuit(CircuitPropagator),
+    /// A cumulative.
     Cumulative(CumulativePropagator),
 }
 

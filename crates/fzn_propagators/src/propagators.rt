@@ -30,7 +30,7 @@ pub struct Propagators {
 }
 
 impl Propagators {
-    /// Made once, before the search.
+    /// Made once, before the search. It answers `Err` where memory runs out.
     pub fn new(alloc: Global, model: &Model) -> Result<Propagators, Memory>
         requires model { IsWellFormed model.now }
         ensures { IfOk result (λ propagators. StandFor propagators model.now) }

@@ -1,3 +1,3 @@
-pub mod Annotated
+pub mod Files
 pub mod Numbers
 pub mod Reads

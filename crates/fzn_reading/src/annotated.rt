@@ -2,56 +2,41 @@
 
 ghost use Rattle.std.specs.Prelude.{◌≡◌, true, IfOk, IfErr, IfSome};
 ghost use Rattle.fzn_meaning.specs.WellFormed.{IsWellFormed};
-ghost use Rattle.fzn_reading.specs.Annotated.{model_in, model_read};
+ghost use Rattle.fzn_reading.specs.Files.{model_read};
 ghost use Rattle.fzn_reading.specs.declared.fault.ModelFault.TheVariants.{Read as Failed};
-ghost use Rattle.fzn_reading.specs.Reads.{Answers, Reads};
+ghost use Rattle.fzn_reading.specs.Reads.{Answers};
 
 use crate::fault::ModelFault;
-use crate::input::read_bytes;
-use fzn_annotations::{Annotation, annotations_of};
-use fzn_lexer::{Fault, Halt, tokens};
+use crate::file::read_file;
+use fzn_annotations::annotations_of;
 use fzn_meaning::Model;
-use fzn_parser::parse;
+use fzn_strategy::Annotation;
 use fzn_streams::TrackedRead;
-use fzn_typing::type_check_named;
 use std::alloc::Global;
 
 /// A model, and what its file asks of a search.
 #[derive(Drop)]
 pub struct Annotated {
+    /// What the file asks.
     pub model: Model,
+    /// The search annotations of its solve item, in order.
     pub annotations: Vec<Annotation>,
 }
 
-/// The model of these bytes with its annotations, or their first fault.
-fn annotated_of(alloc: Global, bytes: &[u8]) -> Result<Annotated, Halt<Fault>>
-    ensures right { Reads bytes.now (model_in result) }
-    ensures well_formed { IfOk result (λ read. IsWellFormed read.model) }
-{
-    let tree = {
-        let tokens = tokens(alloc, bytes)?;
-        parse(alloc, &tokens)?
-    };
-    let named = type_check_named(alloc, &tree)?;
-    let count = named.model.vars.len();
-    let annotations = annotations_of(alloc, &named.names, count, tree.solve.anns.as_slice())?;
-    Ok(Annotated {
-        model: named.model,
-        annotations,
-    })
-}
-
-/// The model of the file that the reader has left, with the search annotations. After an error the reader stands anywhere, and
-/// the fault `Read` is answered only after a read that failed.
+/// The model of the file that the reader has left, with the search annotations. It answers `File` with the first fault of the file,
+/// `Memory` where memory runs out, and `Read` only after a read that failed. After an error the reader stands anywhere.
 pub fn read_annotated<R: TrackedRead>(alloc: Global, input: &mut R) -> Result<Annotated, ModelFault>
     ensures right { IfSome (R.remaining input.old) (λ bytes. Answers bytes (model_read result)) }
     ensures well_formed { IfOk result (λ read. IsWellFormed read.model) }
     ensures due { IfErr result (λ fault. fault ≡ Failed → R.has_failed input.new ≡ true) }
 {
-    let bytes = read_bytes(alloc, input)?;
-    match annotated_of(alloc, bytes.as_slice()) {
-        Ok(annotated) => Ok(annotated),
-        Err(Halt::Memory) => Err(ModelFault::Memory),
-        Err(Halt::Fault(fault)) => Err(ModelFault::File(fault)),
-    }
+    let file = read_file(alloc, input)?;
+    let anns = file.tree.solve.anns.as_slice();
+    let Ok(annotations) = annotations_of(alloc, &file.names, file.model.vars.len(), anns) else {
+        return Err(ModelFault::Memory);
+    };
+    Ok(Annotated {
+        model: file.model,
+        annotations,
+    })
 }

@@ -9,8 +9,10 @@ use thiserror::Error;
 /// Why no model was read, printed as the programs print it.
 #[derive(Debug, Drop, Error)]
 pub enum ModelFault {
+    /// Memory was wanted and not there.
     #[error("fault 19 Memory")]
     Memory,
+    /// A read failed.
     #[error("fault 20 Read")]
     Read,
     /// The first fault of the file.

@@ -7,6 +7,7 @@
 
 mod annotated;
 mod fault;
+mod file;
 mod input;
 mod law;
 mod model;

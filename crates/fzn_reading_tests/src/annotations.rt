@@ -1,7 +1,7 @@
 // What is read of the search annotations of a solve item.
-use fzn_annotations::{Annotation, ValueChoice, VarChoice};
 use fzn_domain::VarId;
 use fzn_reading::read_annotated;
+use fzn_strategy::{Annotation, ValueChoice, VarChoice};
 use fzn_streams::TrackedReader;
 use std::alloc::Global;
 use std::test::*;

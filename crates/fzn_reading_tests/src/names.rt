@@ -115,7 +115,7 @@ fn are_declared(alloc: Global, tree: &Tree) -> Result<bool, Halt<Fault>>
 fn is_model(alloc: Global, tree: &Tree) -> Result<bool, Halt<Fault>>
     requires { IsWithinLimits tree.now }
 {
-    let model = type_check(alloc, tree)?;
+    let model = type_check(alloc, tree)?.model;
     Ok(
         matches!(model.goal, Goal::Minimize(VarId(1)))
             && model.outputs.as_slice() == [VarId(2)].as_slice()

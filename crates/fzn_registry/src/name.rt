@@ -6,7 +6,9 @@ use crate::signature::Argument::{
 };
 use crate::signature::{Argument, Lengths};
 
-/// A constraint by its name. The last argument of a form `Reif` tells whether the plain form holds.
+/// A constraint by its name (MiniZinc Handbook, FlatZinc builtins; Global Constraint Catalog). A file spells it as here in small letters
+/// with `_` between the words, as `int_lin_eq` for `IntLinEq`, but `bool2int` for `Bool2Int`. The last argument of a form `Reif` tells
+/// whether the plain form holds.
 #[derive(Clone, Copy, Debug, PartialEq, Eq)]
 pub enum Name {
     IntEq,
@@ -66,7 +68,7 @@ impl Name {
     ghost use Rattle.std.specs.Prelude.{◌≡◌};
     ghost use Rattle.fzn_registry.specs.Registry.{arguments_of, lengths_of, non_negative_of};
 
-    /// The kinds of its arguments.
+    /// The kinds of its arguments, in order.
     #[tactic(auto, unfolding(crate::specs::Registry::row, crate::specs::Registry::arguments_of))]
     pub fn arguments(self) -> &'static [Argument]
         ensures { result.now ≡ arguments_of self }
@@ -139,7 +141,7 @@ impl Name {
         }
     }
 
-    /// The places of the arguments whose constants must not be below 0.
+    /// The places of the arguments whose constants must not be below 0, counted from 0.
     #[tactic(auto, unfolding(crate::specs::Registry::non_negative_of))]
     pub fn non_negative(self) -> &'static [usize]
         ensures { result.now ≡ non_negative_of self }

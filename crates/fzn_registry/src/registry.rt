@@ -8,7 +8,7 @@ use crate::name::Name;
 use crate::signature::Signature;
 use crate::spelling::{SPELLINGS, first_named};
 
-/// The signature of the constraint with this name, if there is one.
+/// The signature of the constraint whose name has these bytes, if there is one.
 pub fn lookup_bytes(name: &[u8]) -> Option<Signature>
     ensures found { IfSome result (λ s. IsRow s × (spelling_of s.name ≡ name.now)) }
     ensures only { IfSome result (λ s. (n : Name) → spelling_of n ≡ name.now → n ≡ s.name) }

@@ -2,7 +2,8 @@
 // written else. Where nothing fails nothing changes.
 use crate::runs::{options_of, solve};
 use fzn_solver::{RunFault, Unwatched};
-use fzn_words::{Learning, Options};
+use fzn_strategy::Learn;
+use fzn_words::Options;
 use std::alloc::Global;
 use std::io::{Read, Write};
 use std::str::from_utf8;
@@ -37,7 +38,7 @@ struct Case {
 fn options_for(alloc: Global, number: usize) -> Options {
     let mut options = options_of(alloc, number % 2 == 0, 1_000);
     if number % 4 >= 2 {
-        options.learn = Learning::Plain;
+        options.learn = Learn::Plain;
     }
     options
 }

@@ -1,5 +1,6 @@
 use fzn_solver::{Report, RunFault, Unwatched, Watch, run};
-use fzn_words::{Learning, Options};
+use fzn_strategy::Learn;
+use fzn_words::Options;
 use std::alloc::Global;
 use std::io::{Read, Write};
 use std::str::from_utf8;
@@ -28,7 +29,7 @@ pub(crate) fn options_of(alloc: Global, all: bool, nodes: u64) -> Options {
         free: false,
         seed: None,
         nodes,
-        learn: Learning::First,
+        learn: Learn::First,
         restart_after: 100,
         keep: 2_000,
         progress: false,

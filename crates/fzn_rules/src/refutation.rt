@@ -13,7 +13,7 @@ use fzn_meaning::Constraint;
 use fzn_sets::Sets;
 
 /// Whether the rule is met for the constraint on the present sets. A yes means that no choice of one value from each set meets the
-/// constraint.
+/// constraint. No set may be empty. `false` for a constraint that the rule is not for.
 pub fn refutes(constraint: &Constraint, sets: &Sets, rule: &Rule) -> bool
     requires constraint { IsWellFormed (length sets.now.present) constraint.now }
     requires nonempty { is_some_empty sets.now.present ≡ false }

@@ -1,12 +1,13 @@
 // The rules with their hints.
 use fzn_list::Items;
 
-/// The least and the greatest number that a hint may be.
+/// The least number that a hint may be.
 pub const LEAST_HINT: i64 = -4_000_000_000;
 
+/// The greatest number that a hint may be.
 pub const GREATEST_HINT: i64 = 4_000_000_000;
 
-/// A test that refutes a constraint on sets of values.
+/// A test that refutes a constraint on sets of values, with its hints.
 #[derive(Debug, Drop)]
 pub enum Rule {
     /// The least and the greatest sum leave no way to meet the constraint.
@@ -19,14 +20,14 @@ pub enum Rule {
     Fixed,
     /// No choice for the inputs leaves a value for the result.
     Enum,
-    /// More places than values from the first number to the second.
+    /// `hall`: more places than values from the first number to the second.
     Hall(i64, i64),
-    /// The tasks that run at this time use more than the capacity.
+    /// `load`: the tasks that run at this time use more than the capacity.
     Load(i64),
-    /// The tasks use more than the capacity from the first time up to the second.
+    /// `energy`: the tasks use more than the capacity from the first time up to the second.
     Energy(i64, i64),
-    /// These places lead only to one another.
+    /// `cut`: these places, counted from 1 and in rising order, lead only to one another.
     Cut(Items<i64>),
-    /// One of the two says that they belong together, and the other that they do not.
+    /// `pair`: one of the two, counted from 1, says that they belong together, and the other that they do not.
     Pair(i64, i64),
 }

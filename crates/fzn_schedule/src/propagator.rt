@@ -28,10 +28,12 @@ use fzn_terms::force;
 use fzn_trail::Trail;
 use std::alloc::Global;
 
-/// What reasons for one `fzn_cumulative`.
+/// What reasons for one `fzn_cumulative`: at single times by the rule `load`, and between two by `energy`.
 #[derive(Drop)]
 pub struct CumulativePropagator {
+    /// The number of the constraint, counted from 1.
     pub number: u64,
+    /// Its tasks and its capacity.
     pub tasks: Tasks,
 }
 
@@ -59,7 +61,7 @@ impl Propagator for CumulativePropagator {
     }
 }
 
-/// The propagator of the constraint of this number, where it is a cumulative.
+/// The propagator of the constraint of this number, counted from 1, where it is a cumulative. It answers `Err` where memory runs out.
 pub fn propagator_of(model: &Model, c: usize) -> Result<Option<CumulativePropagator>, Memory>
     requires model { IsWellFormed model.now }
     requires number { (1 ≤ c) × (c ≤ length model.now.constraints) }

@@ -1,3 +1,2 @@
 pub mod CallerLemmas
-mod CutLemmas
 mod FixedLemmas

@@ -1,7 +1,5 @@
 // How decisions are made.
 
-use fzn_domain::VarId;
-use fzn_list::Items;
 use rand_core::utils::NextWord;
 use rand_pcg::Pcg32;
 
@@ -18,42 +16,6 @@ pub struct Choice {
     /// How many learned clauses are kept at a restart, the newest: one at least. Beside that a search that restarts forgets learned
     /// clauses below this number too, those whose literals stand on the most levels, from 800 on. One that never restarts forgets none.
     pub keep: u64,
-}
-
-/// Which variable of an annotation is next, among those that are not fixed.
-#[derive(Clone, Copy, Debug, PartialEq, Eq)]
-pub enum VarChoice {
-    /// The first.
-    InputOrder,
-    /// One with the fewest values.
-    FirstFail,
-    /// One with the most values.
-    AntiFirstFail,
-    /// One with the least least value.
-    Smallest,
-    /// One with the greatest greatest value.
-    Largest,
-}
-
-/// Which literal of the variable is assumed first.
-#[derive(Clone, Copy, Debug, PartialEq, Eq)]
-pub enum ValueChoice {
-    /// The least value.
-    Min,
-    /// The greatest value.
-    Max,
-    /// At most half of the least and the greatest value together, rounded down.
-    Split,
-    /// Above that.
-    ReverseSplit,
-}
-
-/// Variables that are decided before all others that come after them, and how.
-#[derive(Debug, Drop)]
-pub struct Annotation {
-    pub vars: Items<VarId>,
-    pub var_choice: VarChoice,
-    pub value_choice: ValueChoice,
 }
 
 /// What breaks ties.

@@ -2,7 +2,7 @@
 // whoever asks tests the answer.
 ghost use Rattle.std.specs.Prelude.{◌≡◌, length};
 
-use crate::choice::{Annotation, Choice, Ties};
+use crate::choice::{Choice, Ties};
 use crate::comparisons::Comparisons;
 use crate::heap::Heap;
 use crate::open::{least_value, open_domain, value_left};
@@ -10,6 +10,7 @@ use crate::order::Order;
 use crate::restarts::Restarts;
 use fzn_domain::{Domain, GREATEST_VALUE, LEAST_VALUE, Lit, Memory, Op};
 use fzn_meaning::Var;
+use fzn_strategy::Annotation;
 use fzn_trail::Trail;
 use std::alloc::Global;
 
@@ -155,7 +156,7 @@ impl Guide {
         self.comparisons.decay();
         self.activity.decay();
         match &mut self.restarts {
-            Some(restarts) => restarts.is_due(),
+            Some(restarts) => restarts.count_conflict(),
             None => false,
         }
     }

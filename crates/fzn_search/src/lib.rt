@@ -3,7 +3,7 @@
 //! In: the declared variables, search annotations and what is asked besides; the trail; which entries of it are about to be dropped; the
 //! literals that a conflict rests on. Out: a literal that is neither true nor false on the trail, where some variable has more than
 //! one value, and else the values; after a conflict whether to restart. The definitions are in `specs/Fixed.antt`. The clause that a
-//! solution adds is `cut`, and which clauses look like one stands in `specs/Cuts.antt`.
+//! solution adds is `cut`.
 //!
 //! Contracts see the number of variables and of decisions alone. All else steers: the order of the annotations, the activity of
 //! comparisons and of variables, the values that variables had last. None of it is trusted; a decision is tested on the trail, so
@@ -11,14 +11,13 @@
 //! and get it back as it is undone.
 #![tactic(auto)]
 
-pub use choice::{Annotation, Choice, ValueChoice, VarChoice};
-pub use cuts::is_like_cut;
+pub use choice::Choice;
 pub use fzn_meaning::cut;
+pub use restarts::next_interval;
 pub use search::{Search, values_of};
 
 mod choice;
 mod comparisons;
-mod cuts;
 mod guide;
 mod heap;
 mod open;

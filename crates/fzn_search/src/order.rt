@@ -1,11 +1,12 @@
 // The order of the annotations.
 ghost use Rattle.std.specs.Prelude.{◌≡◌, length};
 
-use crate::choice::{Annotation, Ties, ValueChoice, VarChoice};
+use crate::choice::Ties;
 use crate::heap::Heap;
 use crate::open::open_domain;
 use crate::pool::Pool;
 use fzn_domain::{Domain, Lit, Memory, Op, VarId};
+use fzn_strategy::{Annotation, ValueChoice, VarChoice};
 use fzn_trail::Trail;
 use std::alloc::Global;
 

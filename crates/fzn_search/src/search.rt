@@ -5,18 +5,19 @@ ghost use Rattle.fzn_domain.specs.Narrow.{IsVariable, IsWithin, set_of};
 ghost use Rattle.fzn_trail.specs.Levels.{NoneEmpty, returned};
 ghost use Rattle.fzn_search.specs.Fixed.{AllFixed, HasMany, IsOnlyWithin, Splits, counted};
 
-use crate::choice::{Annotation, Choice};
+use crate::choice::Choice;
 use crate::guide::Guide;
 use crate::open::splits;
 use fzn_domain::{Lit, Memory, Op, VarId};
 use fzn_list::Items;
 use fzn_meaning::Var;
+use fzn_strategy::Annotation;
 use fzn_trail::Trail;
 use std::alloc::Global;
 use std::marker::Model;
 
 /// What decides, over a number of variables, and counts its decisions. It is told of conflicts and of what is undone, which steers
-/// later decisions and nothing else.
+/// later decisions and nothing else. Activity is that of Moskewicz, Madigan, Zhao, Zhang and Malik, Chaff, 2001.
 #[derive(Drop)]
 pub struct Search {
     vars: usize,
@@ -33,7 +34,7 @@ impl Model for Search {
 }
 
 impl Search {
-    /// No decision yet.
+    /// No decision yet. It answers `Err` where memory runs out.
     pub fn new(
         alloc: Global,
         vars: &[Var],
@@ -50,7 +51,7 @@ impl Search {
         })
     }
 
-    /// A literal to assume, which counts as a node.
+    /// A literal to assume, which counts as a node. `None` where each variable has one value, and nothing is counted then.
     pub fn decide(&mut self, trail: &Trail) -> Option<Lit>
         requires variables { self.old.vars ≡ length trail.now.declared }
         requires filled { NoneEmpty trail.now.sets }
@@ -126,7 +127,8 @@ impl Search {
         self.guide.undo(trail, from);
     }
 
-    /// The present conflict rests on these literals. Memory grows with the number of comparisons that conflicts ever named.
+    /// The present conflict rests on these literals. Memory grows with the number of comparisons that conflicts ever named. It answers
+    /// `Err` where memory runs out; the decisions that were counted stay.
     pub fn bump(&mut self, lits: &[Lit]) -> Result<(), Memory>
         ensures same { self.new ≡ self.old }
     {
@@ -175,7 +177,7 @@ fn first_open(trail: &Trail, vars: usize) -> Option<VarId>
     None
 }
 
-/// The values of the variables where each has one.
+/// The values of the variables where each has one. It answers `Err` where memory runs out.
 pub fn values_of(alloc: Global, trail: &Trail, vars: usize) -> Result<Items<i64>, Memory>
     requires variables { vars ≡ length trail.now.declared }
     requires fixed { AllFixed trail.now.sets }

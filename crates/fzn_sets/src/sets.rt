@@ -28,8 +28,11 @@ pub struct Sets {
 /// How many literals of a clause some value of their variables' sets makes true.
 #[derive(Clone, Copy, Debug, PartialEq, Eq)]
 pub enum Possible {
+    /// No literal is possible.
     Nothing,
+    /// This one alone.
     One(Lit),
+    /// Two or more.
     Several,
 }
 
@@ -50,7 +53,7 @@ impl Model for Sets {
 }
 
 impl Sets {
-    /// The declared sets, one for each variable in order, none of them narrowed.
+    /// The declared sets, one for each variable in order, none of them narrowed. It answers `Err` where memory runs out.
     pub fn new(alloc: Global, declared: Vec<Domain>) -> Result<Sets, Memory>
         ensures { IfOk result (λ sets. sets ≡ start declared.items) }
     {
@@ -93,7 +96,8 @@ impl Sets {
         self.present.iter().any(|domain| domain.is_empty())
     }
 
-    /// Keeps the values at which the literal is true, and says whether any is left.
+    /// Keeps the values at which the literal is true, and says whether any is left. It answers `Err` where memory runs out, and nothing is
+    /// narrowed.
     pub fn narrow(&mut self, lit: Lit) -> Result<bool, Memory>
         requires { IsVariable (length self.old.present) lit.var }
         ensures ok { OnOk result (self.new ≡ narrowed_by lit self.old) }
@@ -112,7 +116,7 @@ impl Sets {
         }
     }
 
-    /// Undoes the last narrowing.
+    /// Undoes the last narrowing. Where nothing was narrowed, nothing happens.
     pub fn undo(&mut self)
         ensures { self.new ≡ undone self.old }
     {

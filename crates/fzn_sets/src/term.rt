@@ -21,7 +21,7 @@ pub fn may_be(sets: &Sets, term: Term, value: &i64) -> bool
     }
 }
 
-/// The least value of the term.
+/// The least value of the term. No set may be empty.
 #[tactic(auto, using(crate::proofs::ValueLemmas::some_value))]
 pub fn least_value(sets: &Sets, term: Term) -> i64
     requires term { IsTerm (length sets.now.present) term }
@@ -35,7 +35,7 @@ pub fn least_value(sets: &Sets, term: Term) -> i64
     }
 }
 
-/// The greatest value of the term.
+/// The greatest value of the term. No set may be empty.
 #[tactic(auto, using(crate::proofs::ValueLemmas::some_value))]
 pub fn greatest_value(sets: &Sets, term: Term) -> i64
     requires term { IsTerm (length sets.now.present) term }
@@ -49,7 +49,7 @@ pub fn greatest_value(sets: &Sets, term: Term) -> i64
     }
 }
 
-/// Whether the value is the only one of the term.
+/// Whether the value is the only one of the term. No set may be empty.
 pub fn is_fixed_to(sets: &Sets, term: Term, value: i64) -> bool
     requires term { IsTerm (length sets.now.present) term }
     requires nonempty { is_some_empty sets.now.present ≡ false }

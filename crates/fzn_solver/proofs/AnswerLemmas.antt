@@ -15,7 +15,7 @@ use Rattle.fzn_cert.specs.Accepted.{AllAccepted, past_of}
 use Rattle.fzn_cert.specs.Spelling.{header_lines, end_line}
 use Rattle.fzn_cert.specs.Verdict.{Verdict, accepted, header_of, lines_of, AllHaveLines}
 use Rattle.fzn_cert.specs.Writer.{contents_of as cert_contents}
-use Rattle.fzn_conflict.specs.declared.analysis.Learn.{Learn}
+use Rattle.fzn_strategy.specs.declared.learn.Learn.{Learn}
 use Rattle.fzn_engine.specs.declared.limits.Ending.{Ending as EngineEnding}
 use Rattle.fzn_engine.specs.declared.limits.Ending.TheVariants as engine
 use Rattle.fzn_engine.specs.declared.limits.Limits.{Limits}
@@ -27,7 +27,6 @@ use Rattle.fzn_printer.specs.Answer.{answer_text}
 use Rattle.fzn_printer.specs.Shown.{ending_text, is_closed}
 use Rattle.fzn_solver.specs.declared.writers.Writers.{Writers}
 use Rattle.fzn_solver.specs.Endings.{ending_for}
-use Rattle.fzn_solver.specs.Learning.{learn_for}
 use Rattle.fzn_solver.specs.Standing.{found_by, is_alone, early, late, certificate, shown_all}
 use Rattle.fzn_solver.specs.Answer.{wanted, EndsTruly, IsAnswer}
 use Rattle.fzn_solver.specs.Writers.{taken, at_first, origin, IsFresh, IsClosed}
@@ -112,7 +111,7 @@ node-limit-is engine.SolutionLimit n e = cc
 
 module _ {W C : Type 0} (outs : W → Option (List ℕ)) (certs : C → Option (List ℕ)) (model : Model) (options : Options) where
   pub answer-of : IsWellFormed model → (before searched after : Writers W C) (limits : Limits) (nodes n : ℕ) (ending : EngineEnding) → IsFresh outs certs before → before.alone ≡ is_alone model.goal options.all → origin searched ≡ origin before → limits.nodes ≡ options.nodes → limits.solutions ≡ wanted options.all options.limit
-      → AllAccepted model (taken searched) → IsOutcome model (learn_for options.learn) limits (taken searched) nodes ending → n ≡ length (found_by model (taken searched)) → IsClosed outs certs model (is_closed (ending_for ending n)) searched after
+      → AllAccepted model (taken searched) → IsOutcome model options.learn limits (taken searched) nodes ending → n ≡ length (found_by model (taken searched)) → IsClosed outs certs model (is_closed (ending_for ending n)) searched after
       → IsAnswer model options (out_contents outs before.out) (out_contents outs after.out) (cert_contents certs before.cert) (cert_contents certs after.cert) (record { solutions = n; nodes = nodes; ending = ending_for ending n })
   answer-of formed before searched after limits nodes n ending fresh alone same limit_is most all_accepted outcome count closed =
       let steps = taken searched in
@@ -130,18 +129,18 @@ module _ {W C : Type 0} (outs : W → Option (List ℕ)) (certs : C → Option (
         steps = steps;
         certified = record {
           written = subst K cert closed.cert;
-          verdict = certificate-verdict model steps (is_closed (ending_for ending n)) formed all_accepted closed.have_lines (closed-refuted model (learn_for options.learn) limits steps nodes n ending outcome.ended.truly);
+          verdict = certificate-verdict model steps (is_closed (ending_for ending n)) formed all_accepted closed.have_lines (closed-refuted model options.learn limits steps nodes n ending outcome.ended.truly);
           printed = subst T (answer-is model options.all (is_closed (ending_for ending n)) found) (subst A is (subst O out closed.out));
         };
         proper = outcome.proper;
         exhausted = closed-exhausted model steps n ending outcome.exhausted;
         solutions = count;
-        ends = ends-truly model options (learn_for options.learn) limits steps nodes n ending limit_is most count outcome.ended.truly;
+        ends = ends-truly model options options.learn limits steps nodes n ending limit_is most count outcome.ended.truly;
         bounded = record {
           by_limit = subst B limit_is outcome.ended.few_nodes;
-          by_choices = λ plain enough is_limit. outcome.enough_nodes (ap learn_for plain) (subst V (sym limit_is) enough) (node-limit-is ending n is_limit);
+          by_choices = λ plain enough is_limit. outcome.enough_nodes plain (subst V (sym limit_is) enough) (node-limit-is ending n is_limit);
           by_conflicts = outcome.ended.certified.nodes_by_conflicts;
-          fresh = λ plain. outcome.ended.certified.fresh (ap learn_for plain);
+          fresh = λ plain. outcome.ended.certified.fresh plain;
         };
       }
 

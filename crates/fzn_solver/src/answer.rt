@@ -11,10 +11,9 @@ ghost use Rattle.fzn_solver.specs.Standing.{is_alone};
 ghost use Rattle.fzn_solver.specs.Writers.{IsFresh};
 ghost use Rattle.fzn_solver.specs.Run.{IsRun, IsRunFault, IsDue};
 
-use crate::choice::{choice_for, for_search};
+use crate::choice::choice_for;
 use crate::fault::RunFault;
 use crate::history::{History, Initial};
-use crate::learning::learn_for;
 use crate::progress::{Watch, solve_watched};
 use crate::report::{Report, ending_for};
 use crate::writers::{Writers, is_alone};
@@ -24,7 +23,7 @@ use fzn_meaning::Model;
 use fzn_printer::Printer;
 use fzn_propagators::Propagators;
 use fzn_reading::read_annotated;
-use fzn_search::Annotation;
+use fzn_strategy::Annotation;
 use fzn_streams::{TrackedRead, TrackedReader, TrackedWrite, TrackedWriter};
 use fzn_words::Options;
 use std::alloc::Global;
@@ -33,7 +32,10 @@ use std::io::{Read, Write};
 /// Solves a file: prints its answer on `out`, and writes a certificate of the answer on `cert`. The paths among the options are not
 /// looked at. The line of a solution stands on the certificate, flushed, before the solution is printed, and the whole certificate
 /// before the line that ends the answer. After decisions and conflicts `watch` is told how far the search has come. It hands on to
-/// `run_tracked`, which promises besides that each fault has its cause.
+/// `run_tracked`, which promises besides that each fault has its cause. It answers `File` with the first fault of the file, and `Read`
+/// where a read fails: both writers are as before then. It answers `Memory` where memory runs out, `WriteOutput` and `WriteCert` where a
+/// write or a flush fails, and `StepTooLong` where a line of the certificate would pass its limit: beginnings of the answer and of the
+/// certificate may stand then.
 pub fn run<R: Read + Drop, W: Write, C: Write, P: Watch>(
     alloc: Global,
     input: R,
@@ -68,13 +70,12 @@ pub fn run_tracked<R: TrackedRead, W: TrackedWrite, C: TrackedWrite, P: Watch>(
     ensures same_streams { (W.stream out.new ≡ W.stream out.old) × (C.stream cert.new ≡ C.stream cert.old) }
 {
     let read = read_annotated(alloc, input)?;
-    let annotations = for_search(alloc, read.annotations)?;
     let model = read.model;
     let mut propagators = Propagators::new(alloc, &model)?;
     answer(
         alloc,
         &model,
-        annotations.as_slice(),
+        read.annotations.as_slice(),
         &mut propagators,
         options,
         out,
@@ -152,13 +153,12 @@ fn search<W: TrackedWrite, C: TrackedWrite, P: Watch>(
         nodes: options.nodes,
         solutions: wanted(options.all, options.limit),
     };
-    let learn = learn_for(options.learn);
     let outcome = match solve_watched(
         alloc,
         model,
         limits,
-        learn,
-        choice_for(options, learn),
+        options.learn,
+        choice_for(options),
         annotations,
         propagators,
         writers,

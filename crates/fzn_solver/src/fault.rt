@@ -15,20 +15,26 @@ pub enum RunFault {
     /// The first fault of the file.
     #[error("{}", ModelFault::File(*.0))]
     File(Fault),
+    /// Memory was wanted and not there.
     #[error("fault 19 Memory")]
     Memory,
+    /// A read of the file failed.
     #[error("fault 20 Read")]
     Read,
+    /// A write or a flush of the answer failed.
     #[error("fault 21 WriteOutput")]
     WriteOutput,
+    /// A write or a flush of the certificate failed.
     #[error("fault 22 WriteCert")]
     WriteCert,
+    /// A step would take more bytes than a line of the certificate may have, or there are as many steps as there may be.
     #[error("fault 24 StepTooLong")]
     StepTooLong,
 }
 
 impl RunFault {
-    /// The exit status of a program that answers it.
+    /// The exit status of a program that answers it: 2 for a fault of the file, 4 for a failed read or write, 5 for want of memory and for
+    /// a step that is too long.
     pub fn status(self) -> u8
         ensures { result ≡ status_of self }
     {

@@ -15,7 +15,6 @@ mod answer;
 mod choice;
 mod fault;
 mod history;
-mod learning;
 mod progress;
 mod report;
 mod writers;

@@ -6,21 +6,24 @@ ghost use Rattle.fzn_cert.specs.Accepted.{AllAccepted};
 ghost use Rattle.fzn_engine.specs.Outcome.{HasRoom, count, IsOutcome};
 
 use fzn_cert::Step;
-use fzn_conflict::Learn;
 use fzn_constraints::Constraints;
 use fzn_domain::VarId;
 use fzn_engine::{Fault, Limits, Outcome, Sink, solve};
 use fzn_meaning::{Goal, Model};
-use fzn_search::{Annotation, Choice};
+use fzn_search::Choice;
+use fzn_strategy::{Annotation, Learn};
 use std::alloc::Global;
 
 /// How far a run has come.
 #[derive(Clone, Copy, Debug, PartialEq, Eq)]
 pub struct Progress {
+    /// How many decisions were made.
     pub nodes: u64,
+    /// How many conflicts there were.
     pub conflicts: u64,
     /// How often a constraint's propagator forced a literal, or refuted.
     pub inferences: u64,
+    /// How many solutions were found.
     pub solutions: u64,
     /// The objective's value in the last solution; none in satisfaction, and before the first solution.
     pub best: Option<i64>,
@@ -28,6 +31,7 @@ pub struct Progress {
 
 /// Is told how far a run has come, after decisions, conflicts and solutions. No answer depends on it.
 pub trait Watch {
+    /// Is told how far the run has come.
     fn tell(&mut self, progress: Progress);
 }
 

@@ -8,8 +8,11 @@ use fzn_printer::Ending;
 /// How many solutions were found, how many decisions were made, and why the run ended.
 #[derive(Clone, Copy, Debug, PartialEq, Eq)]
 pub struct Report {
+    /// How many solutions were found.
     pub solutions: u64,
+    /// How many decisions were made.
     pub nodes: u64,
+    /// Why the run ended.
     pub ending: Ending,
 }
 

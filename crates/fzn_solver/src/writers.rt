@@ -21,7 +21,6 @@ ghost use Rattle.fzn_solver.specs.Writers.{taken, origin, IsFresh, IsKept, IsLin
 
 use crate::history::{History, Initial};
 use fzn_cert::{FaultKind, Step, StepWriter, Version};
-use fzn_domain::Memory;
 use fzn_engine::{Fault, Sink};
 use fzn_list::Items;
 use fzn_meaning::{Goal, Model};
@@ -114,7 +113,7 @@ impl<'o, 'c, 'l, W: TrackedWrite, C: TrackedWrite> Writers<'o, 'c, 'l, W, C> {
         ensures kept { IsKept W.contents C.contents model.now self.new }
         ensures same { origin self.new ≡ origin self.old }
     {
-        let values = copied(alloc, values.as_slice())?;
+        let values = Items::from_slice(alloc, values.as_slice())?;
         self.line(alloc, step)?;
         *self.last = Some(values);
         self.flush_certificate()
@@ -292,16 +291,6 @@ impl<'o, 'c, 'l, W: TrackedWrite, C: TrackedWrite> Sink for Writers<'o, 'c, 'l, 
             }
         }
     }
-}
-
-fn copied(alloc: Global, values: &[i64]) -> Result<Items<i64>, Memory>
-    ensures { IfOk result (λ copy. copy ≡ values.now) }
-{
-    let mut copy = Items::new(alloc);
-    for value in values {
-        copy.push(*value)?;
-    }
-    Ok(copy)
 }
 
 /// A fault of the certificate's writer as one of a run.

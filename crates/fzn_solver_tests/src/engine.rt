@@ -6,12 +6,12 @@ ghost use Rattle.fzn_engine.specs.Outcome.{HasRoom};
 
 use crate::models::model_of;
 use fzn_cert::Step;
-use fzn_conflict::Learn;
 use fzn_engine::{Ending, Fault, Limits, Outcome, Sink, solve};
 use fzn_list::Items;
 use fzn_meaning::{Goal, Model};
 use fzn_propagators::Propagators;
 use fzn_search::Choice;
+use fzn_strategy::Learn;
 use std::alloc::Global;
 use std::test::*;
 

@@ -1,6 +1,6 @@
 // How many conflicts there are from one restart to the next.
 use fzn_domain::Memory;
-use fzn_search::{Choice, Search};
+use fzn_search::{Choice, Search, next_interval};
 use std::alloc::Global;
 use std::test::*;
 
@@ -16,7 +16,7 @@ fn search_of(alloc: Global, first: u64) -> Result<Search, Memory> {
 }
 
 /// How many conflicts there are up to the next restart, where these are fewer than a thousand.
-fn next_interval(search: &mut Search) -> u64 {
+fn interval_of(search: &mut Search) -> u64 {
     for count in 1..1_000u64 {
         if search.conflict() {
             return count;
@@ -30,7 +30,7 @@ fn are_intervals(alloc: Global, intervals: &[u64]) -> Result<bool, Memory> {
     let first = intervals.first().copied().unwrap_or(0);
     let mut search = search_of(alloc, first)?;
     for wanted in intervals {
-        if next_interval(&mut search) != *wanted {
+        if interval_of(&mut search) != *wanted {
             return Ok(false);
         }
     }
@@ -49,4 +49,18 @@ fn intervals_grow_by_half(rt: HostRuntime) -> Result<(), Fail> {
     assert!(rt; are_intervals(rt.alloc(), &[100, 150, 225, 337, 505, 757])?);
     assert!(rt; are_intervals(rt.alloc(), &[1, 1, 1, 1])?);
     Ok(())
+}
+
+/// No interval is longer than 10^12.
+#[test]
+fn intervals_stay_below_a_limit(rt: HostRuntime) {
+    let cases = [
+        (666_666_666_666, 999_999_999_999),
+        (666_666_666_667, 1_000_000_000_000),
+        (1_000_000_000_000, 1_000_000_000_000),
+        (18_446_744_073_709_551_615, 1_000_000_000_000),
+    ];
+    for (interval, wanted) in cases {
+        assert_eq!(rt; next_interval(interval), wanted, "after {interval}");
+    }
 }

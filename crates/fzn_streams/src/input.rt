@@ -10,12 +10,13 @@ use std::io::Read;
 #[derive(Clone, Copy, Debug, PartialEq, Eq)]
 pub struct ReadFailed;
 
-/// A reader that remembers whether a read failed.
+/// A reader that remembers whether a read failed. Each call that reads answers an error only where the read below fails.
 pub trait TrackedRead: Read {
     /// Whether a read failed.
     ghost has_failed: { Self → Bool };
 
-    /// Reads some bytes to the front of the buffer: how many, and none only at the end of the input or into no room.
+    /// Reads some bytes to the front of the buffer: how many, and none only at the end of the input or into no room. It answers `Err` only
+    /// where the read below failed.
     fn read_some(&mut self, buffer: &mut [u8]) -> Result<usize, ReadFailed>
         ensures bound { ReadsAtMost result buffer.new }
         ensures bytes { ReadConsumes (Self.remaining self.old) (Self.remaining self.new) result buffer.new }

@@ -11,7 +11,8 @@ use std::io::Write;
 #[derive(Clone, Copy, Debug, PartialEq, Eq)]
 pub struct WriteFailed;
 
-/// A writer that remembers whether a write or a flush failed.
+/// A writer that remembers whether a write or a flush failed. Each call answers an error only where the writer below fails, or takes none
+/// of some bytes.
 pub trait TrackedWrite: Write {
     /// What tells one writer from another.
     ghost Stream: { Type 0 };
@@ -22,14 +23,15 @@ pub trait TrackedWrite: Write {
     /// Whether a call failed.
     ghost has_failed: { Self → Bool };
 
-    /// Writes some of the bytes, from the first on: how many, and none only of no bytes.
+    /// Writes some of the bytes, from the first on: how many, and none only of no bytes. It answers `Err` only where the write below failed
+    /// or took none of some bytes.
     fn write_some(&mut self, bytes: &[u8]) -> Result<usize, WriteFailed>
         ensures bound { WritesAtMost result bytes.now }
         ensures some { IfOk result (λ count. bytes.now ≢ [] → 0 < count) }
         ensures bytes { WriteAppends (Self.contents self.old) (Self.contents self.new) result bytes.now }
         ensures due { IsDue stream has_failed self.old self.new result };
 
-    /// Flushes the writer below.
+    /// Flushes the writer below. It answers `Err` only where the flush below failed.
     fn flush_all(&mut self) -> Result<(), WriteFailed>
         ensures kept { Keeps (Self.contents self.old) (Self.contents self.new) }
         ensures due { IsDue stream has_failed self.old self.new result };
@@ -107,7 +109,7 @@ impl<'w, W: Write> TrackedWrite for TrackedWriter<'w, W> {
     }
 }
 
-/// Writes all the bytes. After a failure what stands is a beginning of them.
+/// Writes all the bytes. It answers `Err` only where a write failed or took none of some bytes, and then a beginning of the bytes stands.
 pub fn put<W: TrackedWrite>(out: &mut W, bytes: &[u8]) -> Result<(), WriteFailed>
     ensures text { Puts (W.contents out.old) (W.contents out.new) result bytes.now }
     ensures due { IsDue W.stream W.has_failed out.old out.new result }

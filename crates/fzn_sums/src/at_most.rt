@@ -89,11 +89,14 @@ fn force(trail: &Trail, place: Place, slack: u128) -> Option<Lit>
 /// The literal that the place at this index is forced to.
 #[derive(Clone, Copy)]
 pub struct Forced {
+    /// The index of the place, counted from 0.
     pub place: usize,
+    /// What it is forced to.
     pub lit: Lit,
 }
 
-/// The first place from an index on that is forced, where the sum may rise by this slack above its least.
+/// The first place from an index on, both counted from 0, that is forced, where the sum may rise by this slack above its least. `None`
+/// where none is forced. Each present set has a value.
 pub fn next_forced(trail: &Trail, places: &[Place], slack: u128, from: usize) -> Option<Forced>
     requires places { All (IsPlace (length trail.now.declared)) places.now }
     requires filled { NoneEmpty trail.now.sets }

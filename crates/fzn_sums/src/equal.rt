@@ -13,7 +13,8 @@ use fzn_meaning::Place;
 use fzn_trail::Trail;
 use std::alloc::Global;
 
-/// A clause that refutes that the sum is the number, and is false or forces one literal on the trail. `Err` where memory runs out.
+/// A clause that refutes that the sum is the number, and is false or forces one literal on the trail. The opposite places are the at most
+/// 200,000 places with their coefficients negated. `Err` where memory runs out.
 pub fn refute_equal(
     alloc: Global,
     trail: &Trail,

@@ -14,7 +14,7 @@ use fzn_meaning::Kind;
 use fzn_tree::{Base, Basic, Literal, SingleVar, Values, Var};
 use std::alloc::{AllocError, Global};
 
-/// The values as a domain.
+/// The values as a domain. It answers `Err` where memory runs out.
 pub fn values_in(alloc: Global, values: &Values) -> Result<Domain, AllocError>
     requires { AreValuesWithin values.now }
     ensures { IfOk result (λ domain. domain ≡ values_in values.now) }
@@ -25,7 +25,7 @@ pub fn values_in(alloc: Global, values: &Values) -> Result<Domain, AllocError>
     }
 }
 
-/// No value at all.
+/// No value at all. It answers `Err` where memory runs out.
 pub fn no_values(alloc: Global) -> Result<Domain, AllocError>
     ensures { IfOk result (λ domain. domain ≡ no_values) }
 {
@@ -43,7 +43,7 @@ fn literal_set(alloc: Global, literal: &Literal) -> Result<Domain, AllocError>
     }
 }
 
-/// The set that the value is, else none.
+/// The set that the value is, else none. It answers `Err` where memory runs out.
 pub fn set_of(alloc: Global, names: &Names, basic: &Basic) -> Result<Domain, AllocError>
     requires { IsBasicWithin basic.now }
     ensures { IfOk result (λ domain. domain ≡ set_in (value_of (known names.now) basic.now)) }
@@ -90,7 +90,7 @@ fn var_of(alloc: Global, var: &SingleVar) -> Result<fzn_meaning::Var, AllocError
     })
 }
 
-/// The variables, in order of declaration.
+/// The variables in order of declaration, without the arrays. It answers `Err` where memory runs out.
 pub fn vars_of(alloc: Global, vars: &[Var]) -> Result<Items<fzn_meaning::Var>, AllocError>
     requires { All IsVarWithin vars.now }
     ensures { IfOk result (λ found. found ≡ vars_of vars.now) }

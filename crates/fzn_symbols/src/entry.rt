@@ -10,7 +10,7 @@ use fzn_lexer::Place;
 use fzn_registry::Argument;
 use fzn_tree::Basic;
 
-/// The first entry that is a set.
+/// The place of the first entry that is a set.
 #[tactic(auto, using(crate::proofs::FirstLemmas::firsts))]
 pub fn first_set_in(names: &Names, mut entries: &[Basic]) -> Option<Place>
     ensures { result ≡ first (flat_map (sets_in (known names.now)) entries.now) }
@@ -24,7 +24,7 @@ pub fn first_set_in(names: &Names, mut entries: &[Basic]) -> Option<Place>
     None
 }
 
-/// The first entry that is a name that is not declared.
+/// The place of the first entry that is a name that is not declared.
 #[tactic(auto, using(crate::proofs::FirstLemmas::firsts))]
 pub fn first_unknown_in(names: &Names, mut entries: &[Basic]) -> Option<Place>
     ensures { result ≡ first (flat_map (unknown_in (known names.now)) entries.now) }
@@ -38,7 +38,7 @@ pub fn first_unknown_in(names: &Names, mut entries: &[Basic]) -> Option<Place>
     None
 }
 
-/// The first entry of another type than is wanted.
+/// The place of the first entry of another type than is wanted.
 #[tactic(auto, using(crate::proofs::FirstLemmas::firsts))]
 pub fn first_wrong_in(names: &Names, wanted: Argument, mut entries: &[Basic]) -> Option<Place>
     ensures { result ≡ first (flat_map (wrong_in (known names.now) wanted) entries.now) }

@@ -30,7 +30,7 @@ impl Model for NamedList {
 }
 
 impl NamedList {
-    /// The list of these terms.
+    /// The list of these terms. It answers `Err` where memory runs out.
     pub fn new(alloc: Global, terms: Items<Term>) -> Result<NamedList, AllocError>
         ensures { IfOk result (λ list. list ≡ terms) }
     {
@@ -49,7 +49,7 @@ impl NamedList {
         self.terms.as_slice()
     }
 
-    /// The terms, for one more owner.
+    /// The terms, for one more owner. It answers `Err` only where no further owner can be counted.
     pub fn share(&self) -> Result<Shared<Term>, AllocError>
         ensures { IfOk result (λ list. list ≡ self.now) }
     {

@@ -48,7 +48,7 @@ impl Names {
         self.map.get(name.as_slice())
     }
 
-    /// Puts a new name at the end. Where memory runs out, nothing is said of the names.
+    /// Puts a new name at the end. It answers `Err` where memory runs out, and nothing is said of the names then.
     pub fn insert(
         &mut self,
         alloc: Global,

@@ -140,7 +140,7 @@ fn is_set(names: &Names, basic: &Basic) -> bool
 
 // ---- faults
 
-/// The place of a literal that is a set.
+/// The place of a literal that is a set, and none of another.
 pub fn set_literal(literal: &Literal) -> Option<Place>
     ensures { result ≡ first (set_literals literal.now) }
 {
@@ -162,7 +162,7 @@ pub fn set_in(names: &Names, basic: &Basic) -> Option<Place>
     }
 }
 
-/// The place of a name that is not declared.
+/// The place of a name that is not declared, and none of another value.
 pub fn unknown_in(names: &Names, basic: &Basic) -> Option<Place>
     ensures { result ≡ first (unknown_in (known names.now) basic.now) }
 {
@@ -175,7 +175,7 @@ pub fn unknown_in(names: &Names, basic: &Basic) -> Option<Place>
     }
 }
 
-/// The place of a literal of another type than is wanted.
+/// The place of a literal of another type than is wanted, and none of one that fits.
 pub fn wrong_literal(wanted: Argument, literal: &Literal) -> Option<Place>
     ensures { result ≡ first (wrong_literals wanted literal.now) }
 {
@@ -186,7 +186,7 @@ pub fn wrong_literal(wanted: Argument, literal: &Literal) -> Option<Place>
     }
 }
 
-/// The place of a value of another type than is wanted.
+/// The place of a value of another type than is wanted, and none of one that fits.
 pub fn wrong_in(names: &Names, wanted: Argument, basic: &Basic) -> Option<Place>
     ensures { result ≡ first (wrong_in (known names.now) wanted basic.now) }
 {
@@ -221,7 +221,7 @@ fn value_term(value: &Declared) -> Term
     }
 }
 
-/// The constant or variable that is named, else 0.
+/// The constant or variable that is named, else the constant 0.
 pub fn variable_of(names: &Names, name: &Name) -> Term
     ensures { result ≡ term_in (meaning_of (known names.now) name.now.text) }
 {
@@ -231,7 +231,7 @@ pub fn variable_of(names: &Names, name: &Name) -> Term
     }
 }
 
-/// The constant or variable that the value is, else 0.
+/// The constant or variable that the value is, else the constant 0.
 pub fn term_of(names: &Names, basic: &Basic) -> Term
     ensures { result ≡ term_of (known names.now) basic.now }
 {
@@ -255,7 +255,8 @@ pub fn array_of<'a>(names: &'a Names, basic: &Basic) -> &'a [Term]
     }
 }
 
-/// The list of the array that is named, for one more owner, else an empty list.
+/// The list of the array that is named, for one more owner, else an empty list. It answers `Err` where memory runs out or no further owner
+/// can be counted.
 pub fn list_of(alloc: Global, names: &Names, basic: &Basic) -> Result<Shared<Term>, AllocError>
     ensures { IfOk result (λ list. list ≡ terms_in (value_of (known names.now) basic.now)) }
 {
@@ -283,7 +284,7 @@ pub fn has_negative_entry(names: &Names, basic: &Basic) -> bool
     }
 }
 
-/// The terms of the values in order.
+/// The terms of the values in order: 0 for one that is neither a constant nor a variable. It answers `Err` where memory runs out.
 pub fn terms_of(
     alloc: Global,
     names: &Names,
@@ -299,7 +300,7 @@ pub fn terms_of(
     Ok(terms)
 }
 
-/// The terms of the literals in order.
+/// The terms of the literals in order: 0 for a set. It answers `Err` where memory runs out.
 pub fn literal_terms(alloc: Global, mut literals: &[Literal]) -> Result<Items<Term>, AllocError>
     ensures { IfOk result (λ terms. terms ≡ map (λ literal. value_term (literal_value literal)) literals.now) }
 {

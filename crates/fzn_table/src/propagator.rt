@@ -10,7 +10,7 @@ ghost use Rattle.fzn_table.specs.Propagator.{table_number, TableIsFor, TableFits
 use crate::supports::Supports;
 use crate::table::bar_unsupported;
 use fzn_domain::Memory;
-use fzn_list::{Items, Shared};
+use fzn_list::Shared;
 use fzn_meaning::{Constraint, Model, Rows, Term};
 use fzn_propagator::{Findings, Propagator};
 use fzn_trail::Trail;
@@ -19,8 +19,11 @@ use std::alloc::Global;
 /// What reasons for one table.
 #[derive(Drop)]
 pub struct TablePropagator {
+    /// The number of the constraint, counted from 1.
     pub number: u64,
+    /// The terms whose values are those of a row.
     pub places: Shared<Term>,
+    /// The numbers of the rows, one row after another.
     pub rows: Rows,
     /// The rows that have each value at each place.
     pub(crate) supports: Supports,
@@ -63,7 +66,8 @@ impl Propagator for TablePropagator {
     }
 }
 
-/// The propagator of the constraint of this number, where it is a table.
+/// The propagator of the constraint of this number, counted from 1, where it is a table. It takes memory by the numbers of the table, and
+/// answers `Err` where memory runs out.
 pub fn propagator_of(
     alloc: Global,
     model: &Model,
@@ -93,20 +97,9 @@ fn propagator_for(
         Constraint::Table { places, rows } => Ok(Some(TablePropagator {
             number,
             places: places.share()?,
-            rows: copy_of_rows(alloc, rows)?,
+            rows: rows.share()?,
             supports: Supports::new(alloc, places.as_slice().len(), rows.constants())?,
         })),
         _ => Ok(None),
     }
-}
-
-fn copy_of_rows(alloc: Global, rows: &Rows) -> Result<Rows, Memory>
-    ensures { IfOk result (λ copy. copy ≡ rows.now) }
-{
-    let mut terms = Items::new(alloc);
-    let constants = rows.constants();
-    for term in constants {
-        terms.push(*term)?;
-    }
-    Ok(Rows::new(Shared::new(alloc, terms)?))
 }

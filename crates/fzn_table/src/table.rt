@@ -172,7 +172,9 @@ fn is_open(trail: &Trail, places: &[Term], rows: &[Term], r: usize) -> bool
     true
 }
 
-/// The clause that the place has not this value, or some row that has it there stands: an inference by the rule `rows` where none stands.
+/// The clause that the place, counted from 0, has not this value, or some row that has it there stands: an inference by the rule `rows`
+/// where this answers `true`; else some row with the value stands. The rows stand one after another, each as long as the places. It answers
+/// `Err` where memory runs out, and nothing is said of the clause then.
 pub fn explain_value(
     trail: &Trail,
     places: &[Term],

@@ -10,7 +10,8 @@ use fzn_list::Items;
 use fzn_meaning::Term;
 use fzn_trail::Trail;
 
-/// Adds the claim that the term stands so to the bound.
+/// Adds the claim that the term stands so to the bound; nothing of a constant. It answers `Err` where memory runs out, and nothing is said
+/// of the clause then.
 pub fn push_claim(clause: &mut Items<Lit>, term: Term, op: Op, bound: &i64) -> Result<(), Memory>
     ensures { OnOk result (clause.new ≡ clause.old ++ claim term op bound.now) }
 {
@@ -24,7 +25,8 @@ pub fn push_claim(clause: &mut Items<Lit>, term: Term, op: Op, bound: &i64) -> R
     Ok(())
 }
 
-/// Adds to a false clause what it takes to say that each value of the term stands so to the number, as on the trail.
+/// Adds to a false clause what it takes to say that each value of the term stands so to the number, from -4 * 10^9 to 4 * 10^9, as on the
+/// trail. It answers `Err` where memory runs out, and nothing is said of the clause then.
 pub fn explain(
     trail: &Trail,
     term: Term,
@@ -58,8 +60,9 @@ pub fn explain(
     Ok(())
 }
 
-/// Adds to a false clause the literal without which each value of the term stands so to the number. `false` where none does so on the
-/// trail, so that the literal is true.
+/// Adds to a false clause the literal without which each value of the term stands so to the number, from -4 * 10^9 to 4 * 10^9. `false`
+/// where none does so on the trail, so that the literal is true. It answers `Err` where memory runs out, and nothing is said of the clause
+/// then.
 pub fn force(
     trail: &Trail,
     term: Term,

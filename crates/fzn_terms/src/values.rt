@@ -18,7 +18,7 @@ pub fn may_be(trail: &Trail, term: Term, value: &i64) -> bool
     fzn_sets::may_be(trail.sets(), term, value)
 }
 
-/// The least value of the term.
+/// The least value of the term. Each present set has a value.
 pub fn least_of(trail: &Trail, term: Term) -> i64
     requires term { IsTerm (length trail.now.declared) term }
     requires filled { NoneEmpty trail.now.sets }
@@ -31,7 +31,7 @@ pub fn least_of(trail: &Trail, term: Term) -> i64
     least_value(trail, term)
 }
 
-/// The greatest value of the term.
+/// The greatest value of the term. Each present set has a value.
 pub fn greatest_of(trail: &Trail, term: Term) -> i64
     requires term { IsTerm (length trail.now.declared) term }
     requires filled { NoneEmpty trail.now.sets }
@@ -44,7 +44,7 @@ pub fn greatest_of(trail: &Trail, term: Term) -> i64
     greatest_value(trail, term)
 }
 
-/// Whether the term has another value.
+/// Whether the term has another value than this one. Each present set has a value.
 pub fn has_other(trail: &Trail, term: Term, value: &i64) -> bool
     requires term { IsTerm (length trail.now.declared) term }
     requires filled { NoneEmpty trail.now.sets }
@@ -57,7 +57,7 @@ pub fn has_other(trail: &Trail, term: Term, value: &i64) -> bool
     greatest_of(trail, term) != *value
 }
 
-/// The least value of the term above this one.
+/// The least value of the term above this one. `None` where there is none.
 pub fn next_value(trail: &Trail, term: Term, value: &i64) -> Option<i64>
     requires term { IsTerm (length trail.now.declared) term }
     ensures found { IfSome result (IsNextValue trail.now.sets term value.now) }

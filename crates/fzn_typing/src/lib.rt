@@ -5,7 +5,7 @@
 #![tactic(auto)]
 
 pub use law::one_model;
-pub use tree::{Named, type_check, type_check_named};
+pub use tree::{Named, type_check};
 
 mod argument;
 mod constraint;

@@ -16,24 +16,15 @@ use std::alloc::Global;
 /// A model, and what the names of its file stand for.
 #[derive(Drop)]
 pub struct Named {
+    /// What the file asks.
     pub model: Model,
+    /// The names, each with what it stands for.
     pub names: Names,
 }
 
-/// The model of the tree, or its first fault.
-pub fn type_check(alloc: Global, tree: &Tree) -> Result<Model, Halt<Fault>>
-    requires { IsWithinLimits tree.now }
-    ensures right { IsTyped tree.now result }
-    ensures well_formed { IfOk result IsWellFormed }
-{
-    match type_check_named(alloc, tree) {
-        Ok(named) => Ok(named.model),
-        Err(error) => Err(error),
-    }
-}
-
-/// The model of the tree with its names, or its first fault.
-pub fn type_check_named(alloc: Global, tree: &Tree) -> Result<Named, Halt<Fault>>
+/// The model of the tree with its names, or its first fault: that of a declaration first, as `DuplicateName` or `OutputAnnotation`, then
+/// that of a constraint, as `UnknownConstraint` or `Arity`, and then that of the goal. It answers `Halt::Memory` where memory runs out.
+pub fn type_check(alloc: Global, tree: &Tree) -> Result<Named, Halt<Fault>>
     requires { IsWithinLimits tree.now }
     ensures right { IsTyped tree.now (model_in result) }
     ensures well_formed { IfOk result (λ named. IsWellFormed named.model) }

@@ -16,7 +16,8 @@ use std::alloc::Global;
 /// How many steps are deleted at once at most: their numbers have room on a line.
 const MOST: usize = 200_000;
 
-/// The numbers of the steps that are in use, in order.
+/// The numbers of the steps that are in use, in rising order and perhaps some of them twice. `numbers` has the number of the step of each
+/// clause, by the clause's own number. It answers `Err` where memory runs out.
 pub fn numbers_in_use(
     alloc: Global,
     clauses: &Clauses,
@@ -64,7 +65,8 @@ fn numbers_of_stacked(alloc: Global, inferences: &Inferences) -> Result<Vec<u64>
     Ok(found)
 }
 
-/// Those of the numbers that are not in use, in order, as many as have room on a line.
+/// Those of the numbers that are not in use, in order, as many as have room on a line: at most 200,000. It answers `Err` where memory runs
+/// out.
 pub fn idle_among(alloc: Global, alive: &[u64], used: &[u64]) -> Result<Items<u64>, Memory>
     requires sorted { IsNonDecreasing used.now }
     ensures alive { IfOk result (λ ids. All (Contains alive.now) ids) }

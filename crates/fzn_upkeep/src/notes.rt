@@ -6,9 +6,10 @@ ghost use Rattle.fzn_clauses.specs.Watching.{held_by};
 use crate::numbers::Numbers;
 use crate::recent::Recent;
 use fzn_clauses::Clauses;
-use fzn_conflict::{Learn, Marks};
+use fzn_conflict::Marks;
 use fzn_domain::Memory;
 use fzn_learned::{Ranks, Source};
+use fzn_strategy::Learn;
 use fzn_trail::ClauseId;
 use std::alloc::Global;
 
@@ -21,9 +22,10 @@ const IDLE: usize = 10_000;
 
 const MOST_IDLE: usize = 100_000;
 
-/// What serves the next conflicts.
+/// What serves the next conflicts. Each call that answers `Err` does so where memory runs out, and nothing is said then of what is noted.
 #[derive(Drop)]
 pub struct Notes {
+    /// What the analysis of conflicts notes of the entries.
     pub marks: Marks,
     /// How many inferences are stacked when it is next looked which of them entries rest on.
     pub next_cut: usize,

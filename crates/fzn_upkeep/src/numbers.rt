@@ -29,14 +29,15 @@ impl Numbers {
         }
     }
 
-    /// The numbers by those of the clauses.
+    /// The numbers of the steps, from 1, by the numbers of the clauses, from 0.
     pub fn as_slice(&self) -> &[u64]
         ensures { result.now ≡ self.now }
     {
         self.items.as_slice()
     }
 
-    /// One more clause was added, and this is the number of its step.
+    /// One more clause was added, and this is the number of its step. It answers `Err` where memory runs out, and the numbers are as
+    /// before.
     pub fn push(&mut self, number: u64) -> Result<(), Memory>
         ensures ok { OnOk result (self.new ≡ self.old ++ number ∷ []) }
         ensures err { OnErr result (self.new ≡ self.old) }

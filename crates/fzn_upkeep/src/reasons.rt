@@ -7,7 +7,8 @@ use fzn_domain::Memory;
 use fzn_trail::{Reason, Trail};
 use std::alloc::Global;
 
-/// For each of so many held clauses, by their numbers, whether an entry rests on it. It goes over the trail.
+/// For each of so many held clauses, by their numbers, whether an entry rests on it. It goes over the trail. It answers `Err` where memory
+/// runs out.
 pub fn reasons_on(alloc: Global, trail: &Trail, count: usize) -> Result<Vec<bool>, Memory>
     ensures { IfOk result (λ flags. All (λ entry. IsFlagged flags.items entry.reason) trail.now.entries) }
 {

@@ -5,8 +5,8 @@ use Rattle.std.specs.Prelude.{false, true}
 use Rattle.clap.specs.Words.{Row, Text, first_of}
 use Rattle.fzn_words.specs.declared.check.CheckOptions.{CheckOptions}
 use Rattle.fzn_words.specs.declared.check.CheckOptions.TheVariants.{Check, ToVersion2}
-use Rattle.fzn_words.specs.declared.learning.Learning.{Learning}
-use Rattle.fzn_words.specs.declared.learning.Learning.TheVariants.{First}
+use Rattle.fzn_strategy.specs.declared.learn.Learn.{Learn}
+use Rattle.fzn_strategy.specs.declared.learn.Learn.TheVariants.{First}
 use Rattle.fzn_words.specs.declared.solve.Options.{Options}
 use Rattle.fzn_words.specs.Words.{number_in, learning_of}
 
@@ -25,7 +25,7 @@ SaysNumberOr default least most None number = number ≡ default
 SaysNumberOr default least most (Some word) number = number_in least most word ≡ Some number
 
 -- that of the first unique point where none was given
-abbrev pub SaysLearning : Option Text → Learning → Type 0
+abbrev pub SaysLearning : Option Text → Learn → Type 0
 SaysLearning None learning = learning ≡ First
 SaysLearning (Some word) learning = learning_of word ≡ Some learning
 

@@ -5,8 +5,8 @@ use Rattle.std.specs.Char.{is_ascii_digit}
 use Rattle.std.specs.Str.Parse.{digits_value}
 use Rattle.fzn_words.specs.declared.fault.OptionsFault.{OptionsFault}
 use Rattle.fzn_words.specs.declared.fault.OptionsFault.TheVariants.{CommandLine, Help, Memory}
-use Rattle.fzn_words.specs.declared.learning.Learning.{Learning}
-use Rattle.fzn_words.specs.declared.learning.Learning.TheVariants.{Plain, First}
+use Rattle.fzn_strategy.specs.declared.learn.Learn.{Learn}
+use Rattle.fzn_strategy.specs.declared.learn.Learn.TheVariants.{Plain, First}
 
 -- the exit status of a fault
 abbrev pub status_of : OptionsFault → ℕ
@@ -21,5 +21,5 @@ number_in least most word =
     then Some (digits_value 10 word) else None
 
 -- what a word says is learned
-abbrev pub learning_of : List ℕ → Option Learning
+abbrev pub learning_of : List ℕ → Option Learn
 learning_of word = if bytes_eq word (codes "plain") then Some Plain else (if bytes_eq word (codes "first") then Some First else None)

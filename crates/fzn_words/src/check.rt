@@ -39,17 +39,22 @@ pub enum CheckOptions {
     Check {
         /// Whether every solution is printed.
         all: bool,
+        /// The path of the file.
         model: String,
+        /// The path of its certificate.
         cert: String,
     },
     /// Write a certificate of version 1 as one of version 2.
     ToVersion2 {
+        /// The path of the certificate of version 1.
         old: String,
+        /// The path of the new one.
         new: String,
     },
 }
 
-/// The options that the words after the program's name give.
+/// The options that the words after the program's name give. It answers `CommandLine` where they are not as the help says or name one path
+/// twice, `Help` where they ask for help or the version, and `Memory` where memory runs out.
 pub fn check_options_of<S: AsStr>(alloc: Global, words: &[S]) -> Result<CheckOptions, OptionsFault>
     ensures said { IfOk result (IsSaid (matches_of check_line (map S.text words.now))) }
     ensures paths { IfOk result AreTwoPaths }

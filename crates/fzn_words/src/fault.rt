@@ -15,17 +15,19 @@ use thiserror::Error;
 /// Why words give no options. Its message is the line that the program prints.
 #[derive(Debug, Drop, Error)]
 pub enum OptionsFault {
+    /// The words are not those that the program takes.
     #[error("fault 23 CommandLine")]
     CommandLine,
     /// Help or the version was asked for: its text, which ends in a line feed.
     #[error("{0}")]
     Help(String),
+    /// Memory was wanted and not there.
     #[error("fault 19 Memory")]
     Memory,
 }
 
 impl OptionsFault {
-    /// The status that the program ends with.
+    /// The status that the program ends with: 3 for a wrong command line, 0 for help or the version, 5 for want of memory.
     pub fn status(&self) -> u8
         ensures { result ≡ status_of self.now }
     {

@@ -1,23 +1,16 @@
 ghost use Rattle.std.specs.Prelude.{◌≡◌};
 ghost use Rattle.fzn_words.specs.Words.{learning_of};
 
-/// Which clause a search learns from a conflict.
-#[derive(Clone, Copy, Debug, PartialEq, Eq)]
-pub enum Learning {
-    /// That of the decisions that led to it.
-    Plain,
-    /// That of the first unique implication point.
-    First,
-}
+use fzn_strategy::Learn;
 
 /// What a word says is learned.
-pub fn learning_of(word: &str) -> Option<Learning>
+pub fn learning_of(word: &str) -> Option<Learn>
     ensures { result ≡ learning_of word.now }
 {
     if word == "plain" {
-        Some(Learning::Plain)
+        Some(Learn::Plain)
     } else if word == "first" {
-        Some(Learning::First)
+        Some(Learn::First)
     } else {
         None
     }

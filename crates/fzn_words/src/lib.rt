@@ -7,7 +7,6 @@
 
 pub use check::{CheckOptions, check_options_of};
 pub use fault::OptionsFault;
-pub use learning::Learning;
 pub use solve::{Options, options_of};
 
 mod check;

@@ -5,13 +5,14 @@ ghost use Rattle.fzn_words.specs.CommandLines.{solve_line};
 ghost use Rattle.fzn_words.specs.Said.{AreFit, AreSaid, SaysLearning};
 
 use crate::fault::{OptionsFault, fault_of};
-use crate::learning::{Learning, learning_of};
+use crate::learning::learning_of;
 use crate::parts;
 use crate::parts::{
     all, bare, help, letter_flag, letter_option, named_flag, named_option, version, with,
 };
 use crate::said::{is_set, number, path, said};
 use clap::{ArgMatches, Command};
+use fzn_strategy::Learn;
 use std::alloc::{AllocError, Global};
 use std::convert::AsStr;
 
@@ -66,12 +67,12 @@ pub struct Options {
     pub limit: Option<u64>,
     /// Whether the search follows no annotation.
     pub free: bool,
-    /// What breaks ties.
+    /// The seed of what breaks ties, 0 to 2^64 - 1. Without one no tie is broken by chance.
     pub seed: Option<u64>,
     /// How many decisions may be made, at most 10^12.
     pub nodes: u64,
     /// Which clause is learned from a conflict.
-    pub learn: Learning,
+    pub learn: Learn,
     /// After how many conflicts the search first restarts where it learns the clause of the first unique implication point, 1 to 10^9. No
     /// word says it.
     pub restart_after: u64,
@@ -81,12 +82,15 @@ pub struct Options {
     pub keep: u64,
     /// Whether standard error tells how far the search has come.
     pub progress: bool,
+    /// The path of the file.
     pub model: String,
     /// Where the certificate goes, if anywhere.
     pub cert: Option<String>,
 }
 
-/// The options that the words after the program's name give.
+/// The options that the words after the program's name give, with what stands for those that are not given. It answers `CommandLine` where
+/// the words are not as the help says, a number is out of its range or the certificate's path is that of the file, `Help` where they ask
+/// for help or the version, and `Memory` where memory runs out.
 pub fn options_of<S: AsStr>(alloc: Global, words: &[S]) -> Result<Options, OptionsFault>
     ensures said { IfOk result (AreSaid (matches_of solve_line (map S.text words.now))) }
     ensures fit { IfOk result AreFit }
@@ -137,11 +141,11 @@ fn options_in(alloc: Global, matches: &ArgMatches<'_>) -> Result<Options, Option
 }
 
 /// Which clause is learned.
-fn learning(matches: &ArgMatches<'_>) -> Result<Learning, OptionsFault>
+fn learning(matches: &ArgMatches<'_>) -> Result<Learn, OptionsFault>
     ensures { IfOk result (SaysLearning (first_of (codes "learn") (rows_of (found_of matches.now)))) }
 {
     match said(matches, "learn") {
-        None => Ok(Learning::First),
+        None => Ok(Learn::First),
         Some(word) => learning_of(word).ok_or(OptionsFault::CommandLine),
     }
 }

@@ -22,6 +22,7 @@ pub struct Teller<'r> {
 }
 
 impl<'r> Teller<'r> {
+    /// Nothing was told yet. The clock starts now, where the lines are wanted; `bytes` is read for each line.
     pub fn new(rt: &'r HostRuntime, is_wanted: bool, bytes: &'r Cell<u64>) -> Teller<'r> {
         Teller {
             rt,
@@ -101,6 +102,7 @@ pub struct Counted<'b, W: Write> {
 }
 
 impl<'b, W: Write> Counted<'b, W> {
+    /// A writer over this one, whose bytes are added to the count.
     pub fn new(inner: W, bytes: &'b Cell<u64>) -> Counted<'b, W> {
         Counted { inner, bytes }
     }

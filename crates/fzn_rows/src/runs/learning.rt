@@ -2,7 +2,8 @@
 use super::{is_answered, options_of, solve, text_of};
 use fzn_checker::check;
 use fzn_solver::Unwatched;
-use fzn_words::{Learning, Options};
+use fzn_strategy::Learn;
+use fzn_words::Options;
 use std::alloc::Global;
 use std::test::Fail;
 
@@ -22,7 +23,7 @@ const ONE_ANSWER: &[u8] = b"----------\n";
 
 const NO_ANSWER: &[u8] = b"=====UNSATISFIABLE=====\n";
 
-fn forget(options: &mut Options, learn: Learning, seed: Option<u64>, keep: u64) {
+fn forget(options: &mut Options, learn: Learn, seed: Option<u64>, keep: u64) {
     options.learn = learn;
     options.seed = seed;
     options.restart_after = 1;
@@ -39,7 +40,7 @@ fn is_accepted(alloc: Global, file: &str, answer: &[u8], cert: &[u8]) -> bool {
 /// The certificate of a run that gives this answer, as the checker does by it.
 fn certificate_of(
     alloc: Global,
-    learn: Learning,
+    learn: Learn,
     seed: Option<u64>,
     keep: u64,
     file: &str,
@@ -58,27 +59,27 @@ fn certificate_of(
 }
 
 /// Whether a run that is satisfied learns this clause.
-fn learns(alloc: Global, learn: Learning, file: &str, clause: &str) -> Result<bool, Fail> {
+fn learns(alloc: Global, learn: Learn, file: &str, clause: &str) -> Result<bool, Fail> {
     let cert = certificate_of(alloc, learn, None, 0, file, ONE_ANSWER)?;
     Ok(text_of(&cert).contains(clause))
 }
 
 #[test]
 fn one_literal_is_learned(rt: HostRuntime) -> Result<(), Fail> {
-    assert!(rt; learns(rt.alloc(), Learning::First, ONE_LITERAL, "\nr 2>=1 ; ")?);
-    assert!(rt; learns(rt.alloc(), Learning::Plain, ONE_LITERAL, "\nr 1>=1 2>=1 ; ")?);
+    assert!(rt; learns(rt.alloc(), Learn::First, ONE_LITERAL, "\nr 2>=1 ; ")?);
+    assert!(rt; learns(rt.alloc(), Learn::Plain, ONE_LITERAL, "\nr 1>=1 2>=1 ; ")?);
     Ok(())
 }
 
 #[test]
 fn a_restart_deletes(rt: HostRuntime) -> Result<(), Fail> {
-    assert!(rt; learns(rt.alloc(), Learning::First, FOUR_CLAUSES, "\nd ")?);
+    assert!(rt; learns(rt.alloc(), Learn::First, FOUR_CLAUSES, "\nd ")?);
     Ok(())
 }
 
 #[test]
 fn plain_learning_deletes_nothing(rt: HostRuntime) -> Result<(), Fail> {
-    let cert = certificate_of(rt.alloc(), Learning::Plain, None, 0, PIGEONS, NO_ANSWER)?;
+    let cert = certificate_of(rt.alloc(), Learn::Plain, None, 0, PIGEONS, NO_ANSWER)?;
     assert!(rt; !text_of(&cert).contains("\nd "));
     Ok(())
 }
@@ -138,7 +139,7 @@ fn learns_each_once(certificate: &str) -> bool {
 /// Whether runs on the pigeons that keep so many learned clauses learn each once, with any of ten seeds.
 fn learns_pigeons_once(alloc: Global, keep: u64) -> Result<bool, Fail> {
     for seed in 0..10 {
-        let cert = certificate_of(alloc, Learning::First, Some(seed), keep, PIGEONS, NO_ANSWER)?;
+        let cert = certificate_of(alloc, Learn::First, Some(seed), keep, PIGEONS, NO_ANSWER)?;
         if !learns_each_once(text_of(&cert)) {
             return Ok(false);
         }
@@ -154,7 +155,7 @@ fn each_clause_is_learned_once(rt: HostRuntime) -> Result<(), Fail> {
 }
 
 /// The options of runs that restart after each conflict.
-fn restarting(alloc: Global, learn: Learning, seed: u64, keep: u64) -> Options {
+fn restarting(alloc: Global, learn: Learn, seed: u64, keep: u64) -> Options {
     let mut options = options_of(alloc, true, 10_000_000);
     forget(&mut options, learn, Some(seed), keep);
     options
@@ -186,7 +187,7 @@ const NUMBERS: &str =
     "var 0..6: x :: output_var; var 0..6: y :: output_var; var 0..6: z :: output_var; var 0..40: sum :: output_var; constraint fzn_all_different_int([x,y,z]); constraint int_lin_le([-1,-2,-3,1],[x,y,z,sum],0); constraint int_lin_le([1,2,3,-1],[x,y,z,sum],0); constraint int_lin_le([-1,-1,-1],[x,y,z],-8); solve minimize sum;";
 
 /// Whether runs on these files are repeated, with any of ten seeds.
-fn are_repeated(alloc: Global, learn: Learning, keep: u64) -> bool {
+fn are_repeated(alloc: Global, learn: Learn, keep: u64) -> bool {
     for seed in 0..10 {
         let options = restarting(alloc, learn, seed, keep);
         for file in [PIGEONS, FOUR_CLAUSES, ONE_LITERAL, NUMBERS] {
@@ -200,7 +201,7 @@ fn are_repeated(alloc: Global, learn: Learning, keep: u64) -> bool {
 
 #[test]
 fn a_seed_decides_all_bytes(rt: HostRuntime) {
-    assert!(rt; are_repeated(rt.alloc(), Learning::First, 0));
-    assert!(rt; are_repeated(rt.alloc(), Learning::First, 2_000));
-    assert!(rt; are_repeated(rt.alloc(), Learning::Plain, 2_000));
+    assert!(rt; are_repeated(rt.alloc(), Learn::First, 0));
+    assert!(rt; are_repeated(rt.alloc(), Learn::First, 2_000));
+    assert!(rt; are_repeated(rt.alloc(), Learn::Plain, 2_000));
 }

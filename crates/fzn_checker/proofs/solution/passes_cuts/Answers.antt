@@ -3,7 +3,7 @@ use Rattle.fzn_domain.specs.declared.literal.VarId.{VarId}
 use Rattle.fzn_meaning.specs.Solutions.{IsBetter}
 use Rattle.fzn_checker.specs.Given.{given_by, is_given}
 use Rattle.fzn_checker.proofs.GivenLemmas.{passes-new, new-passes, not-false, false-not}
-use Rattle.fzn_checker.proofs.OrderLemmas.{passes-better, better-passes}
+use Rattle.fzn_meaning.proofs.CallerLemmas.{passes-better, better-passes}
 use Rattle.fzn_checker.proofs.solution.passes_cuts.Goals as goal
 
 pub returns-in-Some : goal.returns-in-Some

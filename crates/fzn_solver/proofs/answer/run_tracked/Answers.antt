@@ -28,19 +28,6 @@ returns-in_err-read-clause-due g c =
     error-is c.from_residual.result (fault_of_model c.in_err-read.field-0.0) (IsDue read out cert (g.R.Read.remaining c.args.input.now) (g.C.Write.contents c.args.cert.now) (g.C.Write.contents c.args.cert.now)) c.from_residual.ensures.1
     (read-due read out cert (g.R.Read.remaining c.args.input.now) (g.C.Write.contents c.args.cert.now) (g.C.Write.contents c.args.cert.now) c.in_err-read.field-0.0 c.in_err-read.ensures.due)
 
-pub returns-in_err-annotations-clause-fault : goal.returns-in_err-annotations-clause-fault
-returns-in_err-annotations-clause-fault g c =
-    error-is c.from_residual-in_err-annotations.result Memory (IsRunFault (g.R.Read.remaining c.args.input.now) c.args.options.now.all (g.W.Write.contents c.args.out.now) (g.W.Write.contents c.args.out.now) (g.C.Write.contents c.args.cert.now) (g.C.Write.contents c.args.cert.now)) c.from_residual-in_err-annotations.ensures.1
-    (memory-fault (g.R.Read.remaining c.args.input.now) c.args.options.now.all (g.W.Write.contents c.args.out.now) (g.C.Write.contents c.args.cert.now))
-
-pub returns-in_err-annotations-clause-due : goal.returns-in_err-annotations-clause-due
-returns-in_err-annotations-clause-due g c =
-    let read = g.R.TrackedRead.has_failed c.read_annotated.new.input in
-    let out = g.W.TrackedWrite.has_failed c.args.out.now in
-    let cert = g.C.TrackedWrite.has_failed c.args.cert.now in
-    error-is c.from_residual-in_err-annotations.result Memory (IsDue read out cert (g.R.Read.remaining c.args.input.now) (g.C.Write.contents c.args.cert.now) (g.C.Write.contents c.args.cert.now)) c.from_residual-in_err-annotations.ensures.1
-    (memory-due read out cert (g.R.Read.remaining c.args.input.now) (g.C.Write.contents c.args.cert.now) (g.C.Write.contents c.args.cert.now))
-
 pub returns-in_err-propagators-clause-fault : goal.returns-in_err-propagators-clause-fault
 returns-in_err-propagators-clause-fault g c =
     error-is c.from_residual-in_err-propagators.result Memory (IsRunFault (g.R.Read.remaining c.args.input.now) c.args.options.now.all (g.W.Write.contents c.args.out.now) (g.W.Write.contents c.args.out.now) (g.C.Write.contents c.args.cert.now) (g.C.Write.contents c.args.cert.now)) c.from_residual-in_err-propagators.ensures.1

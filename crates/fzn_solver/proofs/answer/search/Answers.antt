@@ -1,9 +1,8 @@
 -- What the search wrote is the answer with its certificate.
 use Rattle.std.proofs.Common.{ℕ, Option, refl, sym, subst, ◌∙◌, inl}
 use Rattle.fzn_cert.specs.Writer.{contents_of as cert_contents, has_failed_in as cert_failed}
-use Rattle.fzn_conflict.specs.declared.analysis.Learn.{Learn}
 use Rattle.fzn_engine.specs.declared.limits.Limits.{Limits}
-use Rattle.fzn_engine.specs.Outcome.{HasRoom, IsOutcome}
+use Rattle.fzn_engine.specs.Outcome.{HasRoom}
 use Rattle.fzn_printer.specs.Printer.{contents_of as out_contents, has_failed_in as out_failed}
 use Rattle.fzn_printer.specs.Shown.{is_closed}
 use Rattle.fzn_printer.specs.declared.printer.Ending.{Ending}
@@ -26,10 +25,9 @@ pub returns-clause-answer : goal.returns-clause-answer
 returns-clause-answer g c =
     let E : Ending → Type 0 = λ e. IsClosed g.W.Write.contents g.C.Write.contents c.args.model.now (is_closed e) c.solve_watched.new.sink c.close.new.self in
     let limits : Limits = record { nodes = c.args.options.now.nodes; solutions = c.wanted.result } in
-    let O : Learn → Type 0 = λ l. IsOutcome c.args.model.now l limits (taken c.solve_watched.new.sink) c.in-Ok.outcome.nodes c.in-Ok.outcome.ending in
     let R : Ending → Type 0 = λ e. IsAnswer c.args.model.now c.args.options.now (out_contents g.W.Write.contents c.args.writers.now.out) (out_contents g.W.Write.contents c.close.new.self.out) (cert_contents g.C.Write.contents c.args.writers.now.cert) (cert_contents g.C.Write.contents c.close.new.self.cert) (record { solutions = c.in-Ok.outcome.solutions; nodes = c.in-Ok.outcome.nodes; ending = e }) in
     subst R (sym c.ending_for-ending.ensures) (answer-of g.W.Write.contents g.C.Write.contents c.args.model.now c.args.options.now c.requires.model c.args.writers.now c.solve_watched.new.sink c.close.new.self limits c.in-Ok.outcome.nodes c.in-Ok.outcome.solutions c.in-Ok.outcome.ending
-    c.requires.fresh c.requires.alone (c.solve_watched.ensures.kept.1 ∙ c.begin.ensures.same) refl c.wanted.ensures c.solve_watched.ensures.accepted (subst O c.learn_for-learn.ensures c.in-Ok.ensures.outcome) c.in-Ok.ensures.solutions (subst E c.ending_for-ending.ensures c.in_ok-close.ensures.closed))
+    c.requires.fresh c.requires.alone (c.solve_watched.ensures.kept.1 ∙ c.begin.ensures.same) refl c.wanted.ensures c.solve_watched.ensures.accepted c.in-Ok.ensures.outcome c.in-Ok.ensures.solutions (subst E c.ending_for-ending.ensures c.in_ok-close.ensures.closed))
 
 pub returns-in_err-begin-clause-left : goal.returns-in_err-begin-clause-left
 returns-in_err-begin-clause-left g c =

@@ -19,7 +19,7 @@ loop-id-init c =
 pub loop-id-preserved : goal.loop-id-preserved
 loop-id-preserved c =
     let F : Levels → Type 0 = λ t. All (λ (entry : Entry). IsFlagged c.as_slice-are_reasons.result.now entry.reason) t.entries in (
-      λ steps h. let t = c.loop-id.invariant.0 steps h in tended-through c.args.model.now c.args.self.now c.loop-id.self c.drop_clause.new.self steps steps t (c.drop_clause.ensures.tended steps t.state),
+      λ steps h. let t = c.loop-id.invariant.0 steps h in tended-through c.args.model.now c.args.self.now c.loop-id.self c.drop_clause.new.self steps steps t (c.drop_clause.ensures.tended c.args.model.now steps t.state),
       subst F (sym c.drop_clause.ensures.trail) c.loop-id.invariant.1,
     )
 

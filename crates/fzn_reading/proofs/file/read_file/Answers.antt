@@ -1,9 +1,9 @@
 use Rattle.std.proofs.Common.{Err, subst}
 use Rattle.fzn_lexer.specs.declared.halt.Halt.TheVariants as errors
-use Rattle.fzn_reading.specs.Annotated.{model_in}
+use Rattle.fzn_reading.specs.Files.{model_in}
 use Rattle.fzn_reading.specs.Reads.{Reads}
 use Rattle.fzn_reading.proofs.FrontLemmas.{known_reads}
-use Rattle.fzn_reading.proofs.annotated.read_annotated.Goals as goal
+use Rattle.fzn_reading.proofs.file.read_file.Goals as goal
 
 -- the fault of what was read is that of the file
 pub returns-clause-right : goal.returns-clause-right

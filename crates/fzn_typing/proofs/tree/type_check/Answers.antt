@@ -12,7 +12,7 @@ use Rattle.fzn_names.specs.Declarations.{names_of}
 use Rattle.fzn_typing.specs.Models.{stated, written, goal_of}
 use Rattle.fzn_typing.specs.Typed.{model_in}
 use Rattle.fzn_typing.proofs.TreeLemmas.{err_names, err_cons, err_goal, model-err, model_right, model_formed, is_model, shown_inside, none_in_names, none_in_cons}
-use Rattle.fzn_typing.proofs.tree.type_check_named.Goals as goal
+use Rattle.fzn_typing.proofs.tree.type_check.Goals as goal
 
 pub returns-in_err-names-clause-right : goal.returns-in_err-names-clause-right
 returns-in_err-names-clause-right c =

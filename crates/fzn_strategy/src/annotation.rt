@@ -2,7 +2,7 @@
 use fzn_domain::VarId;
 use fzn_list::Items;
 
-/// Which variable of an annotation is next, among those that are not fixed.
+/// Which variable of an annotation is next, among those that are not fixed (MiniZinc Handbook, search annotations).
 #[derive(Clone, Copy, Debug, PartialEq, Eq)]
 pub enum VarChoice {
     /// The first.
@@ -17,7 +17,7 @@ pub enum VarChoice {
     Largest,
 }
 
-/// Which literal of the variable is assumed first.
+/// Which literal of the variable is assumed first (MiniZinc Handbook, search annotations).
 #[derive(Clone, Copy, Debug, PartialEq, Eq)]
 pub enum ValueChoice {
     /// The least value.
@@ -33,7 +33,10 @@ pub enum ValueChoice {
 /// Variables that are decided before all others that come after them, and how.
 #[derive(Debug, Drop)]
 pub struct Annotation {
+    /// In the order of the annotation; no variable stands in two of them.
     pub vars: Items<VarId>,
+    /// Which of them is next.
     pub var_choice: VarChoice,
+    /// Which of its values is tried first.
     pub value_choice: ValueChoice,
 }
