@@ -30,7 +30,8 @@ use Rattle.fzn_learned.proofs.CallerLemmas.{IsReasoned-returned}
 use Rattle.fzn_upkeep.specs.Forgetting.{is_cut}
 use Rattle.fzn_engine.specs.Volume.{volume, slack}
 use Rattle.fzn_engine.specs.Learned.{resolved, FreshAfter, negations}
-use Rattle.fzn_engine.specs.State.{Stock, known_in, with_held, with_cuts, with_inference, with_stack, IsHeldCut, IsJustified, CoreOf, PlainOf, StateOf, work}
+use Rattle.fzn_engine.specs.State.{Stock, known_in, with_held, with_cuts, with_inference, with_stack, IsHeldCut, IsJustified, CoreOf, PlainOf, StateOf}
+use Rattle.fzn_engine.specs.Search.{work}
 use Rattle.fzn_engine.specs.Outcome.{IsCertified, IsRefuted}
 use Rattle.fzn_engine.proofs.AcceptedLemmas.{past_of-push, AllAccepted-push, resolved-append}
 use Rattle.fzn_engine.proofs.HeldCutLemmas.{IsHeldCut-grown, IsHeldCut-flagged}
@@ -39,72 +40,120 @@ use Rattle.fzn_engine.proofs.WithinLemmas.{Within, Within-narrowed}
 use Rattle.fzn_engine.proofs.TakenLemmas.{Leads-within, Leads-length, Leads-filled, Leads-slack, Leads-certain, opens-asserted, opens-parts, last_level, negations-unit}
 use Rattle.fzn_engine.proofs.StateLemmas.{Core-moved, Core-step, Core-stacked, Core-cut, cuts-grown, Plain-narrowed, Plain-decided, Plain-learned, Plain-fresh}
 
-module _ (model : Model) (learn : Learn) (stock : Stock) (steps : List Step) (trail : Levels) (nodes : ℕ) where
-  pub State-filled : StateOf model learn stock steps trail nodes → NoneEmpty trail.sets
-  State-filled h = Leads-filled (known_in stock) trail.declared trail.entries trail.sets h.core.reasoned.leads h.core.filled
+learned_is : (steps : List Step) (clause : List Lit) (ids : List ℕ) → resolved (steps ++ Resolve clause ids ∷ []) ≡ resolved steps ++ clause ∷ []
+learned_is steps clause ids = resolved-append steps (Resolve clause ids ∷ [])
 
-  pub State-length : StateOf model learn stock steps trail nodes → length trail.sets ≡ length trail.declared
-  State-length h = Leads-length (known_in stock) trail.declared trail.entries trail.sets h.core.reasoned.leads
+module _ (limit nodes : ℕ) (trail : Levels) where
+  pub work-asserted : (lit : Lit) (reason : Reason) → IsVariable (length trail.sets) lit.var → is_possible (set_of trail.sets lit.var) lit ≡ true → can_fail trail.sets lit ≡ true → work limit nodes (asserted lit reason trail) < work limit nodes trail
+  work-asserted lit reason var possible fails = work-less ((limit - nodes) + length trail.saved) ((limit - nodes) + length trail.saved) (slack trail.declared) (slack (narrowed trail.sets lit)) (slack trail.sets) refl (slack-narrowed_lt trail.sets lit var possible fails)
 
-  pub State-within : StateOf model learn stock steps trail nodes → Within trail.sets trail.declared
-  State-within h = Leads-within (known_in stock) trail.declared trail.entries trail.sets h.core.reasoned.leads
+  pub work-decided : (lit : Lit) → IsVariable (length trail.sets) lit.var → IsOpen trail.sets lit → nodes < limit → work limit (nodes + 1) (asserted lit Decision (pushed trail)) < work limit nodes trail
+  work-decided lit var either room =
+      let levels = length_push trail.saved (record { sets = trail.sets; entries = trail.entries }) in
+      work-less ((limit - (nodes + 1)) + length (pushed trail).saved) ((limit - nodes) + length trail.saved) (slack trail.declared) (slack (narrowed trail.sets lit)) (slack trail.sets) (omega arith) (slack-narrowed_lt trail.sets lit var either.0 either.1)
 
-  State-fresh : StateOf model learn stock steps trail nodes → learn ≡ Plain → FreshAfter trail.declared [] (resolved steps ++ negations (opens trail.declared trail.entries) ∷ [])
-  State-fresh h in_plain =
-      Plain-fresh trail.declared trail.sets (opens trail.declared trail.entries) (resolved steps) nodes (h.plain in_plain) (State-length h) (State-within h) (State-filled h)
+module _ {model : Model} {stock : Stock} {steps : List Step} {trail : Levels} {nodes : ℕ} (h : CoreOf model stock steps trail nodes) where
+  pub slack-stood : (level : ℕ) → level ≤ level_of trail → slack (returned level trail).sets ≤ slack trail.declared
+  slack-stood level below =
+      let there = returned level trail in
+      let stood = Leads-slack (known_in stock) there.declared there.entries there.sets (IsReasoned-returned (known_in stock) trail level h.reasoned below).leads in
+      let declared = ap slack (declared-returned level trail) in
+      omega arith
+
+  pub slack-returned : (level : ℕ) → level ≤ level_of trail → (lit : Lit) → slack (narrowed (returned level trail).sets lit) ≤ slack trail.declared
+  slack-returned level below lit =
+      let stood = slack-stood level below in
+      let narrow = slack-narrowed_le (returned level trail).sets lit in
+      omega arith
+
+  -- on any trail over the declared sets
+  pub Core-resolved : (clause : List Lit) (ids : List ℕ) (number : ℕ) → number ≡ length steps + 1 → IsAccepted model (past_of model steps) (Resolve clause ids) → (new : Levels) → new.declared ≡ trail.declared → slack new.sets ≤ slack trail.declared → IsReasoned (known_in (with_held clause number stock)) new → CoreOf model (with_held clause number stock) (steps ++ Resolve clause ids ∷ []) new nodes
+  Core-resolved clause ids number newest accepted new declared less reasoned =
+      let O : ℕ → Type 0 = λ n. IsClauseOver n clause in
+      let sizes : length trail.declared ≡ length model.vars = ap length h.declared ∙ length-map model.vars (λ var. var.domain) in
+      let one = length_push (resolved steps) clause in
+      let conflicts = h.nodes_by_conflicts in
+      let N : List (List Lit) → Type 0 = λ cs. nodes + slack new.sets ≤ (length cs + 1) * slack trail.declared in
+      let M : ℕ → Type 0 = λ n. nodes + slack new.sets ≤ (n + 1) * slack trail.declared in
+      Core-step h (Resolve clause ids) clause number stock.cuts newest accepted refl (cuts-grown h.stocked clause) (subst O (sym sizes) accepted.0) new declared reasoned
+      (subst N (sym (learned_is steps clause ids)) (subst M (sym one) (omega arith)))
+
+  pub work-learned : (limit level : ℕ) → level < level_of trail → (lit : Lit) (id : ClauseId) → work limit nodes (asserted lit (Clause id) (returned level trail)) < work limit nodes trail
+  work-learned limit level below lit id =
+      let there = returned level trail in
+      let levels : length there.saved ≡ level = level_of-returned level trail (omega arith) in
+      let less = slack-returned level (omega arith) lit in
+      let declared = ap slack (declared-returned level trail) in
+      let W : ℕ → Type 0 = λ s. ((limit - nodes) + length there.saved) * (s + 1) + slack (narrowed there.sets lit) < ((limit - nodes) + length trail.saved) * (slack trail.declared + 1) + slack trail.sets in
+      subst W (sym declared) (work-lower ((limit - nodes) + length there.saved) ((limit - nodes) + length trail.saved) (slack trail.declared) (slack (narrowed there.sets lit)) (slack trail.sets) (omega arith) (omega arith))
+
+  pub work-restarted : (limit : ℕ) → 0 < level_of trail → work limit nodes (returned 0 trail) < work limit nodes trail
+  work-restarted limit above =
+      let there = returned 0 trail in
+      let levels : length there.saved ≡ 0 = level_of-returned 0 trail (omega arith) in
+      let less = slack-stood 0 (omega arith) in
+      let declared = ap slack (declared-returned 0 trail) in
+      let W : ℕ → Type 0 = λ s. ((limit - nodes) + length there.saved) * (s + 1) + slack there.sets < ((limit - nodes) + length trail.saved) * (slack trail.declared + 1) + slack trail.sets in
+      subst W (sym declared) (work-lower ((limit - nodes) + length there.saved) ((limit - nodes) + length trail.saved) (slack trail.declared) (slack there.sets) (slack trail.sets) (omega arith) (omega arith))
+
+module _ {model : Model} {learn : Learn} {stock : Stock} {steps : List Step} {trail : Levels} {nodes : ℕ} (h : StateOf model learn stock steps trail nodes) where
+  pub State-filled : NoneEmpty trail.sets
+  State-filled = Leads-filled (known_in stock) trail.declared trail.entries trail.sets h.core.reasoned.leads h.core.filled
+
+  pub State-length : length trail.sets ≡ length trail.declared
+  State-length = Leads-length (known_in stock) trail.declared trail.entries trail.sets h.core.reasoned.leads
+
+  pub State-within : Within trail.sets trail.declared
+  State-within = Leads-within (known_in stock) trail.declared trail.entries trail.sets h.core.reasoned.leads
+
+  State-fresh : learn ≡ Plain → FreshAfter trail.declared [] (resolved steps ++ negations (opens trail.declared trail.entries) ∷ [])
+  State-fresh in_plain =
+      Plain-fresh (h.plain in_plain) State-length State-within State-filled
       (Leads-certain (known_in stock) (length trail.declared) trail.declared trail.entries trail.sets refl h.core.reasoned.leads)
 
   -- ---- an assertion
 
   -- narrower sets with the same decisions
-  pub State-narrowed : StateOf model learn stock steps trail nodes → (new : Levels) → new.declared ≡ trail.declared → opens new.declared new.entries ≡ opens trail.declared trail.entries → Within new.sets trail.sets → slack new.sets ≤ slack trail.sets → volume new.sets ≤ volume trail.sets → IsReasoned (known_in stock) new → StateOf model learn stock steps new nodes
-  State-narrowed h new e taken within less fewer reasoned =
+  pub State-narrowed : (new : Levels) → new.declared ≡ trail.declared → opens new.declared new.entries ≡ opens trail.declared trail.entries → Within new.sets trail.sets → slack new.sets ≤ slack trail.sets → volume new.sets ≤ volume trail.sets → IsReasoned (known_in stock) new → StateOf model learn stock steps new nodes
+  State-narrowed new e taken within less fewer reasoned =
       let P : List IntSet → List Open → Type 0 = λ d t. PlainOf d new.sets t (resolved steps) nodes in
       let D : List IntSet → Type 0 = λ d. P d (opens new.declared new.entries) in
       let T : List Open → Type 0 = λ t. P trail.declared t in
       record {
-        core = Core-moved model stock steps trail nodes h.core new nodes e reasoned (omega arith);
-        plain = λ in_plain. subst D (sym e) (subst T (sym taken) (Plain-narrowed trail.declared trail.sets (opens trail.declared trail.entries) (resolved steps) nodes (h.plain in_plain) new.sets within fewer));
+        core = Core-moved h.core new nodes e reasoned (omega arith);
+        plain = λ in_plain. subst D (sym e) (subst T (sym taken) (Plain-narrowed (h.plain in_plain) new.sets within fewer));
       }
 
   -- the literal that a known clause forces
-  pub State-asserted : StateOf model learn stock steps trail nodes → (lit : Lit) (source : Source) → IsReasoned (known_in stock) (asserted lit (reason_of source) trail) → StateOf model learn stock steps (asserted lit (reason_of source) trail) nodes
-  State-asserted h lit source reasoned =
-      State-narrowed h (asserted lit (reason_of source) trail) refl (opens-asserted trail.declared trail.entries lit source (level_of trail)) (Within-narrowed trail.sets lit) (slack-narrowed_le trail.sets lit) (volume-narrowed_le trail.sets lit) reasoned
-
-  pub work-asserted : (limit : ℕ) (lit : Lit) (reason : Reason) → IsVariable (length trail.sets) lit.var → is_possible (set_of trail.sets lit.var) lit ≡ true → can_fail trail.sets lit ≡ true → work limit nodes (asserted lit reason trail) < work limit nodes trail
-  work-asserted limit lit reason var possible fails = work-less ((limit - nodes) + length trail.saved) ((limit - nodes) + length trail.saved) (slack trail.declared) (slack (narrowed trail.sets lit)) (slack trail.sets) refl (slack-narrowed_lt trail.sets lit var possible fails)
+  pub State-asserted : (lit : Lit) (source : Source) → IsReasoned (known_in stock) (asserted lit (reason_of source) trail) → StateOf model learn stock steps (asserted lit (reason_of source) trail) nodes
+  State-asserted lit source reasoned =
+      State-narrowed (asserted lit (reason_of source) trail) refl (opens-asserted trail.declared trail.entries lit source (level_of trail)) (Within-narrowed trail.sets lit) (slack-narrowed_le trail.sets lit) (volume-narrowed_le trail.sets lit) reasoned
 
   -- ---- a decision
 
-  pub State-decided : StateOf model learn stock steps trail nodes → (lit : Lit) → IsVariable (length trail.sets) lit.var → IsOpen trail.sets lit → IsReasoned (known_in stock) (asserted lit Decision (pushed trail)) → StateOf model learn stock steps (asserted lit Decision (pushed trail)) (nodes + 1)
-  State-decided h lit var either reasoned =
+  pub State-decided : (lit : Lit) → IsVariable (length trail.sets) lit.var → IsOpen trail.sets lit → IsReasoned (known_in stock) (asserted lit Decision (pushed trail)) → StateOf model learn stock steps (asserted lit Decision (pushed trail)) (nodes + 1)
+  State-decided lit var either reasoned =
       let less = slack-narrowed_lt trail.sets lit var either.0 either.1 in
       let taken : opens trail.declared (asserted lit Decision (pushed trail)).entries ≡ opens trail.declared trail.entries ++ record { sets = trail.sets; decision = lit } ∷ [] =
       opens-parts (known_in stock) trail.declared trail.entries trail.sets lit (level_of (pushed trail)) [] h.core.reasoned.leads in
       let T : List Open → Type 0 = λ t. PlainOf trail.declared (narrowed trail.sets lit) t (resolved steps) (nodes + 1) in
       record {
-        core = Core-moved model stock steps trail nodes h.core (asserted lit Decision (pushed trail)) (nodes + 1) refl reasoned (omega arith);
-        plain = λ in_plain. subst T (sym taken) (Plain-decided trail.declared trail.sets (opens trail.declared trail.entries) (resolved steps) nodes (h.plain in_plain) (State-filled h) lit var either);
+        core = Core-moved h.core (asserted lit Decision (pushed trail)) (nodes + 1) refl reasoned (omega arith);
+        plain = λ in_plain. subst T (sym taken) (Plain-decided (h.plain in_plain) State-filled lit var either);
       }
-
-  pub work-decided : (limit : ℕ) (lit : Lit) → IsVariable (length trail.sets) lit.var → IsOpen trail.sets lit → nodes < limit → work limit (nodes + 1) (asserted lit Decision (pushed trail)) < work limit nodes trail
-  work-decided limit lit var either room =
-      let levels = length_push trail.saved (record { sets = trail.sets; entries = trail.entries }) in
-      work-less ((limit - (nodes + 1)) + length (pushed trail).saved) ((limit - nodes) + length trail.saved) (slack trail.declared) (slack (narrowed trail.sets lit)) (slack trail.sets) (omega arith) (slack-narrowed_lt trail.sets lit var either.0 either.1)
 
   -- ---- inferences
 
-  pub State-stacked : StateOf model learn stock steps trail nodes → (it : Inferred) → IsJustified model (past_of model steps) it → StateOf model learn (with_inference it stock) steps trail nodes
-  State-stacked h it justified = record { core = Core-stacked model stock steps trail nodes h.core it justified; plain = h.plain }
+  pub State-stacked : (it : Inferred) → IsJustified model (past_of model steps) it → StateOf model learn (with_inference it stock) steps trail nodes
+  State-stacked it justified = record { core = Core-stacked h.core it justified; plain = h.plain }
 
-  pub State-cut : StateOf model learn stock steps trail nodes → (count : ℕ) → All (λ (entry : Entry). IsBelow count entry.reason) trail.entries → StateOf model learn (with_stack count stock) steps trail nodes
-  State-cut h count enough = record { core = Core-cut model stock steps trail nodes h.core count enough; plain = h.plain }
+  pub State-cut : (count : ℕ) → All (λ (entry : Entry). IsBelow count entry.reason) trail.entries → StateOf model learn (with_stack count stock) steps trail nodes
+  State-cut count enough = record { core = Core-cut h.core count enough; plain = h.plain }
 
   -- ---- a solution, with its cut
 
-  pub State-found : StateOf model learn stock steps trail nodes → (values : List ℤ) (number : ℕ) (flags : List Bool) (id : ClauseId) → id.0 ≡ length stock.held → is_cut flags id ≡ true → ((other : ClauseId) → other.0 ≢ id.0 → is_cut flags other ≡ is_cut stock.cuts other) → number ≡ length steps + 1 → IsAccepted model (past_of model steps) (Solution values) → IsClauseOver (length trail.declared) (cut_of model values) → IsReasoned (known_in (with_held (cut_of model values) number stock)) trail → StateOf model learn (with_cuts flags (with_held (cut_of model values) number stock)) (steps ++ Solution values ∷ []) trail nodes
-  State-found h values number flags id there flagged others newest accepted over reasoned =
+  pub State-found : (values : List ℤ) (number : ℕ) (flags : List Bool) (id : ClauseId) → id.0 ≡ length stock.held → is_cut flags id ≡ true → ((other : ClauseId) → other.0 ≢ id.0 → is_cut flags other ≡ is_cut stock.cuts other) → number ≡ length steps + 1 → IsAccepted model (past_of model steps) (Solution values) → IsClauseOver (length trail.declared) (cut_of model values) → IsReasoned (known_in (with_held (cut_of model values) number stock)) trail → StateOf model learn (with_cuts flags (with_held (cut_of model values) number stock)) (steps ++ Solution values ∷ []) trail nodes
+  State-found values number flags id there flagged others newest accepted over reasoned =
       let same : resolved (steps ++ Solution values ∷ []) ≡ resolved steps = resolved-append steps (Solution values ∷ []) ∙ append-nil (resolved steps) in
       let N : List (List Lit) → Type 0 = λ cs. nodes + slack trail.sets ≤ (length cs + 1) * slack trail.declared in
       let P : List (List Lit) → Type 0 = λ cs. PlainOf trail.declared trail.sets (opens trail.declared trail.entries) cs nodes in
@@ -113,53 +162,15 @@ module _ (model : Model) (learn : Learn) (stock : Stock) (steps : List Step) (tr
       (λ a cut. IsHeldCut-grown stock.held flags (cut_of model a) (IsHeldCut-flagged stock.held stock.cuts (cut_of model a) cut flags id (omega arith) others) (Some (cut_of model values) ∷ [])) (past_of model steps).solutions h.core.cuts_held in
       let cuts = All-push Cut (past_of model steps).solutions values before (id, flagged, at_number-newest stock.held (cut_of model values) id there) in
       record {
-        core = Core-step model stock steps trail nodes h.core (Solution values) (cut_of model values) number flags newest accepted refl cuts over trail refl reasoned (subst N (sym same) h.core.nodes_by_conflicts);
+        core = Core-step h.core (Solution values) (cut_of model values) number flags newest accepted refl cuts over trail refl reasoned (subst N (sym same) h.core.nodes_by_conflicts);
         plain = λ in_plain. subst P (sym same) (h.plain in_plain);
       }
 
   -- ---- a learned clause
 
-  learned_is : (clause : List Lit) (ids : List ℕ) → resolved (steps ++ Resolve clause ids ∷ []) ≡ resolved steps ++ clause ∷ []
-  learned_is clause ids = resolved-append steps (Resolve clause ids ∷ [])
-
-  slack-stood : CoreOf model stock steps trail nodes → (level : ℕ) → level ≤ level_of trail → slack (returned level trail).sets ≤ slack trail.declared
-  slack-stood core level below =
-      let there = returned level trail in
-      let stood = Leads-slack (known_in stock) there.declared there.entries there.sets (IsReasoned-returned (known_in stock) trail level core.reasoned below).leads in
-      let declared = ap slack (declared-returned level trail) in
-      omega arith
-
-  slack-returned : CoreOf model stock steps trail nodes → (level : ℕ) → level ≤ level_of trail → (lit : Lit) → slack (narrowed (returned level trail).sets lit) ≤ slack trail.declared
-  slack-returned core level below lit =
-      let stood = slack-stood core level below in
-      let narrow = slack-narrowed_le (returned level trail).sets lit in
-      omega arith
-
-  -- on any trail over the declared sets
-  pub Core-resolved : CoreOf model stock steps trail nodes → (clause : List Lit) (ids : List ℕ) (number : ℕ) → number ≡ length steps + 1 → IsAccepted model (past_of model steps) (Resolve clause ids) → (new : Levels) → new.declared ≡ trail.declared → slack new.sets ≤ slack trail.declared → IsReasoned (known_in (with_held clause number stock)) new → CoreOf model (with_held clause number stock) (steps ++ Resolve clause ids ∷ []) new nodes
-  Core-resolved core clause ids number newest accepted new declared less reasoned =
-      let O : ℕ → Type 0 = λ n. IsClauseOver n clause in
-      let sizes : length trail.declared ≡ length model.vars = ap length core.declared ∙ length-map model.vars (λ var. var.domain) in
-      let one = length_push (resolved steps) clause in
-      let conflicts = core.nodes_by_conflicts in
-      let N : List (List Lit) → Type 0 = λ cs. nodes + slack new.sets ≤ (length cs + 1) * slack trail.declared in
-      let M : ℕ → Type 0 = λ n. nodes + slack new.sets ≤ (n + 1) * slack trail.declared in
-      Core-step model stock steps trail nodes core (Resolve clause ids) clause number stock.cuts newest accepted refl (cuts-grown model stock steps trail nodes core clause) (subst O (sym sizes) accepted.0) new declared reasoned
-      (subst N (sym (learned_is clause ids)) (subst M (sym one) (omega arith)))
-
-  -- back at a level with what the learned clause forces there: one change, since between its parts the accounts do not hold
-  pub Core-learned : CoreOf model stock steps trail nodes → (clause : List Lit) (ids : List ℕ) (number level : ℕ) → number ≡ length steps + 1 → level ≤ level_of trail → IsAccepted model (past_of model steps) (Resolve clause ids) → (lit : Lit) (id : ClauseId) → IsReasoned (known_in (with_held clause number stock)) (asserted lit (Clause id) (returned level trail)) → CoreOf model (with_held clause number stock) (steps ++ Resolve clause ids ∷ []) (asserted lit (Clause id) (returned level trail)) nodes
-  Core-learned core clause ids number level newest below accepted lit id reasoned =
-      Core-resolved core clause ids number newest accepted (asserted lit (Clause id) (returned level trail)) (declared-returned level trail) (slack-returned core level below lit) reasoned
-
-  -- or back at level 0
-  pub Core-restarted : CoreOf model stock steps trail nodes → (clause : List Lit) (ids : List ℕ) (number : ℕ) → number ≡ length steps + 1 → IsAccepted model (past_of model steps) (Resolve clause ids) → IsReasoned (known_in (with_held clause number stock)) (returned 0 trail) → CoreOf model (with_held clause number stock) (steps ++ Resolve clause ids ∷ []) (returned 0 trail) nodes
-  Core-restarted core clause ids number newest accepted reasoned =
-      Core-resolved core clause ids number newest accepted (returned 0 trail) (declared-returned 0 trail) (slack-stood core 0 (omega arith)) reasoned
-
   -- one level back, where the clause says that one of the decisions is wrong
-  pub Plain-back : StateOf model learn stock steps trail nodes → learn ≡ Plain → (clause : List Lit) (ids : List ℕ) (level : ℕ) → level_of trail ≡ level + 1 → clause ≡ negations (opens trail.declared trail.entries) → (lit : Lit) (id : ClauseId) → possible_in (returned level trail).sets clause ≡ lit ∷ [] → PlainOf (asserted lit (Clause id) (returned level trail)).declared (asserted lit (Clause id) (returned level trail)).sets (opens (asserted lit (Clause id) (returned level trail)).declared (asserted lit (Clause id) (returned level trail)).entries) (resolved (steps ++ Resolve clause ids ∷ [])) nodes
-  Plain-back h in_plain clause ids level levels clause_is lit id forced =
+  pub Plain-back : learn ≡ Plain → (clause : List Lit) (ids : List ℕ) (level : ℕ) → level_of trail ≡ level + 1 → clause ≡ negations (opens trail.declared trail.entries) → (lit : Lit) (id : ClauseId) → possible_in (returned level trail).sets clause ≡ lit ∷ [] → PlainOf (asserted lit (Clause id) (returned level trail)).declared (asserted lit (Clause id) (returned level trail)).sets (opens (asserted lit (Clause id) (returned level trail)).declared (asserted lit (Clause id) (returned level trail)).entries) (resolved (steps ++ Resolve clause ids ∷ [])) nodes
+  Plain-back in_plain clause ids level levels clause_is lit id forced =
       let known = known_in stock in
       let last = last_level known trail level h.core.reasoned levels in
       let before = opens trail.declared last.stood.entries in
@@ -178,8 +189,8 @@ module _ (model : Model) (learn : Learn) (stock : Stock) (steps : List Step) (tr
       let taken_is : opens new.declared new.entries ≡ before =
       opens-asserted (returned level trail).declared (returned level trail).entries lit (Held id) (level_of (returned level trail))
       ∙ ap (λ (d : List IntSet). opens d (returned level trail).entries) last.declared_is ∙ ap (opens trail.declared) last.entries_is in
-      let learned : resolved (steps ++ Resolve clause ids ∷ []) ≡ resolved steps ++ negations (opens trail.declared trail.entries) ∷ [] = learned_is clause ids ∙ ap (λ (c : List Lit). resolved steps ++ c ∷ []) clause_is in
-      let plain = Plain-learned trail.declared trail.sets (opens trail.declared trail.entries) (resolved steps) nodes before at last.taken_is (h.plain in_plain) (State-fresh h in_plain) count (subst Var count last.var) in
+      let learned : resolved (steps ++ Resolve clause ids ∷ []) ≡ resolved steps ++ negations (opens trail.declared trail.entries) ∷ [] = learned_is steps clause ids ∙ ap (λ (c : List Lit). resolved steps ++ c ∷ []) clause_is in
+      let plain = Plain-learned (h.plain in_plain) before at last.taken_is (State-fresh in_plain) count (subst Var count last.var) in
       let S : List IntSet → Type 0 = λ s. PlainOf trail.declared s before (resolved steps ++ negations (opens trail.declared trail.entries) ∷ []) nodes in
       let T : List Open → Type 0 = λ t. PlainOf trail.declared new.sets t (resolved steps ++ negations (opens trail.declared trail.entries) ∷ []) nodes in
       let D : List IntSet → Type 0 = λ d. PlainOf d new.sets (opens new.declared new.entries) (resolved steps ++ negations (opens trail.declared trail.entries) ∷ []) nodes in
@@ -189,28 +200,10 @@ module _ (model : Model) (learn : Learn) (stock : Stock) (steps : List Step) (tr
       first_same : (a b : Lit) → a ∷ [] ≡ b ∷ [] → a ≡ b
       first_same a b e = cc
 
-  pub work-learned : CoreOf model stock steps trail nodes → (limit level : ℕ) → level < level_of trail → (lit : Lit) (id : ClauseId) → work limit nodes (asserted lit (Clause id) (returned level trail)) < work limit nodes trail
-  work-learned core limit level below lit id =
-      let there = returned level trail in
-      let levels : length there.saved ≡ level = level_of-returned level trail (omega arith) in
-      let less = slack-returned core level (omega arith) lit in
-      let declared = ap slack (declared-returned level trail) in
-      let W : ℕ → Type 0 = λ s. ((limit - nodes) + length there.saved) * (s + 1) + slack (narrowed there.sets lit) < ((limit - nodes) + length trail.saved) * (slack trail.declared + 1) + slack trail.sets in
-      subst W (sym declared) (work-lower ((limit - nodes) + length there.saved) ((limit - nodes) + length trail.saved) (slack trail.declared) (slack (narrowed there.sets lit)) (slack trail.sets) (omega arith) (omega arith))
-
-  pub work-restarted : CoreOf model stock steps trail nodes → (limit : ℕ) → 0 < level_of trail → work limit nodes (returned 0 trail) < work limit nodes trail
-  work-restarted core limit above =
-      let there = returned 0 trail in
-      let levels : length there.saved ≡ 0 = level_of-returned 0 trail (omega arith) in
-      let less = slack-stood core 0 (omega arith) in
-      let declared = ap slack (declared-returned 0 trail) in
-      let W : ℕ → Type 0 = λ s. ((limit - nodes) + length there.saved) * (s + 1) + slack there.sets < ((limit - nodes) + length trail.saved) * (slack trail.declared + 1) + slack trail.sets in
-      subst W (sym declared) (work-lower ((limit - nodes) + length there.saved) ((limit - nodes) + length trail.saved) (slack trail.declared) (slack there.sets) (slack trail.sets) (omega arith) (omega arith))
-
   -- ---- the end
 
-  certified_by : StateOf model learn stock steps trail nodes → (all : List Step) → AllAccepted model all → (learn ≡ Plain → FreshAfter trail.declared [] (resolved all)) → nodes ≤ (length (resolved all) + 1) * slack trail.declared → IsCertified model learn all nodes
-  certified_by h all accepted fresh bound =
+  certified_by : (all : List Step) → AllAccepted model all → (learn ≡ Plain → FreshAfter trail.declared [] (resolved all)) → nodes ≤ (length (resolved all) + 1) * slack trail.declared → IsCertified model learn all nodes
+  certified_by all accepted fresh bound =
       let F : List IntSet → Type 0 = λ d. FreshAfter d [] (resolved all) in
       let E : List IntSet → Type 0 = λ d. NoneEmpty d in
       let e = h.core.declared in
@@ -223,21 +216,21 @@ module _ (model : Model) (learn : Learn) (stock : Stock) (steps : List Step) (tr
         nodes_by_conflicts = subst M (sym same) (subst N e bound);
       }
 
-  pub State-certified : StateOf model learn stock steps trail nodes → IsCertified model learn steps nodes
-  State-certified h = let conflicts = h.core.nodes_by_conflicts in certified_by h steps h.core.accepted (λ in_plain. (h.plain in_plain).fresh) (omega arith)
+  pub State-certified : IsCertified model learn steps nodes
+  State-certified = let conflicts = h.core.nodes_by_conflicts in certified_by steps h.core.accepted (λ in_plain. (h.plain in_plain).fresh) (omega arith)
 
   -- an empty clause was learned
-  pub State-closed : StateOf model learn stock steps trail nodes → (learn ≡ Plain → [] ≡ negations (opens trail.declared trail.entries)) → (ids : List ℕ) → IsAccepted model (past_of model steps) (Resolve [] ids) → IsCertified model learn (steps ++ Resolve [] ids ∷ []) nodes × IsRefuted model (steps ++ Resolve [] ids ∷ [])
-  State-closed h clause_is ids accepted =
+  pub State-closed : (learn ≡ Plain → [] ≡ negations (opens trail.declared trail.entries)) → (ids : List ℕ) → IsAccepted model (past_of model steps) (Resolve [] ids) → IsCertified model learn (steps ++ Resolve [] ids ∷ []) nodes × IsRefuted model (steps ++ Resolve [] ids ∷ [])
+  State-closed clause_is ids accepted =
       let F : List Lit → Type 0 = λ c. FreshAfter trail.declared [] (resolved steps ++ c ∷ []) in
       let G : List (List Lit) → Type 0 = λ cs. FreshAfter trail.declared [] cs in
-      let is = learned_is [] ids in
+      let is = learned_is steps [] ids in
       let one = length_push (resolved steps) [] in
       let conflicts = h.core.nodes_by_conflicts in
       let N : List (List Lit) → Type 0 = λ cs. nodes ≤ (length cs + 1) * slack trail.declared in
       let M : ℕ → Type 0 = λ n. nodes ≤ (n + 1) * slack trail.declared in
       let past = past_of-push model steps (Resolve [] ids) in (
-        certified_by h (steps ++ Resolve [] ids ∷ []) (AllAccepted-push model steps (Resolve [] ids) h.core.accepted accepted) (λ in_plain. subst G (sym is) (subst F (sym (clause_is in_plain)) (State-fresh h in_plain)))
+        certified_by (steps ++ Resolve [] ids ∷ []) (AllAccepted-push model steps (Resolve [] ids) h.core.accepted accepted) (λ in_plain. subst G (sym is) (subst F (sym (clause_is in_plain)) (State-fresh in_plain)))
             (subst N (sym is) (subst M (sym one) (omega arith))),
         ap (λ (p : Past). p.refuted) past ∙ or_right (past_of model steps).refuted true refl,
       )

@@ -1,11 +1,10 @@
 -- Steps on which nothing rests are deleted.
 use Rattle.std.proofs.Common.{◌≡◌, ◌≢◌, ℕ, ◌+◌, ◌-◌, ◌*◌, ◌^◌, ◌<◌, ◌≤◌, ◌==◌, ◌⊎◌, cond, List, [], ◌∷◌, ◌++◌, length, get_or, set, All, Contains, Option, Some, None, IfSome, is_some, refl, sym, ap, ◌∙◌, subst, inl, inr, arith}
 use Rattle.std.specs.List.{AllByRecursion}
-use Rattle.std.proofs.lemmas.List.{length_push, append-nil, get_or-set_other}
+use Rattle.std.proofs.lemmas.List.{append-nil, get_or-set_other}
 use Rattle.std.proofs.lemmas.List.Elements.{All-head, All-tail, All-weaker, All-get_or, All-from_get_or, All-contains, Contains-get_or}
 use Rattle.fzn_domain.specs.declared.literal.Lit.{Lit}
 use Rattle.fzn_meaning.specs.declared.model.Model.{Model}
-use Rattle.fzn_meaning.specs.Solutions.{cut_of}
 use Rattle.fzn_cert.specs.declared.step.Step.{Step}
 use Rattle.fzn_cert.specs.declared.step.Step.TheVariants.{Delete}
 use Rattle.fzn_cert.specs.declared.step.Version.TheVariants.{Two}
@@ -22,10 +21,12 @@ use Rattle.fzn_engine.specs.declared.solver.Solver.{Solver}
 use Rattle.fzn_upkeep.specs.Deletion.{IsInUse}
 use Rattle.fzn_engine.specs.Volume.{slack}
 use Rattle.fzn_engine.specs.Learned.{resolved}
-use Rattle.fzn_engine.specs.Outcome.{count}
-use Rattle.fzn_engine.specs.Search.{IsAfter, IsTended, stock_of}
-use Rattle.fzn_engine.specs.State.{Stock, IsHeldCut, AreNumbered, IsJustified, CoreOf, PlainOf, StateOf}
-use Rattle.fzn_engine.proofs.AcceptedLemmas.{past_of-push, AllAccepted-push, resolved-append, logged-accepted, length-past_of}
+use Rattle.fzn_engine.specs.Changes.{IsTended}
+use Rattle.fzn_engine.specs.Search.{IsAfter, stock_of}
+use Rattle.fzn_engine.specs.State.{Stock, AreNumbered, IsJustified, CoreOf, PlainOf, StateOf}
+use Rattle.fzn_engine.proofs.AcceptedLemmas.{resolved-append, logged-accepted, length-past_of}
+use Rattle.fzn_engine.proofs.StateLemmas.{Core-more}
+use Rattle.fzn_engine.proofs.SolverLemmas.{order-step}
 use Rattle.fzn_engine.proofs.NumberLemmas.{number-of, clause_held-grown, given-clause}
 
 -- ---- the clauses that are left
@@ -52,7 +53,7 @@ module _ (past : Past) (ids : List ℕ) (ones : All (λ (id : ℕ). 1 ≤ id) id
 
 -- ---- the search that is left
 
-module _ (model : Model) (stock : Stock) (steps : List Step) (trail : Levels) (nodes : ℕ) (core : CoreOf model stock steps trail nodes) (ids : List ℕ) (alive : All (Contains stock.alive) ids) (idle : (n : ℕ) → IsInUse stock.held stock.numbers stock.stack n → Contains ids n → ⊥) where
+module _ {model : Model} {stock : Stock} {steps : List Step} {trail : Levels} {nodes : ℕ} (core : CoreOf model stock steps trail nodes) (ids : List ℕ) (alive : All (Contains stock.alive) ids) (idle : (n : ℕ) → IsInUse stock.held stock.numbers stock.stack n → Contains ids n → ⊥) where
   abbrev past : Past
   past = past_of model steps
 
@@ -111,24 +112,16 @@ module _ (model : Model) (stock : Stock) (steps : List Step) (trail : Levels) (n
 
   pub Core-deleted : (used : List ℕ) → All (IsInUse stock.held stock.numbers stock.stack) used → CoreOf model (record stock { alive = used }) (steps ++ Delete ids ∷ []) trail nodes
   Core-deleted used only =
-      let is : past_of model (steps ++ Delete ids ∷ []) ≡ now = past_of-push model steps (Delete ids) in
-      let A : Past → Type 0 = λ p. AreNumbered p stock.numbers stock.held in
-      let J : Past → Type 0 = λ p. All (IsJustified model p) stock.stack in
-      let G : Past → Type 0 = λ p. All (IsGiven p) used in
-      let S : Past → Type 0 = λ p. All (λ values. IsHeldCut stock.held stock.cuts (cut_of model values)) p.solutions in
       let N : List (List Lit) → Type 0 = λ cs. nodes + slack trail.sets ≤ (length cs + 1) * slack trail.declared in
-      record {
-        declared = core.declared;
-        filled = core.filled;
-        accepted = AllAccepted-push model steps (Delete ids) core.accepted given;
-        numbered = subst A (sym is) numbered_left;
-        justified = subst J (sym is) justified_left;
-        alive = subst G (sym is) (All-weaker (IsInUse stock.held stock.numbers stock.stack) (IsGiven now) used_left used only);
-        cuts_held = subst S (sym is) core.cuts_held;
+      Core-more core (Delete ids) given (record stock { alive = used })
+      (record {
+        numbered = numbered_left;
+        justified = justified_left;
+        alive = All-weaker (IsInUse stock.held stock.numbers stock.stack) (IsGiven now) used_left used only;
+        cuts_held = core.cuts_held;
         held_over = core.held_over;
-        reasoned = core.reasoned;
-        nodes_by_conflicts = subst N (sym same_learned) core.nodes_by_conflicts;
-      }
+      })
+      trail refl core.reasoned (subst N (sym same_learned) core.nodes_by_conflicts)
 
   -- their numbers are those of steps
   pub ids-spelled : length steps < 10 ^ 18 → 0 < length ids → IdsRise ids → IsSpelled Two (Delete ids)
@@ -148,7 +141,7 @@ module _ (model : Model) (stock : Stock) (steps : List Step) (trail : Levels) (n
       each (n ∷ ns) all = (All-head IsNumber n ns all, each ns (All-tail IsNumber n ns all))
 
 -- of the numbers that were told, those that are not among these
-module _ (model : Model) (old : Solver) (before : List Step) (h : IsAfter model old before) (ids told numbers used among : List ℕ) (told_is : told ≡ old.alive) (numbers_is : numbers ≡ old.numbers) (among_is : among ≡ used) (in_told : All (Contains told) ids) (all : (n : ℕ) → IsInUse (held_by old.clauses) numbers old.inferences n → Contains used n) (apart_from : All (λ n. Contains among n → ⊥) ids) where
+module _ {model : Model} {old : Solver} {before : List Step} (h : IsAfter model old before) (ids used : List ℕ) {told numbers among : List ℕ} (told_is : told ≡ old.alive) (numbers_is : numbers ≡ old.numbers) (among_is : among ≡ used) (in_told : All (Contains told) ids) (all : (n : ℕ) → IsInUse (held_by old.clauses) numbers old.inferences n → Contains used n) (apart_from : All (λ n. Contains among n → ⊥) ids) where
   alive : All (Contains old.alive) ids
   alive = let T : List ℕ → Type 0 = λ t. All (Contains t) ids in subst T told_is in_told
 
@@ -159,39 +152,25 @@ module _ (model : Model) (old : Solver) (before : List Step) (h : IsAfter model 
       All-contains (λ k. Contains among k → ⊥) ids n apart_from there (subst C (sym among_is) (all n (subst U (sym numbers_is) in_use)))
 
   pub delete-spelled : 0 < length ids → IdsRise ids → IsSpelled Two (Delete ids)
-  delete-spelled some rise = ids-spelled model (stock_of old) before old.trail old.search.nodes h.state.core ids alive idle h.few_steps some rise
+  delete-spelled some rise = ids-spelled h.state.core ids alive idle h.few_steps some rise
 
   pub delete-logged : (now : List Step) → (now ≡ before) ⊎ (now ≡ before ++ Delete ids ∷ []) → AllAccepted model now
-  delete-logged now log = logged-accepted model before now (Delete ids) h.state.core.accepted (delete-accepted model (stock_of old) before old.trail old.search.nodes h.state.core ids alive idle) log
+  delete-logged now log = logged-accepted model before now (Delete ids) h.state.core.accepted (delete-accepted h.state.core ids alive idle) log
 
-  pub deleted-tended : (now : List Step) → now ≡ before ++ Delete ids ∷ [] → length now < 10 ^ 18 → (left : List ℕ) → left ≡ used → All (IsInUse (held_by old.clauses) numbers old.inferences) used → (number : ℕ) → number ≡ old.steps + 1 → (notes : Notes) → IsTended model old (record old { alive = left; notes = notes; steps = number }) now
-  deleted-tended now now_is few left left_is only number newest notes =
+  pub deleted-tended : {now : List Step} → now ≡ before ++ Delete ids ∷ [] → length now < 10 ^ 18 → (left : List ℕ) → left ≡ used → All (IsInUse (held_by old.clauses) numbers old.inferences) used → (number : ℕ) → number ≡ old.steps + 1 → (notes : Notes) → IsTended model old (record old { alive = left; notes = notes; steps = number }) now
+  deleted-tended now_is few left left_is only number newest notes =
       let V : List ℕ → Type 0 = λ ns. All (IsInUse (held_by old.clauses) ns old.inferences) left in
       let W : List ℕ → Type 0 = λ ns. All (IsInUse (held_by old.clauses) numbers old.inferences) ns in
-      let core = Core-deleted model (stock_of old) before old.trail old.search.nodes h.state.core ids alive idle left (subst V numbers_is (subst W (sym left_is) only)) in
-      let same = same_learned model (stock_of old) before old.trail old.search.nodes h.state.core ids alive idle in
+      let core = Core-deleted h.state.core ids alive idle left (subst V numbers_is (subst W (sym left_is) only)) in
       let R : List (List Lit) → Type 0 = λ cs. PlainOf old.trail.declared old.trail.sets (opens old.trail.declared old.trail.entries) cs old.search.nodes in
-      let stock : Stock = record (stock_of old) { alive = left } in
-      let S : List Step → Type 0 = λ s. StateOf model old.learn stock s old.trail old.search.nodes in
-      let lengths : length now ≡ length before + 1 = ap length now_is ∙ length_push before (Delete ids) in
-      let counts : count model now ≡ count model before =
-      ap (λ (s : List Step). length (past_of model s).solutions) now_is ∙ ap (λ (p : Past). length p.solutions) (past_of-push model before (Delete ids)) in
+      let S : List Step → Type 0 = λ s. StateOf model old.learn (record (stock_of old) { alive = left }) s old.trail old.search.nodes in
+      let state : S (before ++ Delete ids ∷ []) = record { core = core; plain = λ plain. subst R (sym (same_learned h.state.core ids alive idle)) (h.state.plain plain) } in
       record {
         state = record {
-          state = subst S (sym now_is) (record { core = core; plain = λ plain. subst R (sym same) (h.state.plain plain) });
+          state = subst S (sym now_is) state;
           watching = h.watching;
-          scratch = h.scratch;
-          vars = h.vars;
-          found_is = h.found_is ∙ sym counts;
-          found_few = few_by old.found (length before) (length now) h.found_few lengths;
-          steps_are = newest ∙ ap (λ (n : ℕ). n + 1) h.steps_are ∙ sym lengths;
-          few_steps = few;
+          order = order-step h.order (Delete ids) now_is few refl number newest;
         };
         trail = refl;
-        nodes = refl;
-        found = refl;
-        learn = refl;
+        tally = refl;
       }
-    where
-      few_by : (a b d : ℕ) → a ≤ b → d ≡ b + 1 → a ≤ d
-      few_by a b d k e = omega arith

@@ -23,16 +23,17 @@ use Rattle.fzn_clauses.specs.Held.{Held, IsHeld, AllHeld, at_number, clause_of}
 use Rattle.fzn_clauses.specs.Kept.{KeepsWatching}
 use Rattle.fzn_clauses.specs.Watching.{held_by}
 use Rattle.fzn_clauses.proofs.HeldLemmas.{AllHeld-push}
-use Rattle.fzn_learned.specs.Reasoned.{IsOther}
+use Rattle.fzn_learned.specs.Reasoned.{IsOther, IsReasoned}
 use Rattle.fzn_learned.proofs.CallerLemmas.{IsReasoned-grown, IsReasoned-without}
 use Rattle.fzn_upkeep.specs.declared.notes.Notes.{Notes}
 use Rattle.fzn_engine.specs.declared.solver.Solver.{Solver}
 use Rattle.fzn_upkeep.specs.Forgetting.{IsFlagged, is_cut}
-use Rattle.fzn_engine.specs.Search.{IsAfter, IsTended, stock_of}
-use Rattle.fzn_engine.specs.State.{known_in, with_clause, IsHeldCut, AreNumbered, IsJustified, CoreOf, StateOf}
+use Rattle.fzn_engine.specs.Changes.{IsTended}
+use Rattle.fzn_engine.specs.Search.{IsAfter, stock_of}
+use Rattle.fzn_engine.specs.State.{known_in, IsHeldCut, AreNumbered, IsJustified, IsStocked, StateOf}
 use Rattle.fzn_engine.proofs.HeldCutLemmas.{IsHeldCut-left}
 use Rattle.fzn_engine.proofs.NumberLemmas.{AreNumbered-push}
-use Rattle.fzn_engine.proofs.StateLemmas.{cuts-grown}
+use Rattle.fzn_engine.proofs.StateLemmas.{cuts-grown, Core-restocked}
 
 none_at : (held : Held) (k : ℕ) → get_or (set held k None) k None ≡ None
 none_at [] zero = refl
@@ -66,115 +67,88 @@ module _ (held : Held) (gone : ClauseId) where
 
 -- ---- the search that is left
 
-module _ (model : Model) (old : Solver) (steps : List Step) (h : IsAfter model old steps) where
-  -- other notes are no change, nor are the sets on which learned clauses are tested, while they are the declared ones
-  pub noted-after : (scratch : Narrowed) → scratch ≡ start (declared_sets model.vars) → (notes : Notes) → IsAfter model (record old { scratch = scratch; notes = notes }) steps
-  noted-after scratch fresh notes = record {
-    state = h.state;
-    watching = h.watching;
-    scratch = fresh;
-    vars = h.vars;
-    found_is = h.found_is;
-    found_few = h.found_few;
-    steps_are = h.steps_are;
-    few_steps = h.few_steps;
-  }
+pub tended-through : {model : Model} {old mid new : Solver} {before now : List Step} → IsTended model old mid before → IsTended model mid new now → IsTended model old new now
+tended-through a b = record { state = b.state; trail = b.trail ∙ a.trail; tally = b.tally ∙ a.tally }
 
+module _ {model : Model} {old : Solver} {steps : List Step} (h : IsAfter model old steps) where
+  -- other notes are no change, nor are the sets on which learned clauses are tested, while they are the declared ones
   pub noted-tended : (scratch : Narrowed) → scratch ≡ start (declared_sets model.vars) → (notes : Notes) → IsTended model old (record old { scratch = scratch; notes = notes }) steps
-  noted-tended scratch fresh notes = record { state = noted-after scratch fresh notes; trail = refl; nodes = refl; found = refl; learn = refl }
+  noted-tended scratch fresh notes = record {
+    state = record {
+      state = h.state;
+      watching = h.watching;
+      order = record { scratch = fresh; vars = h.vars; found_is = h.found_is; found_few = h.found_few; steps_are = h.steps_are; few_steps = h.few_steps };
+    };
+    trail = refl;
+    tally = refl;
+  }
 
   pub nothing-tended : (notes : Notes) → IsTended model old (record old { notes = notes }) steps
   nothing-tended notes = noted-tended old.scratch h.scratch notes
 
-  module _ (clauses : Clauses) (gone : ClauseId) (held_is : held_by clauses ≡ set (held_by old.clauses) gone.0 None) (keeps : KeepsWatching old.clauses clauses) (apart : All (λ (entry : Entry). IsOther gone entry.reason) old.trail.entries) (no_cut : is_cut old.cuts gone ≡ false) where
-    left-core : CoreOf model (record (stock_of old) { held = set (held_by old.clauses) gone.0 None }) steps old.trail old.search.nodes
-    left-core =
+  -- other clauses are held, under numbers of steps that give them
+  pub restocked-tended : (clauses : Clauses) → KeepsWatching old.clauses clauses → (held : Held) → held_by clauses ≡ held → (numbers : List ℕ) → IsStocked model (past_of model steps) (length old.trail.declared) (record (stock_of old) { held = held; numbers = numbers }) → IsReasoned (record (known_in (stock_of old)) { held = held }) old.trail → (notes : Notes) → IsTended model old (record old { clauses = clauses; numbers = numbers; notes = notes }) steps
+  restocked-tended clauses keeps held held_is numbers stocked reasoned notes =
+      let S : Held → Type 0 = λ cs. StateOf model old.learn (record (stock_of old) { held = cs; numbers = numbers }) steps old.trail old.search.nodes in
+      let state : S held = record { core = Core-restocked h.state.core (record (stock_of old) { held = held; numbers = numbers }) stocked reasoned; plain = h.state.plain } in
+      record {
+        state = record { state = subst S (sym held_is) state; watching = keeps.watching old.trail h.watching; order = h.order };
+        trail = refl;
+        tally = refl;
+      }
+
+  -- a clause is gone
+  pub dropped-tended : (clauses : Clauses) (gone : ClauseId) → held_by clauses ≡ set (held_by old.clauses) gone.0 None → KeepsWatching old.clauses clauses → All (λ (entry : Entry). IsOther gone entry.reason) old.trail.entries → is_cut old.cuts gone ≡ false → IsTended model old (record old { clauses = clauses }) steps
+  dropped-tended clauses gone held_is keeps apart no_cut =
+      let core = h.state.core in
+      let held = held_by old.clauses in
+      let left = set (held_by old.clauses) gone.0 None in
+      restocked-tended clauses keeps left held_is old.numbers
+      (record {
+        numbered = AreNumbered-left held gone (past_of model steps) old.numbers core.numbered;
+        justified = core.justified;
+        alive = core.alive;
+        cuts_held = All-weaker (λ values. IsHeldCut held old.cuts (cut_of model values)) (λ values. IsHeldCut left old.cuts (cut_of model values))
+            (λ values cut. IsHeldCut-left held old.cuts (cut_of model values) cut gone no_cut) (past_of model steps).solutions core.cuts_held;
+        held_over = AllHeld-left held gone (IsClauseOver (length old.trail.declared)) core.held_over;
+      })
+      (IsReasoned-without (known_in (stock_of old)) gone old.trail apart core.reasoned) old.notes
+
+  -- the same clauses are watched otherwise
+  pub swept-tended : (clauses : Clauses) → held_by clauses ≡ held_by old.clauses → KeepsWatching old.clauses clauses → (notes : Notes) → IsTended model old (record old { clauses = clauses; notes = notes }) steps
+  swept-tended clauses held_is keeps notes = restocked-tended clauses keeps (held_by old.clauses) held_is old.numbers h.state.core.stocked h.state.core.reasoned notes
+
+  -- ---- the clause of a written inference
+
+  module _ (place : ℕ) (stacked : place < length old.inferences) (number : ℕ) (written : (inference_at old.inferences place).number ≡ Some number) where
+    is_justified : IsJustified model (past_of model steps) (inference_at old.inferences place)
+    is_justified = All-get_or (IsJustified model (past_of model steps)) old.inferences place _ stacked h.state.core.justified
+
+    -- the step of the number gives it
+    pub inference-given : clause_held (past_of model steps) number ≡ Some (inference_at old.inferences place).clause
+    inference-given = let W : Option ℕ → Type 0 = λ o. IfSome o (λ n. clause_held (past_of model steps) n ≡ Some (inference_at old.inferences place).clause) in subst W written is_justified.written
+
+    pub inference-over : IsClauseOver (length old.trail.declared) (inference_at old.inferences place).clause
+    inference-over =
+        let sizes : length old.trail.declared ≡ length model.vars = ap length h.state.core.declared ∙ length-map model.vars (λ var. var.domain) in
+        let O : ℕ → Type 0 = λ n. IsClauseOver n (inference_at old.inferences place).clause in
+        subst O (sym sizes) is_justified.over
+
+    -- it is held too
+    pub more-tended : (clauses : Clauses) → held_by clauses ≡ held_by old.clauses ++ Some (inference_at old.inferences place).clause ∷ [] → KeepsWatching old.clauses clauses → (notes : Notes) → IsTended model old (record old { clauses = clauses; numbers = old.numbers ++ number ∷ []; notes = notes }) steps
+    more-tended clauses held_is keeps notes =
         let core = h.state.core in
-        record {
-          declared = core.declared;
-          filled = core.filled;
-          accepted = core.accepted;
-          numbered = AreNumbered-left (held_by old.clauses) gone (past_of model steps) old.numbers core.numbered;
+        let held = held_by old.clauses in
+        let clause = (inference_at old.inferences place).clause in
+        restocked-tended clauses keeps (held ++ Some clause ∷ []) held_is (old.numbers ++ number ∷ [])
+        (record {
+          numbered = AreNumbered-push (past_of model steps) old.numbers held number clause core.numbered inference-given;
           justified = core.justified;
           alive = core.alive;
-          cuts_held = All-weaker (λ values. IsHeldCut (held_by old.clauses) old.cuts (cut_of model values)) (λ values. IsHeldCut (set (held_by old.clauses) gone.0 None) old.cuts (cut_of model values))
-              (λ values cut. IsHeldCut-left (held_by old.clauses) old.cuts (cut_of model values) cut gone no_cut) (past_of model steps).solutions core.cuts_held;
-          held_over = AllHeld-left (held_by old.clauses) gone (IsClauseOver (length old.trail.declared)) core.held_over;
-          reasoned = IsReasoned-without (known_in (stock_of old)) gone old.trail apart core.reasoned;
-          nodes_by_conflicts = core.nodes_by_conflicts;
-        }
-
-    pub dropped-tended : IsTended model old (record old { clauses = clauses }) steps
-    dropped-tended =
-        let H : Held → Type 0 = λ held. StateOf model old.learn (record (stock_of old) { held = held }) steps old.trail old.search.nodes in
-        record {
-          state = record {
-            state = subst H (sym held_is) (record { core = left-core; plain = h.state.plain });
-            watching = keeps.watching old.trail h.watching;
-            scratch = h.scratch;
-            vars = h.vars;
-            found_is = h.found_is;
-            found_few = h.found_few;
-            steps_are = h.steps_are;
-            few_steps = h.few_steps;
-          };
-          trail = refl;
-          nodes = refl;
-          found = refl;
-          learn = refl;
-        }
-
-  -- or the clause of a written inference is held too
-  module _ (clauses : Clauses) (place : ℕ) (stacked : place < length old.inferences) (number : ℕ) (written : (inference_at old.inferences place).number ≡ Some number) (held_is : held_by clauses ≡ held_by old.clauses ++ Some (inference_at old.inferences place).clause ∷ []) (keeps : KeepsWatching old.clauses clauses) where
-    more-core : CoreOf model (with_clause (inference_at old.inferences place).clause number (stock_of old)) steps old.trail old.search.nodes
-    more-core =
-        let core = h.state.core in
-        let it = inference_at old.inferences place in
-        let just = All-get_or (IsJustified model (past_of model steps)) old.inferences place _ stacked core.justified in
-        let W : Option ℕ → Type 0 = λ o. IfSome o (λ n. clause_held (past_of model steps) n ≡ Some it.clause) in
-        let sizes : length old.trail.declared ≡ length model.vars = ap length core.declared ∙ length-map model.vars (λ var. var.domain) in
-        let O : ℕ → Type 0 = λ n. IsClauseOver n it.clause in
-        record {
-          declared = core.declared;
-          filled = core.filled;
-          accepted = core.accepted;
-          numbered = AreNumbered-push (past_of model steps) old.numbers (held_by old.clauses) number it.clause core.numbered (subst W written just.written);
-          justified = core.justified;
-          alive = core.alive;
-          cuts_held = cuts-grown model (stock_of old) steps old.trail old.search.nodes core it.clause;
-          held_over = AllHeld-push (IsClauseOver (length old.trail.declared)) (held_by old.clauses) it.clause core.held_over (subst O (sym sizes) just.over);
-          reasoned = IsReasoned-grown (known_in (stock_of old)) (Some it.clause ∷ []) old.trail core.reasoned;
-          nodes_by_conflicts = core.nodes_by_conflicts;
-        }
-
-    pub more-tended : (notes : Notes) → IsTended model old (record old { clauses = clauses; numbers = old.numbers ++ number ∷ []; notes = notes }) steps
-    more-tended notes =
-        let H : Held → Type 0 = λ held. StateOf model old.learn (record (stock_of old) { held = held; numbers = old.numbers ++ number ∷ [] }) steps old.trail old.search.nodes in
-        record {
-          state = record {
-            state = subst H (sym held_is) (record { core = more-core; plain = h.state.plain });
-            watching = keeps.watching old.trail h.watching;
-            scratch = h.scratch;
-            vars = h.vars;
-            found_is = h.found_is;
-            found_few = h.found_few;
-            steps_are = h.steps_are;
-            few_steps = h.few_steps;
-          };
-          trail = refl;
-          nodes = refl;
-          found = refl;
-          learn = refl;
-        }
-
-pub tended-through : (model : Model) (old mid new : Solver) (before now : List Step) → IsTended model old mid before → IsTended model mid new now → IsTended model old new now
-tended-through model old mid new before now a b = record {
-  state = b.state;
-  trail = b.trail ∙ a.trail;
-  nodes = b.nodes ∙ a.nodes;
-  found = b.found ∙ a.found;
-  learn = b.learn ∙ a.learn;
-}
+          cuts_held = cuts-grown core.stocked clause;
+          held_over = AllHeld-push (IsClauseOver (length old.trail.declared)) held clause core.held_over inference-over;
+        })
+        (IsReasoned-grown (known_in (stock_of old)) (Some clause ∷ []) old.trail core.reasoned) notes
 
 -- ---- flags
 

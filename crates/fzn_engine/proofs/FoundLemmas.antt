@@ -41,12 +41,12 @@ many-choices (s ∷ sets) (suc k) filled within many =
     times : (m n : ℕ) → 0 < m → 1 < n → 1 < m * n
     times m n p q = grind arith
 
-module _ (model : Model) (learn : Learn) (stock : Stock) (steps : List Step) (trail : Levels) (nodes : ℕ) (h : StateOf model learn stock steps trail nodes) where
+module _ {model : Model} {learn : Learn} {stock : Stock} {steps : List Step} {trail : Levels} {nodes : ℕ} (h : StateOf model learn stock steps trail nodes) where
   -- where a decision is wanted two choices are left
   pub choices-left : (k : ℕ) → k < length trail.sets → 1 < size (get_or trail.sets k no_values) → learn ≡ Plain → nodes < volume (declared_sets model.vars) - 1
   choices-left k within many in_plain =
       let parts = (h.plain in_plain).nodes_by_parts in
-      let two = many-choices trail.sets k (State-filled model learn stock steps trail nodes h) within many in
+      let two = many-choices trail.sets k (State-filled h) within many in
       let e = ap volume h.core.declared in
       omega arith
 
@@ -60,20 +60,20 @@ module _ (model : Model) (learn : Learn) (stock : Stock) (steps : List Step) (tr
     -- the values are an accepted step
     pub solution-accepted : AllHeld (λ clause. possible_in trail.sets clause ≢ []) stock.held → All (λ constraint. Meets constraint values) model.constraints → IsAccepted model (past_of model steps) (Solution values)
     solution-accepted quiet meets =
-        let same = State-length model learn stock steps trail nodes h in
+        let same = State-length h in
         let D : List IntSet → Type 0 = λ d. IsWithin d values in
         let H : ℕ → Type 0 = λ n. AllHeld (IsClauseOver n) stock.held in (
-          (subst D h.core.declared (IsWithin-larger trail.sets trail.declared values same (State-within model learn stock steps trail nodes h) within), meets),
+          (subst D h.core.declared (IsWithin-larger trail.sets trail.declared values same (State-within h) within), meets),
           passes-held trail.sets values fixed within model stock.held stock.cuts (past_of model steps).solutions (subst H (sym same) h.core.held_over) quiet h.core.cuts_held,
         )
 
     -- and its cut is held, and flagged
     pub solution-state : (number : ℕ) (flags : List Bool) (id : ClauseId) → id.0 ≡ length stock.held → is_cut flags id ≡ true → ((other : ClauseId) → other.0 ≢ id.0 → is_cut flags other ≡ is_cut stock.cuts other) → number ≡ length steps + 1 → IsAccepted model (past_of model steps) (Solution values) → StateOf model learn (with_cuts flags (with_held (cut_of model values) number stock)) (steps ++ Solution values ∷ []) trail nodes
     solution-state number flags id newest flagged others next accepted =
-        State-found model learn stock steps trail nodes h values number flags id newest flagged others next accepted cut-over (IsReasoned-grown (known_in stock) (Some (cut_of model values) ∷ []) trail h.core.reasoned)
+        State-found h values number flags id newest flagged others next accepted cut-over (IsReasoned-grown (known_in stock) (Some (cut_of model values) ∷ []) trail h.core.reasoned)
 
     -- the cut is false there
     pub cut-impossible : possible_in trail.sets (cut_of model values) ≡ []
     cut-impossible =
         let O : ℕ → Type 0 = λ n. IsClauseOver n (cut_of model values) in
-        false-clause trail.sets values fixed within (cut_of model values) (subst O (sym (State-length model learn stock steps trail nodes h)) cut-over) (cut_of-false model values)
+        false-clause trail.sets values fixed within (cut_of model values) (subst O (sym (State-length h)) cut-over) (cut_of-false model values)

@@ -1,14 +1,13 @@
 -- What a learned clause makes of a search.
-use Rattle.std.proofs.Common.{◌≡◌, ◌≢◌, ℕ, zero, suc, ◌+◌, ◌<◌, ◌⊎◌, inl, inr, List, [], ◌∷◌, ◌++◌, length, map, Some, refl, sym, ap, ◌∙◌, subst, arith}
+use Rattle.std.proofs.Common.{◌≡◌, ◌≢◌, ℕ, zero, suc, ◌+◌, ◌<◌, inl, inr, List, [], ◌∷◌, ◌++◌, length, map, Some, refl, sym, ap, ◌∙◌, subst, arith}
 use Rattle.std.proofs.lemmas.List.{length-map}
 use Rattle.fzn_domain.specs.declared.literal.Lit.{Lit}
 use Rattle.fzn_domain.specs.IntSet.{IntSet}
-use Rattle.fzn_domain.specs.Narrow.{IsVariable, IsClauseOver, IsAcceptedFrom, chain_outcome, accepted, possible_in}
+use Rattle.fzn_domain.specs.Narrow.{IsVariable, IsClauseOver, IsAcceptedFrom, possible_in}
 use Rattle.fzn_meaning.specs.declared.model.Model.{Model}
 use Rattle.fzn_meaning.specs.Solutions.{declared_sets}
 use Rattle.fzn_cert.specs.declared.step.Step.{Step}
 use Rattle.fzn_cert.specs.declared.step.Step.TheVariants.{Resolve}
-use Rattle.fzn_cert.specs.Past.{clauses_held}
 use Rattle.fzn_cert.specs.Accepted.{IsAccepted, past_of}
 use Rattle.fzn_trail.specs.declared.trail.ClauseId.{ClauseId}
 use Rattle.fzn_trail.specs.declared.trail.Reason.TheVariants.{Clause}
@@ -23,29 +22,30 @@ use Rattle.fzn_learned.specs.declared.source.Source.TheVariants.{Held}
 use Rattle.fzn_learned.specs.Learned.{IsEmptyOrForces, IsLearned, IsPlain}
 use Rattle.fzn_learned.specs.Reasoned.{IsKnown, clause_of, reason_of, IsForced, IsReasoned}
 use Rattle.fzn_learned.proofs.CallerLemmas.{IsReasoned-grown, IsReasoned-returned, IsReasoned-forced}
-use Rattle.fzn_engine.specs.State.{Stock, known_in, with_held, StateOf, work}
-use Rattle.fzn_engine.specs.Search.{GiveSources}
+use Rattle.fzn_engine.specs.State.{Stock, known_in, with_held, StateOf}
+use Rattle.fzn_engine.specs.Search.{work}
+use Rattle.fzn_engine.specs.Sources.{GiveSources}
 use Rattle.fzn_engine.specs.Outcome.{IsCertified, IsRefuted}
 use Rattle.fzn_engine.proofs.NumberLemmas.{Give-chain}
 use Rattle.fzn_engine.proofs.VariableLemmas.{variable-of}
 use Rattle.fzn_engine.proofs.TakenLemmas.{forced-possible}
-use Rattle.fzn_engine.proofs.ChangeLemmas.{Core-learned, Core-restarted, Plain-back, work-learned, work-restarted, State-closed, State-asserted, work-asserted, State-length}
+use Rattle.fzn_engine.proofs.ChangeLemmas.{slack-stood, slack-returned, Core-resolved, Plain-back, work-learned, work-restarted, State-closed, State-asserted, work-asserted, State-length}
 
 -- a known clause that forces a literal
-module _ (model : Model) (learn : Learn) (stock : Stock) (steps : List Step) (trail : Levels) (nodes : ℕ) (h : StateOf model learn stock steps trail nodes) (source : Source) (lit : Lit) (known : IsKnown (known_in stock) source) (over : IsClauseOver (length trail.declared) (clause_of (known_in stock) source)) (forced : IsForced trail.sets (clause_of (known_in stock) source) lit) where
+module _ {model : Model} {learn : Learn} {stock : Stock} {steps : List Step} {trail : Levels} {nodes : ℕ} (h : StateOf model learn stock steps trail nodes) (source : Source) (lit : Lit) (known : IsKnown (known_in stock) source) (over : IsClauseOver (length trail.declared) (clause_of (known_in stock) source)) (forced : IsForced trail.sets (clause_of (known_in stock) source) lit) where
   pub forced-state : StateOf model learn stock steps (asserted lit (reason_of source) trail) nodes
   forced-state =
-      State-asserted model learn stock steps trail nodes h lit source
+      State-asserted h lit source
       (IsReasoned-forced (known_in stock) trail lit source h.core.reasoned (variable-of trail.sets (length trail.declared) (clause_of (known_in stock) source) lit [] over forced.0) (known, forced))
 
   pub forced-works : (limit : ℕ) → work limit nodes (asserted lit (reason_of source) trail) < work limit nodes trail
   forced-works limit =
       let O : ℕ → Type 0 = λ n. IsClauseOver n (clause_of (known_in stock) source) in
-      let var = variable-of trail.sets (length trail.sets) (clause_of (known_in stock) source) lit [] (subst O (sym (State-length model learn stock steps trail nodes h)) over) forced.0 in
-      work-asserted model learn stock steps trail nodes limit lit (reason_of source) var (forced-possible trail.sets (clause_of (known_in stock) source) lit forced.0) forced.1
+      let var = variable-of trail.sets (length trail.sets) (clause_of (known_in stock) source) lit [] (subst O (sym (State-length h)) over) forced.0 in
+      work-asserted limit nodes trail lit (reason_of source) var (forced-possible trail.sets (clause_of (known_in stock) source) lit forced.0) forced.1
 
 -- a clause that follows from its sources is an accepted step
-module _ (model : Model) (learn : Learn) (stock : Stock) (steps : List Step) (trail : Levels) (nodes : ℕ) (h : StateOf model learn stock steps trail nodes) (clause : List Lit) (sources : List Source) (over : IsClauseOver (length trail.declared) clause) (follows : IsAcceptedFrom trail.declared clause (map (clause_of (known_in stock)) sources)) (numbers : List ℕ) (give : GiveSources (past_of model steps) (known_in stock) numbers sources) where
+module _ {model : Model} {learn : Learn} {stock : Stock} {steps : List Step} {trail : Levels} {nodes : ℕ} (h : StateOf model learn stock steps trail nodes) (clause : List Lit) (sources : List Source) (over : IsClauseOver (length trail.declared) clause) (follows : IsAcceptedFrom trail.declared clause (map (clause_of (known_in stock)) sources)) (numbers : List ℕ) (give : GiveSources (past_of model steps) (known_in stock) numbers sources) where
   pub derived-accepted : IsAccepted model (past_of model steps) (Resolve clause numbers)
   derived-accepted =
       let e = h.core.declared in
@@ -55,17 +55,17 @@ module _ (model : Model) (learn : Learn) (stock : Stock) (steps : List Step) (tr
       let chain = Give-chain (past_of model steps) numbers (map (clause_of (known_in stock)) sources) give in
       (subst O sizes over, chain.0, subst (IsAcceptedFrom (declared_sets model.vars) clause) (sym chain.1) (subst A e follows))
 
-module _ (model : Model) (learn : Learn) (stock : Stock) (steps : List Step) (trail : Levels) (nodes : ℕ) (h : StateOf model learn stock steps trail nodes) (learned : Learned) (conflict : Source) (is : IsLearned (known_in stock) trail learned) (plain : learn ≡ Plain → IsPlain trail conflict learned) (numbers : List ℕ) (give : GiveSources (past_of model steps) (known_in stock) numbers learned.sources) where
+module _ {model : Model} {learn : Learn} {stock : Stock} {steps : List Step} {trail : Levels} {nodes : ℕ} (h : StateOf model learn stock steps trail nodes) (learned : Learned) (conflict : Source) (is : IsLearned (known_in stock) trail learned) (plain : learn ≡ Plain → IsPlain trail conflict learned) (numbers : List ℕ) (give : GiveSources (past_of model steps) (known_in stock) numbers learned.sources) where
   -- the learned clause is an accepted step
   pub learned-accepted : IsAccepted model (past_of model steps) (Resolve learned.clause numbers)
-  learned-accepted = derived-accepted model learn stock steps trail nodes h learned.clause learned.sources is.over is.accepted numbers give
+  learned-accepted = derived-accepted h learned.clause learned.sources is.over is.accepted numbers give
 
   -- where it is empty nothing is left
   pub learned-closed : learned.clause ≡ [] → IsCertified model learn (steps ++ Resolve learned.clause numbers ∷ []) nodes × IsRefuted model (steps ++ Resolve learned.clause numbers ∷ [])
   learned-closed none =
       let A : List Lit → Type 0 = λ c. IsAccepted model (past_of model steps) (Resolve c numbers) in
       let C : List Lit → Type 0 = λ c. IsCertified model learn (steps ++ Resolve c numbers ∷ []) nodes × IsRefuted model (steps ++ Resolve c numbers ∷ []) in
-      subst C (sym none) (State-closed model learn stock steps trail nodes h (λ in_plain. sym none ∙ (plain in_plain).clause) numbers (subst A none learned-accepted))
+      subst C (sym none) (State-closed h (λ in_plain. sym none ∙ (plain in_plain).clause) numbers (subst A none learned-accepted))
 
   -- else it forces a literal at a lower level
   module _ (some : learned.clause ≢ []) where
@@ -111,14 +111,14 @@ module _ (model : Model) (learn : Learn) (stock : Stock) (steps : List Step) (tr
       learned-state =
           let below = is.below learned-above in
           record {
-            core = Core-learned model learn stock steps trail nodes h.core learned.clause numbers number learned.level next (omega arith) learned-accepted lit id reasoned_there;
+            core = Core-resolved h.core learned.clause numbers number next learned-accepted (asserted lit (Clause id) (returned learned.level trail)) (declared-returned learned.level trail) (slack-returned h.core learned.level (omega arith) lit) reasoned_there;
             plain = λ in_plain.
                 let is_plain = plain in_plain in
-                Plain-back model learn stock steps trail nodes h in_plain learned.clause numbers learned.level (sym (is_plain.back learned-above).one_less) is_plain.clause lit id forced_there.0;
+                Plain-back h in_plain learned.clause numbers learned.level (sym (is_plain.back learned-above).one_less) is_plain.clause lit id forced_there.0;
           }
 
       pub learned-works : (limit : ℕ) → work limit nodes (asserted lit (Clause id) (returned learned.level trail)) < work limit nodes trail
-      learned-works limit = work-learned model learn stock steps trail nodes h.core limit learned.level (is.below learned-above) lit id
+      learned-works limit = work-learned h.core limit learned.level (is.below learned-above) lit id
 
     -- or the search restarts, and propagation looks at it
     module _ (number : ℕ) (next : number ≡ length steps + 1) (first : learn ≡ Plain → ⊥) where
@@ -127,9 +127,9 @@ module _ (model : Model) (learn : Learn) (stock : Stock) (steps : List Step) (tr
           let more = known_in (with_held learned.clause number stock) in
           let grown = IsReasoned-grown (known_in stock) (Some learned.clause ∷ []) trail h.core.reasoned in
           record {
-            core = Core-restarted model learn stock steps trail nodes h.core learned.clause numbers number next learned-accepted (IsReasoned-returned more trail 0 grown (omega arith));
+            core = Core-resolved h.core learned.clause numbers number next learned-accepted (returned 0 trail) (declared-returned 0 trail) (slack-stood h.core 0 (omega arith)) (IsReasoned-returned more trail 0 grown (omega arith));
             plain = λ in_plain. absurd (first in_plain);
           }
 
       pub restarted-works : (limit : ℕ) → work limit nodes (returned 0 trail) < work limit nodes trail
-      restarted-works limit = work-restarted model learn stock steps trail nodes h.core limit learned-above
+      restarted-works limit = work-restarted h.core limit learned-above

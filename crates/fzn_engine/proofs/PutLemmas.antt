@@ -1,10 +1,10 @@
 -- The clause of a written inference is held under a number that no held clause has.
-use Rattle.std.proofs.Common.{◌≡◌, ◌≢◌, ℕ, ◌<◌, List, [], ◌∷◌, length, get_or, set, Option, Some, None, refl, sym, ap, ◌∙◌, subst, inl, inr, arith, get_or-set_same, get_or-set_other}
-use Rattle.std.specs.Prelude.{IsSome, IfSome}
+use Rattle.std.proofs.Common.{◌≡◌, ◌≢◌, ℕ, ◌<◌, List, [], ◌∷◌, length, get_or, set, Option, Some, None, sym, ap, ◌∙◌, subst, inl, inr, arith, get_or-set_same, get_or-set_other}
+use Rattle.std.specs.Prelude.{IsSome}
 use Rattle.std.specs.Option.{unwrap_or}
 use Rattle.std.proofs.lemmas.Bool.{cases_eq}
-use Rattle.std.proofs.lemmas.List.{length-map, length-set}
-use Rattle.std.proofs.lemmas.List.Elements.{All-get_or, All-weaker}
+use Rattle.std.proofs.lemmas.List.{length-set}
+use Rattle.std.proofs.lemmas.List.Elements.{All-weaker}
 use Rattle.fzn_domain.specs.declared.literal.Lit.{Lit}
 use Rattle.fzn_domain.specs.IntSet.{IntSet}
 use Rattle.fzn_domain.specs.Narrow.{IsClauseOver, narrowed}
@@ -26,9 +26,11 @@ use Rattle.fzn_clauses.specs.Watching.{held_by}
 use Rattle.fzn_learned.specs.Reasoned.{IsForced, IsReason, IsReasoned, Known, Leads}
 use Rattle.fzn_upkeep.specs.declared.notes.Notes.{Notes}
 use Rattle.fzn_engine.specs.declared.solver.Solver.{Solver}
-use Rattle.fzn_engine.specs.Search.{IsAfter, IsTended, stock_of}
-use Rattle.fzn_engine.specs.State.{known_in, IsHeldCut, AreNumbered, IsJustified, CoreOf, StateOf}
+use Rattle.fzn_engine.specs.Changes.{IsTended}
+use Rattle.fzn_engine.specs.Search.{IsAfter, stock_of}
+use Rattle.fzn_engine.specs.State.{known_in, IsHeldCut, AreNumbered}
 use Rattle.fzn_engine.proofs.HeldCutLemmas.{IsHeldCut-put}
+use Rattle.fzn_engine.proofs.ForgetLemmas.{restocked-tended, inference-given, inference-over}
 
 -- ---- one more clause, under a free number
 
@@ -112,68 +114,19 @@ module _ (held : Held) (id : ClauseId) (clause : List Lit) (free : IsHeld held i
 
 -- ---- the search that has it
 
-module _ (model : Model) (old : Solver) (steps : List Step) (h : IsAfter model old steps) (clauses : Clauses) (place : ℕ) (stacked : place < length old.inferences) (number : ℕ) (written : (inference_at old.inferences place).number ≡ Some number) (id : ClauseId) (within : id.0 < length (held_by old.clauses)) (free : IsHeld (held_by old.clauses) id → ⊥) (held_is : held_by clauses ≡ set (held_by old.clauses) id.0 (Some (inference_at old.inferences place).clause)) (keeps : KeepsWatching old.clauses clauses) where
-  put-core : CoreOf model (record (stock_of old) { held = set (held_by old.clauses) id.0 (Some (inference_at old.inferences place).clause); numbers = set old.numbers id.0 number }) steps old.trail old.search.nodes
-  put-core =
-      let core = h.state.core in
-      let held = held_by old.clauses in
-      let it = inference_at old.inferences place in
-      let just = All-get_or (IsJustified model (past_of model steps)) old.inferences place _ stacked core.justified in
-      let W : Option ℕ → Type 0 = λ o. IfSome o (λ n. clause_held (past_of model steps) n ≡ Some it.clause) in
-      let sizes : length old.trail.declared ≡ length model.vars = ap length core.declared ∙ length-map model.vars (λ var. var.domain) in
-      let O : ℕ → Type 0 = λ n. IsClauseOver n it.clause in
-      record {
-        declared = core.declared;
-        filled = core.filled;
-        accepted = core.accepted;
-        numbered = AreNumbered-put held id it.clause free within (past_of model steps) old.numbers number core.numbered (subst W written just.written);
-        justified = core.justified;
-        alive = core.alive;
-        cuts_held = All-weaker (λ values. IsHeldCut held old.cuts (cut_of model values)) (λ values. IsHeldCut (set held id.0 (Some it.clause)) old.cuts (cut_of model values))
-            (λ values cut. IsHeldCut-put held old.cuts (cut_of model values) cut id it.clause free) (past_of model steps).solutions core.cuts_held;
-        held_over = AllHeld-put held id it.clause free within (IsClauseOver (length old.trail.declared)) core.held_over (subst O (sym sizes) just.over);
-        reasoned = IsReasoned-put held id it.clause free (known_in (stock_of old)).stacked old.trail core.reasoned;
-        nodes_by_conflicts = core.nodes_by_conflicts;
-      }
-
-  pub put-tended : (notes : Notes) → IsTended model old (record old { clauses = clauses; numbers = set old.numbers id.0 number; notes = notes }) steps
-  put-tended notes =
-      let H : Held → Type 0 = λ held. StateOf model old.learn (record (stock_of old) { held = held; numbers = set old.numbers id.0 number }) steps old.trail old.search.nodes in
-      record {
-        state = record {
-          state = subst H (sym held_is) (record { core = put-core; plain = h.state.plain });
-          watching = keeps.watching old.trail h.watching;
-          scratch = h.scratch;
-          vars = h.vars;
-          found_is = h.found_is;
-          found_few = h.found_few;
-          steps_are = h.steps_are;
-          few_steps = h.few_steps;
-        };
-        trail = refl;
-        nodes = refl;
-        found = refl;
-        learn = refl;
-      }
-
--- ---- the same clauses, watched as they were
-
-pub swept-tended : (model : Model) (old : Solver) (steps : List Step) (h : IsAfter model old steps) (clauses : Clauses) (held_is : held_by clauses ≡ held_by old.clauses) (keeps : KeepsWatching old.clauses clauses) (notes : Notes) → IsTended model old (record old { clauses = clauses; notes = notes }) steps
-swept-tended model old steps h clauses held_is keeps notes =
-    let H : Held → Type 0 = λ held. StateOf model old.learn (record (stock_of old) { held = held }) steps old.trail old.search.nodes in
-    record {
-      state = record {
-        state = subst H (sym held_is) h.state;
-        watching = keeps.watching old.trail h.watching;
-        scratch = h.scratch;
-        vars = h.vars;
-        found_is = h.found_is;
-        found_few = h.found_few;
-        steps_are = h.steps_are;
-        few_steps = h.few_steps;
-      };
-      trail = refl;
-      nodes = refl;
-      found = refl;
-      learn = refl;
-    }
+pub put-tended : {model : Model} {old : Solver} {steps : List Step} (h : IsAfter model old steps) (place : ℕ) (stacked : place < length old.inferences) (number : ℕ) (written : (inference_at old.inferences place).number ≡ Some number) (clauses : Clauses) (id : ClauseId) → id.0 < length (held_by old.clauses) → (IsHeld (held_by old.clauses) id → ⊥) → held_by clauses ≡ set (held_by old.clauses) id.0 (Some (inference_at old.inferences place).clause) → KeepsWatching old.clauses clauses → (notes : Notes) → IsTended model old (record old { clauses = clauses; numbers = set old.numbers id.0 number; notes = notes }) steps
+put-tended {model = model} {old = old} {steps = steps} h place stacked number written clauses id within free held_is keeps notes =
+    let core = h.state.core in
+    let held = held_by old.clauses in
+    let clause = (inference_at old.inferences place).clause in
+    let put = set (held_by old.clauses) id.0 (Some (inference_at old.inferences place).clause) in
+    restocked-tended h clauses keeps put held_is (set old.numbers id.0 number)
+    (record {
+      numbered = AreNumbered-put held id clause free within (past_of model steps) old.numbers number core.numbered (inference-given h place stacked number written);
+      justified = core.justified;
+      alive = core.alive;
+      cuts_held = All-weaker (λ values. IsHeldCut held old.cuts (cut_of model values)) (λ values. IsHeldCut put old.cuts (cut_of model values))
+          (λ values cut. IsHeldCut-put held old.cuts (cut_of model values) cut id clause free) (past_of model steps).solutions core.cuts_held;
+      held_over = AllHeld-put held id clause free within (IsClauseOver (length old.trail.declared)) core.held_over (inference-over h place stacked number written);
+    })
+    (IsReasoned-put held id clause free (known_in (stock_of old)).stacked old.trail core.reasoned) notes

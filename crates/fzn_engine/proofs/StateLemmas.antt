@@ -1,5 +1,5 @@
 -- Each change of a search keeps what holds of it.
-use Rattle.std.proofs.Common.{◌≡◌, ℕ, ◌+◌, ◌-◌, ◌*◌, ◌≤◌, Bool, List, [], ◌∷◌, ◌++◌, length, All, Some, sym, ◌∙◌, ap, subst, arith}
+use Rattle.std.proofs.Common.{◌≡◌, ℕ, ◌+◌, ◌-◌, ◌*◌, ◌≤◌, Bool, List, [], ◌∷◌, ◌++◌, length, take, All, Some, sym, ◌∙◌, ap, subst, arith}
 use Rattle.std.proofs.lemmas.List.{map-append, take-map}
 use Rattle.std.proofs.lemmas.List.Elements.{All-push, All-take, All-weaker}
 use Rattle.fzn_domain.specs.declared.literal.Lit.{Lit}
@@ -14,13 +14,12 @@ use Rattle.fzn_cert.specs.Accepted.{IsAccepted, after, past_of}
 use Rattle.fzn_inferences.specs.declared.inferences.Inferred.{Inferred}
 use Rattle.fzn_trail.specs.declared.trail.Entry.{Entry}
 use Rattle.fzn_trail.specs.Levels.{Levels}
-use Rattle.fzn_clauses.specs.Held.{AllHeld}
 use Rattle.fzn_clauses.proofs.HeldLemmas.{AllHeld-push}
 use Rattle.fzn_learned.specs.Reasoned.{IsBelow, IsReasoned, Open}
 use Rattle.fzn_learned.proofs.CallerLemmas.{IsReasoned-stacked, IsReasoned-cut}
 use Rattle.fzn_engine.specs.Volume.{volume, slack}
 use Rattle.fzn_engine.specs.Learned.{resolved, FreshAfter, negations, AllCertain, left_open, other_part}
-use Rattle.fzn_engine.specs.State.{Stock, known_in, with_held, with_cuts, with_inference, with_stack, IsHeldCut, IsJustified, CoreOf, PlainOf}
+use Rattle.fzn_engine.specs.State.{Stock, known_in, with_held, with_cuts, with_inference, with_stack, IsHeldCut, IsJustified, IsStocked, CoreOf, PlainOf}
 use Rattle.fzn_engine.proofs.AcceptedLemmas.{past_of-push, AllAccepted-push, length-past_of}
 use Rattle.fzn_engine.proofs.HeldCutLemmas.{IsHeldCut-grown}
 use Rattle.fzn_engine.proofs.NumberLemmas.{Grows, clause_held-newest, AreGiven-push, AreNumbered-grown, AreNumbered-push, IsJustified-grown}
@@ -28,98 +27,99 @@ use Rattle.fzn_engine.proofs.VolumeLemmas.{decided-accounts}
 use Rattle.fzn_engine.proofs.WithinLemmas.{Within, Within-narrowed, backed-within}
 use Rattle.fzn_engine.proofs.FreshLemmas.{learned-fresh, LevelsBacked-push, LevelsBacked-back, backed-back}
 
-module _ (model : Model) (stock : Stock) (steps : List Step) (trail : Levels) (nodes : ℕ) where
+-- ---- the clauses
+
+module _ {model : Model} {past : Past} {variables : ℕ} {stock : Stock} (h : IsStocked model past variables stock) where
+  -- the clause of the step that is new, with other flags of cuts
+  pub Stocked-held : (now : Past) (clause : List Lit) (number : ℕ) (flags : List Bool) → Grows past now (Some clause) → clause_held now number ≡ Some clause → All (λ values. IsHeldCut (stock.held ++ Some clause ∷ []) flags (cut_of model values)) now.solutions → IsClauseOver variables clause → IsStocked model now variables (with_cuts flags (with_held clause number stock))
+  Stocked-held now clause number flags grows gives cuts over = record {
+    numbered = AreNumbered-push now stock.numbers stock.held number clause (AreNumbered-grown past now (Some clause) stock.numbers stock.held grows h.numbered) gives;
+    justified = All-weaker (IsJustified model past) (IsJustified model now) (λ it j. IsJustified-grown model past now (Some clause) it grows j) stock.stack h.justified;
+    alive = AreGiven-push past now stock.alive number clause grows h.alive gives;
+    cuts_held = cuts;
+    held_over = AllHeld-push (IsClauseOver variables) stock.held clause h.held_over over;
+  }
+
+  -- the cuts held so far, and one more clause
+  pub cuts-grown : (clause : List Lit) → All (λ values. IsHeldCut (stock.held ++ Some clause ∷ []) stock.cuts (cut_of model values)) past.solutions
+  cuts-grown clause =
+      All-weaker (λ values. IsHeldCut stock.held stock.cuts (cut_of model values)) (λ values. IsHeldCut (stock.held ++ Some clause ∷ []) stock.cuts (cut_of model values))
+      (λ values cut. IsHeldCut-grown stock.held stock.cuts (cut_of model values) cut (Some clause ∷ [])) past.solutions h.cuts_held
+
+  -- another stack
+  pub Stocked-over : (stack : List Inferred) → All (IsJustified model past) stack → IsStocked model past variables (record stock { stack = stack })
+  Stocked-over stack justified = record { numbered = h.numbered; justified = justified; alive = h.alive; cuts_held = h.cuts_held; held_over = h.held_over }
+
+-- ---- the search
+
+module _ {model : Model} {stock : Stock} {steps : List Step} {trail : Levels} {nodes : ℕ} (h : CoreOf model stock steps trail nodes) where
   -- a change of the trail alone
-  pub Core-moved : CoreOf model stock steps trail nodes → (new : Levels) (count : ℕ) → new.declared ≡ trail.declared → IsReasoned (known_in stock) new → count + slack new.sets ≤ nodes + slack trail.sets → CoreOf model stock steps new count
-  Core-moved h new count e reasoned less =
+  pub Core-moved : (new : Levels) (count : ℕ) → new.declared ≡ trail.declared → IsReasoned (known_in stock) new → count + slack new.sets ≤ nodes + slack trail.sets → CoreOf model stock steps new count
+  Core-moved new count e reasoned less =
       let conflicts = h.nodes_by_conflicts in
       let N : List IntSet → Type 0 = λ s. count + slack new.sets ≤ (length (resolved steps) + 1) * slack s in
       let F : List IntSet → Type 0 = λ s. NoneEmpty s in
-      let O : List IntSet → Type 0 = λ s. AllHeld (IsClauseOver (length s)) stock.held in
+      let K : List IntSet → Type 0 = λ s. IsStocked model (past_of model steps) (length s) stock in
       record {
         declared = e ∙ h.declared;
         filled = subst F (sym e) h.filled;
         accepted = h.accepted;
-        numbered = h.numbered;
-        justified = h.justified;
-        alive = h.alive;
-        cuts_held = h.cuts_held;
-        held_over = subst O (sym e) h.held_over;
+        stocked = subst K (sym e) h.stocked;
         reasoned = reasoned;
         nodes_by_conflicts = subst N (sym e) (omega arith);
       }
 
-  -- one more step, and its clause held, with other flags of cuts
-  pub Core-step : CoreOf model stock steps trail nodes → (step : Step) (clause : List Lit) (number : ℕ) (flags : List Bool) → number ≡ length steps + 1 → IsAccepted model (past_of model steps) step → (after model (past_of model steps) step).clauses ≡ (past_of model steps).clauses ++ Some clause ∷ [] → All (λ values. IsHeldCut (stock.held ++ Some clause ∷ []) flags (cut_of model values)) (after model (past_of model steps) step).solutions → IsClauseOver (length trail.declared) clause → (new : Levels) → new.declared ≡ trail.declared → IsReasoned (known_in (with_held clause number stock)) new → nodes + slack new.sets ≤ (length (resolved (steps ++ step ∷ [])) + 1) * slack trail.declared → CoreOf model (with_cuts flags (with_held clause number stock)) (steps ++ step ∷ []) new nodes
-  Core-step h step clause number flags newest accepted clauses_is cuts over new e reasoned less =
-      let past : past_of model (steps ++ step ∷ []) ≡ after model (past_of model steps) step = past_of-push model steps step in
-      let before = past_of model steps in
-      let now = past_of model (steps ++ step ∷ []) in
-      let grows : Grows before now (Some clause) = ap (λ (p : Past). p.clauses) past ∙ clauses_is in
-      let gives : clause_held now number ≡ Some clause =
-      ap (clause_held now) (newest ∙ ap (λ (n : ℕ). n + 1) (sym (length-past_of model steps))) ∙ clause_held-newest before now clause grows in
-      let N : List IntSet → Type 0 = λ s. nodes + slack new.sets ≤ (length (resolved (steps ++ step ∷ [])) + 1) * slack s in
+  -- a change of the clauses alone
+  pub Core-restocked : (new : Stock) → IsStocked model (past_of model steps) (length trail.declared) new → IsReasoned (known_in new) trail → CoreOf model new steps trail nodes
+  Core-restocked new stocked reasoned = record { declared = h.declared; filled = h.filled; accepted = h.accepted; stocked = stocked; reasoned = reasoned; nodes_by_conflicts = h.nodes_by_conflicts }
+
+  -- one more step
+  pub Core-more : (step : Step) → IsAccepted model (past_of model steps) step → (new : Stock) → IsStocked model (after model (past_of model steps) step) (length trail.declared) new → (there : Levels) → there.declared ≡ trail.declared → IsReasoned (known_in new) there → nodes + slack there.sets ≤ (length (resolved (steps ++ step ∷ [])) + 1) * slack trail.declared → CoreOf model new (steps ++ step ∷ []) there nodes
+  Core-more step accepted new stocked there e reasoned less =
+      let N : List IntSet → Type 0 = λ s. nodes + slack there.sets ≤ (length (resolved (steps ++ step ∷ [])) + 1) * slack s in
       let F : List IntSet → Type 0 = λ s. NoneEmpty s in
-      let O : List IntSet → Type 0 = λ s. AllHeld (IsClauseOver (length s)) (stock.held ++ Some clause ∷ []) in
-      let C : Past → Type 0 = λ p. All (λ values. IsHeldCut (stock.held ++ Some clause ∷ []) flags (cut_of model values)) p.solutions in
+      let K : List IntSet → Type 0 = λ s. IsStocked model (after model (past_of model steps) step) (length s) new in
+      let P : Past → Type 0 = λ p. IsStocked model p (length there.declared) new in
       record {
         declared = e ∙ h.declared;
         filled = subst F (sym e) h.filled;
         accepted = AllAccepted-push model steps step h.accepted accepted;
-        numbered = AreNumbered-push now stock.numbers stock.held number clause (AreNumbered-grown before now (Some clause) stock.numbers stock.held grows h.numbered) gives;
-        justified = All-weaker (IsJustified model before) (IsJustified model now) (λ it j. IsJustified-grown model before now (Some clause) it grows j) stock.stack h.justified;
-        alive = AreGiven-push before now stock.alive number clause grows h.alive gives;
-        cuts_held = subst C (sym past) cuts;
-        held_over = subst O (sym e) (AllHeld-push (IsClauseOver (length trail.declared)) stock.held clause h.held_over over);
+        stocked = subst P (sym (past_of-push model steps step)) (subst K (sym e) stocked);
         reasoned = reasoned;
         nodes_by_conflicts = subst N (sym e) less;
       }
 
-  -- the cuts held so far, and one more clause
-  pub cuts-grown : CoreOf model stock steps trail nodes → (clause : List Lit) → All (λ values. IsHeldCut (stock.held ++ Some clause ∷ []) stock.cuts (cut_of model values)) (past_of model steps).solutions
-  cuts-grown h clause =
-      All-weaker (λ values. IsHeldCut stock.held stock.cuts (cut_of model values)) (λ values. IsHeldCut (stock.held ++ Some clause ∷ []) stock.cuts (cut_of model values))
-      (λ values cut. IsHeldCut-grown stock.held stock.cuts (cut_of model values) cut (Some clause ∷ [])) (past_of model steps).solutions h.cuts_held
+  -- its clause is held, with other flags of cuts
+  pub Core-step : (step : Step) (clause : List Lit) (number : ℕ) (flags : List Bool) → number ≡ length steps + 1 → IsAccepted model (past_of model steps) step → Grows (past_of model steps) (after model (past_of model steps) step) (Some clause) → All (λ values. IsHeldCut (stock.held ++ Some clause ∷ []) flags (cut_of model values)) (after model (past_of model steps) step).solutions → IsClauseOver (length trail.declared) clause → (new : Levels) → new.declared ≡ trail.declared → IsReasoned (known_in (with_held clause number stock)) new → nodes + slack new.sets ≤ (length (resolved (steps ++ step ∷ [])) + 1) * slack trail.declared → CoreOf model (with_cuts flags (with_held clause number stock)) (steps ++ step ∷ []) new nodes
+  Core-step step clause number flags newest accepted grows cuts over new e reasoned less =
+      let now = after model (past_of model steps) step in
+      let gives : clause_held now number ≡ Some clause =
+      ap (clause_held now) (newest ∙ ap (λ (n : ℕ). n + 1) (sym (length-past_of model steps))) ∙ clause_held-newest (past_of model steps) now clause grows in
+      Core-more step accepted (with_cuts flags (with_held clause number stock)) (Stocked-held h.stocked now clause number flags grows gives cuts over) new e reasoned less
 
   -- one more inference
-  pub Core-stacked : CoreOf model stock steps trail nodes → (it : Inferred) → IsJustified model (past_of model steps) it → CoreOf model (with_inference it stock) steps trail nodes
-  Core-stacked h it justified =
+  pub Core-stacked : (it : Inferred) → IsJustified model (past_of model steps) it → CoreOf model (with_inference it stock) steps trail nodes
+  Core-stacked it justified =
       let K : List (List Lit) → Type 0 = λ cs. IsReasoned (record { held = stock.held; stacked = cs }) trail in
-      record {
-        declared = h.declared;
-        filled = h.filled;
-        accepted = h.accepted;
-        numbered = h.numbered;
-        justified = All-push (IsJustified model (past_of model steps)) stock.stack it h.justified justified;
-        alive = h.alive;
-        cuts_held = h.cuts_held;
-        held_over = h.held_over;
-        reasoned = subst K (sym (map-append (λ (i : Inferred). i.clause) stock.stack (it ∷ []))) (IsReasoned-stacked (known_in stock) (it.clause ∷ []) trail h.reasoned);
-        nodes_by_conflicts = h.nodes_by_conflicts;
-      }
+      Core-restocked (with_inference it stock) (Stocked-over h.stocked (stock.stack ++ it ∷ []) (All-push (IsJustified model (past_of model steps)) stock.stack it h.justified justified))
+      (subst K (sym (map-append (λ (i : Inferred). i.clause) stock.stack (it ∷ []))) (IsReasoned-stacked (known_in stock) (it.clause ∷ []) trail h.reasoned))
 
   -- fewer inferences, where no entry rests on the others
-  pub Core-cut : CoreOf model stock steps trail nodes → (count : ℕ) → All (λ (entry : Entry). IsBelow count entry.reason) trail.entries → CoreOf model (with_stack count stock) steps trail nodes
-  Core-cut h count enough =
+  pub Core-cut : (count : ℕ) → All (λ (entry : Entry). IsBelow count entry.reason) trail.entries → CoreOf model (with_stack count stock) steps trail nodes
+  Core-cut count enough =
       let K : List (List Lit) → Type 0 = λ cs. IsReasoned (record { held = stock.held; stacked = cs }) trail in
-      record {
-        declared = h.declared;
-        filled = h.filled;
-        accepted = h.accepted;
-        numbered = h.numbered;
-        justified = All-take (IsJustified model (past_of model steps)) count stock.stack h.justified;
-        alive = h.alive;
-        cuts_held = h.cuts_held;
-        held_over = h.held_over;
-        reasoned = subst K (take-map (λ (i : Inferred). i.clause) count stock.stack) (IsReasoned-cut (known_in stock) count trail enough h.reasoned);
-        nodes_by_conflicts = h.nodes_by_conflicts;
-      }
+      Core-restocked (with_stack count stock) (Stocked-over h.stocked (take count stock.stack) (All-take (IsJustified model (past_of model steps)) count stock.stack h.justified))
+      (subst K (take-map (λ (i : Inferred). i.clause) count stock.stack) (IsReasoned-cut (known_in stock) count trail enough h.reasoned))
 
 -- ---- plain learning
 
-module _ (declared sets : List IntSet) (taken : List Open) (learned : List (List Lit)) (nodes : ℕ) where
-  pub Plain-narrowed : PlainOf declared sets taken learned nodes → (new : List IntSet) → Within new sets → volume new ≤ volume sets → PlainOf declared new taken learned nodes
-  Plain-narrowed h new within less =
+left_open-push : (before : List Open) (at : Open) → left_open (before ++ at ∷ []) ≡ left_open before + (volume (other_part at) - 1)
+left_open-push [] at = omega arith
+left_open-push (first ∷ before) at = omega (arith, left_open-push before at)
+
+module _ {declared sets : List IntSet} {taken : List Open} {learned : List (List Lit)} {nodes : ℕ} (h : PlainOf declared sets taken learned nodes) where
+  pub Plain-narrowed : (new : List IntSet) → Within new sets → volume new ≤ volume sets → PlainOf declared new taken learned nodes
+  Plain-narrowed new within less =
       let parts = h.nodes_by_parts in
       record {
         fresh = h.fresh;
@@ -128,13 +128,9 @@ module _ (declared sets : List IntSet) (taken : List Open) (learned : List (List
         nodes_by_parts = omega arith;
       }
 
-  left_open-push : (before : List Open) (at : Open) → left_open (before ++ at ∷ []) ≡ left_open before + (volume (other_part at) - 1)
-  left_open-push [] at = omega arith
-  left_open-push (first ∷ before) at = omega (arith, left_open-push before at)
-
   -- a decision leaves its other part open
-  pub Plain-decided : PlainOf declared sets taken learned nodes → NoneEmpty sets → (lit : Lit) → IsVariable (length sets) lit.var → IsOpen sets lit → PlainOf declared (narrowed sets lit) (taken ++ record { sets = sets; decision = lit } ∷ []) learned (nodes + 1)
-  Plain-decided h filled lit var either =
+  pub Plain-decided : NoneEmpty sets → (lit : Lit) → IsVariable (length sets) lit.var → IsOpen sets lit → PlainOf declared (narrowed sets lit) (taken ++ record { sets = sets; decision = lit } ∷ []) learned (nodes + 1)
+  Plain-decided filled lit var either =
       let parts = h.nodes_by_parts in
       let shares = decided-accounts sets lit filled var either in
       let more = left_open-push taken (record { sets = sets; decision = lit }) in
@@ -146,8 +142,8 @@ module _ (declared sets : List IntSet) (taken : List Open) (learned : List (List
       }
 
   -- the learned clause, one level back, and what it forces there
-  pub Plain-learned : (before : List Open) (at : Open) → taken ≡ before ++ at ∷ [] → PlainOf declared sets taken learned nodes → FreshAfter declared [] (learned ++ negations taken ∷ []) → length at.sets ≡ length declared → IsVariable (length declared) at.decision.var → PlainOf declared (narrowed at.sets (negated at.decision)) before (learned ++ negations taken ∷ []) nodes
-  Plain-learned before at e h fresh count var =
+  pub Plain-learned : (before : List Open) (at : Open) → taken ≡ before ++ at ∷ [] → FreshAfter declared [] (learned ++ negations taken ∷ []) → length at.sets ≡ length declared → IsVariable (length declared) at.decision.var → PlainOf declared (narrowed at.sets (negated at.decision)) before (learned ++ negations taken ∷ []) nodes
+  Plain-learned before at e fresh count var =
       let P : List Open → Type 0 = λ t. PlainOf declared sets t learned nodes in
       let F : List Open → Type 0 = λ t. FreshAfter declared [] (learned ++ negations t ∷ []) in
       let G : List Open → Type 0 = λ t. PlainOf declared (narrowed at.sets (negated at.decision)) before (learned ++ negations t ∷ []) nodes in
@@ -161,5 +157,5 @@ module _ (declared sets : List IntSet) (taken : List Open) (learned : List (List
         nodes_by_parts = omega arith;
       })
 
-  pub Plain-fresh : PlainOf declared sets taken learned nodes → length sets ≡ length declared → Within sets declared → NoneEmpty sets → AllCertain (length declared) sets taken → FreshAfter declared [] (learned ++ negations taken ∷ [])
-  Plain-fresh h count within filled certain = learned-fresh declared sets learned taken count within filled certain h.backed h.fresh
+  pub Plain-fresh : length sets ≡ length declared → Within sets declared → NoneEmpty sets → AllCertain (length declared) sets taken → FreshAfter declared [] (learned ++ negations taken ∷ [])
+  Plain-fresh count within filled certain = learned-fresh declared sets learned taken count within filled certain h.backed h.fresh

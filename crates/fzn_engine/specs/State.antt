@@ -86,19 +86,24 @@ pub record IsJustified (model : Model) (past : Past) (it : Inferred) : Type 0 wh
 abbrev pub IsHeldCut : Held → List Bool → List Lit → Type 0
 IsHeldCut held cuts clause = (id : ClauseId) × (is_cut cuts id ≡ true) × (at_number held id ≡ Some clause)
 
+-- what holds of the clauses that a search over this many variables has
+pub record IsStocked (model : Model) (past : Past) (variables : ℕ) (stock : Stock) : Type 0 where
+  -- each held clause has the number of its step, and each inference is justified
+  pub numbered : AreNumbered past stock.numbers stock.held
+  pub justified : All (IsJustified model past) stock.stack
+  -- each step that may be deleted gives a clause
+  pub alive : All (IsGiven past) stock.alive
+  -- the cut of each solution is held as one
+  pub cuts_held : All (λ values. IsHeldCut stock.held stock.cuts (cut_of model values)) past.solutions
+  pub held_over : AllHeld (IsClauseOver variables) stock.held
+
 -- what holds in both ways of learning
 pub record CoreOf (model : Model) (stock : Stock) (steps : List Step) (trail : Levels) (nodes : ℕ) : Type 0 where
   pub declared : trail.declared ≡ declared_sets model.vars
   pub filled : NoneEmpty trail.declared
   pub accepted : AllAccepted model steps
-  -- each held clause has the number of its step, and each inference is justified
-  pub numbered : AreNumbered (past_of model steps) stock.numbers stock.held
-  pub justified : All (IsJustified model (past_of model steps)) stock.stack
-  -- each step that may be deleted gives a clause
-  pub alive : All (IsGiven (past_of model steps)) stock.alive
-  -- the cut of each solution is held as one
-  pub cuts_held : All (λ values. IsHeldCut stock.held stock.cuts (cut_of model values)) (past_of model steps).solutions
-  pub held_over : AllHeld (IsClauseOver (length trail.declared)) stock.held
+  pub stocked : IsStocked model (past_of model steps) (length trail.declared) stock
+  pub open stocked use *
   -- each entry of the trail has its reason
   pub reasoned : IsReasoned (known_in stock) trail
   pub nodes_by_conflicts : nodes + slack trail.sets ≤ (length (resolved steps) + 1) * slack trail.declared
@@ -113,7 +118,3 @@ pub record PlainOf (declared sets : List IntSet) (taken : List Open) (learned : 
 pub record StateOf (model : Model) (learn : Learn) (stock : Stock) (steps : List Step) (trail : Levels) (nodes : ℕ) : Type 0 where
   pub core : CoreOf model stock steps trail nodes
   pub plain : learn ≡ Plain → PlainOf trail.declared trail.sets (opens trail.declared trail.entries) (resolved steps) nodes
-
--- what is left to do: decisions and levels first, then values
-abbrev pub work : ℕ → ℕ → Levels → ℕ
-work limit nodes trail = ((limit - nodes) + length trail.saved) * (slack trail.declared + 1) + slack trail.sets

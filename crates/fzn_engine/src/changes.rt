@@ -1,16 +1,10 @@
 // One change of a search after the other, to its end.
-ghost use Rattle.std.specs.Prelude.{◌≡◌, ◌≢◌, ◌+◌, ◌<◌, [], length, IfOk, MatchBool, Some, false};
-ghost use Rattle.fzn_domain.specs.Narrow.{possible_in};
+ghost use Rattle.std.specs.Prelude.{◌≡◌, ◌+◌, ◌<◌, IfOk, MatchBool, Some, false};
 ghost use Rattle.fzn_meaning.specs.declared.model.Model.{Model};
-ghost use Rattle.fzn_meaning.specs.WellFormed.{IsWellFormed};
 ghost use Rattle.fzn_cert.specs.declared.step.Step.{Step};
-ghost use Rattle.fzn_cert.specs.Accepted.{AllAccepted};
-ghost use Rattle.fzn_clauses.specs.Held.{AllHeld};
-ghost use Rattle.fzn_clauses.specs.Watching.{held_by};
-ghost use Rattle.fzn_search.specs.Fixed.{AllFixed};
-ghost use Rattle.fzn_constraints.specs.Inference.{IsQuiet};
 ghost use Rattle.fzn_engine.specs.Outcome.{IsReached};
-ghost use Rattle.fzn_engine.specs.Search.{IsAfter, IsWithinLimits, IsRecorded, Goes, Continues, IsOver, ending_of};
+ghost use Rattle.fzn_engine.specs.Changes.{IsRecorded, Goes, Continues, IsOver, ending_of};
+ghost use Rattle.fzn_engine.specs.Search.{IsReady, IsLeft, IsWithinLimits, IsAtFixpoint, IsComplete};
 
 use crate::fault::Fault;
 use crate::limits::{Ending, Limits};
@@ -32,15 +26,10 @@ impl Solver {
         model: &Model,
         sink: &mut S,
     ) -> Result<ClauseId, Fault>
-        requires model { IsWellFormed model.now }
-        requires state { IsAfter model.now self.old (S.written sink.old) }
-        requires kept { S.keeps model.now sink.old }
-        requires fixed { AllFixed self.old.trail.sets }
-        requires quiet { AllHeld (λ clause. possible_in self.old.trail.sets clause ≢ []) (held_by self.old.clauses) }
-        requires meets { IsQuiet model.now self.old.trail }
+        requires ready { IsReady model.now self.old (S.written sink.old) (S.keeps model.now sink.old) }
+        requires complete { IsComplete model.now self.old }
         ensures recorded { IfOk result (IsRecorded model.now self.old self.new (S.written sink.new)) }
-        ensures accepted { AllAccepted model.now (S.written sink.new) }
-        ensures kept { S.keeps model.now sink.new × (S.origin sink.new ≡ S.origin sink.old) }
+        ensures left { IsLeft model.now (S.written sink.new) (S.keeps model.now sink.new) (S.origin sink.new ≡ S.origin sink.old) }
     {
         let values = values_of(alloc, &self.trail, model.vars.len())?;
         let clause = cut(alloc, model, values.as_slice())?;
@@ -60,22 +49,17 @@ impl Solver {
         limits: Limits,
         sink: &mut S,
     ) -> Result<Option<Ending>, Fault>
-        requires model { IsWellFormed model.now }
-        requires state { IsAfter model.now self.old (S.written sink.old) }
-        requires kept { S.keeps model.now sink.old }
+        requires ready { IsReady model.now self.old (S.written sink.old) (S.keeps model.now sink.old) }
         requires within { IsWithinLimits model.now limits self.old }
-        requires fixed { AllFixed self.old.trail.sets }
-        requires quiet { AllHeld (λ clause. possible_in self.old.trail.sets clause ≢ []) (held_by self.old.clauses) }
-        requires meets { IsQuiet model.now self.old.trail }
+        requires complete { IsComplete model.now self.old }
         ensures continues { IfOk result (Continues model.now limits self.old self.new (S.written sink.new)) }
-        ensures accepted { AllAccepted model.now (S.written sink.new) }
-        ensures kept { S.keeps model.now sink.new × (S.origin sink.new ≡ S.origin sink.old) }
+        ensures left { IsLeft model.now (S.written sink.new) (S.keeps model.now sink.new) (S.origin sink.new ≡ S.origin sink.old) }
     {
         let id = self.record(alloc, model, sink)?;
         if is_reached(model.goal, limits.solutions, self.found) {
             return Ok(Some(Ending::SolutionLimit));
         }
-        let goes_on = self.learn(alloc, model, sink, Source::Held(id))?;
+        let goes_on = self.resolve(alloc, model, sink, Source::Held(id))?;
         Ok(ending_of(goes_on))
     }
 
@@ -88,17 +72,11 @@ impl Solver {
         constraints: &mut C,
         sink: &mut S,
     ) -> Result<Option<Ending>, Fault>
-        requires model { IsWellFormed model.now }
-        requires is_for { C.is_for constraints.old model.now }
-        requires state { IsAfter model.now self.old (S.written sink.old) }
-        requires kept { S.keeps model.now sink.old }
+        requires ready { IsReady model.now self.old (S.written sink.old) (S.keeps model.now sink.old × C.is_for constraints.old model.now) }
         requires within { IsWithinLimits model.now limits self.old }
-        requires seen { self.old.trail.mark ≡ length self.old.trail.entries }
-        requires quiet { AllHeld (λ clause. possible_in self.old.trail.sets clause ≢ []) (held_by self.old.clauses) }
+        requires propagated { IsAtFixpoint self.old }
         ensures continues { IfOk result (Continues model.now limits self.old self.new (S.written sink.new)) }
-        ensures accepted { AllAccepted model.now (S.written sink.new) }
-        ensures kept { S.keeps model.now sink.new × (S.origin sink.new ≡ S.origin sink.old) }
-        ensures is_for { C.is_for constraints.new model.now }
+        ensures left { IsLeft model.now (S.written sink.new) (S.keeps model.now sink.new × C.is_for constraints.new model.now) (S.origin sink.new ≡ S.origin sink.old) }
     {
         if let Some(inference) = constraints.infer(alloc, model, &self.trail)? {
             let goes_on = self.apply(alloc, model, sink, inference)?;
@@ -115,7 +93,7 @@ impl Solver {
         Ok(None)
     }
 
-    /// One change of the search, after all that the held clauses force.
+    /// Propagates, and then learns from the conflict, or goes on where there is none.
     fn advance<S: Sink, C: Constraints>(
         &mut self,
         alloc: Global,
@@ -124,19 +102,14 @@ impl Solver {
         constraints: &mut C,
         sink: &mut S,
     ) -> Result<Option<Ending>, Fault>
-        requires model { IsWellFormed model.now }
-        requires is_for { C.is_for constraints.old model.now }
-        requires state { IsAfter model.now self.old (S.written sink.old) }
-        requires kept { S.keeps model.now sink.old }
+        requires ready { IsReady model.now self.old (S.written sink.old) (S.keeps model.now sink.old × C.is_for constraints.old model.now) }
         requires within { IsWithinLimits model.now limits self.old }
         ensures continues { IfOk result (Continues model.now limits self.old self.new (S.written sink.new)) }
-        ensures accepted { AllAccepted model.now (S.written sink.new) }
-        ensures kept { S.keeps model.now sink.new × (S.origin sink.new ≡ S.origin sink.old) }
-        ensures is_for { C.is_for constraints.new model.now }
+        ensures left { IsLeft model.now (S.written sink.new) (S.keeps model.now sink.new × C.is_for constraints.new model.now) (S.origin sink.new ≡ S.origin sink.old) }
     {
         match self.clauses.propagate(&mut self.trail)? {
-            Some(id) => {
-                let goes_on = self.learn(alloc, model, sink, Source::Held(id))?;
+            Some(conflict) => {
+                let goes_on = self.resolve(alloc, model, sink, Source::Held(conflict))?;
                 Ok(ending_of(goes_on))
             }
             None => self.extend(alloc, model, limits, constraints, sink),
@@ -152,15 +125,10 @@ impl Solver {
         constraints: &mut C,
         sink: &mut S,
     ) -> Result<Option<Ending>, Fault>
-        requires model { IsWellFormed model.now }
-        requires is_for { C.is_for constraints.old model.now }
-        requires state { IsAfter model.now self.old (S.written sink.old) }
-        requires kept { S.keeps model.now sink.old }
+        requires ready { IsReady model.now self.old (S.written sink.old) (S.keeps model.now sink.old × C.is_for constraints.old model.now) }
         requires within { IsWithinLimits model.now limits self.old }
         ensures continues { IfOk result (Continues model.now limits self.old self.new (S.written sink.new)) }
-        ensures accepted { AllAccepted model.now (S.written sink.new) }
-        ensures kept { S.keeps model.now sink.new × (S.origin sink.new ≡ S.origin sink.old) }
-        ensures is_for { C.is_for constraints.new model.now }
+        ensures left { IsLeft model.now (S.written sink.new) (S.keeps model.now sink.new × C.is_for constraints.new model.now) (S.origin sink.new ≡ S.origin sink.old) }
     {
         match self.advance(alloc, model, limits, constraints, sink)? {
             Some(ending) => Ok(Some(ending)),
@@ -171,7 +139,7 @@ impl Solver {
         }
     }
 
-    /// Searches to the end.
+    /// Searches to the end: propagates, learns from each conflict and goes back or restarts, and decides where nothing more follows.
     pub fn run<S: Sink, C: Constraints>(
         &mut self,
         alloc: Global,
@@ -180,14 +148,10 @@ impl Solver {
         constraints: &mut C,
         sink: &mut S,
     ) -> Result<Ending, Fault>
-        requires model { IsWellFormed model.now }
-        requires is_for { C.is_for constraints.old model.now }
-        requires state { IsAfter model.now self.old (S.written sink.old) }
-        requires kept { S.keeps model.now sink.old }
+        requires ready { IsReady model.now self.old (S.written sink.old) (S.keeps model.now sink.old × C.is_for constraints.old model.now) }
         requires within { IsWithinLimits model.now limits self.old }
         ensures over { IfOk result (IsOver model.now self.old.learn limits self.new (S.written sink.new)) }
-        ensures accepted { AllAccepted model.now (S.written sink.new) }
-        ensures kept { S.keeps model.now sink.new × (S.origin sink.new ≡ S.origin sink.old) }
+        ensures left { IsLeft model.now (S.written sink.new) (S.keeps model.now sink.new) (S.origin sink.new ≡ S.origin sink.old) }
     {
         'changes: loop {
             let ending = self.change(alloc, model, limits, constraints, sink)?;

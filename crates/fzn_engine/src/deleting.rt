@@ -1,9 +1,8 @@
 // Steps that nothing rests on are deleted, so that whoever reads the certificate holds no more than the search does.
 ghost use Rattle.std.specs.Prelude.{◌≡◌, OnOk};
 ghost use Rattle.fzn_meaning.specs.declared.model.Model.{Model};
-ghost use Rattle.fzn_meaning.specs.WellFormed.{IsWellFormed};
-ghost use Rattle.fzn_cert.specs.Accepted.{AllAccepted};
-ghost use Rattle.fzn_engine.specs.Search.{IsAfter, IsTended};
+ghost use Rattle.fzn_engine.specs.Changes.{IsTended};
+ghost use Rattle.fzn_engine.specs.Search.{IsReady, IsLeft};
 
 use crate::fault::Fault;
 use crate::sink::Sink;
@@ -24,12 +23,9 @@ impl Solver {
         model: &Model,
         sink: &mut S,
     ) -> Result<(), Fault>
-        requires model { IsWellFormed model.now }
-        requires state { IsAfter model.now self.old (S.written sink.old) }
-        requires kept { S.keeps model.now sink.old }
+        requires ready { IsReady model.now self.old (S.written sink.old) (S.keeps model.now sink.old) }
         ensures tended { OnOk result (IsTended model.now self.old self.new (S.written sink.new)) }
-        ensures accepted { AllAccepted model.now (S.written sink.new) }
-        ensures kept { S.keeps model.now sink.new × (S.origin sink.new ≡ S.origin sink.old) }
+        ensures left { IsLeft model.now (S.written sink.new) (S.keeps model.now sink.new) (S.origin sink.new ≡ S.origin sink.old) }
     {
         if !self.is_deletion_due() {
             return Ok(());

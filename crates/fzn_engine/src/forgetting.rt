@@ -6,7 +6,8 @@ ghost use Rattle.fzn_cert.specs.declared.step.Step.{Step};
 ghost use Rattle.fzn_clauses.specs.Held.{IsHeld};
 ghost use Rattle.fzn_clauses.specs.Watching.{held_by};
 ghost use Rattle.fzn_upkeep.specs.Forgetting.{IsFlagged, is_cut};
-ghost use Rattle.fzn_engine.specs.Search.{IsAfter, IsTended};
+ghost use Rattle.fzn_engine.specs.Changes.{IsTended};
+ghost use Rattle.fzn_engine.specs.Search.{IsAfter};
 
 use crate::solver::Solver;
 use fzn_cert::Step;

@@ -4,7 +4,9 @@ ghost use Rattle.fzn_domain.specs.declared.literal.Lit.{Lit};
 ghost use Rattle.fzn_meaning.specs.declared.model.Model.{Model};
 ghost use Rattle.fzn_cert.specs.declared.step.Step.{Step};
 ghost use Rattle.fzn_clauses.specs.Watching.{held_by};
-ghost use Rattle.fzn_engine.specs.Search.{IsAfter, Holds, IsTended};
+ghost use Rattle.fzn_engine.specs.Changes.{IsTended};
+ghost use Rattle.fzn_engine.specs.Moves.{Holds};
+ghost use Rattle.fzn_engine.specs.Search.{IsAfter};
 
 use crate::solver::Solver;
 use fzn_cert::Step;

@@ -1,14 +1,14 @@
 // What is learned from a false clause.
 ghost use Rattle.std.specs.Prelude.{◌≡◌, ◌<◌, IfOk, IsTrue, Some, false};
 ghost use Rattle.fzn_meaning.specs.declared.model.Model.{Model};
-ghost use Rattle.fzn_meaning.specs.WellFormed.{IsWellFormed};
 ghost use Rattle.fzn_cert.specs.declared.step.Step.{Step};
-ghost use Rattle.fzn_cert.specs.Accepted.{AllAccepted};
 ghost use Rattle.fzn_strategy.specs.declared.learn.Learn.TheVariants.{First};
 ghost use Rattle.fzn_learned.specs.Learned.{IsConflicting};
 ghost use Rattle.fzn_constraints.specs.Inference.{IsInference};
 ghost use Rattle.fzn_engine.specs.State.{known_in};
-ghost use Rattle.fzn_engine.specs.Search.{IsAfter, stock_of, IsWritten, Learns, Goes};
+ghost use Rattle.fzn_engine.specs.Changes.{Teaches, Goes};
+ghost use Rattle.fzn_engine.specs.Search.{stock_of, IsReady, IsLeft};
+ghost use Rattle.fzn_engine.specs.Sources.{IsWritten, Learns};
 
 use crate::fault::Fault;
 use crate::sink::Sink;
@@ -20,7 +20,15 @@ use fzn_learned::{Learned, Source};
 use fzn_list::Items;
 use fzn_meaning::Model;
 use fzn_strategy::Learn;
+use fzn_trail::ClauseId;
 use std::alloc::Global;
+
+/// A clause that was learned: the number under which it is held, and the level at which it forces a literal.
+#[derive(Clone, Copy)]
+pub struct Lesson {
+    pub id: ClauseId,
+    pub level: usize,
+}
 
 impl Solver {
     /// What is learned from a false clause, with the numbers of the steps of its sources, which are written.
@@ -31,14 +39,11 @@ impl Solver {
         sink: &mut S,
         conflict: Source,
     ) -> Result<(Learned, Items<u64>), Fault>
-        requires model { IsWellFormed model.now }
-        requires state { IsAfter model.now self.old (S.written sink.old) }
-        requires kept { S.keeps model.now sink.old }
+        requires ready { IsReady model.now self.old (S.written sink.old) (S.keeps model.now sink.old) }
         requires conflict { IsConflicting (known_in (stock_of self.old)) self.old.trail.sets conflict }
         ensures written { IfOk result (λ _. IsWritten model.now (S.written sink.old) self.old self.new (S.written sink.new)) }
         ensures learns { IfOk result (λ derived. Learns model.now self.new (S.written sink.new) conflict derived.0 derived.1) }
-        ensures accepted { AllAccepted model.now (S.written sink.new) }
-        ensures kept { S.keeps model.now sink.new × (S.origin sink.new ≡ S.origin sink.old) }
+        ensures left { IsLeft model.now (S.written sink.new) (S.keeps model.now sink.new) (S.origin sink.new ≡ S.origin sink.old) }
     {
         let learned = analyse(
             alloc,
@@ -54,22 +59,18 @@ impl Solver {
         Ok((learned, ids))
     }
 
-    /// Learns from a false clause: writes the step, goes back, and asserts there what the learned clause forces, or restarts.
-    /// Answers whether the search goes on: after an empty clause nothing is left.
-    pub fn learn<S: Sink>(
+    /// Learns from a false clause, and writes the step. `None`: the learned clause is empty, and nothing is left.
+    fn learn<S: Sink>(
         &mut self,
         alloc: Global,
         model: &Model,
         sink: &mut S,
         conflict: Source,
-    ) -> Result<bool, Fault>
-        requires model { IsWellFormed model.now }
-        requires state { IsAfter model.now self.old (S.written sink.old) }
-        requires kept { S.keeps model.now sink.old }
+    ) -> Result<Option<Lesson>, Fault>
+        requires ready { IsReady model.now self.old (S.written sink.old) (S.keeps model.now sink.old) }
         requires conflict { IsConflicting (known_in (stock_of self.old)) self.old.trail.sets conflict }
-        ensures goes { IfOk result (Goes model.now self.old self.new (S.written sink.new)) }
-        ensures accepted { AllAccepted model.now (S.written sink.new) }
-        ensures kept { S.keeps model.now sink.new × (S.origin sink.new ≡ S.origin sink.old) }
+        ensures learned { IfOk result (Teaches model.now (S.written sink.old) self.old self.new (S.written sink.new) conflict) }
+        ensures left { IsLeft model.now (S.written sink.new) (S.keeps model.now sink.new) (S.origin sink.new ≡ S.origin sink.old) }
     {
         let (learned, ids) = self.derive(alloc, model, sink, conflict)?;
         let Learned {
@@ -88,14 +89,35 @@ impl Solver {
         let is_empty = clause.len() == 0;
         sink.step(alloc, model, &Step::Resolve { clause, ids })?;
         if is_empty {
-            return Ok(false);
+            return Ok(None);
         }
+        Ok(Some(Lesson { id, level }))
+    }
+
+    /// Learns from a false clause, and goes back to where the learned clause forces a literal, which is asserted there, or restarts.
+    /// Answers whether the search goes on: after an empty clause nothing is left.
+    pub fn resolve<S: Sink>(
+        &mut self,
+        alloc: Global,
+        model: &Model,
+        sink: &mut S,
+        conflict: Source,
+    ) -> Result<bool, Fault>
+        requires ready { IsReady model.now self.old (S.written sink.old) (S.keeps model.now sink.old) }
+        requires conflict { IsConflicting (known_in (stock_of self.old)) self.old.trail.sets conflict }
+        ensures goes { IfOk result (Goes model.now self.old self.new (S.written sink.new)) }
+        ensures left { IsLeft model.now (S.written sink.new) (S.keeps model.now sink.new) (S.origin sink.new ≡ S.origin sink.old) }
+    {
+        let learned = self.learn(alloc, model, sink, conflict)?;
+        let Some(lesson) = learned else {
+            return Ok(false);
+        };
         if self.is_restart_due() {
             self.restart();
             return Ok(true);
         }
-        self.go_back(level);
-        self.force(Source::Held(id))?;
+        self.go_back(lesson.level);
+        self.force(Source::Held(lesson.id))?;
         Ok(true)
     }
 
@@ -119,13 +141,10 @@ impl Solver {
         sink: &mut S,
         inference: Inference,
     ) -> Result<bool, Fault>
-        requires model { IsWellFormed model.now }
-        requires state { IsAfter model.now self.old (S.written sink.old) }
-        requires kept { S.keeps model.now sink.old }
+        requires ready { IsReady model.now self.old (S.written sink.old) (S.keeps model.now sink.old) }
         requires inferred { IsInference model.now self.old.trail inference }
         ensures goes { IfOk result (Goes model.now self.old self.new (S.written sink.new)) }
-        ensures accepted { AllAccepted model.now (S.written sink.new) }
-        ensures kept { S.keeps model.now sink.new × (S.origin sink.new ≡ S.origin sink.old) }
+        ensures left { IsLeft model.now (S.written sink.new) (S.keeps model.now sink.new) (S.origin sink.new ≡ S.origin sink.old) }
     {
         let Inference {
             constraint,
@@ -137,6 +156,6 @@ impl Solver {
         if self.force(source)? {
             return Ok(true);
         }
-        self.learn(alloc, model, sink, source)
+        self.resolve(alloc, model, sink, source)
     }
 }

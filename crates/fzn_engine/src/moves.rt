@@ -10,7 +10,9 @@ ghost use Rattle.fzn_learned.specs.Reasoned.{IsKnown, IsBelow, IsReasoned, reaso
 ghost use Rattle.fzn_search.specs.Fixed.{AllFixed, HasMany};
 ghost use Rattle.fzn_trail.specs.Levels.{level_of};
 ghost use Rattle.fzn_engine.specs.State.{known_in};
-ghost use Rattle.fzn_engine.specs.Search.{stock_of, IsBackAt, IsForcedBy, IsDecided, Goes};
+ghost use Rattle.fzn_engine.specs.Changes.{Goes};
+ghost use Rattle.fzn_engine.specs.Moves.{IsBackAt, IsForcedBy, IsDecided};
+ghost use Rattle.fzn_engine.specs.Search.{stock_of};
 
 use crate::solver::Solver;
 use fzn_cert::Step;

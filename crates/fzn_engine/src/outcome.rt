@@ -1,11 +1,12 @@
 // A whole run.
-ghost use Rattle.std.specs.Prelude.{◌≡◌, [], true, IfOk, OnOk, IsTrue, IsFalse};
+ghost use Rattle.std.specs.Prelude.{◌≡◌, [], ◌∷◌, true, IfOk, OnOk, IsTrue, IsFalse};
 ghost use Rattle.fzn_domain.specs.Narrow.{NoneEmpty, is_some_empty};
 ghost use Rattle.fzn_meaning.specs.Solutions.{declared_sets};
 ghost use Rattle.fzn_meaning.specs.WellFormed.{IsWellFormed};
 ghost use Rattle.fzn_cert.specs.declared.step.Step.TheVariants.{Resolve};
 ghost use Rattle.fzn_cert.specs.Accepted.{AllAccepted};
-ghost use Rattle.fzn_engine.specs.Outcome.{HasRoom, count, IsEnded, IsOutcome};
+ghost use Rattle.fzn_engine.specs.Outcome.{HasRoom, count, IsOutcome};
+ghost use Rattle.fzn_engine.specs.Search.{IsLeft};
 
 use crate::fault::Fault;
 use crate::limits::{Ending, Limits};
@@ -54,7 +55,7 @@ pub fn solve<S: Sink, C: Constraints>(
     ensures kept { S.keeps model.now sink.new × (S.origin sink.new ≡ S.origin sink.old) }
 {
     if has_empty(model.vars.as_slice()) {
-        refute(alloc, model, limits, learn, sink)?;
+        refute(alloc, model, sink)?;
         return Ok(Outcome {
             solutions: 0,
             nodes: 0,
@@ -71,22 +72,13 @@ pub fn solve<S: Sink, C: Constraints>(
 }
 
 /// Writes the empty clause, which needs no reason where a declared set is empty.
-fn refute<S: Sink>(
-    alloc: Global,
-    model: &Model,
-    limits: Limits,
-    learn: Learn,
-    sink: &mut S,
-) -> Result<(), Fault>
+fn refute<S: Sink>(alloc: Global, model: &Model, sink: &mut S) -> Result<(), Fault>
     requires model { IsWellFormed model.now }
     requires empty { is_some_empty (declared_sets model.now.vars) ≡ true }
-    requires room { HasRoom model.now.goal limits.solutions 0 }
     requires fresh { S.written sink.old ≡ [] }
     requires kept { S.keeps model.now sink.old }
-    ensures ended { OnOk result (IsEnded model.now learn limits (S.written sink.new) 0 Ending.Closed) }
-    ensures none { OnOk result (count model.now (S.written sink.new) ≡ 0) }
-    ensures accepted { AllAccepted model.now (S.written sink.new) }
-    ensures kept { S.keeps model.now sink.new × (S.origin sink.new ≡ S.origin sink.old) }
+    ensures written { OnOk result (S.written sink.new ≡ Resolve [] [] ∷ []) }
+    ensures left { IsLeft model.now (S.written sink.new) (S.keeps model.now sink.new) (S.origin sink.new ≡ S.origin sink.old) }
 {
     let step = Step::Resolve {
         clause: Items::new(alloc),

@@ -1,17 +1,19 @@
 // What serves the next conflicts.
-ghost use Rattle.std.specs.Prelude.{◌≡◌, ◌<◌, [], OnOk, Some};
+ghost use Rattle.std.specs.Prelude.{◌≡◌, ◌<◌, [], IfOk, IfSome, OnOk, Some};
 ghost use Rattle.fzn_meaning.specs.declared.model.Model.{Model};
-ghost use Rattle.fzn_meaning.specs.WellFormed.{IsWellFormed};
 ghost use Rattle.fzn_cert.specs.declared.step.Step.{Step};
-ghost use Rattle.fzn_cert.specs.Accepted.{AllAccepted};
 ghost use Rattle.fzn_strategy.specs.declared.learn.Learn.TheVariants.{First};
-ghost use Rattle.fzn_engine.specs.Search.{IsAfter, Learns, IsTended};
+ghost use Rattle.fzn_engine.specs.Changes.{IsTended};
+ghost use Rattle.fzn_engine.specs.Search.{IsReady, IsLeft};
+ghost use Rattle.fzn_engine.specs.Sources.{IsWritten, Derives};
 
 use crate::fault::Fault;
 use crate::sink::Sink;
 use crate::solver::Solver;
 use fzn_cert::Step;
 use fzn_conflict::{Wanted, unit_of};
+use fzn_learned::Learned;
+use fzn_list::Items;
 use fzn_meaning::Model;
 use fzn_strategy::Learn;
 use std::alloc::Global;
@@ -20,12 +22,9 @@ impl Solver {
     /// Serves the next conflicts: clauses stand for entries of level 0 on which conflicts rested, what is of little use is forgotten, and
     /// where the first unique implication point is learned the steps on which nothing rests are deleted.
     pub fn tend<S: Sink>(&mut self, alloc: Global, model: &Model, sink: &mut S) -> Result<(), Fault>
-        requires model { IsWellFormed model.now }
-        requires state { IsAfter model.now self.old (S.written sink.old) }
-        requires kept { S.keeps model.now sink.old }
+        requires ready { IsReady model.now self.old (S.written sink.old) (S.keeps model.now sink.old) }
         ensures tended { OnOk result (IsTended model.now self.old self.new (S.written sink.new)) }
-        ensures accepted { AllAccepted model.now (S.written sink.new) }
-        ensures kept { S.keeps model.now sink.new × (S.origin sink.new ≡ S.origin sink.old) }
+        ensures left { IsLeft model.now (S.written sink.new) (S.keeps model.now sink.new) (S.origin sink.new ≡ S.origin sink.old) }
     {
         self.prove_units(alloc, model, sink)?;
         self.hold_cited()?;
@@ -41,12 +40,9 @@ impl Solver {
         model: &Model,
         sink: &mut S,
     ) -> Result<(), Fault>
-        requires model { IsWellFormed model.now }
-        requires state { IsAfter model.now self.old (S.written sink.old) }
-        requires kept { S.keeps model.now sink.old }
+        requires ready { IsReady model.now self.old (S.written sink.old) (S.keeps model.now sink.old) }
         ensures tended { OnOk result (IsTended model.now self.old self.new (S.written sink.new)) }
-        ensures accepted { AllAccepted model.now (S.written sink.new) }
-        ensures kept { S.keeps model.now sink.new × (S.origin sink.new ≡ S.origin sink.old) }
+        ensures left { IsLeft model.now (S.written sink.new) (S.keeps model.now sink.new) (S.origin sink.new ≡ S.origin sink.old) }
     {
         match self.learn {
             Learn::Plain => Ok(()),
@@ -64,13 +60,10 @@ impl Solver {
         model: &Model,
         sink: &mut S,
     ) -> Result<(), Fault>
-        requires model { IsWellFormed model.now }
-        requires state { IsAfter model.now self.old (S.written sink.old) }
-        requires kept { S.keeps model.now sink.old }
+        requires ready { IsReady model.now self.old (S.written sink.old) (S.keeps model.now sink.old) }
         requires first { self.old.learn ≡ First }
         ensures tended { OnOk result (IsTended model.now self.old self.new (S.written sink.new)) }
-        ensures accepted { AllAccepted model.now (S.written sink.new) }
-        ensures kept { S.keeps model.now sink.new × (S.origin sink.new ≡ S.origin sink.old) }
+        ensures left { IsLeft model.now (S.written sink.new) (S.keeps model.now sink.new) (S.origin sink.new ≡ S.origin sink.old) }
     {
         'wanted: for _ in 0..self.trail.len() {
             let Some(next) = self.notes.marks.next_wanted() else {
@@ -81,21 +74,18 @@ impl Solver {
         Ok(())
     }
 
-    /// Learns the clause that is wanted, where it follows as it should.
-    fn prove_unit<S: Sink>(
+    /// The clause that is wanted, where it follows as it should, with the numbers of the steps of its sources, which are written.
+    fn derive_unit<S: Sink>(
         &mut self,
         alloc: Global,
         model: &Model,
         sink: &mut S,
         wanted: Wanted,
-    ) -> Result<(), Fault>
-        requires model { IsWellFormed model.now }
-        requires state { IsAfter model.now self.old (S.written sink.old) }
-        requires kept { S.keeps model.now sink.old }
-        requires first { self.old.learn ≡ First }
-        ensures tended { OnOk result (IsTended model.now self.old self.new (S.written sink.new)) }
-        ensures accepted { AllAccepted model.now (S.written sink.new) }
-        ensures kept { S.keeps model.now sink.new × (S.origin sink.new ≡ S.origin sink.old) }
+    ) -> Result<Option<(Learned, Items<u64>)>, Fault>
+        requires ready { IsReady model.now self.old (S.written sink.old) (S.keeps model.now sink.old) }
+        ensures written { IfOk result (λ _. IsWritten model.now (S.written sink.old) self.old self.new (S.written sink.new)) }
+        ensures derives { IfOk result (λ found. IfSome found (λ derived. Derives model.now self.new (S.written sink.new) derived.0 derived.1)) }
+        ensures left { IsLeft model.now (S.written sink.new) (S.keeps model.now sink.new) (S.origin sink.new ≡ S.origin sink.old) }
     {
         let found = unit_of(
             alloc,
@@ -107,9 +97,30 @@ impl Solver {
             wanted,
         )?;
         let Some(unit) = found else {
-            return Ok(());
+            return Ok(None);
         };
         let ids = self.write_sources(alloc, model, sink, unit.sources.as_slice())?;
+        Ok(Some((unit, ids)))
+    }
+
+    /// Learns it: the clause is held, its step is written, and it stands for the entry from now on.
+    fn prove_unit<S: Sink>(
+        &mut self,
+        alloc: Global,
+        model: &Model,
+        sink: &mut S,
+        wanted: Wanted,
+    ) -> Result<(), Fault>
+        requires ready { IsReady model.now self.old (S.written sink.old) (S.keeps model.now sink.old) }
+        requires first { self.old.learn ≡ First }
+        ensures tended { OnOk result (IsTended model.now self.old self.new (S.written sink.new)) }
+        ensures left { IsLeft model.now (S.written sink.new) (S.keeps model.now sink.new) (S.origin sink.new ≡ S.origin sink.old) }
+    {
+        let found = self.derive_unit(alloc, model, sink, wanted)?;
+        let Some(derived) = found else {
+            return Ok(());
+        };
+        let (unit, ids) = derived;
         let clause = unit.clause;
         let id = self.hold(clause.as_slice(), [].as_slice(), [].as_slice(), None)?;
         let step = Step::Resolve { clause, ids };

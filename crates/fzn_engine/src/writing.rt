@@ -2,14 +2,14 @@
 ghost use Rattle.std.specs.Prelude.{◌≡◌, ◌+◌, ◌<◌, IfOk, Some};
 ghost use Rattle.std.specs.List.{All};
 ghost use Rattle.fzn_meaning.specs.declared.model.Model.{Model};
-ghost use Rattle.fzn_meaning.specs.WellFormed.{IsWellFormed};
 ghost use Rattle.fzn_cert.specs.declared.step.Step.{Step};
-ghost use Rattle.fzn_cert.specs.Accepted.{AllAccepted, past_of};
+ghost use Rattle.fzn_cert.specs.Accepted.{past_of};
 ghost use Rattle.fzn_cert.specs.Past.{clause_held};
 ghost use Rattle.fzn_inferences.specs.Inferences.{IsStacked, inferred_clause};
 ghost use Rattle.fzn_learned.specs.Reasoned.{IsKnown, clause_of};
 ghost use Rattle.fzn_engine.specs.State.{known_in};
-ghost use Rattle.fzn_engine.specs.Search.{IsAfter, stock_of, GiveSources, IsWritten};
+ghost use Rattle.fzn_engine.specs.Search.{stock_of, IsReady, IsLeft};
+ghost use Rattle.fzn_engine.specs.Sources.{GiveSources, IsWritten};
 
 use crate::fault::Fault;
 use crate::sink::Sink;
@@ -30,14 +30,11 @@ impl Solver {
         sink: &mut S,
         sources: &[Source],
     ) -> Result<Items<u64>, Fault>
-        requires model { IsWellFormed model.now }
-        requires state { IsAfter model.now self.old (S.written sink.old) }
-        requires kept { S.keeps model.now sink.old }
+        requires ready { IsReady model.now self.old (S.written sink.old) (S.keeps model.now sink.old) }
         requires known { All (IsKnown (known_in (stock_of self.old))) sources.now }
         ensures written { IfOk result (λ _. IsWritten model.now (S.written sink.old) self.old self.new (S.written sink.new)) }
         ensures numbers { IfOk result (λ numbers. GiveSources (past_of model.now (S.written sink.new)) (known_in (stock_of self.old)) numbers sources.now) }
-        ensures accepted { AllAccepted model.now (S.written sink.new) }
-        ensures kept { S.keeps model.now sink.new × (S.origin sink.new ≡ S.origin sink.old) }
+        ensures left { IsLeft model.now (S.written sink.new) (S.keeps model.now sink.new) (S.origin sink.new ≡ S.origin sink.old) }
     {
         let mut numbers = Items::new(alloc);
         for source in sources {
@@ -55,14 +52,11 @@ impl Solver {
         sink: &mut S,
         source: Source,
     ) -> Result<u64, Fault>
-        requires model { IsWellFormed model.now }
-        requires state { IsAfter model.now self.old (S.written sink.old) }
-        requires kept { S.keeps model.now sink.old }
+        requires ready { IsReady model.now self.old (S.written sink.old) (S.keeps model.now sink.old) }
         requires known { IsKnown (known_in (stock_of self.old)) source }
         ensures written { IfOk result (λ _. IsWritten model.now (S.written sink.old) self.old self.new (S.written sink.new)) }
         ensures number { IfOk result (λ number. clause_held (past_of model.now (S.written sink.new)) number ≡ Some (clause_of (known_in (stock_of self.old)) source)) }
-        ensures accepted { AllAccepted model.now (S.written sink.new) }
-        ensures kept { S.keeps model.now sink.new × (S.origin sink.new ≡ S.origin sink.old) }
+        ensures left { IsLeft model.now (S.written sink.new) (S.keeps model.now sink.new) (S.origin sink.new ≡ S.origin sink.old) }
     {
         match source {
             Source::Held(id) => Ok(self.numbers.as_slice()[id.0 as usize]),
@@ -81,14 +75,11 @@ impl Solver {
         sink: &mut S,
         place: usize,
     ) -> Result<u64, Fault>
-        requires model { IsWellFormed model.now }
-        requires state { IsAfter model.now self.old (S.written sink.old) }
-        requires kept { S.keeps model.now sink.old }
+        requires ready { IsReady model.now self.old (S.written sink.old) (S.keeps model.now sink.old) }
         requires stacked { IsStacked self.old.inferences place }
         ensures written { IfOk result (λ _. IsWritten model.now (S.written sink.old) self.old self.new (S.written sink.new)) }
         ensures number { IfOk result (λ number. clause_held (past_of model.now (S.written sink.new)) number ≡ Some (inferred_clause self.old.inferences place)) }
-        ensures accepted { AllAccepted model.now (S.written sink.new) }
-        ensures kept { S.keeps model.now sink.new × (S.origin sink.new ≡ S.origin sink.old) }
+        ensures left { IsLeft model.now (S.written sink.new) (S.keeps model.now sink.new) (S.origin sink.new ≡ S.origin sink.old) }
     {
         let Inferred {
             constraint,

@@ -4,10 +4,10 @@ use Rattle.fzn_engine.proofs.ForgetLemmas.{nothing-tended, dropped-tended, unfla
 use Rattle.fzn_engine.proofs.solver.Solver.drop_clause.Goals as goal
 
 pub returns-then-not-is_idle-clause-tended : goal.returns-then-not-is_idle-clause-tended
-returns-then-not-is_idle-clause-tended c model steps h = nothing-tended model c.args.self.now steps h c.args.self.now.notes
+returns-then-not-is_idle-clause-tended c model steps h = nothing-tended h c.args.self.now.notes
 
 pub returns-clause-tended : goal.returns-clause-tended
 returns-clause-tended c model steps h =
     let clear = c.if-not-is_idle.ensures.unflagged refl in
-    dropped-tended model c.args.self.now steps h c.remove.new.self c.args.id c.remove.ensures.held c.remove.ensures.watching
+    dropped-tended h c.remove.new.self c.args.id c.remove.ensures.held c.remove.ensures.watching
     (unflagged-apart c.args.are_reasons.now c.args.id c.args.self.now.trail.entries clear.0 clear.1 c.requires) (c.if-not-is_idle.ensures.no_cut refl)

@@ -2,7 +2,8 @@ use Rattle.std.proofs.Common.{List, All}
 use Rattle.fzn_cert.specs.declared.step.Step.{Step}
 use Rattle.fzn_trail.specs.declared.trail.Entry.{Entry}
 use Rattle.fzn_upkeep.specs.Forgetting.{IsFlagged}
-use Rattle.fzn_engine.specs.Search.{IsAfter, IsTended}
+use Rattle.fzn_engine.specs.Changes.{IsTended}
+use Rattle.fzn_engine.specs.Search.{IsAfter}
 use Rattle.fzn_engine.proofs.solver.Solver.forget.Given as goal
 
 -- what was forgotten so far changed nothing else

@@ -1,7 +1,8 @@
 use Rattle.std.proofs.Common.{List}
 use Rattle.fzn_meaning.specs.declared.model.Model.{Model}
 use Rattle.fzn_cert.specs.declared.step.Step.{Step}
-use Rattle.fzn_engine.specs.Search.{IsAfter, IsTended}
+use Rattle.fzn_engine.specs.Changes.{IsTended}
+use Rattle.fzn_engine.specs.Search.{IsAfter}
 use Rattle.fzn_engine.proofs.solver.Solver.hold_cited.Given as goal
 
 -- what was held so far changed nothing else

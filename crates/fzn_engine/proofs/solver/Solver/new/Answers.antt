@@ -10,11 +10,7 @@ returns-clause-fresh c = record {
       declared = search rules;
       filled = search rules;
       accepted = search rules;
-      numbered = search rules;
-      justified = search rules;
-      alive = search rules;
-      cuts_held = search rules;
-      held_over = search rules;
+      stocked = search rules;
       reasoned = search rules;
       nodes_by_conflicts = search rules;
     };
@@ -23,10 +19,5 @@ returns-clause-fresh c = record {
   watching =
       let F : Levels → Type 0 = λ trail. IsWatching c.new-4.result trail in
       subst F (sym c.in_ok-trail.ensures) (c.new-4.ensures.watching _);
-  scratch = search rules;
-  vars = search rules;
-  found_is = search rules;
-  found_few = search rules;
-  steps_are = search rules;
-  few_steps = search rules;
+  order = search rules;
 }

@@ -1,5 +1,5 @@
 use Rattle.std.proofs.Common.{◌≡◌}
-use Rattle.fzn_engine.specs.Search.{IsTended}
+use Rattle.fzn_engine.specs.Changes.{IsTended}
 use Rattle.fzn_engine.proofs.solver.Solver.prove_wanted.Given as goal
 
 abbrev pub invariant-wanted : goal.invariant-wanted

@@ -13,7 +13,7 @@ returns-in-Held-clause-number g c =
     let old = c.args.self.now in
     let past = past_of c.args.model.now (g.S.Sink.written c.args.sink.now) in
     let known = subst (λ (s : Source). IsKnown (known_in (stock_of c.args.self.now)) s) c.in-Held.is c.requires.known in
-    let numbered = c.requires.state.state.core.numbered in
+    let numbered = c.requires.ready.state.state.core.numbered in
     ap (λ (ns : List ℕ). clause_held past (get_or ns c.in-Held.id.0 0)) c.as_slice.ensures
     ∙ numbered.gives c.in-Held.id known
     ∙ ap (λ (s : Source). Some (clause_of (known_in (stock_of c.args.self.now)) s)) (sym c.in-Held.is)

@@ -1,0 +1,97 @@
+-- What each change makes of a search.
+use Rattle.std.specs.Prelude.{◌≡◌, ◌≢◌, ℕ, ◌+◌, ◌^◌, ◌<◌, ◌≤◌, Bool, true, false, List, [], ◌∷◌, ◌++◌, length, Option, Some, None}
+use Rattle.fzn_meaning.specs.declared.model.Model.{Model}
+use Rattle.fzn_cert.specs.declared.step.Step.{Step}
+use Rattle.fzn_cert.specs.declared.step.Step.TheVariants.{Resolve}
+use Rattle.fzn_trail.specs.declared.trail.ClauseId.{ClauseId}
+use Rattle.fzn_clauses.specs.Watching.{held_by}
+use Rattle.fzn_strategy.specs.declared.learn.Learn.{Learn}
+use Rattle.fzn_learned.specs.declared.learned.Learned.{Learned}
+use Rattle.fzn_learned.specs.declared.source.Source.{Source}
+use Rattle.fzn_learned.specs.declared.source.Source.TheVariants.{Held}
+use Rattle.fzn_learned.specs.Learned.{IsConflicting}
+use Rattle.fzn_engine.specs.State.{known_in}
+use Rattle.fzn_engine.specs.Outcome.{count, IsCertified, IsRefuted, IsEnded}
+use Rattle.fzn_engine.specs.declared.learning.Lesson.{Lesson}
+use Rattle.fzn_engine.specs.declared.limits.Ending.{Ending}
+use Rattle.fzn_engine.specs.declared.limits.Ending.TheVariants.{Closed}
+use Rattle.fzn_engine.specs.declared.limits.Limits.{Limits}
+use Rattle.fzn_engine.specs.declared.solver.Solver.{Solver}
+use Rattle.fzn_engine.specs.Search.{stock_of, IsAfter, tally_of, work_of, IsWithinLimits}
+use Rattle.fzn_engine.specs.Moves.{Holds}
+use Rattle.fzn_engine.specs.Sources.{IsWritten, Learns}
+
+-- the search goes on after these steps with less work
+pub record IsBehind (model : Model) (limit : ℕ) (old new : Solver) (steps : List Step) : Type 0 where
+  pub state : IsAfter model new steps
+  pub less : work_of limit new < work_of limit old
+  pub tally : tally_of new ≡ tally_of old
+
+-- nothing is left
+pub record IsClosed (model : Model) (old new : Solver) (steps : List Step) : Type 0 where
+  pub certified : IsCertified model old.learn steps new.search.nodes
+  pub refuted : IsRefuted model steps
+  pub tally : tally_of new ≡ tally_of old
+  pub found_is : new.found ≡ count model steps
+
+-- the search goes on with less work left, or nothing is left
+abbrev pub Goes : Model → Solver → Solver → List Step → Bool → Type 0
+Goes model old new steps true = (limit : ℕ) → IsBehind model limit old new steps
+Goes model old new steps false = IsClosed model old new steps
+
+-- a clause was learned from a conflict and written: it is empty and nothing is left, or it is held, and nothing else was changed
+pub record HasLearned (model : Model) (first : List Step) (old new : Solver) (steps : List Step) (conflict : Source) (lesson : Lesson) : Type 0 where
+  pub mid : Solver
+  pub before : List Step
+  pub learned : Learned
+  pub numbers : List ℕ
+  pub written : IsWritten model first old mid before
+  pub learns : Learns model mid before conflict learned numbers
+  pub now_is : steps ≡ before ++ Resolve learned.clause numbers ∷ []
+  pub few : length steps < 10 ^ 18
+  pub some : learned.clause ≢ []
+  pub holds : Holds learned.clause mid new
+  pub newest : lesson.id.0 ≡ length (held_by mid.clauses)
+  pub level : lesson.level ≡ learned.level
+
+abbrev pub Teaches : Model → List Step → Solver → Solver → List Step → Source → Option Lesson → Type 0
+Teaches model first old new steps conflict None = IsClosed model old new steps
+Teaches model first old new steps conflict (Some lesson) = HasLearned model first old new steps conflict lesson
+
+-- a solution was written, whose cut has this number and is false
+pub record IsRecorded (model : Model) (old new : Solver) (steps : List Step) (id : ClauseId) : Type 0 where
+  pub state : IsAfter model new steps
+  pub conflict : IsConflicting (known_in (stock_of new)) new.trail.sets (Held id)
+  pub trail : new.trail ≡ old.trail
+  pub tally : tally_of new ≡ record (tally_of old) { found = old.found + 1 }
+
+-- no literal was decided, no step written, and no more work is left
+pub record IsKeptBy (model : Model) (steps : List Step) (old new : Solver) : Type 0 where
+  pub state : IsAfter model new steps
+  pub less : (limit : ℕ) → work_of limit new ≤ work_of limit old
+  pub tally : tally_of new ≡ tally_of old
+
+-- steps may have been written and clauses held or forgotten, and nothing else was changed
+pub record IsTended (model : Model) (old new : Solver) (steps : List Step) : Type 0 where
+  pub state : IsAfter model new steps
+  pub trail : new.trail ≡ old.trail
+  pub tally : tally_of new ≡ tally_of old
+
+-- the search has ended where it does not go on
+abbrev pub ending_of : Bool → Option Ending
+ending_of true = None
+ending_of false = Some Closed
+
+pub record IsOver (model : Model) (learn : Learn) (limits : Limits) (new : Solver) (steps : List Step) (ending : Ending) : Type 0 where
+  pub ended : IsEnded model learn limits steps new.search.nodes ending
+  pub found_is : new.found ≡ count model steps
+
+pub record IsOngoing (model : Model) (limits : Limits) (old new : Solver) (steps : List Step) : Type 0 where
+  pub state : IsAfter model new steps
+  pub less : work_of limits.nodes new < work_of limits.nodes old
+  pub within : IsWithinLimits model limits new
+  pub learn : new.learn ≡ old.learn
+
+abbrev pub Continues : Model → Limits → Solver → Solver → List Step → Option Ending → Type 0
+Continues model limits old new steps None = IsOngoing model limits old new steps
+Continues model limits old new steps (Some ending) = IsOver model old.learn limits new steps ending
