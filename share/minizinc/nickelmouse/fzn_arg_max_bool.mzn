@@ -1,4 +1,4 @@
-include "fzn_arg_max_int.mzn";
+include "nickelmouse_first.mzn";
 
 % z is the first true place, or the first of all.
 predicate fzn_maximum_arg_bool(array[int] of var bool: x, var int: z) =

@@ -1,4 +1,4 @@
-include "fzn_arg_max_int.mzn";
+include "nickelmouse_first.mzn";
 
 % z is the first false place, or the first of all.
 predicate fzn_minimum_arg_bool(array[int] of var bool: x, var int: z) =

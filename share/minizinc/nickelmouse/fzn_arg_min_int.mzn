@@ -1,4 +1,4 @@
-include "fzn_arg_max_int.mzn";
+include "nickelmouse_first.mzn";
 
 % z is the first place of the least value.
 predicate fzn_minimum_arg_int(array[int] of var int: x, var int: z) =

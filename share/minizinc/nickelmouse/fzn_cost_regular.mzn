@@ -11,5 +11,6 @@ predicate fzn_cost_regular(array[int] of var int: x, int: Q, int: S, array[int,i
   } in
   state[1] = q0 /\ state[n + 1] in F /\ C = sum(cost) /\
   forall (k in 1..n) (
+    y[k] in 1..S /\
     fzn_table_int([state[k], y[k], state[k + 1], cost[k]], [ [q, s, d[q, s], c[q, s]][column]
       | q in 1..Q, s in 1..S where d[q, s] > 0 /\ s in dom(y[k]), column in 1..4 ]));

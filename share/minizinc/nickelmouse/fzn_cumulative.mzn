@@ -1,3 +1,4 @@
+include "nickelmouse_cumulative.mzn";
 include "nickelmouse_order.mzn";
 
 % The solver's own.
@@ -19,8 +20,3 @@ predicate nickelmouse_ordered(array[int] of var int: s, array[int] of var int: d
     nickelmouse_orders([s[i] | i in tasks], [d[i] | i in tasks], [r[i] | i in tasks], b) /\
     nickelmouse_cumulative([s[i] | i in tasks], [d[i] | i in tasks], [r[i] | i in tasks], b)
   endif;
-
-% Without orders. A capacity that is not yet fixed tells the solver's own from those above; it is fixed behind the call.
-predicate nickelmouse_cumulative(array[int] of var int: s, array[int] of var int: d, array[int] of var int: r, int: b) =
-  let { var b - 1..b: capacity } in
-  fzn_cumulative(s, d, r, capacity) /\ capacity >= b;

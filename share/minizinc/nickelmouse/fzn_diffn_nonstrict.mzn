@@ -1,4 +1,4 @@
-include "fzn_diffn.mzn";
+include "nickelmouse_shadow.mzn";
 
 % As with diffn, but a box without breadth or height may lie anywhere.
 predicate fzn_diffn_nonstrict(array[int] of var int: x, array[int] of var int: y, array[int] of var int: dx, array[int] of var int: dy) =

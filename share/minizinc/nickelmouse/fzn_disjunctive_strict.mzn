@@ -1,4 +1,5 @@
 include "fzn_cumulative.mzn";
+include "nickelmouse_order.mzn";
 
 % One task after the other: tasks of one machine. A task of length 0 runs within no other.
 predicate fzn_disjunctive_strict(array[int] of var int: s, array[int] of var int: d) =

@@ -1,4 +1,4 @@
-include "fzn_if_then_else_var_int.mzn";
+include "nickelmouse_branch.mzn";
 
 % Two branches are a sum; more are one choice among the values.
 predicate fzn_if_then_else_int(array[int] of var bool: c, array[int] of int: x, var int: y) =

@@ -1,16 +1,6 @@
+include "nickelmouse_branch.mzn";
+
 % The number of the first condition that is true chooses the value.
 predicate fzn_if_then_else_var_int(array[int] of var bool: c, array[int] of var int: x, var int: y) =
   let { array[int] of var int: value = array1d(x) } in
   y = value[nickelmouse_branch(array1d(c))];
-
-% the number of the first true one; some one is true
-function var int: nickelmouse_branch(array[int] of var bool: c) =
-  if length(c) = 2 /\ is_fixed(c[2]) /\ fix(c[2]) then 2 - bool2int(c[1])
-  else
-    let {
-      int: n = length(c);
-      var 1..n: branch;
-      constraint forall (k in 1..n - 1) (c[k] -> branch <= k);
-      constraint forall (k in 1..n) (branch = k -> c[k]);
-    } in branch
-  endif;

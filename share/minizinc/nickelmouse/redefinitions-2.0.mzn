@@ -6,3 +6,6 @@ predicate bool_clause_reif(array[int] of var bool: as, array[int] of var bool: b
 
 predicate array_int_maximum(var int: m, array[int] of var int: x);
 predicate array_int_minimum(var int: m, array[int] of var int: x);
+
+predicate array_int_maximum_reif(var int: m, array[int] of var int: x, var bool: b) = b <-> m = max(x);
+predicate array_int_minimum_reif(var int: m, array[int] of var int: x, var bool: b) = b <-> m = min(x);

@@ -1,1 +1,0 @@
-include "nickelmouse_inverse_fn.mzn";
