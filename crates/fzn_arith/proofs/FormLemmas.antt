@@ -1,11 +1,10 @@
 -- What a found clause and its absence say of a constraint.
-use Rattle.std.proofs.Common.{◌≡◌, ◌≢◌, ℕ, ◌-◌, Bool, true, false, cond, List, [], ◌∷◌, length, get_or, refl, sym, ap, subst, ◌∙◌, inl, inr, arith, ℤ, pos, ◌-ℤ◌, ◌*ℤ◌, ◌≤ℤ◌, int_lt, All, Option, Some, None, IfSome, IsSomeAnd, MatchOption}
+use Rattle.std.proofs.Common.{◌≡◌, ◌≢◌, ℕ, ◌-◌, Bool, true, false, cond, List, [], ◌∷◌, length, get_or, sym, ap, subst, ◌∙◌, inl, inr, arith, ℤ, pos, ◌-ℤ◌, ◌*ℤ◌, ◌≤ℤ◌, int_lt, All, Option, Some, None, IfSome, IsSomeAnd, MatchOption}
 use Rattle.std.proofs.lemmas.Int.{ints}
-use Rattle.std.proofs.lemmas.Bool.{cases_Bool}
 use Rattle.std.proofs.lemmas.List.Elements.{All-nil, recursion_from_All}
 use Rattle.fzn_domain.specs.declared.literal.Lit.{Lit}
 use Rattle.fzn_domain.specs.IntSet.{IntSet, contains, size, least, greatest}
-use Rattle.fzn_domain.specs.Narrow.{IsWithin, value_of, set_of, denied, is_some_empty}
+use Rattle.fzn_domain.specs.Narrow.{IsWithin, value_of, set_of}
 use Rattle.fzn_domain.proofs.SetLemmas.{only_member}
 use Rattle.fzn_meaning.specs.declared.term.Term.{Term}
 use Rattle.fzn_meaning.specs.declared.term.Term.TheVariants.{Constant, Variable}
@@ -29,7 +28,7 @@ use Rattle.fzn_rules.specs.Rules.{IsMet}
 use Rattle.fzn_trail.specs.Levels.{Levels}
 use Rattle.fzn_propagator.specs.Inference.{AllFixed, IsHint, IsTight, IsInference, IsExhausted}
 use Rattle.fzn_propagator.specs.Barred.{IsToDiffer, LeavesNoBarred}
-use Rattle.fzn_propagator.proofs.CallerLemmas.{one_end, flat_cond}
+use Rattle.fzn_propagator.proofs.CallerLemmas.{one_end, flat_cond, justified_by, inference_of}
 use Rattle.fzn_sums.specs.Opposite.{opposites}
 use Rattle.fzn_sums.specs.Refuted.{LeavesSome, LeavesEach}
 use Rattle.fzn_sums.proofs.CallerLemmas.{total_le, none_barred_opposites, sum_at-opposites, opposites-twice, opposites_fit}
@@ -43,17 +42,8 @@ unfolding IsMet
 met_as sets constraint found same met = subst (λ (f : Option Form). IsSomeAnd f (λ (x : Form). IsFormMet x sets)) (sym same) met
 
 pub sum_found : (trail : Levels) (found : Form) (number : ℕ) (clause : List Lit) (constraint : Constraint) → form_of constraint ≡ Some found → IsFound trail found clause → IsInference number constraint trail (record { constraint = number; rule = Lin; clause = clause })
-sum_found trail found number clause constraint same there = record {
-  of_constraint = refl;
-  over = there.over;
-  writable = there.writable;
-  hints = All-nil IsHint;
-  accepted = elim (cases_Bool (is_some_empty (denied trail.declared clause))) [
-    | inl empty ↦ inl empty
-    | inr some ↦ inr (met_as (denied trail.declared clause) constraint found same (there.met some))
-  ];
-  forces = there.forces;
-}
+sum_found trail found number clause constraint same there =
+    inference_of trail number constraint Lin clause (All-nil IsHint) (justified_by trail constraint Lin clause (IsFormMet found) (λ sets met. met_as sets constraint found same met) there)
 
 -- ---- all variables fixed
 

@@ -14,7 +14,7 @@ use Rattle.fzn_meaning.specs.declared.relation.Comparison.{Comparison}
 use Rattle.fzn_meaning.specs.declared.relation.Comparison.TheVariants as compared
 use Rattle.fzn_trail.specs.Levels.{Levels}
 use Rattle.fzn_trail.specs.Unit.{IsFalseOrUnit}
-use Rattle.fzn_propagator.specs.Inference.{IsWritable}
+use Rattle.fzn_propagator.specs.Clause.{IsWritable}
 use Rattle.fzn_propagator.proofs.CallerLemmas.{last_fails, none_left, value_where_false, denied_one, denied_some, may_fail}
 use Rattle.fzn_sums.specs.Opposite.{opposites}
 use Rattle.fzn_sums.specs.Refuted.{IsConflict, IsRefutation}
@@ -30,9 +30,11 @@ module _ (trail : Levels) (lit : Lit) (comparison : Comparison) (places : List P
   with_guard : IsRefutation trail comparison places bound clause → IsFalseOrUnit trail.sets (clause ++ lit ∷ []) → IsGuarded trail (Variable lit.var) lit.value comparison places bound (clause ++ lit ∷ [])
   with_guard refutes forces = record {
     refutes = record {
-      over = All-push (λ (l : Lit). IsVariable (length trail.declared) l.var) clause lit refutes.over guard.variable;
-      writable = All-push IsWritable clause lit refutes.writable (writable_small lit guard.small);
-      forces = forces;
+      forcing = record {
+        over = All-push (λ (l : Lit). IsVariable (length trail.declared) l.var) clause lit refutes.forcing.over guard.variable;
+        writable = All-push IsWritable clause lit refutes.forcing.writable (writable_small lit guard.small);
+        forces = forces;
+      };
       rules_out = rules_out-more trail clause (lit ∷ []) comparison places bound refutes.rules_out;
     };
     one_left = λ v left. value_where_false lit guard.denies v (last_fails trail.declared clause lit v left);
@@ -47,7 +49,7 @@ module _ (trail : Levels) (lit : Lit) (comparison : Comparison) (places : List P
         ∙ append-nil (possible_in trail.sets clause)
 
     pub guarded_fixed : IsRefutation trail comparison places bound clause → IsGuarded trail (Variable lit.var) lit.value comparison places bound (clause ++ lit ∷ [])
-    guarded_fixed refutes = with_guard refutes (elim refutes.forces [
+    guarded_fixed refutes = with_guard refutes (elim refutes.forcing.forces [
       | inl none ↦ inl (same_left ∙ none)
       | inr (one, unit) ↦ inr (one, record { only = same_left ∙ unit.only; not_yet_true = unit.not_yet_true })
     ])
@@ -60,7 +62,7 @@ module _ (trail : Levels) (lit : Lit) (comparison : Comparison) (places : List P
         (inr (
           lit,
           record {
-            only = none_left trail.sets clause lit true conflict.impossible (denied_some lit guard.denies (set_of trail.sets lit.var) filled open_set);
+            only = none_left trail.sets clause lit true conflict.still.impossible (denied_some lit guard.denies (set_of trail.sets lit.var) filled open_set);
             not_yet_true = may_fail lit guard.denies (set_of trail.sets lit.var) there;
           },
         ))
@@ -73,4 +75,4 @@ module _ {E : Type 0} (trail : Levels) (places named : List Place) (bound stored
       IfOk-weaker r (λ found. IfSome found (IsConflict trail compared.AtMost named stored)) (λ found. IfSome found (IsConflict trail compared.Equal places bound))
       (λ found some. IfSome_then found some (λ clause conflict.
       let there = subst (λ (b : ℤ). IsConflict trail compared.AtMost (opposites places) b clause) stored_is (subst (λ (ps : List Place). IsConflict trail compared.AtMost ps stored clause) named_is conflict) in
-      record { over = there.over; writable = there.writable; impossible = there.impossible; rules_out = inr there.rules_out })) h
+      record { still = there.still; rules_out = inr there.rules_out })) h

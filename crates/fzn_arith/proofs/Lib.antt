@@ -1,6 +1,7 @@
 mod FitLemmas
 mod FormLemmas
 mod GuardLemmas
+mod HeardLemmas
 mod MadeLemmas
 mod RefuteLemmas
 mod RestLemmas

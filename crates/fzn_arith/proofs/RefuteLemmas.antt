@@ -70,42 +70,36 @@ all_compare NotEqual low high other_low other_high bound e f none = elim none [ 
 
 pub found_plain : (trail : Levels) (found : Form) (clause : List Lit) → found.switch ≡ None → All (IsPlace (length trail.declared)) found.places → IsRefutation trail found.comparison found.places found.bound clause → IsFound trail found clause
 found_plain trail found clause none fit refutes = record {
-  over = refutes.over;
-  writable = refutes.writable;
-  forces = refutes.forces;
+  forcing = refutes.forcing;
   met = λ some.
       let sets = denied trail.declared clause in
       subst (λ (s : Option Term). IsExcluded sets s found.comparison (least_sum sets found.places) (greatest_sum sets found.places) found.bound) (sym none)
-      (none_compares trail clause refutes.over some found.comparison found.places found.bound fit refutes.rules_out);
+      (none_compares trail clause refutes.forcing.over some found.comparison found.places found.bound fit refutes.rules_out);
 }
 
 pub found_on : (trail : Levels) (found : Form) (switch : Term) (clause : List Lit) → found.switch ≡ Some switch → IsTerm (length trail.declared) switch → All (IsPlace (length trail.declared)) found.places → IsGuarded trail switch (pos 1) found.comparison found.places found.bound clause → IsFound trail found clause
 found_on trail found switch clause is fits fit guarded = record {
-  over = guarded.refutes.over;
-  writable = guarded.refutes.writable;
-  forces = guarded.refutes.forces;
+  forcing = guarded.refutes.forcing;
   met = λ some.
       let sets = denied trail.declared clause in
       subst (λ (s : Option Term). IsExcluded sets s found.comparison (least_sum sets found.places) (greatest_sum sets found.places) found.bound) (sym is)
       (inl (
-        fixed_switch trail clause guarded.refutes.over some switch (pos 1) fits guarded.one_left,
-        none_compares trail clause guarded.refutes.over some found.comparison found.places found.bound fit guarded.refutes.rules_out,
+        fixed_switch trail clause guarded.refutes.forcing.over some switch (pos 1) fits guarded.one_left,
+        none_compares trail clause guarded.refutes.forcing.over some found.comparison found.places found.bound fit guarded.refutes.rules_out,
       ));
 }
 
 off : (trail : Levels) (found : Form) (switch : Term) (clause : List Lit) → found.switch ≡ Some switch → IsTerm (length trail.declared) switch → All (IsPlace (length trail.declared)) found.places → IsGuarded trail switch (pos 0) (other_comparison found.comparison) (opposites found.places) (other_bound found.comparison found.bound) clause → IsFound trail found clause
 off trail found switch clause is fits fit guarded = record {
-  over = guarded.refutes.over;
-  writable = guarded.refutes.writable;
-  forces = guarded.refutes.forces;
+  forcing = guarded.refutes.forcing;
   met = λ some.
       let sets = denied trail.declared clause in
       subst (λ (s : Option Term). IsExcluded sets s found.comparison (least_sum sets found.places) (greatest_sum sets found.places) found.bound) (sym is)
       (inr (
-        fixed_switch trail clause guarded.refutes.over some switch (pos 0) fits guarded.one_left,
+        fixed_switch trail clause guarded.refutes.forcing.over some switch (pos 0) fits guarded.one_left,
         all_compare found.comparison (least_sum sets found.places) (greatest_sum sets found.places) (least_sum sets (opposites found.places)) (greatest_sum sets (opposites found.places)) found.bound
             (least_sum-opposites sets found.places) (greatest_sum-opposites sets found.places)
-            (none_compares trail clause guarded.refutes.over some (other_comparison found.comparison) (opposites found.places) (other_bound found.comparison found.bound) (opposites_fit (length trail.declared) found.places fit) guarded.refutes.rules_out),
+            (none_compares trail clause guarded.refutes.forcing.over some (other_comparison found.comparison) (opposites found.places) (other_bound found.comparison found.bound) (opposites_fit (length trail.declared) found.places fit) guarded.refutes.rules_out),
       ));
 }
 

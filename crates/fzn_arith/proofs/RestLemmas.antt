@@ -76,12 +76,12 @@ module _ (trail : Levels) (found : Form) (comparison : Comparison) (places named
   pub asked_up : named ≡ places → stored ≡ bound → IsAsked trail found compared.AtMost named stored
   asked_up same is = λ clause refutes.
       let there = subst (λ (b : ℤ). IsRefutation trail compared.AtMost places b clause) is (subst (λ (ps : List Place). IsRefutation trail compared.AtMost ps stored clause) same refutes) in
-      asked_equal clause (record { over = there.over; writable = there.writable; forces = there.forces; rules_out = inl there.rules_out })
+      asked_equal clause (record { forcing = there.forcing; rules_out = inl there.rules_out })
 
   pub asked_down : named ≡ opposites places → stored ≡ pos 0 -ℤ bound → IsAsked trail found compared.AtMost named stored
   asked_down same is = λ clause refutes.
       let there = subst (λ (b : ℤ). IsRefutation trail compared.AtMost (opposites places) b clause) is (subst (λ (ps : List Place). IsRefutation trail compared.AtMost ps stored clause) same refutes) in
-      asked_equal clause (record { over = there.over; writable = there.writable; forces = there.forces; rules_out = inr there.rules_out })
+      asked_equal clause (record { forcing = there.forcing; rules_out = inr there.rules_out })
 
 -- ---- what a pass adds
 

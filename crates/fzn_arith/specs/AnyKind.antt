@@ -4,8 +4,13 @@ use Rattle.fzn_domain.specs.IntSet.{IntSet}
 use Rattle.fzn_meaning.specs.declared.constraint.Constraint.{Constraint}
 use Rattle.fzn_arith.specs.declared.kinds.ArithPropagator.{ArithPropagator}
 use Rattle.fzn_arith.specs.declared.kinds.ArithPropagator.TheVariants.{Sum, Equality}
+use Rattle.fzn_arith.specs.declared.sum.SumPropagator.{SumPropagator}
 use Rattle.fzn_arith.specs.Kinds.{IsFormOf, IsReady}
 use Rattle.fzn_arith.specs.Equality.{equality_number, EqualityIsFor, EqualityFits}
+
+abbrev pub sum_in : ArithPropagator → SumPropagator
+sum_in (Sum p) = p
+sum_in (Equality p) = p.sum
 
 abbrev pub kind_number : ArithPropagator → ℕ
 kind_number (Sum p) = p.number

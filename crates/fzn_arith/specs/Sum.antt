@@ -1,16 +1,14 @@
 -- A sum with its opposite places, and what is found, or left alone, where it compares with a bound.
-use Rattle.std.specs.Prelude.{◌≡◌, ℕ, ◌≤◌, pos, List, length, unsigned_abs, MatchOption, false}
+use Rattle.std.specs.Prelude.{◌≡◌, ℕ, ◌≤◌, pos, List, length, unsigned_abs, MatchOption}
 use Rattle.std.specs.List.{All}
 use Rattle.fzn_domain.specs.declared.literal.Lit.{Lit}
 use Rattle.fzn_domain.specs.IntSet.{IntSet}
-use Rattle.fzn_domain.specs.Narrow.{IsClauseOver, denied, is_some_empty}
 use Rattle.fzn_meaning.specs.declared.term.Place.{Place}
 use Rattle.fzn_meaning.specs.Term.{IsPlace}
 use Rattle.fzn_builtin_rules.specs.Form.{Form, IsFormMet}
 use Rattle.fzn_sets.specs.Terms.{IsFixedTo}
 use Rattle.fzn_trail.specs.Levels.{Levels}
-use Rattle.fzn_trail.specs.Unit.{IsFalseOrUnit}
-use Rattle.fzn_propagator.specs.Inference.{IsWritable}
+use Rattle.fzn_propagator.specs.Clause.{IsJustifiedBy}
 use Rattle.fzn_sums.specs.Opposite.{opposites}
 use Rattle.fzn_sums.specs.Refuted.{LeavesEach}
 use Rattle.fzn_arith.specs.declared.form.SumForm.{SumForm}
@@ -25,11 +23,8 @@ pub record IsSum (count : ℕ) (sum : SumForm) (opposite : List Place) : Type 0 
   pub bounded : unsigned_abs sum.bound ≤ 1000000001
 
 -- a clause that is false or forces one literal, and on whose denied sets the form is met by the rule
-pub record IsFound (trail : Levels) (found : Form) (clause : List Lit) : Type 0 where
-  pub over : IsClauseOver (length trail.declared) clause
-  pub writable : All IsWritable clause
-  pub forces : IsFalseOrUnit trail.sets clause
-  pub met : is_some_empty (denied trail.declared clause) ≡ false → IsFormMet found (denied trail.declared clause)
+abbrev pub IsFound : Levels → Form → List Lit → Type 0
+IsFound trail found clause = IsJustifiedBy trail (IsFormMet found) clause
 
 -- no clause is found: where there is a switch, the form on its side is left
 abbrev pub IsLeftAlone : List IntSet → Form → Form → Type 0

@@ -15,3 +15,4 @@ mod kinds;
 mod opposite;
 mod refute;
 mod sum;
+mod wake;

@@ -1,24 +1,30 @@
 // The propagator of a sum.
-ghost use Rattle.std.specs.Prelude.{◌≡◌, ◌≢◌, ◌≤◌, ◌++◌, [], length, IsTrue, IfOk, IfSome, IfNone, OnOk};
+ghost use Rattle.std.specs.Prelude.{◌≡◌, ◌≢◌, ◌≤◌, ◌++◌, List, [], length, IsTrue, IfOk, IfSome, IfNone, OnOk};
 ghost use Rattle.std.specs.List.{All};
+ghost use Rattle.fzn_domain.specs.IntSet.{IntSet};
 ghost use Rattle.fzn_domain.specs.Narrow.{NoneEmpty};
+ghost use Rattle.fzn_meaning.specs.declared.constraint.Constraint.{Constraint};
 ghost use Rattle.fzn_meaning.specs.declared.relation.Comparison.TheVariants.{AtMost};
 ghost use Rattle.fzn_meaning.specs.Meaning.{IsSwitch};
 ghost use Rattle.fzn_meaning.specs.Term.{IsTerm, IsPlace};
 ghost use Rattle.fzn_rules.specs.declared.rule.Rule.TheVariants.{Lin};
 ghost use Rattle.fzn_sets.specs.Terms.{least_value, greatest_value};
+ghost use Rattle.fzn_propagator.specs.declared.cost.Cost.TheVariants as cost;
 ghost use Rattle.fzn_propagator.specs.Inference.{AreExhausted};
+ghost use Rattle.fzn_propagator.specs.Subscriptions.{terms_of, AreHeard};
 ghost use Rattle.fzn_arith.specs.Kinds.{form_in, IsFormOf, IsReady};
 ghost use Rattle.fzn_arith.specs.Rest.{guard_of, IsAsked, AddsInferences};
 ghost use Rattle.fzn_arith.specs.Sum.{IsSum, IsFound, IsLeftAlone};
+ghost use Rattle.fzn_arith.specs.Wakes.{sum_subscriptions};
 
 use crate::form::SumForm;
 use crate::guard::guarded;
 use crate::refute::refute;
+use crate::wake::{Wake, subscriptions_of};
 use fzn_domain::{Lit, Memory, Op};
 use fzn_list::Items;
 use fzn_meaning::{Comparison, Place, Term};
-use fzn_propagator::{Findings, Inference, Propagator};
+use fzn_propagator::{Cost, Findings, Inference, Propagator, Subscriptions};
 use fzn_rules::Rule;
 use fzn_sums::{
     ends_of, floors_of, greatest_value, least_value, next_forced, refute_place, slack_within,
@@ -32,6 +38,7 @@ pub struct SumPropagator {
     pub number: u64,
     pub form: SumForm,
     pub opposite: SumForm,
+    pub wake: Wake,
 }
 
 impl SumPropagator {
@@ -218,6 +225,20 @@ impl Propagator for SumPropagator {
     ghost is_for = { λ propagator constraint. IsFormOf constraint propagator.form };
 
     ghost fits = { λ propagator declared. IsReady (length declared) propagator.form propagator.opposite };
+
+    fn subscriptions(&self, alloc: Global) -> Result<Subscriptions, Memory>
+        requires fits { (declared : List IntSet) × IsReady (length declared) self.now.form self.now.opposite }
+        ensures value { IfOk result (λ subscriptions. subscriptions ≡ sum_subscriptions self.now) }
+        ensures heard { IfOk result (λ subscriptions. (constraint : Constraint) → IsFormOf constraint self.now.form → AreHeard subscriptions (terms_of constraint)) }
+    {
+        subscriptions_of(alloc, self)
+    }
+
+    fn cost(&self) -> Cost
+        ensures { result ≡ cost.Small }
+    {
+        Cost::Small
+    }
 
     fn propagate(&self, alloc: Global, trail: &Trail, found: &mut Findings) -> Result<(), Memory> {
         self.infer(alloc, trail, found)

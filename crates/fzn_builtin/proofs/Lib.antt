@@ -1,3 +1,4 @@
 mod AmountLemmas
+mod HeardLemmas
 mod IntervalLemmas
 mod MemberLemmas

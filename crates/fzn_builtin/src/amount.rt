@@ -4,13 +4,13 @@ ghost use Rattle.fzn_domain.specs.Narrow.{NoneEmpty};
 ghost use Rattle.fzn_meaning.specs.declared.constraint.Constraint.TheVariants as constraint;
 ghost use Rattle.fzn_meaning.specs.Term.{IsTerm};
 ghost use Rattle.fzn_rules.specs.declared.rule.Rule.TheVariants as rule;
-ghost use Rattle.fzn_explain.specs.Claims.{IsJustified};
-ghost use Rattle.fzn_equality.specs.Found.{AreFoundOf};
+ghost use Rattle.fzn_propagator.specs.Clause.{IsJustified};
+ghost use Rattle.fzn_propagator.specs.Inference.{AreFoundOf};
 
 use crate::excluded::Shape;
 use crate::exclusion::infer_ends;
 use fzn_domain::{GREATEST_VALUE, LEAST_VALUE, Lit, Memory};
-use fzn_equality::{SMALL, hand_over, may_be};
+use fzn_equality::{SMALL, may_be};
 use fzn_explain::{Claim, explain};
 use fzn_list::Items;
 use fzn_meaning::Term;
@@ -107,7 +107,7 @@ fn part_values(
     for value in low..high + 1 {
         if is_without_amount(trail, of, amount, value) {
             let clause = other_value_or_amount(alloc, trail, of, amount, value)?;
-            hand_over(number, Rule::Rows, clause, found)?;
+            found.hand_over(number, Rule::Rows, clause)?;
         }
     }
     Ok(())
@@ -135,7 +135,7 @@ fn part_amounts(
     for value in low..high + 1 {
         if is_amount_of_none(trail, of, amount, value) {
             let clause = value_or_other_amount(alloc, trail, of, amount, value)?;
-            hand_over(number, Rule::Rows, clause, found)?;
+            found.hand_over(number, Rule::Rows, clause)?;
         }
     }
     Ok(())

@@ -2,15 +2,13 @@
 ghost use Rattle.std.specs.Prelude.{◌≡◌, length, IfOk, IfSome};
 ghost use Rattle.fzn_domain.specs.Narrow.{NoneEmpty};
 ghost use Rattle.fzn_meaning.specs.Term.{IsTerm};
-ghost use Rattle.fzn_propagator.specs.Inference.{HasWritableHints};
-ghost use Rattle.fzn_explain.specs.Claims.{IsJustified};
-ghost use Rattle.fzn_equality.specs.Found.{AreFoundOf};
+ghost use Rattle.fzn_propagator.specs.Inference.{HasWritableHints, AreFoundOf};
+ghost use Rattle.fzn_propagator.specs.Clause.{IsJustified};
 ghost use Rattle.fzn_builtin.specs.Intervals.{shaped, rule_of};
 
 use crate::excluded::{Shape, is_excluded};
 use crate::interval::{Interval, declared_interval_of, interval_of};
 use fzn_domain::{Lit, Memory};
-use fzn_equality::hand_over;
 use fzn_explain::explain;
 use fzn_list::Items;
 use fzn_meaning::Term;
@@ -292,7 +290,7 @@ pub fn hand_over_outside(
     let clause = outside_of(
         alloc, trail, shape, left, right, of, in_left, in_right, in_of,
     )?;
-    hand_over(number, rule_of(shape), clause, found)
+    found.hand_over(number, rule_of(shape), clause)
 }
 
 /// The clause that the left, the right or the third place has a value outside of its interval, where these are excluded.

@@ -1,17 +1,22 @@
 // The propagator of any such constraint, and which constraint gets one.
-ghost use Rattle.std.specs.Prelude.{◌≡◌, ◌-◌, ◌≤◌, length, IfOk, IfSome, IfNone, None, slice_index_or};
+ghost use Rattle.std.specs.Prelude.{◌≡◌, ◌-◌, ◌≤◌, ◌++◌, List, length, IfOk, IfSome, IfNone, IsSome, None, slice_index_or};
+ghost use Rattle.fzn_domain.specs.IntSet.{IntSet};
 ghost use Rattle.fzn_meaning.specs.declared.constraint.Constraint.{Constraint};
 ghost use Rattle.fzn_meaning.specs.Solutions.{declared_sets};
+ghost use Rattle.fzn_meaning.specs.Meaning.{IsWellFormed as IsFormed};
 ghost use Rattle.fzn_meaning.specs.WellFormed.{IsWellFormed};
 ghost use Rattle.fzn_builtin_rules.specs.Choices.{inputs_of};
 ghost use Rattle.fzn_builtin_rules.specs.Form.{form_of};
+ghost use Rattle.fzn_propagator.specs.declared.cost.Cost.TheVariants as cost;
+ghost use Rattle.fzn_propagator.specs.declared.event.Event.TheVariants as event;
+ghost use Rattle.fzn_propagator.specs.Subscriptions.{terms_of, waits_each, waits_some, AreHeard};
 ghost use Rattle.fzn_builtin.specs.Kinds.{builtin_number, BuiltinIsFor, BuiltinFits};
 
 use crate::narrow::narrow;
 use fzn_domain::Memory;
 use fzn_fixed::{Parts, parts_of, refute_fixed};
-use fzn_meaning::Model;
-use fzn_propagator::{Findings, Inference, Propagator};
+use fzn_meaning::{Constraint, Model};
+use fzn_propagator::{Cost, Event, Findings, Propagator, Subscriptions};
 use fzn_rules::Rule;
 use fzn_trail::Trail;
 use std::alloc::Global;
@@ -25,12 +30,50 @@ pub struct BuiltinPropagator {
     pub parts: Parts,
 }
 
+impl BuiltinPropagator {
+    /// The propagator of the constraint of this number, which is no sum and none of the five globals.
+    pub fn new(
+        alloc: Global,
+        number: u64,
+        constraint: &Constraint,
+    ) -> Result<BuiltinPropagator, Memory>
+        requires other { form_of constraint.now ≡ None }
+        requires inputs { IsSome (inputs_of constraint.now) }
+        ensures number { IfOk result (λ propagator. builtin_number propagator ≡ number) }
+        ensures is_for { IfOk result (λ propagator. BuiltinIsFor propagator constraint.now) }
+        ensures fits { IfOk result (λ propagator. (declared : List IntSet) → IsFormed (length declared) constraint.now → BuiltinFits propagator declared) }
+    {
+        match parts_of(alloc, constraint)? {
+            Some(parts) => Ok(BuiltinPropagator { number, parts }),
+            None => unreachable!(), // It has inputs, and is no sum.
+        }
+    }
+}
+
 impl Propagator for BuiltinPropagator {
     ghost number = { builtin_number };
 
     ghost is_for = { BuiltinIsFor };
 
     ghost fits = { BuiltinFits };
+
+    /// Each change of an input or of the result.
+    fn subscriptions(&self, alloc: Global) -> Result<Subscriptions, Memory>
+        requires fits { (declared : List IntSet) × BuiltinFits self.now declared }
+        ensures value { IfOk result (λ subscriptions. subscriptions ≡ waits_each event.Any self.now.parts.inputs ++ waits_some event.Any self.now.parts.result) }
+        ensures heard { IfOk result (λ subscriptions. (constraint : Constraint) → BuiltinIsFor self.now constraint → AreHeard subscriptions (terms_of constraint)) }
+    {
+        let mut subscriptions = Subscriptions::new(alloc);
+        subscriptions.add_each(self.parts.inputs.as_slice(), Event::Any)?;
+        subscriptions.add_some(self.parts.result, Event::Any)?;
+        Ok(subscriptions)
+    }
+
+    fn cost(&self) -> Cost
+        ensures { result ≡ cost.Small }
+    {
+        Cost::Small
+    }
 
     fn propagate(&self, alloc: Global, trail: &Trail, found: &mut Findings) -> Result<(), Memory> {
         narrow(alloc, trail, self.number, &self.parts, found)?;
@@ -40,12 +83,7 @@ impl Propagator for BuiltinPropagator {
         let Some(clause) = refute_fixed(alloc, trail, &self.parts)? else {
             return Ok(());
         };
-        found.push(Inference {
-            constraint: self.number,
-            rule: Rule::Fixed,
-            clause,
-        })?;
-        Ok(())
+        found.hand_over(self.number, Rule::Fixed, Some(clause))
     }
 }
 

@@ -9,14 +9,15 @@ ghost use Rattle.fzn_meaning.specs.Meaning.{IsSwitch};
 ghost use Rattle.fzn_meaning.specs.Term.{IsTerm};
 ghost use Rattle.fzn_rules.specs.declared.rule.Rule.TheVariants as rule;
 ghost use Rattle.fzn_sets.specs.Terms.{MayBe};
-ghost use Rattle.fzn_explain.specs.Claims.{IsDenied, IsJustified};
-ghost use Rattle.fzn_equality.specs.Found.{AreFoundOf};
+ghost use Rattle.fzn_explain.specs.Claims.{IsDenied};
+ghost use Rattle.fzn_propagator.specs.Clause.{IsJustified};
+ghost use Rattle.fzn_propagator.specs.Inference.{AreFoundOf};
 ghost use Rattle.fzn_builtin.specs.Intervals.{IsLimitedInterval};
 ghost use Rattle.fzn_builtin.specs.Members.{AreAsked, IsNextAsked, NoneAsked, IsSwitchedTo};
 
 use crate::interval::{Interval, interval_of};
 use fzn_domain::{Domain, GREATEST_VALUE, LEAST_VALUE, Lit, Memory};
-use fzn_equality::{SMALL, hand_over, is_fixed, may_be, never};
+use fzn_equality::{SMALL, is_fixed, may_be, never};
 use fzn_explain::{Claim, explain};
 use fzn_list::Items;
 use fzn_meaning::Term;
@@ -59,7 +60,7 @@ pub fn infer_member(
         }
         None => {
             let clause = switched(alloc, trail, term, set, switch)?;
-            hand_over(number, Rule::Rows, clause, found)
+            found.hand_over(number, Rule::Rows, clause)
         }
     }
 }
@@ -208,7 +209,7 @@ fn part_each(
 {
     for k in 0..all.len() {
         let clause = elsewhere(alloc, trail, term, set, switch, within, all[k])?;
-        hand_over(number, Rule::Rows, clause, found)?;
+        found.hand_over(number, Rule::Rows, clause)?;
     }
     Ok(())
 }

@@ -4,7 +4,7 @@ ghost use Rattle.fzn_domain.specs.Narrow.{NoneEmpty};
 ghost use Rattle.fzn_meaning.specs.declared.constraint.Constraint.TheVariants as constraint;
 ghost use Rattle.fzn_meaning.specs.Term.{IsTerm};
 ghost use Rattle.fzn_meaning.specs.Meaning.{IsWellFormed};
-ghost use Rattle.fzn_equality.specs.Found.{AreFoundOf};
+ghost use Rattle.fzn_propagator.specs.Inference.{AreFoundOf};
 ghost use Rattle.fzn_fixed.specs.Parts.{IsReady};
 
 use crate::amount::infer_amount;
@@ -13,7 +13,7 @@ use crate::exclusion::infer_ends;
 use crate::member::infer_member;
 use crate::quotient::infer_quotient;
 use fzn_domain::Memory;
-use fzn_equality::{hand_over, infer_element, infer_extremum};
+use fzn_equality::{infer_element, infer_extremum};
 use fzn_fixed::{Parts, infer_last};
 use fzn_meaning::{Constraint, Operation, Term};
 use fzn_propagator::Findings;
@@ -37,7 +37,7 @@ pub fn narrow(
     match &parts.constraint {
         Constraint::BoolXor { .. } | Constraint::ArrayBoolXor { .. } => {
             let clause = infer_last(alloc, trail, parts)?;
-            hand_over(number, Rule::Fixed, clause, found)
+            found.hand_over(number, Rule::Fixed, clause)
         }
         _ => narrow_rows(alloc, trail, number, &parts.constraint, found),
     }

@@ -2,7 +2,7 @@
 ghost use Rattle.std.specs.Prelude.{length};
 ghost use Rattle.fzn_domain.specs.Narrow.{NoneEmpty};
 ghost use Rattle.fzn_meaning.specs.Term.{IsTerm};
-ghost use Rattle.fzn_equality.specs.Found.{AreFoundOf};
+ghost use Rattle.fzn_propagator.specs.Inference.{AreFoundOf};
 ghost use Rattle.fzn_builtin.specs.Intervals.{IsLimitedInterval, shaped};
 
 use crate::excluded::{Shape, are_few};

@@ -20,7 +20,8 @@ use Rattle.fzn_sets.specs.Terms.{least_value, greatest_value, IsFixedTo}
 use Rattle.fzn_sets.proofs.ValueLemmas.{MayBe-between, MayBe-ends}
 use Rattle.fzn_global_rules.specs.GlobalRows.{IsGlobalRowsMet}
 use Rattle.fzn_global_rules.specs.Hall.{lies_within, IsHallMet}
-use Rattle.fzn_terms.specs.Denied.{AreLeft, AllAre}
+use Rattle.fzn_propagator.specs.Clause.{AreLeft}
+use Rattle.fzn_terms.specs.Denied.{AllAre}
 
 pub at_default : (xs : List Term) (k : ℕ) (d e : Term) (P : Term → Type 0) → k < length xs → P (get_or xs k d) → P (get_or xs k e)
 at_default xs k d e P inside h = subst P (get_or_default xs k d e inside) h

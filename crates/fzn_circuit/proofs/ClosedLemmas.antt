@@ -20,9 +20,11 @@ use Rattle.fzn_sets.specs.Terms.{MayBe, term_at}
 use Rattle.fzn_global_rules.specs.Cut.{LeadsInto, IsCutMet}
 use Rattle.fzn_trail.specs.Levels.{Levels}
 use Rattle.fzn_propagator.specs.Inference.{IsHint, HasWritableHints}
-use Rattle.fzn_terms.specs.Denied.{Says, IsFalseClause, IsExplained, IsInferred}
+use Rattle.fzn_propagator.specs.Clause.{Says, IsFalseClause, IsJustified}
+use Rattle.fzn_terms.specs.Denied.{IsExplained}
 use Rattle.fzn_circuit.specs.Closed.{IsGrown, IsFromTo, IsPlaceIf, LeadsIntoBetween}
 use Rattle.fzn_circuit.proofs.WayLemmas.{hint_of}
+use Rattle.fzn_propagator.proofs.CallerLemmas.{forcing_of_false, justified_where}
 
 -- ---- numbers
 
@@ -114,18 +116,16 @@ leads_into trail places var low high old ends new from_to between = record {
 abbrev pub LeadInto : List Term → List ℤ → ℕ → List IntSet → Type 0
 LeadInto successors places count sets = (k : ℕ) → k < count → LeadsInto sets places (term_at successors (get_or places k (pos 0)))
 
-pub closed_inferred : (trail : Levels) (successors : List Term) (places : List ℤ) (clause : List Lit) → 0 < length places → length places < length successors → IsAscending places → ((k : ℕ) → k < length places → IsIndex (length successors) (get_or places k (pos 0))) → IsFalseClause trail clause → Says trail.declared clause (LeadInto successors places (length places)) → IsInferred trail (Circuit successors) (Cut places) clause
+pub closed_inferred : (trail : Levels) (successors : List Term) (places : List ℤ) (clause : List Lit) → 0 < length places → length places < length successors → IsAscending places → ((k : ℕ) → k < length places → IsIndex (length successors) (get_or places k (pos 0))) → IsFalseClause trail clause → Says trail.declared clause (LeadInto successors places (length places)) → IsJustified trail (Circuit successors) (Cut places) clause
 unfolding IsMet IsCutMet
-closed_inferred trail successors places clause some fewer up indices still says = record {
-  forcing = record { over = still.over; writable = still.writable; forces = inl still.impossible };
-  says = λ sets left. record {
-    some = some;
-    rising = up;
-    indices = All-from_get_or (IsIndex (length successors)) places (pos 0) indices;
-    not_all = fewer;
-    closed = All-from_get_or (λ place. LeadsInto sets places (term_at successors place)) places (pos 0) (says sets left);
-  };
-}
+closed_inferred trail successors places clause some fewer up indices still says =
+    justified_where trail (Circuit successors) (Cut places) clause (forcing_of_false trail clause still) (λ sets left. record {
+      some = some;
+      rising = up;
+      indices = All-from_get_or (IsIndex (length successors)) places (pos 0) indices;
+      not_all = fewer;
+      closed = All-from_get_or (λ place. LeadsInto sets places (term_at successors place)) places (pos 0) (says sets left);
+    })
 
 pub closed_hints : (n : ℕ) (places : List ℤ) → n ≤ longest → IsAscending places → ((k : ℕ) → k < length places → IsIndex n (get_or places k (pos 0))) → HasWritableHints (Cut places)
 closed_hints n places short up indices = (All-weaker (IsIndex n) IsHint (λ p place. hint_of n p short place) places (All-from_get_or (IsIndex n) places (pos 0) indices), up)

@@ -1,6 +1,7 @@
 mod CircuitLemmas
 mod ClosedLemmas
 mod ClosingLemmas
+mod HeardLemmas
 mod PropagatorLemmas
 mod SameLemmas
 mod WayLemmas

@@ -1,8 +1,7 @@
 -- Where no clause is left and all variables are fixed, the successors are a circuit.
-use Rattle.std.proofs.Common.{◌≡◌, ℕ, ◌+◌, ◌<◌, false, List, length, get_or, sym, subst, ◌∙◌, arith, ℤ, pos, All, int_le}
+use Rattle.std.proofs.Common.{◌≡◌, ℕ, ◌+◌, ◌<◌, false, List, length, get_or, refl, sym, subst, ◌∙◌, arith, ℤ, pos, All, int_le}
 use Rattle.std.proofs.lemmas.Int.{ints}
 use Rattle.std.proofs.lemmas.List.Elements.{All-get_or, All-from_get_or}
-use Rattle.std.proofs.lemmas.Option.{none-some}
 use Rattle.fzn_domain.specs.IntSet.{IntSet}
 use Rattle.fzn_domain.specs.Narrow.{IsWithin}
 use Rattle.fzn_meaning.specs.declared.term.Term.{Term}
@@ -18,9 +17,10 @@ use Rattle.fzn_sets.specs.Terms.{IsFixedTo}
 use Rattle.fzn_builtin_rules.specs.Form.{form_of}
 use Rattle.fzn_trail.specs.Levels.{Levels}
 use Rattle.fzn_propagator.specs.Inference.{AllFixed, IsExhausted}
-use Rattle.fzn_terms.proofs.LawLemmas.{fixed_to}
+use Rattle.fzn_terms.proofs.FixedLemmas.{fixed_to}
 use Rattle.fzn_circuit.specs.Circuits.{AreFixedPlaces, AreInside, AreDifferent, HasNoShortWay}
 use Rattle.fzn_circuit.proofs.ClosingLemmas.{circuit_of}
+use Rattle.fzn_propagator.proofs.CallerLemmas.{exhausted as no_sum}
 
 index_of : (x : ℤ) (n : ℕ) → int_le x (pos 0) ≡ false → int_le (pos (n + 1)) x ≡ false → IsIndex n x
 index_of x n h k = (grind (arith, ints), grind (arith, ints))
@@ -57,10 +57,6 @@ module _ (sets : List IntSet) (successors : List Term) (fit : All (IsTerm (lengt
 
 pub exhausted : (trail : Levels) (successors : List Term) → AreTerms (length trail.declared) successors → AreInside trail.sets successors → AreDifferent trail.sets successors → (0 < length successors → HasNoShortWay trail.sets successors (pos 1)) → (constraint : Constraint) → Circuit successors ≡ constraint → IsExhausted constraint trail
 unfolding form_of
-exhausted trail successors fit inside different none constraint same = subst (λ (c : Constraint). IsExhausted c trail) same (record {
-  holds = λ fixed values declared present.
-      let count : length trail.declared ≡ length trail.sets = sym declared.one_each ∙ present.one_each in
-      meets_circuit trail.sets successors (subst (λ (n : ℕ). All (IsTerm n) successors) count fit.0) inside different values present fixed none;
-  strong = λ form is. absurd (none-some form is);
-  none_barred = λ form is. absurd (none-some form is);
-})
+exhausted trail successors fit inside different none constraint same = no_sum trail (Circuit successors) constraint refl same (λ fixed values declared present.
+    let count : length trail.declared ≡ length trail.sets = sym declared.one_each ∙ present.one_each in
+    meets_circuit trail.sets successors (subst (λ (n : ℕ). All (IsTerm n) successors) count fit.0) inside different values present fixed none)

@@ -15,7 +15,7 @@ use Rattle.fzn_rules.specs.declared.rule.Rule.TheVariants.{Hall}
 use Rattle.fzn_propagator.specs.Inference.{IsHint, HasWritableHints}
 use Rattle.fzn_sets.proofs.CallerLemmas.{MayBe-term_value}
 use Rattle.fzn_sets.specs.Terms.{IsFixedTo, least_value}
-use Rattle.fzn_terms.proofs.LawLemmas.{fixed_to}
+use Rattle.fzn_terms.proofs.FixedLemmas.{fixed_to}
 use Rattle.fzn_circuit.specs.Circuits.{AreApart, AreDifferent, HasOpen, owner_of}
 
 pub hall_hints : (v : ℤ) → IsInLimits v → HasWritableHints (Hall v v)

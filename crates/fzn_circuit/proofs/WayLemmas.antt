@@ -29,8 +29,10 @@ use Rattle.fzn_sets.specs.Terms.{MayBe, IsFixedTo, term_at}
 use Rattle.fzn_global_rules.specs.Cut.{LeadsInto, IsCutMet}
 use Rattle.fzn_trail.specs.Levels.{Levels}
 use Rattle.fzn_propagator.specs.Inference.{IsHint, HasWritableHints}
-use Rattle.fzn_terms.specs.Denied.{NoneIs, IsExplained, IsForced, IsInferred}
+use Rattle.fzn_terms.specs.Denied.{NoneIs, IsExplained, IsForced}
+use Rattle.fzn_propagator.specs.Clause.{IsJustified}
 use Rattle.fzn_circuit.specs.Circuits.{AreFixedPlaces, IsWay, IsAtEnd, HasNoShortWay}
+use Rattle.fzn_propagator.proofs.CallerLemmas.{justified_where}
 
 -- ---- rising lists
 
@@ -225,22 +227,20 @@ module _ (trail : Levels) (successors : List Term) (start last : ℤ) (places so
   some_items : (x : ℤ) → Contains items x → 0 < length items
   some_items x h = let below = h.1 in omega arith
 
-  pub cut_inferred : (new : List Lit) → IsAscending items → length items < length successors → IsForced trail Equal start (term_at successors last) old new → IsInferred trail (Circuit successors) (Cut items) new
+  pub cut_inferred : (new : List Lit) → IsAscending items → length items < length successors → IsForced trail Equal start (term_at successors last) old new → IsJustified trail (Circuit successors) (Cut items) new
   unfolding IsMet IsCutMet
-  cut_inferred new up fewer forced = record {
-    forcing = forced.forcing;
-    says = λ sets left. record {
-      some = some_items start (from_way start (start_in_way trail successors start last places old way));
-      rising = up;
-      indices = indices_of;
-      not_all = fewer;
-      closed = All-weaker (Contains places) (λ place. LeadsInto sets items (term_at successors place))
-          (λ p there x may. from_way x (elim (All-contains (λ place. (place ≡ last) ⊎ LeadsInto sets places (term_at successors place)) places p (way.leads sets (forced.keeps sets left)) there) [
-            | inl is_last ↦ subst (Contains places) (sym (int_same x start (forced.says sets left x (subst (λ (q : ℤ). MayBe sets (term_at successors q) x) is_last may)))) (start_in_way trail successors start last places old way)
-            | inr leads ↦ leads x may
-          ])) items to_way;
-    };
-  }
+  cut_inferred new up fewer forced =
+      justified_where trail (Circuit successors) (Cut items) new forced.forcing (λ sets left. record {
+        some = some_items start (from_way start (start_in_way trail successors start last places old way));
+        rising = up;
+        indices = indices_of;
+        not_all = fewer;
+        closed = All-weaker (Contains places) (λ place. LeadsInto sets items (term_at successors place))
+            (λ p there x may. from_way x (elim (All-contains (λ place. (place ≡ last) ⊎ LeadsInto sets places (term_at successors place)) places p (way.leads sets (forced.keeps sets left)) there) [
+              | inl is_last ↦ subst (Contains places) (sym (int_same x start (forced.says sets left x (subst (λ (q : ℤ). MayBe sets (term_at successors q) x) is_last may)))) (start_in_way trail successors start last places old way)
+              | inr leads ↦ leads x may
+            ])) items to_way;
+      })
 
 -- ---- no short way
 

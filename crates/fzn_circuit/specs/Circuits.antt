@@ -14,7 +14,8 @@ use Rattle.fzn_sets.specs.Terms.{IsFixedTo, term_at}
 use Rattle.fzn_global_rules.specs.Cut.{LeadsInto}
 use Rattle.fzn_trail.specs.Levels.{Levels}
 use Rattle.fzn_domain.specs.declared.literal.Op.TheVariants.{AtMost, AtLeast, Equal}
-use Rattle.fzn_terms.specs.Denied.{Says, NoneIs, IsFalseClause}
+use Rattle.fzn_propagator.specs.Clause.{Says, IsFalseClause}
+use Rattle.fzn_terms.specs.Denied.{NoneIs}
 
 -- each successor has one value, these in order, and each is a place
 pub record AreFixedPlaces (sets : List IntSet) (successors : List Term) (values : List ℤ) : Type 0 where

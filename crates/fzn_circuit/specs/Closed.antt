@@ -9,7 +9,8 @@ use Rattle.fzn_meaning.specs.declared.term.Term.{Term}
 use Rattle.fzn_meaning.specs.declared.term.Term.TheVariants.{Variable}
 use Rattle.fzn_sets.specs.Terms.{MayBe}
 use Rattle.fzn_trail.specs.Levels.{Levels}
-use Rattle.fzn_terms.specs.Denied.{AllAre, Says, Keeps, IsFalseClause}
+use Rattle.fzn_terms.specs.Denied.{AllAre}
+use Rattle.fzn_propagator.specs.Clause.{Says, Keeps, IsFalseClause}
 
 -- the clause, grown from a false one, is false, and says besides that so it is of the sets
 pub record IsGrown (trail : Levels) (P : List IntSet → Type 0) (old new : List Lit) : Type 0 where

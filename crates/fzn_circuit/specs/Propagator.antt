@@ -1,13 +1,9 @@
 -- The ghost members of the propagator of `fzn_circuit`.
 use Rattle.std.specs.Prelude.{◌≡◌, ℕ, List, length}
 use Rattle.fzn_domain.specs.IntSet.{IntSet}
-use Rattle.fzn_meaning.specs.declared.term.Term.{Term}
 use Rattle.fzn_meaning.specs.declared.constraint.Constraint.{Constraint}
 use Rattle.fzn_meaning.specs.declared.constraint.Constraint.TheVariants.{Circuit}
 use Rattle.fzn_meaning.specs.Meaning.{AreTerms}
-use Rattle.fzn_trail.specs.Levels.{Levels}
-use Rattle.fzn_propagator.specs.declared.propagator.Inference.{Inference}
-use Rattle.fzn_propagator.specs.Inference.{AreInferencesOf}
 use Rattle.fzn_circuit.specs.declared.propagator.CircuitPropagator.{CircuitPropagator}
 
 abbrev pub circuit_number : CircuitPropagator → ℕ
@@ -18,7 +14,3 @@ CircuitIsFor propagator constraint = Circuit propagator.successors ≡ constrain
 
 abbrev pub CircuitFits : CircuitPropagator → List IntSet → Type 0
 CircuitFits propagator declared = AreTerms (length declared) propagator.successors
-
--- what was found are inferences from the circuit of these successors, which has this number
-abbrev pub AreOfCircuit : ℕ → List Term → Levels → List Inference → Type 0
-AreOfCircuit number successors trail found = AreInferencesOf number (λ constraint. Circuit successors ≡ constraint) trail found

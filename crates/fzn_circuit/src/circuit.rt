@@ -14,7 +14,8 @@ ghost use Rattle.fzn_meaning.specs.Meaning.{AreTerms};
 ghost use Rattle.fzn_rules.specs.declared.rule.Rule.TheVariants as rule;
 ghost use Rattle.fzn_propagator.specs.Inference.{HasWritableHints};
 ghost use Rattle.fzn_sets.specs.Terms.{IsFixedTo, term_at};
-ghost use Rattle.fzn_terms.specs.Denied.{AllAre, NoneIs, IsFalseClause, IsInferred};
+ghost use Rattle.fzn_terms.specs.Denied.{AllAre, NoneIs};
+ghost use Rattle.fzn_propagator.specs.Clause.{IsFalseClause, IsJustified};
 ghost use Rattle.fzn_circuit.specs.Circuits.{IsWay, IsAtEnd, HasNoShortWay};
 
 use fzn_domain::{Lit, Memory, Op};
@@ -37,7 +38,7 @@ pub fn explain_below(
     requires terms { AreTerms (length trail.now.declared) successors.now }
     requires filled { NoneEmpty trail.now.sets }
     requires place { k < length successors.now }
-    ensures { IfOk result (λ found. MatchBool found (IsInferred trail.now (constraint.Circuit successors.now) rule.Rows clause.new) ((default : Term) → NoneIs op.AtMost (pos 0) (slice_index_or successors.now k default) trail.now.sets)) }
+    ensures { IfOk result (λ found. MatchBool found (IsJustified trail.now (constraint.Circuit successors.now) rule.Rows clause.new) ((default : Term) → NoneIs op.AtMost (pos 0) (slice_index_or successors.now k default) trail.now.sets)) }
 {
     clause.clear();
     force(trail, successors[k], Op::AtMost, 0, clause)
@@ -54,7 +55,7 @@ pub fn explain_above(
     requires terms { AreTerms (length trail.now.declared) successors.now }
     requires filled { NoneEmpty trail.now.sets }
     requires place { k < length successors.now }
-    ensures { IfOk result (λ found. MatchBool found (IsInferred trail.now (constraint.Circuit successors.now) rule.Rows clause.new) ((default : Term) → NoneIs op.AtLeast (pos (length successors.now + 1)) (slice_index_or successors.now k default) trail.now.sets)) }
+    ensures { IfOk result (λ found. MatchBool found (IsJustified trail.now (constraint.Circuit successors.now) rule.Rows clause.new) ((default : Term) → NoneIs op.AtLeast (pos (length successors.now + 1)) (slice_index_or successors.now k default) trail.now.sets)) }
 {
     clause.clear();
     force(
@@ -83,7 +84,7 @@ pub fn explain_same(
     requires apart { i ≢ j }
     requires value { IsInLimits value }
     requires fixed { (default : Term) → IsFixedTo trail.now.sets (slice_index_or successors.now i default) value }
-    ensures { IfOk result (λ found. MatchBool found (IsInferred trail.now (constraint.Circuit successors.now) (rule.Hall value value) clause.new) ((default : Term) → NoneIs op.Equal value (slice_index_or successors.now j default) trail.now.sets)) }
+    ensures { IfOk result (λ found. MatchBool found (IsJustified trail.now (constraint.Circuit successors.now) (rule.Hall value value) clause.new) ((default : Term) → NoneIs op.Equal value (slice_index_or successors.now j default) trail.now.sets)) }
 {
     clause.clear();
     explain(trail, successors[i], Op::Equal, value, clause)?;
@@ -170,7 +171,7 @@ pub fn explain_cut(
     requires terms { AreTerms (length trail.now.declared) successors.now }
     requires filled { NoneEmpty trail.now.sets }
     requires start { IsIndex (length successors.now) start }
-    ensures found { IfOk result (λ found. IfSome found (λ places. IsInferred trail.now (constraint.Circuit successors.now) (rule.Cut places) clause.new)) }
+    ensures found { IfOk result (λ found. IfSome found (λ places. IsJustified trail.now (constraint.Circuit successors.now) (rule.Cut places) clause.new)) }
     ensures hints { IfOk result (λ found. IfSome found (λ places. HasWritableHints (rule.Cut places))) }
     ensures none { IfOk result (λ found. IfNone found (HasNoShortWay trail.now.sets successors.now start)) }
 {

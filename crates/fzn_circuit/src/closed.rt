@@ -11,7 +11,8 @@ ghost use Rattle.fzn_meaning.specs.Term.{IsTerm};
 ghost use Rattle.fzn_global_rules.specs.Cut.{LeadsInto};
 ghost use Rattle.fzn_propagator.specs.Inference.{HasWritableHints};
 ghost use Rattle.fzn_rules.specs.declared.rule.Rule.TheVariants as rule;
-ghost use Rattle.fzn_terms.specs.Denied.{AllAre, IsFalseClause, IsInferred};
+ghost use Rattle.fzn_terms.specs.Denied.{AllAre};
+ghost use Rattle.fzn_propagator.specs.Clause.{IsFalseClause, IsJustified};
 ghost use Rattle.fzn_circuit.specs.Closed.{IsGrown, IsFromTo, IsPlaceIf, LeadsIntoBetween};
 
 use fzn_domain::{Domain, Lit, Memory, Op, VarId, place_of};
@@ -181,7 +182,7 @@ pub fn explain_closed(
     requires terms { AreTerms (length trail.now.declared) successors.now }
     requires filled { NoneEmpty trail.now.sets }
     requires rising { IsAscending places.now }
-    ensures found { IfOk result (λ found. IsTrue found → IsInferred trail.now (constraint.Circuit successors.now) (rule.Cut places.now) clause.new) }
+    ensures found { IfOk result (λ found. IsTrue found → IsJustified trail.now (constraint.Circuit successors.now) (rule.Cut places.now) clause.new) }
     ensures hints { IfOk result (λ found. IsTrue found → HasWritableHints (rule.Cut places.now)) }
 {
     clause.clear();

@@ -12,7 +12,6 @@ pub use propagator::{CircuitPropagator, propagator_of};
 
 mod circuit;
 mod closed;
-mod found;
 mod propagator;
 mod same;
 mod walk;

@@ -7,23 +7,26 @@ ghost use Rattle.fzn_meaning.specs.declared.constraint.Constraint.TheVariants as
 ghost use Rattle.fzn_meaning.specs.declared.term.Term.{Term};
 ghost use Rattle.fzn_meaning.specs.Entries.{IsIndex};
 ghost use Rattle.fzn_meaning.specs.Meaning.{AreTerms};
+ghost use Rattle.fzn_domain.specs.IntSet.{IntSet};
 ghost use Rattle.fzn_meaning.specs.Solutions.{declared_sets};
 ghost use Rattle.fzn_meaning.specs.WellFormed.{IsWellFormed};
-ghost use Rattle.fzn_propagator.specs.Inference.{AreExhausted};
+ghost use Rattle.fzn_propagator.specs.declared.cost.Cost.TheVariants as cost;
+ghost use Rattle.fzn_propagator.specs.declared.event.Event.TheVariants as event;
+ghost use Rattle.fzn_propagator.specs.Inference.{AreExhausted, AreFoundOf};
+ghost use Rattle.fzn_propagator.specs.Subscriptions.{terms_of, waits_each, AreHeard};
 ghost use Rattle.fzn_terms.specs.Denied.{NoneIs};
-ghost use Rattle.fzn_circuit.specs.Propagator.{circuit_number, CircuitIsFor, CircuitFits, AreOfCircuit};
+ghost use Rattle.fzn_circuit.specs.Propagator.{circuit_number, CircuitIsFor, CircuitFits};
 ghost use Rattle.fzn_circuit.specs.Circuits.{AreInside, HasNoShortWay};
 
 use crate::circuit::{explain_above, explain_below, explain_cut};
 use crate::closed::explain_closed;
-use crate::found::hand_over;
 use crate::same::{find_same, has_open};
 use crate::walk::closed_places;
 use crate::ways::starts_of;
 use fzn_domain::Memory;
 use fzn_list::{Items, Shared};
 use fzn_meaning::{Constraint, Model, Term};
-use fzn_propagator::{Findings, Propagator};
+use fzn_propagator::{Cost, Event, Findings, Propagator, Subscriptions};
 use fzn_rules::Rule;
 use fzn_trail::Trail;
 use std::alloc::Global;
@@ -38,12 +41,41 @@ pub struct CircuitPropagator {
     pub successors: Shared<Term>,
 }
 
+impl CircuitPropagator {
+    /// The propagator of the circuit of these successors, which has this number.
+    pub fn new(number: u64, successors: &Shared<Term>) -> Result<CircuitPropagator, Memory>
+        ensures { IfOk result (λ propagator. propagator ≡ record { number = number; successors = successors.now }) }
+    {
+        Ok(CircuitPropagator {
+            number,
+            successors: successors.share()?,
+        })
+    }
+}
+
 impl Propagator for CircuitPropagator {
     ghost number = { circuit_number };
 
     ghost is_for = { CircuitIsFor };
 
     ghost fits = { CircuitFits };
+
+    /// Each change of a successor.
+    fn subscriptions(&self, alloc: Global) -> Result<Subscriptions, Memory>
+        requires fits { (declared : List IntSet) × CircuitFits self.now declared }
+        ensures value { IfOk result (λ subscriptions. subscriptions ≡ waits_each event.Any self.now.successors) }
+        ensures heard { IfOk result (λ subscriptions. (constraint : Constraint) → CircuitIsFor self.now constraint → AreHeard subscriptions (terms_of constraint)) }
+    {
+        let mut subscriptions = Subscriptions::new(alloc);
+        subscriptions.add_each(self.successors.as_slice(), Event::Any)?;
+        Ok(subscriptions)
+    }
+
+    fn cost(&self) -> Cost
+        ensures { result ≡ cost.Great }
+    {
+        Cost::Great
+    }
 
     fn propagate(&self, alloc: Global, trail: &Trail, found: &mut Findings) -> Result<(), Memory> {
         find_all(alloc, trail, self.number, self.successors.as_slice(), found)
@@ -68,13 +100,10 @@ fn propagator_for(number: u64, given: &Constraint) -> Result<Option<CircuitPropa
     ensures is_for { IfOk result (λ found. IfSome found (λ propagator. CircuitIsFor propagator given.now)) }
     ensures none { IfOk result (λ found. IfNone found ((successors : List Term) → given.now ≡ constraint.Circuit successors → ⊥)) }
 {
-    match given {
-        Constraint::Circuit { successors } => Ok(Some(CircuitPropagator {
-            number,
-            successors: successors.share()?,
-        })),
-        _ => Ok(None),
-    }
+    let Constraint::Circuit { successors } = given else {
+        return Ok(None);
+    };
+    Ok(Some(CircuitPropagator::new(number, successors)?))
 }
 
 /// Finds all of the first kind of which there is anything to be found.
@@ -87,8 +116,8 @@ fn find_all(
 ) -> Result<(), Memory>
     requires terms { AreTerms (length trail.now.declared) successors.now }
     requires filled { NoneEmpty trail.now.sets }
-    requires before { AreOfCircuit number successors.now trail.now found.old }
-    ensures found { AreOfCircuit number successors.now trail.now found.new }
+    requires before { AreFoundOf number (constraint.Circuit successors.now) trail.now found.old }
+    ensures found { AreFoundOf number (constraint.Circuit successors.now) trail.now found.new }
     ensures none { OnOk result (found.new ≡ [] → AreExhausted (λ given. constraint.Circuit successors.now ≡ given) trail.now) }
 {
     find_outside(alloc, trail, number, successors, found)?;
@@ -116,8 +145,8 @@ fn find_outside(
 ) -> Result<(), Memory>
     requires terms { AreTerms (length trail.now.declared) successors.now }
     requires filled { NoneEmpty trail.now.sets }
-    requires before { AreOfCircuit number successors.now trail.now found.old }
-    ensures found { AreOfCircuit number successors.now trail.now found.new }
+    requires before { AreFoundOf number (constraint.Circuit successors.now) trail.now found.old }
+    ensures found { AreFoundOf number (constraint.Circuit successors.now) trail.now found.new }
     ensures none { OnOk result (found.new ≡ [] → AreInside trail.now.sets successors.now) }
 {
     for k in 0..successors.len() {
@@ -139,14 +168,14 @@ fn find_below(
     requires terms { AreTerms (length trail.now.declared) successors.now }
     requires filled { NoneEmpty trail.now.sets }
     requires place { k < length successors.now }
-    requires before { AreOfCircuit number successors.now trail.now found.old }
-    ensures found { AreOfCircuit number successors.now trail.now found.new }
+    requires before { AreFoundOf number (constraint.Circuit successors.now) trail.now found.old }
+    ensures found { AreFoundOf number (constraint.Circuit successors.now) trail.now found.new }
     ensures kept { OnOk result (found.new ≡ [] → found.old ≡ []) }
     ensures none { OnOk result (found.new ≡ [] → (default : Term) → NoneIs op.AtMost (pos 0) (slice_index_or successors.now k default) trail.now.sets) }
 {
     let mut below = Items::new(alloc);
     if explain_below(trail, successors, k, &mut below)? {
-        hand_over(trail, number, successors, Rule::Rows, below, found)?;
+        found.hand_over(number, Rule::Rows, Some(below))?;
     }
     Ok(())
 }
@@ -163,14 +192,14 @@ fn find_above(
     requires terms { AreTerms (length trail.now.declared) successors.now }
     requires filled { NoneEmpty trail.now.sets }
     requires place { k < length successors.now }
-    requires before { AreOfCircuit number successors.now trail.now found.old }
-    ensures found { AreOfCircuit number successors.now trail.now found.new }
+    requires before { AreFoundOf number (constraint.Circuit successors.now) trail.now found.old }
+    ensures found { AreFoundOf number (constraint.Circuit successors.now) trail.now found.new }
     ensures kept { OnOk result (found.new ≡ [] → found.old ≡ []) }
     ensures none { OnOk result (found.new ≡ [] → (default : Term) → NoneIs op.AtLeast (pos (length successors.now + 1)) (slice_index_or successors.now k default) trail.now.sets) }
 {
     let mut above = Items::new(alloc);
     if explain_above(trail, successors, k, &mut above)? {
-        hand_over(trail, number, successors, Rule::Rows, above, found)?;
+        found.hand_over(number, Rule::Rows, Some(above))?;
     }
     Ok(())
 }
@@ -185,8 +214,8 @@ fn find_cuts(
 ) -> Result<(), Memory>
     requires terms { AreTerms (length trail.now.declared) successors.now }
     requires filled { NoneEmpty trail.now.sets }
-    requires before { AreOfCircuit number successors.now trail.now found.old }
-    ensures found { AreOfCircuit number successors.now trail.now found.new }
+    requires before { AreFoundOf number (constraint.Circuit successors.now) trail.now found.old }
+    ensures found { AreFoundOf number (constraint.Circuit successors.now) trail.now found.new }
     ensures none { OnOk result (found.new ≡ [] → 0 < length successors.now → HasNoShortWay trail.now.sets successors.now (pos 1)) }
 {
     let list = starts_of(alloc, trail, successors)?;
@@ -215,13 +244,13 @@ fn find_cut(
     requires terms { AreTerms (length trail.now.declared) successors.now }
     requires filled { NoneEmpty trail.now.sets }
     requires start { IsIndex (length successors.now) start }
-    requires before { AreOfCircuit number successors.now trail.now found.old }
-    ensures found { AreOfCircuit number successors.now trail.now found.new }
+    requires before { AreFoundOf number (constraint.Circuit successors.now) trail.now found.old }
+    ensures found { AreFoundOf number (constraint.Circuit successors.now) trail.now found.new }
     ensures none { OnOk result (found.new ≡ [] → HasNoShortWay trail.now.sets successors.now start) }
 {
     let mut clause = Items::new(alloc);
     if let Some(places) = explain_cut(alloc, trail, successors, start, &mut clause)? {
-        hand_over(trail, number, successors, Rule::Cut(places), clause, found)?;
+        found.hand_over(number, Rule::Cut(places), Some(clause))?;
     }
     Ok(())
 }
@@ -236,15 +265,15 @@ fn find_closed(
 ) -> Result<(), Memory>
     requires terms { AreTerms (length trail.now.declared) successors.now }
     requires filled { NoneEmpty trail.now.sets }
-    requires before { AreOfCircuit number successors.now trail.now found.old }
-    ensures { AreOfCircuit number successors.now trail.now found.new }
+    requires before { AreFoundOf number (constraint.Circuit successors.now) trail.now found.old }
+    ensures { AreFoundOf number (constraint.Circuit successors.now) trail.now found.new }
 {
     let Some(places) = closed_places(alloc, trail, successors)? else {
         return Ok(());
     };
     let mut clause = Items::new(alloc);
     if explain_closed(trail, successors, places.as_slice(), &mut clause)? {
-        hand_over(trail, number, successors, Rule::Cut(places), clause, found)?;
+        found.hand_over(number, Rule::Cut(places), Some(clause))?;
     }
     Ok(())
 }

@@ -9,12 +9,12 @@ ghost use Rattle.fzn_meaning.specs.Meaning.{AreTerms};
 ghost use Rattle.fzn_meaning.specs.Term.{IsTerm};
 ghost use Rattle.fzn_rules.specs.declared.rule.Rule.TheVariants as rule;
 ghost use Rattle.fzn_sets.specs.Terms.{IsFixedTo};
-ghost use Rattle.fzn_terms.specs.Denied.{NoneIs, IsInferred};
+ghost use Rattle.fzn_terms.specs.Denied.{NoneIs};
+ghost use Rattle.fzn_propagator.specs.Clause.{IsJustified};
 ghost use Rattle.fzn_circuit.specs.Circuits.{AreApart, AreDifferent, HasOpen, owner_of};
-ghost use Rattle.fzn_circuit.specs.Propagator.{AreOfCircuit};
+ghost use Rattle.fzn_propagator.specs.Inference.{AreFoundOf};
 
 use crate::circuit::explain_same;
-use crate::found::hand_over;
 use fzn_domain::{Lit, Memory};
 use fzn_list::Items;
 use fzn_meaning::Term;
@@ -35,8 +35,8 @@ pub(crate) fn find_same(
 ) -> Result<(), Memory>
     requires terms { AreTerms (length trail.now.declared) successors.now }
     requires filled { NoneEmpty trail.now.sets }
-    requires before { AreOfCircuit number successors.now trail.now found.old }
-    ensures found { AreOfCircuit number successors.now trail.now found.new }
+    requires before { AreFoundOf number (constraint.Circuit successors.now) trail.now found.old }
+    ensures found { AreFoundOf number (constraint.Circuit successors.now) trail.now found.new }
     ensures none { OnOk result (found.new ≡ [] → AreDifferent trail.now.sets successors.now) }
 {
     find_new(alloc, trail, number, successors, found)?;
@@ -105,8 +105,8 @@ fn find_new(
 ) -> Result<(), Memory>
     requires terms { AreTerms (length trail.now.declared) successors.now }
     requires filled { NoneEmpty trail.now.sets }
-    requires before { AreOfCircuit number successors.now trail.now found.old }
-    ensures { AreOfCircuit number successors.now trail.now found.new }
+    requires before { AreFoundOf number (constraint.Circuit successors.now) trail.now found.old }
+    ensures { AreFoundOf number (constraint.Circuit successors.now) trail.now found.new }
 {
     let fixed = fixed_of(alloc, trail, successors)?;
     if FEW < fixed.len() {
@@ -130,8 +130,8 @@ fn find_like(
 ) -> Result<(), Memory>
     requires terms { AreTerms (length trail.now.declared) successors.now }
     requires filled { NoneEmpty trail.now.sets }
-    requires before { AreOfCircuit number successors.now trail.now found.old }
-    ensures { AreOfCircuit number successors.now trail.now found.new }
+    requires before { AreFoundOf number (constraint.Circuit successors.now) trail.now found.old }
+    ensures { AreFoundOf number (constraint.Circuit successors.now) trail.now found.new }
 {
     if i >= successors.len() {
         return Ok(());
@@ -157,8 +157,8 @@ fn find_pair(
 ) -> Result<(), Memory>
     requires terms { AreTerms (length trail.now.declared) successors.now }
     requires filled { NoneEmpty trail.now.sets }
-    requires before { AreOfCircuit number successors.now trail.now found.old }
-    ensures { AreOfCircuit number successors.now trail.now found.new }
+    requires before { AreFoundOf number (constraint.Circuit successors.now) trail.now found.old }
+    ensures { AreFoundOf number (constraint.Circuit successors.now) trail.now found.new }
 {
     if i >= successors.len() || j >= successors.len() || j == i {
         return Ok(());
@@ -167,14 +167,7 @@ fn find_pair(
     if greatest_value(trail, successors[i]) == value {
         let mut clause = Items::new(alloc);
         if explain_same(trail, successors, i, j, value, &mut clause)? {
-            hand_over(
-                trail,
-                number,
-                successors,
-                Rule::Hall(value, value),
-                clause,
-                found,
-            )?;
+            found.hand_over(number, Rule::Hall(value, value), Some(clause))?;
         }
     }
     Ok(())
@@ -192,8 +185,8 @@ fn find_owned(
 ) -> Result<(), Memory>
     requires terms { AreTerms (length trail.now.declared) successors.now }
     requires filled { NoneEmpty trail.now.sets }
-    requires before { AreOfCircuit number successors.now trail.now found.old }
-    ensures { AreOfCircuit number successors.now trail.now found.new }
+    requires before { AreFoundOf number (constraint.Circuit successors.now) trail.now found.old }
+    ensures { AreFoundOf number (constraint.Circuit successors.now) trail.now found.new }
 {
     for j in 0..successors.len() {
         find_owners(alloc, trail, number, successors, owners, j, found)?;
@@ -214,8 +207,8 @@ fn find_owners(
     requires terms { AreTerms (length trail.now.declared) successors.now }
     requires filled { NoneEmpty trail.now.sets }
     requires place { j < length successors.now }
-    requires before { AreOfCircuit number successors.now trail.now found.old }
-    ensures { AreOfCircuit number successors.now trail.now found.new }
+    requires before { AreFoundOf number (constraint.Circuit successors.now) trail.now found.old }
+    ensures { AreFoundOf number (constraint.Circuit successors.now) trail.now found.new }
 {
     let mut upto = 0;
     for _ in 0..owners.len() {
@@ -295,20 +288,13 @@ fn find_any(
 ) -> Result<(), Memory>
     requires terms { AreTerms (length trail.now.declared) successors.now }
     requires filled { NoneEmpty trail.now.sets }
-    requires before { AreOfCircuit number successors.now trail.now found.old }
-    ensures found { AreOfCircuit number successors.now trail.now found.new }
+    requires before { AreFoundOf number (constraint.Circuit successors.now) trail.now found.old }
+    ensures found { AreFoundOf number (constraint.Circuit successors.now) trail.now found.new }
     ensures none { OnOk result (found.new ≡ [] → AreDifferent trail.now.sets successors.now) }
 {
     let mut clause = Items::new(alloc);
     if let Some(value) = first_compared(trail, successors, &mut clause)? {
-        hand_over(
-            trail,
-            number,
-            successors,
-            Rule::Hall(value, value),
-            clause,
-            found,
-        )?;
+        found.hand_over(number, Rule::Hall(value, value), Some(clause))?;
     }
     Ok(())
 }
@@ -321,7 +307,7 @@ fn first_compared(
 ) -> Result<Option<i64>, Memory>
     requires terms { AreTerms (length trail.now.declared) successors.now }
     requires filled { NoneEmpty trail.now.sets }
-    ensures found { IfOk result (λ found. IfSome found (λ value. IsInferred trail.now (constraint.Circuit successors.now) (rule.Hall value value) clause.new)) }
+    ensures found { IfOk result (λ found. IfSome found (λ value. IsJustified trail.now (constraint.Circuit successors.now) (rule.Hall value value) clause.new)) }
     ensures limits { IfOk result (λ found. IfSome found IsInLimits) }
     ensures none { IfOk result (λ found. IfNone found (AreApart trail.now.sets successors.now)) }
 {
@@ -349,7 +335,7 @@ fn first_with(
     requires one { i < length successors.now }
     requires value { IsInLimits value }
     requires fixed { (default : Term) → IsFixedTo trail.now.sets (slice_index_or successors.now i default) value }
-    ensures { IfOk result (λ found. MatchBool found (IsInferred trail.now (constraint.Circuit successors.now) (rule.Hall value value) clause.new) ((j : ℕ) (default : Term) → i ≢ j → j < length successors.now → NoneIs op.Equal value (slice_index_or successors.now j default) trail.now.sets)) }
+    ensures { IfOk result (λ found. MatchBool found (IsJustified trail.now (constraint.Circuit successors.now) (rule.Hall value value) clause.new) ((j : ℕ) (default : Term) → i ≢ j → j < length successors.now → NoneIs op.Equal value (slice_index_or successors.now j default) trail.now.sets)) }
 {
     for j in 0..successors.len() {
         if j != i {

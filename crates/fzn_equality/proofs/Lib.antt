@@ -2,6 +2,5 @@ pub mod CallerLemmas
 mod ElementLemmas
 mod EqualityLemmas
 mod ExtremumLemmas
-mod FoundLemmas
 mod ListLemmas
 mod SharedLemmas

@@ -1,4 +1,3 @@
 pub mod Equality
-pub mod Found
 pub mod Rows
 pub mod Shared

@@ -7,11 +7,11 @@ ghost use Rattle.fzn_meaning.specs.declared.constraint.Constraint.TheVariants as
 ghost use Rattle.fzn_meaning.specs.Term.{IsTerm};
 ghost use Rattle.fzn_rules.specs.declared.rule.Rule.TheVariants as rule;
 ghost use Rattle.fzn_domain.specs.IntSet.{IntSet};
-ghost use Rattle.fzn_explain.specs.Claims.{IsDenied, IsJustified};
-ghost use Rattle.fzn_equality.specs.Found.{AreFoundOf};
+ghost use Rattle.fzn_explain.specs.Claims.{IsDenied};
+ghost use Rattle.fzn_propagator.specs.Clause.{IsJustified};
+ghost use Rattle.fzn_propagator.specs.Inference.{AreFoundOf};
 ghost use Rattle.fzn_equality.specs.Rows.{IsRuledOut, LeavesNoIndex};
 
-use crate::found::hand_over;
 use crate::shared::{share_none, shared_values};
 use crate::terms::{
     Bound, SMALL, apart, claim_of, is_fixed, is_never, may_be, narrowings, other_than_each,
@@ -186,9 +186,9 @@ fn hold_index(
     ensures { AreFoundOf number (constraint.Element index entries.now value) trail.now found.new }
 {
     let from_start = index_within(alloc, trail, index, entries, value, true)?;
-    hand_over(number, Rule::Rows, from_start, found)?;
+    found.hand_over(number, Rule::Rows, from_start)?;
     let up_to_end = index_within(alloc, trail, index, entries, value, false)?;
-    hand_over(number, Rule::Rows, up_to_end, found)
+    found.hand_over(number, Rule::Rows, up_to_end)
 }
 
 /// Where the index leads to one place: what the entry there and the result have to be, since the other is.
@@ -218,7 +218,7 @@ fn equate_entry(
     for k in 0..bounds.len() {
         let claim = claim_of(value, bounds.as_slice()[k]);
         let clause = index_or_apart(alloc, trail, index, entries, value, place, claim)?;
-        hand_over(number, Rule::Rows, clause, found)?;
+        found.hand_over(number, Rule::Rows, clause)?;
     }
     Ok(())
 }
@@ -273,11 +273,11 @@ fn part_entry(
     if let Some(bound) = apart(trail, value, entries[place]) {
         let claim = claim_of(value, bound);
         let clause = index_or_apart(alloc, trail, index, entries, value, place, claim)?;
-        return hand_over(number, Rule::Rows, clause, found);
+        return found.hand_over(number, Rule::Rows, clause);
     }
     if share_none(trail, entries[place], value) {
         let clause = index_or_shared(alloc, trail, index, entries, value, place, entries[place])?;
-        return hand_over(number, Rule::Rows, clause, found);
+        return found.hand_over(number, Rule::Rows, clause);
     }
     Ok(())
 }
@@ -304,7 +304,7 @@ fn bound_value(
     for k in 0..bounds.len() {
         let claim = claim_of(value, bounds[k]);
         let clause = value_or_entries(alloc, trail, index, entries, value, claim)?;
-        hand_over(number, Rule::Rows, clause, found)?;
+        found.hand_over(number, Rule::Rows, clause)?;
     }
     Ok(())
 }

@@ -6,7 +6,8 @@ ghost use Rattle.fzn_meaning.specs.declared.constraint.Constraint.TheVariants as
 ghost use Rattle.fzn_meaning.specs.Meaning.{IsSwitch};
 ghost use Rattle.fzn_meaning.specs.Term.{IsTerm};
 ghost use Rattle.fzn_rules.specs.declared.rule.Rule.TheVariants as rule;
-ghost use Rattle.fzn_explain.specs.Claims.{IsDenied, IsJustified};
+ghost use Rattle.fzn_explain.specs.Claims.{IsDenied};
+ghost use Rattle.fzn_propagator.specs.Clause.{IsJustified};
 ghost use Rattle.fzn_equality.specs.Equality.{IsAskedEqual};
 
 use crate::shared::{share_none, shared_values};

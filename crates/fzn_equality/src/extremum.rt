@@ -8,10 +8,9 @@ ghost use Rattle.fzn_meaning.specs.Term.{IsTerm};
 ghost use Rattle.fzn_sets.specs.Terms.{least_value, greatest_value};
 ghost use Rattle.fzn_builtin_rules.specs.Rows.{Passes};
 ghost use Rattle.fzn_rules.specs.declared.rule.Rule.TheVariants as rule;
-ghost use Rattle.fzn_explain.specs.Claims.{IsJustified};
-ghost use Rattle.fzn_equality.specs.Found.{AreFoundOf};
+ghost use Rattle.fzn_propagator.specs.Clause.{IsJustified};
+ghost use Rattle.fzn_propagator.specs.Inference.{AreFoundOf};
 
-use crate::found::hand_over;
 use crate::terms::{Bound, SMALL, claim_of, other_than_each, take_out};
 use fzn_domain::{Lit, Memory, Op};
 use fzn_explain::{Claim, explain};
@@ -294,7 +293,7 @@ fn hold_extremum(
         return Ok(());
     };
     let clause = entry_or_extremum(alloc, trail, extreme, entries, of, place, bound)?;
-    hand_over(number, Rule::Rows, clause, found)
+    found.hand_over(number, Rule::Rows, clause)
 }
 
 /// The clauses that each entry is within the result's last value, where it may be beyond.
@@ -317,7 +316,7 @@ fn hold_entries(
     for k in 0..entries.len() {
         if may_pass(trail, extreme, entries[k], bound) {
             let clause = entry_or_extremum(alloc, trail, extreme, entries, of, k, bound)?;
-            hand_over(number, Rule::Rows, clause, found)?;
+            found.hand_over(number, Rule::Rows, clause)?;
         }
     }
     Ok(())
@@ -342,7 +341,7 @@ fn bound_extremum(
     for k in 0..bounds.len() {
         let claim = claim_of(of, bounds[k]);
         let clause = extremum_or_entries(alloc, trail, extreme, entries, of, claim)?;
-        hand_over(number, Rule::Rows, clause, found)?;
+        found.hand_over(number, Rule::Rows, clause)?;
     }
     Ok(())
 }

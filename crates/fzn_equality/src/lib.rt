@@ -8,12 +8,10 @@
 pub use element::infer_element;
 pub use equality::infer_equal;
 pub use extremum::infer_extremum;
-pub use found::hand_over;
 pub use terms::{SMALL, is_fixed, may_be, never};
 
 mod element;
 mod equality;
 mod extremum;
-mod found;
 mod shared;
 mod terms;

@@ -7,14 +7,11 @@ use Rattle.fzn_domain.specs.IntSet.{IntSet}
 use Rattle.fzn_domain.specs.Narrow.{IsClauseOver, is_some_empty}
 use Rattle.fzn_meaning.specs.declared.term.Term.{Term}
 use Rattle.fzn_meaning.specs.declared.constraint.Constraint.{Constraint}
-use Rattle.fzn_meaning.specs.Term.{IsTerm}
 use Rattle.fzn_rules.specs.declared.rule.Rule.{Rule}
-use Rattle.fzn_rules.specs.Rules.{IsMet, IsAcceptedBy}
+use Rattle.fzn_rules.specs.Rules.{IsMet}
 use Rattle.fzn_sets.specs.Terms.{MayBe}
 use Rattle.fzn_trail.specs.Levels.{Levels}
-use Rattle.fzn_trail.specs.Unit.{IsFalseOrUnit}
-use Rattle.fzn_propagator.specs.Inference.{IsWritable}
-use Rattle.fzn_propagator.specs.Left.{IsLeft}
+use Rattle.fzn_propagator.specs.Clause.{Says, Keeps, IsForcing}
 use Rattle.fzn_explain.specs.declared.claim.Claim.{Claim}
 
 -- the opposite claim, of another term
@@ -35,35 +32,18 @@ pub record AreDenying (count : ℕ) (claims : List Claim) (sets : List IntSet) :
 abbrev pub Refute : ℕ → List Claim → Constraint → Rule → Type 0
 Refute count claims constraint rule = (sets : List IntSet) → AreDenying count claims sets → IsMet constraint sets rule
 
--- as many sets as are declared, none of them empty, in which each term has only values that the clause leaves
-pub record AreLeft (declared : List IntSet) (clause : List Lit) (sets : List IntSet) : Type 0 where
-  pub one_each : length sets ≡ length declared
-  pub filled : is_some_empty sets ≡ false
-  pub left : (term : Term) (v : ℤ) → IsTerm (length declared) term → MayBe sets term v → IsLeft declared clause term v
-
 -- the clause, grown from an old one, says besides that the claim is true
 pub record IsSaid (declared : List IntSet) (claim : Claim) (old new : List Lit) : Type 0 where
   pub over : IsClauseOver (length declared) new
-  pub keeps : (sets : List IntSet) → AreLeft declared new sets → AreLeft declared old sets
-  pub denies : (sets : List IntSet) → AreLeft declared new sets → IsDenied sets claim
+  pub keeps : Keeps declared old new
+  pub denies : Says declared new (λ sets. IsDenied sets claim)
 
 -- on the sets on which the clause is denied no claim is true
 pub record IsClauseOf (declared : List IntSet) (claims : List Claim) (clause : List Lit) : Type 0 where
   pub over : IsClauseOver (length declared) clause
-  pub denies : (sets : List IntSet) → AreLeft declared clause sets → All (IsDenied sets) claims
+  pub denies : Says declared clause (λ sets. All (IsDenied sets) claims)
 
--- the clause is false or forces one literal
-pub record IsUsable (trail : Levels) (clause : List Lit) : Type 0 where
-  pub writable : All IsWritable clause
-  pub forces : IsFalseOrUnit trail.sets clause
-
--- such a clause of the claims
+-- such a clause that is false or forces one literal
 pub record IsExplanation (trail : Levels) (claims : List Claim) (clause : List Lit) : Type 0 where
   pub clause_of : IsClauseOf trail.declared claims clause
-  pub usable : IsUsable trail clause
-
--- a clause that is false or forces one literal, and from the constraint by the rule
-pub record IsJustified (trail : Levels) (constraint : Constraint) (rule : Rule) (clause : List Lit) : Type 0 where
-  pub over : IsClauseOver (length trail.declared) clause
-  pub usable : IsUsable trail clause
-  pub accepted : IsAcceptedBy constraint rule trail.declared clause
+  pub forcing : IsForcing trail clause

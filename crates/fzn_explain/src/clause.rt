@@ -2,20 +2,18 @@
 ghost use Rattle.std.specs.Prelude.{◌≡◌, length, IfOk, IfSome, IsTrue};
 ghost use Rattle.std.specs.List.{All};
 ghost use Rattle.fzn_domain.specs.Literal.{compares};
-ghost use Rattle.fzn_domain.specs.Narrow.{IsVariable, IsClauseOver, can_fail};
+ghost use Rattle.fzn_domain.specs.Narrow.{IsClauseOver};
 ghost use Rattle.fzn_meaning.specs.Term.{IsTerm};
-ghost use Rattle.fzn_propagator.specs.Inference.{IsWritable};
-ghost use Rattle.fzn_explain.specs.Claims.{IsSaid, IsUsable, IsExplanation};
+ghost use Rattle.fzn_propagator.specs.Clause.{IsWritable, IsForcing};
+ghost use Rattle.fzn_explain.specs.Claims.{IsSaid, IsExplanation};
 
 use crate::claim::Claim;
-use fzn_domain::{Lit, Memory, VarId};
+use fzn_domain::{GREATEST_BOUND, LEAST_BOUND, Lit, Memory, VarId};
 use fzn_list::Items;
 use fzn_meaning::Term;
+use fzn_propagator::is_forcing;
 use fzn_trail::Trail;
 use std::alloc::Global;
-
-/// The numbers of literals lie from this one's opposite up to this one.
-const GREATEST_NUMBER: i64 = 1_000_000_001;
 
 /// A clause of these claims, without the literals that are false of all declared values, which is false or forces one literal. Nothing
 /// where there is none. It answers `Err` where memory runs out.
@@ -73,38 +71,29 @@ fn is_true_of(claim: Claim, value: i64) -> bool
 /// Whether the clause is false or forces one literal, and a certificate may have its numbers.
 fn is_usable(trail: &Trail, clause: &[Lit]) -> bool
     requires { IsClauseOver (length trail.now.declared) clause.now }
-    ensures { IsTrue result → IsUsable trail.now clause.now }
+    ensures { IsTrue result → IsForcing trail.now clause.now }
 {
-    let mut found = None;
+    if !are_writable(clause) {
+        return false;
+    }
+    is_forcing(trail, clause)
+}
+
+/// Whether a certificate may have the numbers of these literals.
+fn are_writable(clause: &[Lit]) -> bool
+    ensures { IsTrue result → All IsWritable clause.now }
+{
     for lit in clause {
         if !is_writable(*lit) {
             return false;
         }
-        if !trail.domain(lit.var).is_false(*lit) {
-            if found.is_some() {
-                return false;
-            }
-            found = Some(*lit);
-        }
     }
-    match found {
-        None => true,
-        Some(lit) => can_fail(trail, lit),
-    }
+    true
 }
 
 /// Whether a certificate may have the literal's number.
 fn is_writable(lit: Lit) -> bool
     ensures { IsTrue result → IsWritable lit }
 {
-    -GREATEST_NUMBER <= lit.value && lit.value <= GREATEST_NUMBER
-}
-
-/// Whether some present value makes the literal false.
-fn can_fail(trail: &Trail, lit: Lit) -> bool
-    requires variable { IsVariable (length trail.now.declared) lit.var }
-    requires writable { IsWritable lit }
-    ensures { result ≡ can_fail trail.now.sets lit }
-{
-    !trail.domain(lit.var).is_false(lit.negated())
+    LEAST_BOUND <= lit.value && lit.value <= GREATEST_BOUND
 }

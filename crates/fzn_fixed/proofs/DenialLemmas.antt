@@ -1,9 +1,8 @@
 -- The clause that some term has another value, term by term.
 use Rattle.std.proofs.Common.{◌≡◌, ◌+◌, ℕ, ◌<◌, Bool, true, false, not, List, [], ◌∷◌, ◌++◌, length, take, get_or, refl, sym, ap, ap₂, subst, ◌∙◌, inl, inr, arith, ℤ, All}
 use Rattle.std.proofs.lemmas.Int.{ints}
-use Rattle.std.specs.Ordering.{int_eq}
-use Rattle.std.proofs.lemmas.Bool.{cases_Bool, true≢false}
-use Rattle.std.proofs.lemmas.List.Elements.{All-nil, All-push, All-more, All-weaker}
+use Rattle.std.proofs.lemmas.Bool.{cases_Bool, true≢false, not-true, not-false}
+use Rattle.std.proofs.lemmas.List.Elements.{All-nil, All-more, All-weaker}
 use Rattle.fzn_domain.specs.declared.literal.VarId.{VarId}
 use Rattle.fzn_domain.specs.declared.literal.Lit.{Lit}
 use Rattle.fzn_domain.specs.declared.literal.Op.TheVariants.{NotEqual}
@@ -17,16 +16,10 @@ use Rattle.fzn_meaning.specs.declared.term.Term.TheVariants.{Variable}
 use Rattle.fzn_meaning.specs.Term.{IsTerm}
 use Rattle.fzn_sets.specs.Terms.{least_value}
 use Rattle.fzn_trail.specs.Levels.{Levels}
-use Rattle.fzn_propagator.specs.Inference.{IsWritable}
+use Rattle.fzn_propagator.specs.Clause.{IsWritable}
 use Rattle.fzn_propagator.specs.Left.{IsLeft}
-use Rattle.fzn_propagator.proofs.CallerLemmas.{left_of_more, last_fails, none_left}
-use Rattle.fzn_fixed.specs.Denial.{IsFixed, IsOnlyLeft, IsOtherValue, IsDenial, IsForcing, IsTrueOn}
-
-differs_not : (v k : ℤ) → v ≡ k → not (int_eq v k) ≡ false
-differs_not v k e = grind (arith, ints)
-
-same_value : (v k : ℤ) → not (int_eq v k) ≡ false → v ≡ k
-same_value v k h = grind (arith, ints)
+use Rattle.fzn_propagator.proofs.CallerLemmas.{differs_not, same_value, left_of_more, last_fails, false_of_none, false_push, forcing_push}
+use Rattle.fzn_fixed.specs.Denial.{IsFixed, IsOnlyLeft, IsOtherValue, IsDenial, IsDenialOr, IsTrueOn}
 
 -- a variable that has one value
 pub other_value_is : (trail : Levels) (term : Term) (var : VarId) (low value : ℤ) → term ≡ Variable var → IsInLimits low → low ≡ least (set_of trail.sets var) → value ≡ low → IsFixed trail.sets term → IsOtherValue trail term (record { var = var; op = NotEqual; value = value })
@@ -58,40 +51,26 @@ module _ (trail : Levels) (terms : List Term) (i : ℕ) (clause : List Lit) (d :
   -- the next term is a variable
   pub denial_push : (lit : Lit) → IsTerm (length trail.declared) (get_or terms i d) → IsDenial trail (take i terms) clause → IsOtherValue trail (get_or terms i d) lit → IsDenial trail (take (i + 1) terms) (clause ++ lit ∷ [])
   denial_push lit fits before other = record {
-    over = All-push (λ (l : Lit). IsVariable (length trail.declared) l.var) clause lit before.over (subst (IsTerm (length trail.declared)) other.of_term fits);
-    writable = All-push IsWritable clause lit before.writable other.writable;
-    impossible = none_left trail.sets clause lit false before.impossible other.impossible;
+    still = false_push trail clause lit before.still (subst (IsTerm (length trail.declared)) other.of_term fits) other.writable other.impossible;
     only = All-more (IsOnlyLeft trail (clause ++ lit ∷ [])) terms i d below (only_each_more trail clause (lit ∷ []) (take i terms) before.only) (only_by_lit trail clause (get_or terms i d) lit other);
   }
 
   -- it is a constant
   pub denial_same : IsDenial trail (take i terms) clause → ((v : ℤ) → IsLeft trail.declared [] (get_or terms i d) v → v ≡ least_value trail.sets (get_or terms i d)) → IsDenial trail (take (i + 1) terms) clause
   denial_same before only = record {
-    over = before.over;
-    writable = before.writable;
-    impossible = before.impossible;
+    still = before.still;
     only = All-more (IsOnlyLeft trail clause) terms i d below before.only (only_more trail [] clause (get_or terms i d) only);
   }
 
 pub denial_none : (trail : Levels) → IsDenial trail [] []
-denial_none trail = record {
-  over = All-nil (λ (l : Lit). IsVariable (length trail.declared) l.var);
-  writable = All-nil IsWritable;
-  impossible = refl;
-  only = All-nil (IsOnlyLeft trail []);
-}
+denial_none trail = record { still = false_of_none trail [] refl; only = All-nil (IsOnlyLeft trail []) }
 
 -- ---- a literal behind it
 
 module _ (trail : Levels) (terms : List Term) (clause : List Lit) (lit : Lit) (variable : IsVariable (length trail.declared) lit.var) (writable : IsWritable lit) (denial : IsDenial trail terms clause) where
-  pub forced : is_possible (set_of trail.sets lit.var) (negated lit) ≡ true → IsForcing trail terms lit (clause ++ lit ∷ [])
+  pub forced : is_possible (set_of trail.sets lit.var) (negated lit) ≡ true → IsDenialOr trail terms lit (clause ++ lit ∷ [])
   forced may_fail = record {
-    over = All-push (λ (l : Lit). IsVariable (length trail.declared) l.var) clause lit denial.over variable;
-    writable = All-push IsWritable clause lit denial.writable writable;
-    forces = elim (cases_Bool (is_possible (set_of trail.sets lit.var) lit)) [
-      | inl possible ↦ inr (lit, record { only = none_left trail.sets clause lit true denial.impossible possible; not_yet_true = may_fail })
-      | inr impossible ↦ inl (none_left trail.sets clause lit false denial.impossible impossible)
-    ];
+    forcing = forcing_push trail clause lit denial.still variable writable may_fail;
     only = only_each_more trail clause (lit ∷ []) terms denial.only;
     literal = λ v left. last_fails trail.declared clause lit v left;
   }
@@ -106,15 +85,7 @@ true_where_certain trail lit certain v here = elim (cases_Bool (is_true_at lit v
 -- ---- in the words of the calls
 
 pub certain_of : (trail : Levels) (s : IntSet) (lit l : Lit) (r : Bool) → r ≡ not (is_possible s l) → s ≡ set_of trail.sets lit.var → l ≡ negated lit → r ≡ true → is_possible (set_of trail.sets lit.var) (negated lit) ≡ false
-certain_of trail s lit l r is at same told = sym (ap₂ is_possible at same) ∙ was_true (is_possible s l) (sym is ∙ told)
-  where
-    was_true : (b : Bool) → not b ≡ true → b ≡ false
-    was_true true h = sym h
-    was_true false h = refl
+certain_of trail s lit l r is at same told = sym (ap₂ is_possible at same) ∙ not-true (is_possible s l) (sym is ∙ told)
 
 pub uncertain_of : (trail : Levels) (s : IntSet) (lit l : Lit) (r : Bool) → r ≡ not (is_possible s l) → s ≡ set_of trail.sets lit.var → l ≡ negated lit → r ≡ false → is_possible (set_of trail.sets lit.var) (negated lit) ≡ true
-uncertain_of trail s lit l r is at same told = sym (ap₂ is_possible at same) ∙ was_false (is_possible s l) (sym is ∙ told)
-  where
-    was_false : (b : Bool) → not b ≡ false → b ≡ true
-    was_false true h = refl
-    was_false false h = sym h
+uncertain_of trail s lit l r is at same told = sym (ap₂ is_possible at same) ∙ not-false (is_possible s l) (sym is ∙ told)

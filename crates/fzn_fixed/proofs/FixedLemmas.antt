@@ -1,58 +1,43 @@
 -- By the rule `fixed`: inputs that have one value each, and what their outcome asks of the result.
-use Rattle.std.proofs.Common.{◌≡◌, ◌↔◌, ℕ, zero, suc, ◌-◌, ◌*◌, ◌<◌, false, List, [], ◌∷◌, length, map, get_or, nat_eq, refl, sym, ap₂, subst, ◌∙◌, inl, inr, arith, ℤ, All, Option, Some, None, IfNone, IsSomeAnd, MatchOption}
-use Rattle.std.proofs.lemmas.Bool.{or_parts, cases_Bool, true≢false}
-use Rattle.std.proofs.lemmas.List.Elements.{All-nil, All-head, All-tail}
+use Rattle.std.proofs.Common.{◌≡◌, ◌↔◌, ℕ, ◌-◌, ◌*◌, false, List, [], ◌∷◌, length, map, refl, sym, ap₂, subst, ◌∙◌, arith, ℤ, All, Option, Some, None, IfNone, IsSomeAnd, MatchOption}
+use Rattle.std.proofs.lemmas.Bool.{true≢false}
+use Rattle.std.proofs.lemmas.List.Elements.{All-head, All-tail}
 use Rattle.fzn_domain.specs.declared.literal.Lit.{Lit}
 use Rattle.fzn_domain.specs.Literal.{is_true_at}
-use Rattle.fzn_domain.specs.IntSet.{IntSet, size, no_values}
 use Rattle.fzn_domain.specs.Narrow.{IsClauseOver, set_of, denied, is_some_empty}
 use Rattle.fzn_domain.proofs.SetLemmas.{member_of_size, size_of_one}
 use Rattle.fzn_domain.proofs.NarrowLemmas.{length-denied}
 use Rattle.fzn_meaning.specs.declared.term.Term.{Term}
 use Rattle.fzn_meaning.specs.declared.term.Term.TheVariants.{Constant, Variable}
-use Rattle.fzn_meaning.specs.declared.constraint.Constraint.{Constraint}
 use Rattle.fzn_meaning.specs.Term.{IsTerm}
-use Rattle.fzn_sets.specs.Terms.{MayBe, least_value}
+use Rattle.fzn_sets.specs.Terms.{least_value}
+use Rattle.fzn_sets.proofs.CallerLemmas.{nonempty_at}
 use Rattle.fzn_builtin_rules.specs.Choices.{inputs_of, result_of, Relates, NoneOf, count_of, choices, IsChoice, IsFixedMet}
 use Rattle.fzn_trail.specs.Levels.{Levels}
 use Rattle.fzn_propagator.specs.Left.{IsLeft}
-use Rattle.fzn_propagator.proofs.CallerLemmas.{left_of_denied}
-use Rattle.fzn_propagator.specs.Inference.{IsHint, IsInference}
+use Rattle.fzn_propagator.proofs.CallerLemmas.{left_of_may, forcing_of_false, justified_by}
+use Rattle.fzn_propagator.specs.Clause.{IsForcing, IsJustified}
 use Rattle.fzn_rules.specs.declared.rule.Rule.TheVariants.{Fixed}
 use Rattle.fzn_rules.specs.Rules.{IsMet}
 use Rattle.fzn_fixed.specs.declared.outcome.Outcome.{Outcome}
 use Rattle.fzn_fixed.specs.declared.parts.Parts.{Parts}
 use Rattle.fzn_fixed.specs.Demand.{AdmitsWhere}
-use Rattle.fzn_fixed.specs.Denial.{IsOnlyLeft, IsDenial, IsForcing}
-use Rattle.fzn_fixed.specs.Fixed.{IsFixedClause}
+use Rattle.fzn_fixed.specs.Denial.{IsOnlyLeft, IsDenial, IsDenialOr}
 use Rattle.fzn_fixed.specs.Outcome.{Admits, IsOutcome}
 use Rattle.fzn_fixed.specs.Parts.{IsReady}
-
-not_zero : (n : ℕ) → nat_eq n 0 ≡ false → 0 < n
-not_zero n h = grind arith
-
-nonempty_at : (sets : List IntSet) (k : ℕ) → is_some_empty sets ≡ false → k < length sets → 0 < size (get_or sets k no_values)
-nonempty_at [] k none below = absurd (omega arith)
-nonempty_at (s ∷ sets) zero none below = not_zero (size s) (or_parts (nat_eq (size s) 0) (is_some_empty sets) none).0
-nonempty_at (s ∷ sets) (suc k) none below = nonempty_at sets k (or_parts (nat_eq (size s) 0) (is_some_empty sets) none).1 (omega arith)
 
 -- the values of the inputs on the trail
 abbrev pub values_on : Levels → List Term → List ℤ
 values_on trail inputs = map (least_value trail.sets) inputs
 
 module _ (trail : Levels) (clause : List Lit) (over : IsClauseOver (length trail.declared) clause) where
-  -- a value of the denied sets is one that the clause leaves
-  left_of_may : (term : Term) (v : ℤ) → MayBe (denied trail.declared clause) term v → IsLeft trail.declared clause term v
-  left_of_may (Constant k) v may = sym may
-  left_of_may (Variable var) v may = left_of_denied clause trail.declared var v over may
-
   -- the only choice for the inputs is that of their values on the trail
   choice_is : (inputs : List Term) (choice : List ℤ) → All (IsOnlyLeft trail clause) inputs → IsChoice (denied trail.declared clause) inputs choice → choice ≡ values_on trail inputs
   choice_is [] [] only is = refl
   choice_is [] (x ∷ xs) only is = absurd is
   choice_is (t ∷ inputs) [] only is = absurd is
   choice_is (t ∷ inputs) (x ∷ xs) only is =
-      ap₂ (λ (y : ℤ) (ys : List ℤ). y ∷ ys) (All-head (IsOnlyLeft trail clause) t inputs only x (left_of_may t x is.0))
+      ap₂ (λ (y : ℤ) (ys : List ℤ). y ∷ ys) (All-head (IsOnlyLeft trail clause) t inputs only x (left_of_may clause trail.declared t x over is.0))
       (choice_is inputs xs (All-tail (IsOnlyLeft trail clause) t inputs only) is.1)
 
   module _ (some : is_some_empty (denied trail.declared clause) ≡ false) where
@@ -61,7 +46,7 @@ module _ (trail : Levels) (clause : List Lit) (over : IsClauseOver (length trail
     count_one (Variable var) fits only =
         let s = set_of (denied trail.declared clause) var in
         let member = member_of_size s (nonempty_at (denied trail.declared clause) (var.0 - 1) some (omega (arith, length-denied clause trail.declared))) in
-        size_of_one s member.0 member.1 (λ w here. only w (left_of_may (Variable var) w here) ∙ sym (only member.0 (left_of_may (Variable var) member.0 member.1)))
+        size_of_one s member.0 member.1 (λ w here. only w (left_of_may clause trail.declared (Variable var) w over here) ∙ sym (only member.0 (left_of_may clause trail.declared (Variable var) member.0 over member.1)))
 
     one_choice : (inputs : List Term) → All (IsTerm (length trail.declared)) inputs → All (IsOnlyLeft trail clause) inputs → choices (denied trail.declared clause) inputs ≡ 1
     one_choice [] fit only = refl
@@ -77,7 +62,7 @@ NoneLeft trail clause (Some term) outcome = (v : ℤ) → IsLeft trail.declared 
 -- so no value of the denied sets relates
 none_relates : (trail : Levels) (clause : List Lit) (of : Option Term) (outcome : Outcome) (R : Option ℤ → Type 0) → IsClauseOver (length trail.declared) clause → MatchOption of (R None ↔ Admits outcome None) (λ _. (r : ℤ) → R (Some r) ↔ Admits outcome (Some r)) → NoneLeft trail clause of outcome → NoneOf (denied trail.declared clause) of R
 none_relates trail clause None outcome R over is none = λ related. none (is.0 related)
-none_relates trail clause (Some term) outcome R over is none = λ v may related. none v (left_of_may trail clause over term v may) ((is v).0 related)
+none_relates trail clause (Some term) outcome R over is none = λ v may related. none v (left_of_may clause trail.declared term v over may) ((is v).0 related)
 
 declared_none : (trail : Levels) (clause : List Lit) (of : Option Term) (outcome : Outcome) → NoneOf trail.declared of (Admits outcome) → NoneLeft trail clause of outcome
 declared_none trail clause None outcome none = none
@@ -105,42 +90,20 @@ module _ (trail : Levels) (parts : Parts) (outcome : Outcome) (clause : List Lit
             (none_relates trail clause (result_of C) outcome (Relates C (values_on trail parts.inputs)) over is last),
       )
 
+  -- by the rule
+  fixed_by : IsForcing trail clause → All (IsOnlyLeft trail clause) parts.inputs → NoneLeft trail clause parts.result outcome → IsJustified trail parts.constraint Fixed clause
+  unfolding IsMet
+  fixed_by forcing only none =
+      justified_by trail parts.constraint Fixed clause (IsFixedMet parts.constraint) (λ sets met. met) (record { forcing = forcing; met = fixed_met forcing.over only none })
+
   -- no declared value of the result is admitted
-  pub fixed_denied : NoneOf trail.declared parts.result (Admits outcome) → IsDenial trail parts.inputs clause → IsFixedClause trail parts.constraint clause
-  fixed_denied none denial = record {
-    over = denial.over;
-    writable = denial.writable;
-    forces = inl denial.impossible;
-    met = fixed_met denial.over denial.only (declared_none trail clause parts.result outcome none);
-  }
+  pub fixed_denied : NoneOf trail.declared parts.result (Admits outcome) → IsDenial trail parts.inputs clause → IsJustified trail parts.constraint Fixed clause
+  fixed_denied none denial = fixed_by (forcing_of_false trail clause denial.still) denial.only (declared_none trail clause parts.result outcome none)
 
   -- those values are admitted at which the literal is true
-  pub fixed_forced : (lit : Lit) → AdmitsWhere trail.declared parts.result outcome lit → IsForcing trail parts.inputs lit clause → IsFixedClause trail parts.constraint clause
-  fixed_forced lit where_true forcing = record {
-    over = forcing.over;
-    writable = forcing.writable;
-    forces = forcing.forces;
-    met = fixed_met forcing.over forcing.only (literal_none trail clause parts.result outcome lit where_true forcing.literal);
-  }
-
--- ---- an inference by the rule
+  pub fixed_forced : (lit : Lit) → AdmitsWhere trail.declared parts.result outcome lit → IsDenialOr trail parts.inputs lit clause → IsJustified trail parts.constraint Fixed clause
+  fixed_forced lit where_true denial = fixed_by denial.forcing denial.only (literal_none trail clause parts.result outcome lit where_true denial.literal)
 
 pub none_then : {X : Type 0} (o : Option X) (A B : Type 0) → IfNone o A → (A → B) → IfNone o B
 none_then None A B h so = so h
 none_then (Some x) A B h so = h
-
--- the inference that the clause makes
-pub fixed_inference : (trail : Levels) (number : ℕ) (C : Constraint) (clause : List Lit) → IsFixedClause trail C clause → (constraint : Constraint) → C ≡ constraint → IsInference number constraint trail (record { constraint = number; rule = Fixed; clause = clause })
-unfolding IsMet
-fixed_inference trail number C clause found constraint same =
-    subst (λ (x : Constraint). IsInference number x trail (record { constraint = number; rule = Fixed; clause = clause })) same (record {
-      of_constraint = refl;
-      over = found.over;
-      writable = found.writable;
-      hints = All-nil IsHint;
-      accepted = elim (cases_Bool (is_some_empty (denied trail.declared clause))) [
-        | inl empty ↦ inl empty
-        | inr some ↦ inr (found.met some)
-      ];
-      forces = found.forces;
-    })

@@ -1,4 +1,3 @@
-pub mod CallerLemmas
 mod DenialLemmas
 mod FixedLemmas
 mod LastLemmas

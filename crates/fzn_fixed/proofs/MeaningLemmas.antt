@@ -16,12 +16,11 @@ use Rattle.fzn_sets.specs.Terms.{MayBe, least_value, greatest_value}
 use Rattle.fzn_builtin_rules.specs.Form.{form_of}
 use Rattle.fzn_builtin_rules.specs.Choices.{inputs_of, result_of, Relates}
 use Rattle.fzn_trail.specs.Levels.{Levels}
-use Rattle.fzn_propagator.specs.Inference.{AllFixed}
+use Rattle.fzn_propagator.specs.Inference.{AllFixed, HoldsWhereFixed}
 use Rattle.fzn_fixed.specs.declared.outcome.Outcome.{Outcome}
 use Rattle.fzn_fixed.specs.declared.parts.Parts.{Parts}
 use Rattle.fzn_fixed.specs.Demand.{AdmitsEach, AdmitsWhere}
 use Rattle.fzn_fixed.specs.Denial.{IsFixed, IsTrueOn}
-use Rattle.fzn_fixed.specs.Fixed.{HoldsWhereFixed}
 use Rattle.fzn_fixed.specs.Outcome.{Admits, IsOutcome}
 use Rattle.fzn_fixed.specs.Parts.{IsReady}
 use Rattle.fzn_fixed.proofs.FixedLemmas.{values_on}

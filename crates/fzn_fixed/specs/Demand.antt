@@ -8,7 +8,7 @@ use Rattle.fzn_meaning.specs.declared.term.Term.{Term}
 use Rattle.fzn_meaning.specs.declared.term.Term.TheVariants.{Variable}
 use Rattle.fzn_builtin_rules.specs.Choices.{NoneOf}
 use Rattle.fzn_sets.specs.Terms.{MayBe}
-use Rattle.fzn_propagator.specs.Inference.{IsWritable}
+use Rattle.fzn_propagator.specs.Clause.{IsWritable}
 use Rattle.fzn_fixed.specs.declared.demand.Demand.{Demand}
 use Rattle.fzn_fixed.specs.declared.demand.Demand.TheVariants.{Nothing, Impossible, Literal}
 use Rattle.fzn_fixed.specs.declared.outcome.Outcome.{Outcome}

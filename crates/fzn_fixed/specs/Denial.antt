@@ -1,16 +1,15 @@
 -- Terms that have one value each, and the clause that some of them has another.
-use Rattle.std.specs.Prelude.{◌≡◌, true, false, ℤ, List, [], length}
+use Rattle.std.specs.Prelude.{◌≡◌, true, false, ℤ, List}
 use Rattle.std.specs.List.{All}
 use Rattle.fzn_domain.specs.declared.literal.Lit.{Lit}
 use Rattle.fzn_domain.specs.Literal.{is_true_at}
 use Rattle.fzn_domain.specs.IntSet.{IntSet, contains, is_possible}
-use Rattle.fzn_domain.specs.Narrow.{IsClauseOver, set_of, possible_in}
+use Rattle.fzn_domain.specs.Narrow.{set_of}
 use Rattle.fzn_meaning.specs.declared.term.Term.{Term}
 use Rattle.fzn_meaning.specs.declared.term.Term.TheVariants.{Variable}
 use Rattle.fzn_sets.specs.Terms.{least_value, greatest_value}
 use Rattle.fzn_trail.specs.Levels.{Levels}
-use Rattle.fzn_trail.specs.Unit.{IsFalseOrUnit}
-use Rattle.fzn_propagator.specs.Inference.{IsWritable}
+use Rattle.fzn_propagator.specs.Clause.{IsWritable, IsFalseClause, IsForcing}
 use Rattle.fzn_propagator.specs.Left.{IsLeft}
 
 -- the term has one value
@@ -30,16 +29,12 @@ pub record IsOtherValue (trail : Levels) (term : Term) (lit : Lit) : Type 0 wher
 
 -- a clause that is false on the trail, and says that some term has another value
 pub record IsDenial (trail : Levels) (terms : List Term) (clause : List Lit) : Type 0 where
-  pub over : IsClauseOver (length trail.declared) clause
-  pub writable : All IsWritable clause
-  pub impossible : possible_in trail.sets clause ≡ []
+  pub still : IsFalseClause trail clause
   pub only : All (IsOnlyLeft trail clause) terms
 
 -- a clause that is false or forces the literal, and leaves each term the value that it has and the literal's variable no value at which that is true
-pub record IsForcing (trail : Levels) (terms : List Term) (lit : Lit) (clause : List Lit) : Type 0 where
-  pub over : IsClauseOver (length trail.declared) clause
-  pub writable : All IsWritable clause
-  pub forces : IsFalseOrUnit trail.sets clause
+pub record IsDenialOr (trail : Levels) (terms : List Term) (lit : Lit) (clause : List Lit) : Type 0 where
+  pub forcing : IsForcing trail clause
   pub only : All (IsOnlyLeft trail clause) terms
   pub literal : (v : ℤ) → IsLeft trail.declared clause (Variable lit.var) v → is_true_at lit v ≡ false
 

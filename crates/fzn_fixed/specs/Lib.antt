@@ -1,5 +1,4 @@
 pub mod Demand
 pub mod Denial
-pub mod Fixed
 pub mod Outcome
 pub mod Parts

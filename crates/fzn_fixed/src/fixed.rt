@@ -3,9 +3,10 @@ ghost use Rattle.std.specs.Prelude.{length, IfOk, IfSome, IfNone};
 ghost use Rattle.std.specs.List.{All};
 ghost use Rattle.fzn_domain.specs.Narrow.{IsVariable, NoneEmpty};
 ghost use Rattle.fzn_meaning.specs.Term.{IsTerm};
-ghost use Rattle.fzn_propagator.specs.Inference.{IsWritable};
-ghost use Rattle.fzn_fixed.specs.Denial.{IsFixed, IsForcing, IsTrueOn};
-ghost use Rattle.fzn_fixed.specs.Fixed.{IsFixedClause, HoldsWhereFixed};
+ghost use Rattle.fzn_rules.specs.declared.rule.Rule.TheVariants as rule;
+ghost use Rattle.fzn_propagator.specs.Clause.{IsWritable, IsJustified};
+ghost use Rattle.fzn_fixed.specs.Denial.{IsFixed, IsDenialOr, IsTrueOn};
+ghost use Rattle.fzn_propagator.specs.Inference.{HoldsWhereFixed};
 ghost use Rattle.fzn_fixed.specs.Parts.{IsReady};
 
 use crate::demand::{Demand, demand_of};
@@ -27,7 +28,7 @@ pub fn refute_fixed(
 ) -> Result<Option<Items<Lit>>, Memory>
     requires ready { IsReady (length trail.now.declared) parts.now }
     requires filled { NoneEmpty trail.now.sets }
-    ensures found { IfOk result (λ found. IfSome found (IsFixedClause trail.now parts.now.constraint)) }
+    ensures found { IfOk result (λ found. IfSome found (IsJustified trail.now parts.now.constraint rule.Fixed)) }
     ensures none { IfOk result (λ found. IfNone found (HoldsWhereFixed trail.now parts.now.constraint)) }
 {
     let inputs = parts.inputs.as_slice();
@@ -59,7 +60,7 @@ fn force(
     requires fixed { All (IsFixed trail.now.sets) inputs.now }
     requires variable { IsVariable (length trail.now.declared) lit.var }
     requires writable { IsWritable lit }
-    ensures found { IfOk result (λ found. IfSome found (IsForcing trail.now inputs.now lit)) }
+    ensures found { IfOk result (λ found. IfSome found (IsDenialOr trail.now inputs.now lit)) }
     ensures none { IfOk result (λ found. IfNone found (IsTrueOn trail.now.sets lit)) }
 {
     if trail.domain(lit.var).is_false(lit.negated()) {

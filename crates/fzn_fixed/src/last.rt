@@ -8,7 +8,8 @@ ghost use Rattle.fzn_meaning.specs.Meaning.{IsSwitch};
 ghost use Rattle.fzn_meaning.specs.Term.{IsTerm};
 ghost use Rattle.fzn_builtin_rules.specs.Choices.{NoneOf};
 ghost use Rattle.fzn_rules.specs.declared.rule.Rule.TheVariants as rule;
-ghost use Rattle.fzn_explain.specs.Claims.{IsDenied, IsJustified};
+ghost use Rattle.fzn_explain.specs.Claims.{IsDenied};
+ghost use Rattle.fzn_propagator.specs.Clause.{IsJustified};
 ghost use Rattle.fzn_fixed.specs.Outcome.{Admits};
 ghost use Rattle.fzn_fixed.specs.Parts.{IsReady};
 

@@ -21,9 +21,9 @@ use Rattle.fzn_meaning.specs.Term.{IsTerm, values_of}
 use Rattle.fzn_meaning.proofs.CallerLemmas.{length-values_of, get_or-values_of}
 use Rattle.fzn_sets.specs.Terms.{MayBe}
 use Rattle.fzn_trail.specs.Levels.{Levels}
-use Rattle.fzn_terms.specs.Law.{HoldsWhereFixed}
+use Rattle.fzn_propagator.specs.Inference.{HoldsWhereFixed}
 use Rattle.fzn_terms.specs.Claims.{place_at}
-use Rattle.fzn_terms.proofs.LawLemmas.{fixed_only, now_fit}
+use Rattle.fzn_terms.proofs.FixedLemmas.{fixed_only, now_fit}
 use Rattle.fzn_globals.specs.Apart.{AreMembers, HasOpen}
 
 -- ---- numbers that rise

@@ -1,5 +1,5 @@
 -- What tasks use at a time, task by task.
-use Rattle.std.proofs.Common.{◌≡◌, ◌≢◌, ℕ, zero, suc, ◌+◌, ◌<◌, ◌≤◌, true, cond, ◌&&◌, List, [], ◌∷◌, length, get_or, take, refl, sym, ap, subst, ◌∙◌, inl, arith, add-one, ℤ, pos, ◌+ℤ◌, ◌-ℤ◌, ◌≤ℤ◌, ◌<ℤ◌, int_lt, int_le}
+use Rattle.std.proofs.Common.{◌≡◌, ◌≢◌, ℕ, zero, suc, ◌+◌, ◌<◌, ◌≤◌, true, cond, ◌&&◌, List, [], ◌∷◌, length, get_or, take, refl, sym, ap, subst, ◌∙◌, arith, add-one, ℤ, pos, ◌+ℤ◌, ◌-ℤ◌, ◌≤ℤ◌, ◌<ℤ◌, int_lt, int_le}
 use Rattle.std.specs.Int.{int_max}
 use Rattle.std.proofs.lemmas.Int.{ints}
 use Rattle.std.proofs.lemmas.List.{take_all}
@@ -14,9 +14,12 @@ use Rattle.fzn_sets.specs.Terms.{least_value, greatest_value}
 use Rattle.fzn_sets.proofs.ValueLemmas.{MayBe-ends, MayBe-between}
 use Rattle.fzn_global_rules.specs.Load.{IsLoadMet}
 use Rattle.fzn_trail.specs.Levels.{Levels}
-use Rattle.fzn_terms.specs.Denied.{AreLeft, AllAre, IsExplained, IsInferred}
+use Rattle.fzn_propagator.specs.Clause.{AreLeft, IsJustified}
+use Rattle.fzn_terms.specs.Denied.{AllAre, IsExplained}
 use Rattle.fzn_load.specs.declared.tasks.Tasks.{Tasks}
 use Rattle.fzn_load.specs.Loads.{AreReady, cumulative_of, least_use_of, runs_surely, total_of, total_but, IsUseExplained, AreExplained}
+use Rattle.fzn_propagator.proofs.CallerLemmas.{forcing_of_false, justified_where}
+use Rattle.fzn_terms.proofs.OrderLemmas.{at_most, step_more, step_spare, wider}
 
 module _ (sets : List IntSet) (t : ℤ) where
   total-take : (ss ds rs : List Term) (k : ℕ) (x : Term) → length ds ≡ length ss → length rs ≡ length ss → k < length ss → total_of sets t (take (suc k) ss) (take (suc k) ds) (take (suc k) rs) ≡ total_of sets t (take k ss) (take k ds) (take k rs) +ℤ least_use_of sets t (get_or ss k x) (get_or ds k x) (get_or rs k x)
@@ -72,9 +75,6 @@ module _ (sets : List IntSet) (t : ℤ) where
       let rest = but-one ss ds rs e x (omega arith) (omega arith) (omega arith) in
       omega (arith, ints)
 
-at_most : (v n : ℤ) → int_le v n ≡ true → v ≤ℤ n
-at_most v n h = grind (arith, ints)
-
 -- a task whose terms are so runs at the time, and uses so much
 runs_then : (t low high shortest lowest s l h u : ℤ) → int_le high t ≡ true → int_le ((t -ℤ s) +ℤ pos 1) low ≡ true → int_le s shortest ≡ true → int_le u lowest ≡ true → cond (int_le h t && int_lt t (l +ℤ s)) (int_max (pos 0) u) (pos 0) ≤ℤ cond (int_le high t && int_lt t (low +ℤ shortest)) (int_max (pos 0) lowest) (pos 0)
 runs_then t low high shortest lowest s l h u a b c d = grind (arith, ints)
@@ -124,12 +124,6 @@ module _ (trail : Levels) (t : ℤ) (start duration uses : Term) where
   }
 
 -- ---- the loop over the tasks
-
-step_more : (a b spare u v : ℤ) → a ≤ℤ (b +ℤ spare) → u ≤ℤ v → (a +ℤ u) ≤ℤ ((b +ℤ v) +ℤ spare)
-step_more a b spare u v h k = omega (arith, ints)
-
-step_spare : (a b spare u v : ℤ) → a ≤ℤ (b +ℤ spare) → pos 0 ≤ℤ v → (a +ℤ u) ≤ℤ ((b +ℤ v) +ℤ (spare +ℤ u))
-step_spare a b spare u v h k = omega (arith, ints)
 
 use_not_negative : (x y u s t : ℤ) → pos 0 ≤ℤ cond (int_le x t && int_lt t (y +ℤ s)) (int_max (pos 0) u) (pos 0)
 use_not_negative x y u s t = grind (arith, ints)
@@ -193,9 +187,6 @@ explained_wider trail t e a b ss ds rs old new le before = record {
   keeps = before.keeps;
   says = λ sets left. wider (total_but e trail.sets t ss ds rs) (total_but e sets t ss ds rs) a b le (before.says sets left);
 }
-  where
-    wider : (x y a b : ℤ) → a ≤ℤ b → x ≤ℤ (y +ℤ a) → x ≤ℤ (y +ℤ b)
-    wider x y a b h k = omega (arith, ints)
 
 -- the same lists
 pub use_same : (sets : List IntSet) (t : ℤ) (k : ℕ) (x : Term) (ss ss' ds ds' rs rs' : List Term) → ss ≡ ss' → ds ≡ ds' → rs ≡ rs' → least_use_of sets t (get_or ss k x) (get_or ds k x) (get_or rs k x) ≡ least_use_of sets t (get_or ss' k x) (get_or ds' k x) (get_or rs' k x)
@@ -221,19 +212,17 @@ explained_all trail t e k spare ss ds rs old new p q past h =
 over_of : (capacity load spare most total : ℤ) → most ≤ℤ capacity → load ≤ℤ (total +ℤ spare) → spare ≡ (load -ℤ capacity) -ℤ pos 1 → most <ℤ total
 over_of capacity load spare most total a b e = omega (arith, ints)
 
-pub load_inferred : (trail : Levels) (tasks : Tasks) (t capacity spare : ℤ) (n : ℕ) (c0 c1 c2 : List Lit) → AreReady (length trail.declared) tasks → length tasks.starts ≤ n → IsExplained trail AtMost capacity tasks.capacity c0 c1 → AreExplained trail t n spare tasks.starts tasks.durations tasks.uses c1 c2 → spare ≡ (total_of trail.sets t tasks.starts tasks.durations tasks.uses -ℤ capacity) -ℤ pos 1 → IsInferred trail (cumulative_of tasks) (Load t) c2
+pub load_inferred : (trail : Levels) (tasks : Tasks) (t capacity spare : ℤ) (n : ℕ) (c0 c1 c2 : List Lit) → AreReady (length trail.declared) tasks → length tasks.starts ≤ n → IsExplained trail AtMost capacity tasks.capacity c0 c1 → AreExplained trail t n spare tasks.starts tasks.durations tasks.uses c1 c2 → spare ≡ (total_of trail.sets t tasks.starts tasks.durations tasks.uses -ℤ capacity) -ℤ pos 1 → IsJustified trail (cumulative_of tasks) (Load t) c2
 unfolding IsMet IsLoadMet
-load_inferred trail tasks t capacity spare n c0 c1 c2 ready all most explained is = record {
-  forcing = record { over = explained.still.over; writable = explained.still.writable; forces = inl explained.still.impossible };
-  says = λ sets left.
-      let ss = tasks.starts in
-      let ds = tasks.durations in
-      let rs = tasks.uses in
-      let on_trail = but-none trail.sets t tasks.starts tasks.durations tasks.uses n ready.as_many_durations ready.as_many_uses all in
-      let on_sets = but-none sets t tasks.starts tasks.durations tasks.uses n ready.as_many_durations ready.as_many_uses all in
-      let ends = MayBe-ends sets tasks.capacity left.filled (subst (λ (k : ℕ). IsTerm k tasks.capacity) (sym left.one_each) ready.capacity) in
-      over_of capacity (total_of trail.sets t tasks.starts tasks.durations tasks.uses) spare (greatest_value sets tasks.capacity) (total_of sets t tasks.starts tasks.durations tasks.uses)
-      (at_most (greatest_value sets tasks.capacity) capacity (most.says sets (explained.keeps sets left) (greatest_value sets tasks.capacity) ends.1))
-      (subst (λ (a : ℤ). a ≤ℤ (total_of sets t tasks.starts tasks.durations tasks.uses +ℤ spare)) on_trail (subst (λ (b : ℤ). total_but n trail.sets t tasks.starts tasks.durations tasks.uses ≤ℤ (b +ℤ spare)) on_sets (explained.says sets left)))
-      is;
-}
+load_inferred trail tasks t capacity spare n c0 c1 c2 ready all most explained is =
+    justified_where trail (cumulative_of tasks) (Load t) c2 (forcing_of_false trail c2 explained.still) (λ sets left.
+    let ss = tasks.starts in
+    let ds = tasks.durations in
+    let rs = tasks.uses in
+    let on_trail = but-none trail.sets t tasks.starts tasks.durations tasks.uses n ready.as_many_durations ready.as_many_uses all in
+    let on_sets = but-none sets t tasks.starts tasks.durations tasks.uses n ready.as_many_durations ready.as_many_uses all in
+    let ends = MayBe-ends sets tasks.capacity left.filled (subst (λ (k : ℕ). IsTerm k tasks.capacity) (sym left.one_each) ready.capacity) in
+    over_of capacity (total_of trail.sets t tasks.starts tasks.durations tasks.uses) spare (greatest_value sets tasks.capacity) (total_of sets t tasks.starts tasks.durations tasks.uses)
+    (at_most (greatest_value sets tasks.capacity) capacity (most.says sets (explained.keeps sets left) (greatest_value sets tasks.capacity) ends.1))
+    (subst (λ (a : ℤ). a ≤ℤ (total_of sets t tasks.starts tasks.durations tasks.uses +ℤ spare)) on_trail (subst (λ (b : ℤ). total_but n trail.sets t tasks.starts tasks.durations tasks.uses ≤ℤ (b +ℤ spare)) on_sets (explained.says sets left)))
+    is)

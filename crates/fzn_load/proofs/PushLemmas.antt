@@ -13,11 +13,14 @@ use Rattle.fzn_sets.specs.Terms.{least_value, greatest_value}
 use Rattle.fzn_sets.proofs.ValueLemmas.{MayBe-ends}
 use Rattle.fzn_global_rules.specs.Load.{IsLoadMet}
 use Rattle.fzn_trail.specs.Levels.{Levels}
-use Rattle.fzn_terms.specs.Denied.{AreLeft, AllAre, NoneIs, IsExplained, IsForced, IsInferred}
+use Rattle.fzn_propagator.specs.Clause.{AreLeft, IsJustified}
+use Rattle.fzn_terms.specs.Denied.{AllAre, NoneIs, IsExplained, IsForced}
 use Rattle.fzn_terms.proofs.CaseLemmas.{either, if_true}
 use Rattle.fzn_load.specs.declared.tasks.Tasks.{Tasks}
 use Rattle.fzn_load.specs.Loads.{AreReady, cumulative_of, least_use_of, total_of, total_but, least_amount, IsUseForced, AreExplained, AreOver, others_of, HasRoom}
 use Rattle.fzn_load.proofs.LoadLemmas.{but-one, but-none}
+use Rattle.fzn_propagator.proofs.CallerLemmas.{justified_where}
+use Rattle.fzn_terms.proofs.OrderLemmas.{at_most}
 
 runs_full : (t low high shortest lowest s u : ℤ) → int_le high t ≡ true → int_le ((t -ℤ s) +ℤ pos 1) low ≡ true → int_le s shortest ≡ true → int_le u lowest ≡ true → int_max (pos 0) u ≤ℤ cond (int_le high t && int_lt t (low +ℤ shortest)) (int_max (pos 0) lowest) (pos 0)
 runs_full t low high shortest lowest s u a b c d = grind (arith, ints)
@@ -83,9 +86,6 @@ module _ (trail : Levels) (t s u : ℤ) (start duration uses : Term) (fit_start 
         use_full c4 sets left (by.says sets left1) (subst (λ (n : ℤ). AllAre AtLeast n start sets) (back t s e is) (from.says sets left2)) (for.says sets left) (at.says sets left3);
   }
 
-at_most : (v n : ℤ) → int_le v n ≡ true → v ≤ℤ n
-at_most v n h = grind (arith, ints)
-
 over_of : (capacity others spare amount most but : ℤ) → most ≤ℤ capacity → others ≤ℤ (but +ℤ spare) → spare ≡ ((others +ℤ amount) -ℤ capacity) -ℤ pos 1 → most <ℤ (but +ℤ amount)
 over_of capacity others spare amount most but a b e = omega (arith, ints)
 
@@ -103,18 +103,16 @@ over trail tasks t capacity spare amount k c0 c1 c2 ready most explained is = re
 more_of : (most but amount use_k total : ℤ) → most <ℤ (but +ℤ amount) → amount ≤ℤ use_k → total ≡ but +ℤ use_k → most <ℤ total
 more_of most but amount use_k total a b e = omega (arith, ints)
 
-pub push_inferred : (trail : Levels) (tasks : Tasks) (t amount : ℤ) (k : ℕ) (x : Term) (old new : List Lit) → AreReady (length trail.declared) tasks → k < length tasks.starts → AreOver trail t k amount tasks old → IsUseForced trail t amount (get_or tasks.starts k x) (get_or tasks.durations k x) (get_or tasks.uses k x) old new → IsInferred trail (cumulative_of tasks) (Load t) new
+pub push_inferred : (trail : Levels) (tasks : Tasks) (t amount : ℤ) (k : ℕ) (x : Term) (old new : List Lit) → AreReady (length trail.declared) tasks → k < length tasks.starts → AreOver trail t k amount tasks old → IsUseForced trail t amount (get_or tasks.starts k x) (get_or tasks.durations k x) (get_or tasks.uses k x) old new → IsJustified trail (cumulative_of tasks) (Load t) new
 unfolding IsMet IsLoadMet
-push_inferred trail tasks t amount k x old new ready inside are_over forced = record {
-  forcing = forced.forcing;
-  says = λ sets left.
-      more_of (greatest_value sets tasks.capacity) (total_but k sets t tasks.starts tasks.durations tasks.uses) amount (least_use_of sets t (get_or tasks.starts k x) (get_or tasks.durations k x) (get_or tasks.uses k x)) (total_of sets t tasks.starts tasks.durations tasks.uses)
-      (are_over.says sets (forced.keeps sets left)) (forced.says sets left)
-      (but-one sets t tasks.starts tasks.durations tasks.uses k x ready.as_many_durations ready.as_many_uses inside);
-}
+push_inferred trail tasks t amount k x old new ready inside are_over forced =
+    justified_where trail (cumulative_of tasks) (Load t) new forced.forcing (λ sets left.
+    more_of (greatest_value sets tasks.capacity) (total_but k sets t tasks.starts tasks.durations tasks.uses) amount (least_use_of sets t (get_or tasks.starts k x) (get_or tasks.durations k x) (get_or tasks.uses k x)) (total_of sets t tasks.starts tasks.durations tasks.uses)
+    (are_over.says sets (forced.keeps sets left)) (forced.says sets left)
+    (but-one sets t tasks.starts tasks.durations tasks.uses k x ready.as_many_durations ready.as_many_uses inside))
 
 -- so of the lists of a call
-pub pushed : {N F : Type 0} (trail : Levels) (tasks : Tasks) (t held amount : ℤ) (k : ℕ) (x : Term) (ss ds rs : List Term) (old new : List Lit) (first found : Bool) → AreReady (length trail.declared) tasks → k < length tasks.starts → ss ≡ tasks.starts → ds ≡ tasks.durations → rs ≡ tasks.uses → MatchBool first (AreOver trail t k held tasks old) (HasRoom trail.sets t k held tasks) → first ≡ true → held ≡ amount → (N → F) → MatchBool found (IsUseForced trail t amount (get_or ss k x) (get_or ds k x) (get_or rs k x) old new) N → MatchBool found (IsInferred trail (cumulative_of tasks) (Load t) new) F
+pub pushed : {N F : Type 0} (trail : Levels) (tasks : Tasks) (t held amount : ℤ) (k : ℕ) (x : Term) (ss ds rs : List Term) (old new : List Lit) (first found : Bool) → AreReady (length trail.declared) tasks → k < length tasks.starts → ss ≡ tasks.starts → ds ≡ tasks.durations → rs ≡ tasks.uses → MatchBool first (AreOver trail t k held tasks old) (HasRoom trail.sets t k held tasks) → first ≡ true → held ≡ amount → (N → F) → MatchBool found (IsUseForced trail t amount (get_or ss k x) (get_or ds k x) (get_or rs k x) old new) N → MatchBool found (IsJustified trail (cumulative_of tasks) (Load t) new) F
 pushed trail tasks t held amount k x ss ds rs old new first found ready inside a b c are_over yes_over same otherwise forced =
     either found
     (λ one. push_inferred trail tasks t amount k x old new ready inside
@@ -155,16 +153,14 @@ starts_past sets t latest k x ss ss' a is h = subst (λ (n : ℤ). t <ℤ n) (is
 least_of : (most limit load total trail_total : ℤ) → most ≤ℤ limit → trail_total ≤ℤ (total +ℤ pos 0) → load ≡ trail_total → limit ≡ load -ℤ pos 1 → most <ℤ total
 least_of most limit load total trail_total a b e f = omega (arith, ints)
 
-pub capacity_inferred : (trail : Levels) (tasks : Tasks) (t load limit : ℤ) (n : ℕ) (c0 c1 c2 : List Lit) → AreReady (length trail.declared) tasks → length tasks.starts ≤ n → AreExplained trail t n (pos 0) tasks.starts tasks.durations tasks.uses c0 c1 → IsForced trail AtMost limit tasks.capacity c1 c2 → load ≡ total_of trail.sets t tasks.starts tasks.durations tasks.uses → limit ≡ load -ℤ pos 1 → IsInferred trail (cumulative_of tasks) (Load t) c2
+pub capacity_inferred : (trail : Levels) (tasks : Tasks) (t load limit : ℤ) (n : ℕ) (c0 c1 c2 : List Lit) → AreReady (length trail.declared) tasks → length tasks.starts ≤ n → AreExplained trail t n (pos 0) tasks.starts tasks.durations tasks.uses c0 c1 → IsForced trail AtMost limit tasks.capacity c1 c2 → load ≡ total_of trail.sets t tasks.starts tasks.durations tasks.uses → limit ≡ load -ℤ pos 1 → IsJustified trail (cumulative_of tasks) (Load t) c2
 unfolding IsMet IsLoadMet
-capacity_inferred trail tasks t load limit n c0 c1 c2 ready all explained forced is limit_is = record {
-  forcing = forced.forcing;
-  says = λ sets left.
-      let on_trail = but-none trail.sets t tasks.starts tasks.durations tasks.uses n ready.as_many_durations ready.as_many_uses all in
-      let on_sets = but-none sets t tasks.starts tasks.durations tasks.uses n ready.as_many_durations ready.as_many_uses all in
-      let ends = MayBe-ends sets tasks.capacity left.filled (subst (λ (k : ℕ). IsTerm k tasks.capacity) (sym left.one_each) ready.capacity) in
-      least_of (greatest_value sets tasks.capacity) limit load (total_of sets t tasks.starts tasks.durations tasks.uses) (total_of trail.sets t tasks.starts tasks.durations tasks.uses)
-      (at_most (greatest_value sets tasks.capacity) limit (forced.says sets left (greatest_value sets tasks.capacity) ends.1))
-      (subst (λ (a : ℤ). a ≤ℤ (total_of sets t tasks.starts tasks.durations tasks.uses +ℤ pos 0)) on_trail (subst (λ (b : ℤ). total_but n trail.sets t tasks.starts tasks.durations tasks.uses ≤ℤ (b +ℤ pos 0)) on_sets (explained.says sets (forced.keeps sets left))))
-      is limit_is;
-}
+capacity_inferred trail tasks t load limit n c0 c1 c2 ready all explained forced is limit_is =
+    justified_where trail (cumulative_of tasks) (Load t) c2 forced.forcing (λ sets left.
+    let on_trail = but-none trail.sets t tasks.starts tasks.durations tasks.uses n ready.as_many_durations ready.as_many_uses all in
+    let on_sets = but-none sets t tasks.starts tasks.durations tasks.uses n ready.as_many_durations ready.as_many_uses all in
+    let ends = MayBe-ends sets tasks.capacity left.filled (subst (λ (k : ℕ). IsTerm k tasks.capacity) (sym left.one_each) ready.capacity) in
+    least_of (greatest_value sets tasks.capacity) limit load (total_of sets t tasks.starts tasks.durations tasks.uses) (total_of trail.sets t tasks.starts tasks.durations tasks.uses)
+    (at_most (greatest_value sets tasks.capacity) limit (forced.says sets left (greatest_value sets tasks.capacity) ends.1))
+    (subst (λ (a : ℤ). a ≤ℤ (total_of sets t tasks.starts tasks.durations tasks.uses +ℤ pos 0)) on_trail (subst (λ (b : ℤ). total_but n trail.sets t tasks.starts tasks.durations tasks.uses ≤ℤ (b +ℤ pos 0)) on_sets (explained.says sets (forced.keeps sets left))))
+    is limit_is)

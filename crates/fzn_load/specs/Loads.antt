@@ -14,7 +14,8 @@ use Rattle.fzn_sets.specs.Terms.{least_value, greatest_value}
 use Rattle.fzn_global_rules.specs.Tasks.{task_terms, sum_over}
 use Rattle.fzn_global_rules.specs.Load.{least_use_at}
 use Rattle.fzn_trail.specs.Levels.{Levels}
-use Rattle.fzn_terms.specs.Denied.{Says, Keeps, NoneIs, IsFalseClause, IsForcing}
+use Rattle.fzn_propagator.specs.Clause.{Says, Keeps, IsFalseClause, IsForcing}
+use Rattle.fzn_terms.specs.Denied.{NoneIs}
 use Rattle.fzn_load.specs.declared.tasks.Tasks.{Tasks}
 
 -- tasks on this many variables

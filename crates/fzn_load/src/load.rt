@@ -5,7 +5,7 @@ ghost use Rattle.fzn_meaning.specs.Term.{IsTerm};
 ghost use Rattle.std.specs.Int.{int_max};
 ghost use Rattle.fzn_sets.specs.Terms.{least_value};
 ghost use Rattle.fzn_rules.specs.declared.rule.Rule.TheVariants as rule;
-ghost use Rattle.fzn_terms.specs.Denied.{IsFalseClause, IsInferred};
+ghost use Rattle.fzn_propagator.specs.Clause.{IsFalseClause, IsJustified};
 ghost use Rattle.fzn_load.specs.Loads.{AreReady, cumulative_of, IsTime, least_use_of, runs_surely, total_of, IsUseExplained, AreExplained, IsKeptAt};
 
 use crate::tasks::Tasks;
@@ -155,7 +155,7 @@ pub fn explain_load(
     requires tasks { AreReady (length trail.now.declared) tasks.now }
     requires filled { NoneEmpty trail.now.sets }
     requires time { IsTime time.now }
-    ensures { IfOk result (λ found. MatchBool found (IsInferred trail.now (cumulative_of tasks.now) (rule.Load time.now) clause.new) (IsKeptAt trail.now.sets tasks.now time.now)) }
+    ensures { IfOk result (λ found. MatchBool found (IsJustified trail.now (cumulative_of tasks.now) (rule.Load time.now) clause.new) (IsKeptAt trail.now.sets tasks.now time.now)) }
 {
     let load = load_at(trail, tasks, time);
     let capacity = greatest_value(trail, tasks.capacity);

@@ -5,7 +5,8 @@ ghost use Rattle.fzn_domain.specs.Narrow.{NoneEmpty};
 ghost use Rattle.fzn_meaning.specs.Term.{IsTerm};
 ghost use Rattle.fzn_sets.specs.Terms.{least_value, greatest_value};
 ghost use Rattle.fzn_rules.specs.declared.rule.Rule.TheVariants as rule;
-ghost use Rattle.fzn_terms.specs.Denied.{NoneIs, IsFalseClause, IsInferred};
+ghost use Rattle.fzn_terms.specs.Denied.{NoneIs};
+ghost use Rattle.fzn_propagator.specs.Clause.{IsFalseClause, IsJustified};
 ghost use Rattle.fzn_load.specs.Loads.{AreReady, cumulative_of, IsTime, IsAmount, others_of, least_amount, IsUseForced, AreOver, HasRoom, IsFreeAfter, IsFreeBefore};
 
 use crate::load::{explain_uses, least_end, least_use, load_at, use_at};
@@ -128,7 +129,7 @@ pub fn push_after(
     requires filled { NoneEmpty trail.now.sets }
     requires place { k < length tasks.now.starts }
     requires time { IsTime time.now }
-    ensures { IfOk result (λ found. MatchBool found (IsInferred trail.now (cumulative_of tasks.now) (rule.Load time.now) clause.new) (IsFreeAfter trail.now.sets time.now k tasks.now)) }
+    ensures { IfOk result (λ found. MatchBool found (IsJustified trail.now (cumulative_of tasks.now) (rule.Load time.now) clause.new) (IsFreeAfter trail.now.sets time.now k tasks.now)) }
 {
     let start = tasks.starts.as_slice()[k];
     let duration = tasks.durations.as_slice()[k];
@@ -157,7 +158,7 @@ pub fn push_before(
     requires filled { NoneEmpty trail.now.sets }
     requires place { k < length tasks.now.starts }
     requires time { IsTime time.now }
-    ensures { IfOk result (λ found. MatchBool found (IsInferred trail.now (cumulative_of tasks.now) (rule.Load time.now) clause.new) (IsFreeBefore trail.now.sets time.now k tasks.now)) }
+    ensures { IfOk result (λ found. MatchBool found (IsJustified trail.now (cumulative_of tasks.now) (rule.Load time.now) clause.new) (IsFreeBefore trail.now.sets time.now k tasks.now)) }
 {
     let start = tasks.starts.as_slice()[k];
     let duration = tasks.durations.as_slice()[k];

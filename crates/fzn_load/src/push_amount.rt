@@ -5,7 +5,8 @@ ghost use Rattle.fzn_domain.specs.Narrow.{NoneEmpty};
 ghost use Rattle.fzn_meaning.specs.Term.{IsTerm};
 ghost use Rattle.fzn_sets.specs.Terms.{least_value, greatest_value};
 ghost use Rattle.fzn_rules.specs.declared.rule.Rule.TheVariants as rule;
-ghost use Rattle.fzn_terms.specs.Denied.{NoneIs, IsFalseClause, IsInferred};
+ghost use Rattle.fzn_terms.specs.Denied.{NoneIs};
+ghost use Rattle.fzn_propagator.specs.Clause.{IsFalseClause, IsJustified};
 ghost use Rattle.fzn_load.specs.Loads.{AreReady, cumulative_of, IsTime, IsAmount, runs_surely, least_amount, IsUseForced, IsFreeForLong, IsFreeToUse, IsFreeAt};
 
 use crate::load::{explain_uses, least_use, load_at, surely_runs};
@@ -87,7 +88,7 @@ pub fn push_less(
     requires filled { NoneEmpty trail.now.sets }
     requires place { k < length tasks.now.starts }
     requires time { IsTime time.now }
-    ensures { IfOk result (λ found. MatchBool found (IsInferred trail.now (cumulative_of tasks.now) (rule.Load time.now) clause.new) (IsFreeToUse trail.now.sets time.now k tasks.now)) }
+    ensures { IfOk result (λ found. MatchBool found (IsJustified trail.now (cumulative_of tasks.now) (rule.Load time.now) clause.new) (IsFreeToUse trail.now.sets time.now k tasks.now)) }
 {
     let start = tasks.starts.as_slice()[k];
     let duration = tasks.durations.as_slice()[k];
@@ -119,7 +120,7 @@ pub fn push_shorter(
     requires filled { NoneEmpty trail.now.sets }
     requires place { k < length tasks.now.starts }
     requires time { IsTime time.now }
-    ensures { IfOk result (λ found. MatchBool found (IsInferred trail.now (cumulative_of tasks.now) (rule.Load time.now) clause.new) (IsFreeForLong trail.now.sets time.now k tasks.now)) }
+    ensures { IfOk result (λ found. MatchBool found (IsJustified trail.now (cumulative_of tasks.now) (rule.Load time.now) clause.new) (IsFreeForLong trail.now.sets time.now k tasks.now)) }
 {
     let start = tasks.starts.as_slice()[k];
     let duration = tasks.durations.as_slice()[k];
@@ -145,7 +146,7 @@ pub fn push_capacity(
     requires tasks { AreReady (length trail.now.declared) tasks.now }
     requires filled { NoneEmpty trail.now.sets }
     requires time { IsTime time.now }
-    ensures { IfOk result (λ found. MatchBool found (IsInferred trail.now (cumulative_of tasks.now) (rule.Load time.now) clause.new) (IsFreeAt trail.now.sets time.now tasks.now)) }
+    ensures { IfOk result (λ found. MatchBool found (IsJustified trail.now (cumulative_of tasks.now) (rule.Load time.now) clause.new) (IsFreeAt trail.now.sets time.now tasks.now)) }
 {
     let load = load_at(trail, tasks, time);
     if GREATEST_VALUE < load {

@@ -11,10 +11,10 @@ use Rattle.fzn_domain.specs.IntSet.{IntSet, contains, size, is_possible, least, 
 use Rattle.fzn_domain.proofs.SetLemmas.{least_le, le_greatest, possible_when, impossible_when, is_true_at-negated}
 use Rattle.fzn_propagator.proofs.LeftLemmas.{one_end}
 
-differs_not : (v k : ℤ) → v ≡ k → not (int_eq v k) ≡ false
+pub differs_not : (v k : ℤ) → v ≡ k → not (int_eq v k) ≡ false
 differs_not v k e = grind (arith, ints)
 
-same_value : (v k : ℤ) → not (int_eq v k) ≡ false → v ≡ k
+pub same_value : (v k : ℤ) → not (int_eq v k) ≡ false → v ≡ k
 same_value v k e = grind (arith, ints)
 
 equal_of : (v k : ℤ) → int_eq v k ≡ true → v ≡ k

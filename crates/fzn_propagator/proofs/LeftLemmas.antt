@@ -1,7 +1,7 @@
 -- Which values a clause leaves, and when it is false or forces a literal.
-use Rattle.std.proofs.Common.{◌≡◌, ◌≢◌, ℕ, zero, suc, ◌-◌, ◌<◌, Bool, true, false, not, cond, List, [], ◌∷◌, ◌++◌, length, length-append, get_or, nat_eq, refl, sym, ap, subst, ◌∙◌, inl, inr, arith, ℤ, All, ◌≤ℤ◌}
+use Rattle.std.proofs.Common.{◌≡◌, ◌≢◌, ℕ, ◌-◌, ◌<◌, Bool, true, false, not, cond, List, [], ◌∷◌, ◌++◌, length, length-append, get_or, refl, sym, ap, subst, ◌∙◌, inl, inr, arith, ℤ, All, ◌≤ℤ◌}
 use Rattle.std.proofs.lemmas.Int.{ints}
-use Rattle.std.proofs.lemmas.Bool.{cases_eq, or_parts}
+use Rattle.std.proofs.lemmas.Bool.{cases_eq, not-true}
 use Rattle.std.proofs.lemmas.List.{get_or_append_left}
 use Rattle.std.proofs.lemmas.List.Elements.{All-head, All-tail, All-cons, All-contains, All-get_or, Contains-push, filter-append}
 use Rattle.fzn_domain.specs.declared.literal.VarId.{VarId}
@@ -14,7 +14,8 @@ use Rattle.fzn_domain.proofs.NarrowLemmas.{length-narrowed, set_of-narrowed, oth
 use Rattle.fzn_meaning.specs.declared.term.Term.{Term}
 use Rattle.fzn_meaning.specs.declared.term.Term.TheVariants.{Constant, Variable}
 use Rattle.fzn_meaning.specs.Term.{IsTerm}
-use Rattle.fzn_sets.specs.Terms.{least_value, greatest_value}
+use Rattle.fzn_sets.specs.Terms.{MayBe, least_value, greatest_value}
+use Rattle.fzn_sets.proofs.CallerLemmas.{nonempty_at}
 use Rattle.fzn_trail.specs.Levels.{IsNarrower}
 use Rattle.fzn_propagator.specs.Left.{IsLeft}
 
@@ -27,10 +28,6 @@ some_value sets declared var is narrower filled =
     All-get_or (λ (s : IntSet). 0 < size s) sets (var.0 - 1) no_values (omega arith) filled
 
 -- ---- values that a clause leaves
-
-fails_where : (b : Bool) → not b ≡ true → b ≡ false
-fails_where true h = sym h
-fails_where false h = refl
 
 apart_of : (lit : Lit) (var : VarId) → var.0 - 1 ≢ lit.var.0 - 1 → lit.var ≡ var → ⊥
 apart_of lit var apart same = apart (ap (λ (x : VarId). x.0 - 1) (sym same))
@@ -49,13 +46,18 @@ left_of_denied (lit ∷ clause) declared var v over h =
           ∙ subst (λ (n : ℕ). contains (get_or (narrowed declared (negated lit)) n no_values) v ≡ true) same rest.0 in
           let parts = kept_within (set_of declared lit.var) (negated lit) v there in (
             subst (λ (n : ℕ). contains (get_or declared n no_values) v ≡ true) (sym same) parts.0,
-            All-cons (λ (l : Lit). l.var ≡ var → is_true_at l v ≡ false) lit clause (λ e. fails_where (is_true_at lit v) (sym (is_true_at-negated lit v) ∙ parts.1)) rest.1,
+            All-cons (λ (l : Lit). l.var ≡ var → is_true_at l v ≡ false) lit clause (λ e. not-true (is_true_at lit v) (sym (is_true_at-negated lit v) ∙ parts.1)) rest.1,
           )
       | inr apart ↦ (
         ap (λ (s : IntSet). contains s v) (sym (other_set-narrowed declared (negated lit) (var.0 - 1) apart)) ∙ rest.0,
         All-cons (λ (l : Lit). l.var ≡ var → is_true_at l v ≡ false) lit clause (λ e. absurd (apart_of lit var apart e)) rest.1,
       )
     ]
+
+-- so is a value of a term on the denied sets
+pub left_of_may : (clause : List Lit) (declared : List IntSet) (term : Term) (v : ℤ) → IsClauseOver (length declared) clause → MayBe (denied declared clause) term v → IsLeft declared clause term v
+left_of_may clause declared (Constant k) v over may = sym may
+left_of_may clause declared (Variable var) v over may = left_of_denied clause declared var v over may
 
 All-front : {X : Type 0} (P : X → Type 0) (xs ys : List X) → All P (xs ++ ys) → All P xs
 All-front P xs ys all = λ k d below. subst P (get_or_append_left xs ys d k below) (all k d (omega (arith, length-append xs ys)))
@@ -87,14 +89,6 @@ none_left sets clause lit b none is =
     ∙ ap (λ (x : Bool). cond x (lit ∷ []) []) is
 
 -- ---- the ends of terms on denied sets
-
-not_zero : (n : ℕ) → nat_eq n 0 ≡ false → 0 < n
-not_zero n h = grind arith
-
-nonempty_at : (sets : List IntSet) (k : ℕ) → is_some_empty sets ≡ false → k < length sets → 0 < size (get_or sets k no_values)
-nonempty_at [] k none below = absurd (omega arith)
-nonempty_at (s ∷ sets) zero none below = not_zero (size s) (or_parts (nat_eq (size s) 0) (is_some_empty sets) none).0
-nonempty_at (s ∷ sets) (suc k) none below = nonempty_at sets k (or_parts (nat_eq (size s) 0) (is_some_empty sets) none).1 (omega arith)
 
 member_of_ends : (s : IntSet) → 0 < size s → (contains s (least s) ≡ true) × (contains s (greatest s) ≡ true)
 member_of_ends s some = let m = member_of_size s some in (contains-least s m.0 m.1, contains-greatest s m.0 m.1)

@@ -1,3 +1,7 @@
 pub mod CallerLemmas
-pub mod DiffersLemmas
-pub mod LeftLemmas
+mod ClauseLemmas
+mod DiffersLemmas
+mod ForcingLemmas
+mod FoundLemmas
+mod LeftLemmas
+pub mod SubscriptionLemmas

@@ -1,11 +1,9 @@
 -- What an inference promises, and what it means that there is none.
-use Rattle.std.specs.Prelude.{◌≡◌, ℕ, ℤ, ◌+ℤ◌, ◌-ℤ◌, ◌≤ℤ◌, List, length, Some, None}
+use Rattle.std.specs.Prelude.{◌≡◌, ℕ, ℤ, ◌+ℤ◌, ◌-ℤ◌, ◌≤ℤ◌, List, Some, None}
 use Rattle.std.specs.List.{All}
-use Rattle.fzn_domain.specs.declared.literal.Lit.{Lit}
 use Rattle.fzn_domain.specs.IntSet.{IntSet}
 use Rattle.fzn_domain.specs.Ascending.{IsAscending}
-use Rattle.fzn_domain.specs.Limits.{IsNearLimits}
-use Rattle.fzn_domain.specs.Narrow.{IsClauseOver, IsWithin}
+use Rattle.fzn_domain.specs.Narrow.{IsWithin}
 pub use Rattle.fzn_domain.specs.Narrow.{AllFixed}
 use Rattle.fzn_meaning.specs.declared.term.Place.{Place}
 use Rattle.fzn_meaning.specs.declared.constraint.Constraint.{Constraint}
@@ -16,28 +14,20 @@ pub use Rattle.fzn_rules.specs.Hints.{IsHint, hints_of}
 use Rattle.fzn_meaning.specs.declared.relation.Comparison.TheVariants.{AtMost}
 use Rattle.fzn_builtin_rules.specs.Linear.{least_sum, low_product, high_product}
 use Rattle.fzn_builtin_rules.specs.Form.{Form, form_of}
-use Rattle.fzn_rules.specs.Rules.{IsAcceptedBy}
 use Rattle.fzn_trail.specs.Levels.{Levels}
-use Rattle.fzn_trail.specs.Unit.{IsFalseOrUnit}
 use Rattle.fzn_propagator.specs.declared.propagator.Inference.{Inference}
 use Rattle.fzn_propagator.specs.Barred.{LeavesNoBarred, IsToDiffer}
-
--- the numbers that a literal of a certificate may have
-abbrev pub IsWritable : Lit → Type 0
-IsWritable lit = IsNearLimits lit.value
+use Rattle.fzn_propagator.specs.Clause.{IsJustified}
 
 abbrev pub HasWritableHints : Rule → Type 0
 HasWritableHints (Cut places) = All IsHint places × IsAscending places
 HasWritableHints rule = All IsHint (hints_of rule)
 
--- the clause is justified by the rule, and is false or forces one literal on the trail
+-- the rule justifies the clause from the constraint, which has this number
 pub record IsInference (number : ℕ) (constraint : Constraint) (trail : Levels) (inference : Inference) : Type 0 where
   pub of_constraint : inference.constraint ≡ number
-  pub over : IsClauseOver (length trail.declared) inference.clause
-  pub writable : All IsWritable inference.clause
   pub hints : HasWritableHints inference.rule
-  pub accepted : IsAcceptedBy constraint inference.rule trail.declared inference.clause
-  pub forces : IsFalseOrUnit trail.sets inference.clause
+  pub justified : IsJustified trail constraint inference.rule inference.clause
 
 -- so of each of these constraints
 abbrev pub IsInferenceOf : ℕ → (Constraint → Type 0) → Levels → Inference → Type 0
@@ -46,6 +36,10 @@ IsInferenceOf number is_for trail inference = (constraint : Constraint) → is_f
 -- so is each of these
 abbrev pub AreInferencesOf : ℕ → (Constraint → Type 0) → Levels → List Inference → Type 0
 AreInferencesOf number is_for trail found = All (IsInferenceOf number is_for trail) found
+
+-- so is each of these, from this one constraint
+pub record AreFoundOf (number : ℕ) (constraint : Constraint) (trail : Levels) (found : List Inference) : Type 0 where
+  pub all : AreInferencesOf number (λ other. constraint ≡ other) trail found
 
 -- how much more a place may give than its least
 abbrev pub spread : List IntSet → Place → ℤ
@@ -65,9 +59,14 @@ HasStrength constraint sets =
 abbrev pub HasNoBarred : Constraint → List IntSet → Type 0
 HasNoBarred constraint sets = (form : Form) → form_of constraint ≡ Some form → IsToDiffer sets form → LeavesNoBarred sets form.places form.bound
 
+-- where all variables are fixed, the constraint holds
+abbrev pub HoldsWhereFixed : Levels → Constraint → Type 0
+HoldsWhereFixed trail constraint =
+    AllFixed trail.sets → (values : List ℤ) → IsWithin trail.declared values → IsWithin trail.sets values → Meets constraint values
+
 -- no inference is left: where all variables are fixed the constraint holds, and the strength is reached
 pub record IsExhausted (constraint : Constraint) (trail : Levels) : Type 0 where
-  pub holds : AllFixed trail.sets → (values : List ℤ) → IsWithin trail.declared values → IsWithin trail.sets values → Meets constraint values
+  pub holds : HoldsWhereFixed trail constraint
   pub strong : HasStrength constraint trail.sets
   pub none_barred : HasNoBarred constraint trail.sets
 

@@ -1,7 +1,14 @@
 // What propagators hand over.
 ghost use Rattle.std.specs.Prelude.{◌≡◌, ◌≢◌, [], ◌∷◌, ◌++◌, OnOk, OnErr, MatchBool, IfSome, IfNone};
+ghost use Rattle.fzn_meaning.specs.declared.constraint.Constraint.{Constraint};
+ghost use Rattle.fzn_trail.specs.Levels.{Levels};
+ghost use Rattle.fzn_propagator.specs.Clause.{IsJustified};
+ghost use Rattle.fzn_propagator.specs.Inference.{HasWritableHints, AreFoundOf};
 
 use crate::propagator::Inference;
+use fzn_domain::{Lit, Memory};
+use fzn_list::Items;
+use fzn_rules::Rule;
 use std::alloc::{AllocError, Global};
 use std::collections::VecDeque;
 use std::marker::Model;
@@ -37,6 +44,30 @@ impl Findings {
         ensures err { OnErr result (self.new ≡ self.old) }
     {
         self.list.push_back(inference)?;
+        Ok(())
+    }
+
+    /// Puts the clause, where there is one, behind the others: as what the rule has from the constraint of this number. `Err` where memory
+    /// runs out.
+    pub fn hand_over(
+        &mut self,
+        number: u64,
+        rule: Rule,
+        clause: Option<Items<Lit>>,
+    ) -> Result<(), Memory>
+        requires hints { HasWritableHints rule }
+        ensures found { (trail : Levels) (constraint : Constraint) → IfSome clause (IsJustified trail constraint rule) → AreFoundOf number constraint trail self.old → AreFoundOf number constraint trail self.new }
+        ensures some { IfSome clause (λ _. OnOk result (self.new ≢ [])) }
+        ensures kept { self.new ≡ [] → self.old ≡ [] }
+    {
+        let Some(clause) = clause else {
+            return Ok(());
+        };
+        self.push(Inference {
+            constraint: number,
+            rule,
+            clause,
+        })?;
         Ok(())
     }
 

@@ -1,11 +1,14 @@
 // What every propagator promises.
-ghost use Rattle.std.specs.Prelude.{◌≡◌, ℕ, List, [], OnOk};
+ghost use Rattle.std.specs.Prelude.{◌≡◌, ℕ, List, [], IfOk, OnOk};
 ghost use Rattle.fzn_domain.specs.IntSet.{IntSet};
 ghost use Rattle.fzn_domain.specs.Narrow.{NoneEmpty};
 ghost use Rattle.fzn_meaning.specs.declared.constraint.Constraint.{Constraint};
 ghost use Rattle.fzn_propagator.specs.Inference.{AreInferencesOf, AreExhausted};
+ghost use Rattle.fzn_propagator.specs.Subscriptions.{terms_of, AreHeard};
 
+use crate::cost::Cost;
 use crate::findings::Findings;
+use crate::subscriptions::Subscriptions;
 use fzn_domain::{Lit, Memory};
 use fzn_list::Items;
 use fzn_rules::Rule;
@@ -33,6 +36,15 @@ pub trait Propagator {
 
     /// Its terms are variables of the declared sets, and its numbers lie within the limits.
     ghost fits: { Self → List IntSet → Type 0 };
+
+    /// The changes of variables that can give it something new. It waits for some change of each variable of its constraint, so that
+    /// no constraint is forgotten. `Err` where memory runs out.
+    fn subscriptions(&self, alloc: Global) -> Result<Subscriptions, Memory>
+        requires fits { (declared : List IntSet) × fits self.now declared }
+        ensures heard { IfOk result (λ subscriptions. (constraint : Constraint) → (is_for self.now) constraint → AreHeard subscriptions (terms_of constraint)) };
+
+    /// What it costs to ask it. Nothing but the order in which propagators are asked rests on that.
+    fn cost(&self) -> Cost;
 
     /// One pass: what it infers goes behind what was found. Each inference is one of the trail as it stands, so that one may force what
     /// another has forced. It answers `Err` where memory runs out; what was found up to then are inferences all the same.

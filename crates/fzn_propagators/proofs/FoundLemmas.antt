@@ -44,14 +44,14 @@ module _ (model : Model) (trail : Levels) (declared : trail.declared ≡ declare
   justified-by : (k : ℕ) (constraint : Constraint) (found : Inference) → length model.vars ≤ 100000 → length model.constraints ≤ 100000 → k < length model.constraints → IsFound (k + 1) (get_or model.constraints k constraint) trail found → IsJustified model found
   justified-by k constraint found few_vars few_constraints inside h =
       let number = h.of_constraint in
-      let over = subst (λ (n : ℕ). IsClauseOver n found.clause) as-many h.over in
+      let over = subst (λ (n : ℕ). IsClauseOver n found.clause) as-many h.justified.forcing.over in
       let one : 1 ≤ found.constraint = omega arith in
       let within : found.constraint ≤ length model.constraints = omega arith in
       record {
         over = over;
         numbered = (one, within);
-        justified = justified-at k constraint found.constraint found.rule found.clause inside number h.accepted;
-        spelled = (few-number (length model.constraints) found.constraint few_constraints one within, rule-spelled found.rule h.hints, literals-spelled (length model.vars) found.clause few_vars over h.writable);
+        justified = justified-at k constraint found.constraint found.rule found.clause inside number h.justified.accepted;
+        spelled = (few-number (length model.constraints) found.constraint few_constraints one within, rule-spelled found.rule h.hints, literals-spelled (length model.vars) found.clause few_vars over h.justified.forcing.writable);
       }
 
   within-declared : (values : List ℤ) → IsNarrower trail.sets trail.declared → IsWithin trail.sets values → IsWithin trail.declared values
@@ -86,7 +86,7 @@ module _ (model : Model) (trail : Levels) (declared : trail.declared ≡ declare
       found-justified found h = justified-by k some_constraint found are.few_vars are.few_constraints inside (found-at found h)
 
       found-inference : (found : Inference) → IsInferenceOf (any_number p) (AnyIsFor p) trail found → IsInference model trail found
-      found-inference found h = record { stands = found-justified found h; forces = (found-at found h).forces }
+      found-inference found h = record { stands = found-justified found h; forces = (found-at found h).justified.forcing.forces }
 
       -- so is each of several
       pub all-found : (found : List Inference) → AreInferencesOf (any_number p) (AnyIsFor p) trail found → All (IsInference model trail) found

@@ -1,6 +1,4 @@
-mod ForcingLemmas
 mod FoundLemmas
-mod KindLemmas
 mod MadeLemmas
 mod SpelledLemmas
 mod TakenLemmas

@@ -8,7 +8,8 @@ use Rattle.fzn_domain.specs.Narrow.{IsVariable, IsClauseOver}
 use Rattle.fzn_rules.specs.declared.rule.Rule.{Rule}
 use Rattle.fzn_rules.specs.declared.rule.Rule.TheVariants.{Lin, Rows, Box, Fixed, Enum, Hall, Load, Energy, Cut, Pair}
 use Rattle.fzn_cert.specs.Spelling.{IsHint, IsLiteral, IsNumber, IsRule, Rises}
-use Rattle.fzn_propagator.specs.Inference.{IsWritable, HasWritableHints}
+use Rattle.fzn_propagator.specs.Clause.{IsWritable}
+use Rattle.fzn_propagator.specs.Inference.{HasWritableHints}
 
 ascending-rises : (xs : List ℤ) → IsAscending xs → Rises xs
 unfolding Rises

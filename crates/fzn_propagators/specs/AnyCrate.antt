@@ -8,6 +8,8 @@ use Rattle.fzn_globals.specs.Kinds.{global_number, GlobalIsFor, GlobalFits}
 use Rattle.fzn_table.specs.Propagator.{table_number, TableIsFor, TableFits}
 use Rattle.fzn_circuit.specs.Propagator.{circuit_number, CircuitIsFor, CircuitFits}
 use Rattle.fzn_schedule.specs.Propagator.{cumulative_number, CumulativeIsFor, CumulativeFits}
+use Rattle.fzn_propagator.specs.declared.cost.Cost.{Cost}
+use Rattle.fzn_propagator.specs.declared.cost.Cost.TheVariants.{Small, Middling, Great}
 use Rattle.fzn_propagators.specs.declared.kinds.AnyPropagator.{AnyPropagator}
 use Rattle.fzn_propagators.specs.declared.kinds.AnyPropagator.TheVariants.{Arith, Builtin, Global, Table, Circuit, Cumulative}
 
@@ -34,3 +36,11 @@ AnyFits (Global p) declared = GlobalFits p declared
 AnyFits (Table p) declared = TableFits p declared
 AnyFits (Circuit p) declared = CircuitFits p declared
 AnyFits (Cumulative p) declared = CumulativeFits p declared
+
+abbrev pub any_cost : AnyPropagator → Cost
+any_cost (Arith p) = Small
+any_cost (Builtin p) = Small
+any_cost (Global p) = Middling
+any_cost (Table p) = Middling
+any_cost (Circuit p) = Great
+any_cost (Cumulative p) = Great

@@ -1,12 +1,15 @@
 // Which propagators are to be asked next: those that watch what was narrowed.
-ghost use Rattle.std.specs.Prelude.{◌≡◌, ◌<◌, ◌≤◌, length, IfOk, IfSome, IsFalse};
+ghost use Rattle.std.specs.Prelude.{◌≡◌, ◌<◌, ◌≤◌, List, length, IfOk, IfSome, IsFalse};
+ghost use Rattle.std.specs.List.{All};
+ghost use Rattle.fzn_domain.specs.IntSet.{IntSet};
 ghost use Rattle.fzn_domain.specs.Narrow.{AllFixed};
+ghost use Rattle.fzn_propagators.specs.AnyCrate.{AnyFits};
 
-use crate::change::change_since;
+use crate::kinds::AnyPropagator;
 use crate::queue::Queue;
 use crate::watchers::Watchers;
 use fzn_domain::{Memory, VarId};
-use fzn_meaning::Model;
+use fzn_propagator::Change;
 use fzn_trail::Trail;
 use std::alloc::Global;
 
@@ -23,11 +26,17 @@ pub struct Agenda {
 }
 
 impl Agenda {
-    /// All propagators are to be asked, one for each constraint.
-    pub fn new(alloc: Global, model: &Model) -> Result<Agenda, Memory> {
+    /// All of these propagators, of so many variables, are to be asked.
+    pub fn new(
+        alloc: Global,
+        variables: usize,
+        propagators: &[AnyPropagator],
+    ) -> Result<Agenda, Memory>
+        requires { All (λ propagator. (declared : List IntSet) × AnyFits propagator declared) propagators.now }
+    {
         Ok(Agenda {
-            watchers: Watchers::new(alloc, model)?,
-            queue: Queue::new(alloc, model)?,
+            watchers: Watchers::new(alloc, variables, propagators)?,
+            queue: Queue::new(alloc, propagators)?,
             seen: 0,
             opens: Vec::new(alloc),
         })
@@ -54,11 +63,11 @@ impl Agenda {
         if var.0 == 0 || variables < var.0 {
             return Ok(());
         }
-        let change = change_since(trail, place, trail.domain(var));
+        let change = Change::between(trail.domain_before(place), trail.domain(var));
         let (start, end) = self.watchers.span(var.0);
         for i in start..end {
             if let Some(watch) = self.watchers.get(i)
-                && watch.wanted.is(change)
+                && watch.event.is(change)
             {
                 self.queue.push(watch.propagator)?;
             }

@@ -6,11 +6,10 @@
 //! model, and the search's trait `Constraints` what they owe.
 #![tactic(auto)]
 
-pub use kinds::AnyPropagator;
+pub use kinds::{AnyPropagator, propagator_of};
 pub use propagators::Propagators;
 
 mod agenda;
-mod change;
 mod forcing;
 mod kinds;
 mod propagators;

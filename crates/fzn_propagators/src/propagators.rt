@@ -41,7 +41,7 @@ impl Propagators {
             items.push(propagator)?;
         }
         let found = Findings::new(alloc);
-        let agenda = Agenda::new(alloc, model)?;
+        let agenda = Agenda::new(alloc, model.vars.len(), items.as_slice())?;
         Ok(Propagators {
             items,
             found,

@@ -1,16 +1,9 @@
 // The propagators that are to be asked, those that cost little first.
+use crate::kinds::AnyPropagator;
 use fzn_domain::Memory;
-use fzn_meaning::{Constraint, Model};
+use fzn_propagator::{Cost, Propagator};
 use std::alloc::Global;
 use std::collections::VecDeque;
-
-/// What it costs to ask a propagator.
-#[derive(Clone, Copy, Debug, PartialEq, Eq)]
-enum Cost {
-    Small,
-    Middling,
-    Great,
-}
 
 /// The propagators that are queued, by their places: in each of the three queues the one that was queued first is the next.
 #[derive(Debug, Drop)]
@@ -23,11 +16,11 @@ pub struct Queue {
 }
 
 impl Queue {
-    /// All propagators, one for each constraint.
-    pub fn new(alloc: Global, model: &Model) -> Result<Queue, Memory> {
+    /// All of these propagators.
+    pub fn new(alloc: Global, propagators: &[AnyPropagator]) -> Result<Queue, Memory> {
         let mut costs = Vec::new(alloc);
-        for constraint in model.constraints.as_slice() {
-            costs.push(cost_of(constraint))?;
+        for propagator in propagators {
+            costs.push(propagator.cost())?;
         }
         let count = costs.len();
         let mut queue = Queue {
@@ -97,17 +90,5 @@ impl Queue {
         for _ in 0..self.len() {
             self.pop();
         }
-    }
-}
-
-/// What it costs to ask the propagator of a constraint.
-fn cost_of(constraint: &Constraint) -> Cost {
-    match constraint {
-        Constraint::AllDifferent { .. } => Cost::Middling,
-        Constraint::Table { .. } => Cost::Middling,
-        Constraint::Inverse { .. } => Cost::Middling,
-        Constraint::Cumulative { .. } => Cost::Great,
-        Constraint::Circuit { .. } => Cost::Great,
-        _ => Cost::Small,
     }
 }

@@ -5,13 +5,12 @@ use Rattle.std.specs.List.{Any}
 use Rattle.std.proofs.lemmas.Int.{ints}
 use Rattle.std.proofs.lemmas.Bool.{true≢false}
 use Rattle.std.proofs.lemmas.List.{get_or_default, length-map}
-use Rattle.std.proofs.lemmas.List.Elements.{All-head, All-tail, All-get_or, All-map}
-use Rattle.std.proofs.lemmas.Option.{none-some}
+use Rattle.std.proofs.lemmas.List.Elements.{All-head, All-tail, All-get_or}
 use Rattle.fzn_domain.specs.declared.literal.Lit.{Lit}
 use Rattle.fzn_domain.specs.declared.literal.Op.TheVariants.{AtMost}
 use Rattle.fzn_domain.specs.IntSet.{IntSet, size, least, greatest, no_values}
 use Rattle.fzn_domain.specs.Limits.{IsInLimits}
-use Rattle.fzn_domain.specs.Narrow.{IsWithin, NoneEmpty, set_of, is_some_empty}
+use Rattle.fzn_domain.specs.Narrow.{IsWithin, set_of, is_some_empty}
 use Rattle.fzn_domain.proofs.SetLemmas.{only_member, member_of_size, contains-least, contains-greatest}
 use Rattle.fzn_meaning.specs.declared.term.Term.{Term}
 use Rattle.fzn_meaning.specs.declared.term.Term.TheVariants.{Constant, Variable}
@@ -24,18 +23,20 @@ use Rattle.fzn_meaning.proofs.CallerLemmas.{All-values_of}
 use Rattle.fzn_meaning.proofs.CumulativeLemmas.{cumulative_from}
 use Rattle.fzn_sets.proofs.CallerLemmas.{MayBe-term_value}
 use Rattle.fzn_sets.proofs.ValueLemmas.{MayBe-ends}
-use Rattle.fzn_sets.specs.Terms.{MayBe, least_value, greatest_value}
+use Rattle.fzn_sets.specs.Terms.{least_value, greatest_value}
 use Rattle.fzn_rules.specs.declared.rule.Rule.TheVariants.{Rows}
 use Rattle.fzn_rules.specs.Rules.{IsMet}
 use Rattle.fzn_global_rules.specs.GlobalRows.{IsBelowZero, IsGlobalRowsMet}
 use Rattle.fzn_builtin_rules.specs.Form.{form_of}
 use Rattle.fzn_trail.specs.Levels.{Levels}
 use Rattle.fzn_propagator.specs.Inference.{AllFixed, IsExhausted}
-use Rattle.fzn_terms.specs.Denied.{AllAre, NoneIs, IsInferred, IsForcing, Says}
-use Rattle.fzn_terms.proofs.LawLemmas.{fixed_to}
+use Rattle.fzn_terms.specs.Denied.{AllAre}
+use Rattle.fzn_propagator.specs.Clause.{IsJustified, IsForcing, Says}
+use Rattle.fzn_terms.proofs.FixedLemmas.{fixed_to}
 use Rattle.fzn_load.specs.declared.tasks.Tasks.{Tasks}
 use Rattle.fzn_load.specs.Loads.{AreReady, cumulative_of, total_of}
 use Rattle.fzn_schedule.specs.Kept.{AreNotBelow, HasNoneBelow, IsSomeBelow, AreKept, IsSettled, least_terms, least_cumulative, MeetsWhereFixed}
+use Rattle.fzn_propagator.proofs.CallerLemmas.{justified_where, exhausted as no_sum}
 
 -- ---- amounts below 0
 
@@ -51,17 +52,17 @@ some_below sets terms k d inside filled fit all =
     (k, get_or terms k d, inside, get_or_default terms k (get_or terms k d) d inside, is_below sets (get_or terms k d) filled (All-get_or (IsTerm (length sets)) terms k d inside fit) all)
 
 module _ (trail : Levels) (tasks : Tasks) (clause : List Lit) where
-  pub durations_inferred : IsSomeBelow trail tasks.durations clause → IsInferred trail (cumulative_of tasks) Rows clause
+  pub durations_inferred : IsSomeBelow trail tasks.durations clause → IsJustified trail (cumulative_of tasks) Rows clause
   unfolding IsMet IsGlobalRowsMet
-  durations_inferred some = record { forcing = some.forcing; says = λ sets left. inr (inl (some.says sets left)) }
+  durations_inferred some = justified_where trail (cumulative_of tasks) Rows clause some.forcing (λ sets left. inr (inl (some.says sets left)))
 
-  pub uses_inferred : IsSomeBelow trail tasks.uses clause → IsInferred trail (cumulative_of tasks) Rows clause
+  pub uses_inferred : IsSomeBelow trail tasks.uses clause → IsJustified trail (cumulative_of tasks) Rows clause
   unfolding IsMet IsGlobalRowsMet
-  uses_inferred some = record { forcing = some.forcing; says = λ sets left. inr (inr (inl (some.says sets left))) }
+  uses_inferred some = justified_where trail (cumulative_of tasks) Rows clause some.forcing (λ sets left. inr (inr (inl (some.says sets left))))
 
-  pub capacity_inferred : IsForcing trail clause → Says trail.declared clause (λ sets. IsBelowZero sets tasks.capacity) → IsInferred trail (cumulative_of tasks) Rows clause
+  pub capacity_inferred : IsForcing trail clause → Says trail.declared clause (λ sets. IsBelowZero sets tasks.capacity) → IsJustified trail (cumulative_of tasks) Rows clause
   unfolding IsMet IsGlobalRowsMet
-  capacity_inferred forcing says = record { forcing = forcing; says = λ sets left. inr (inr (inr (says sets left))) }
+  capacity_inferred forcing says = justified_where trail (cumulative_of tasks) Rows clause forcing (λ sets left. inr (inr (inr (says sets left))))
 
 -- ---- fixed tasks
 
@@ -166,8 +167,4 @@ meets_kept sets count group ready same none kept fixed values within = meets_cum
 
 pub exhausted : (trail : Levels) (group : Tasks) → MeetsWhereFixed trail.sets group → (constraint : Constraint) → cumulative_of group ≡ constraint → IsExhausted constraint trail
 unfolding form_of
-exhausted trail group meets constraint same = subst (λ (c : Constraint). IsExhausted c trail) same (record {
-  holds = λ fixed values declared present. meets fixed values present;
-  strong = λ form is. absurd (none-some form is);
-  none_barred = λ form is. absurd (none-some form is);
-})
+exhausted trail group meets constraint same = no_sum trail (cumulative_of group) constraint refl same (λ fixed values declared present. meets fixed values present)

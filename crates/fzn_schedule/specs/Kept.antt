@@ -14,7 +14,8 @@ use Rattle.fzn_sets.specs.Terms.{least_value, greatest_value}
 use Rattle.fzn_global_rules.specs.GlobalRows.{IsBelowZero}
 use Rattle.fzn_trail.specs.Levels.{Levels}
 use Rattle.fzn_propagator.specs.Inference.{AllFixed}
-use Rattle.fzn_terms.specs.Denied.{Says, NoneIs, IsForcing}
+use Rattle.fzn_propagator.specs.Clause.{Says, IsForcing}
+use Rattle.fzn_terms.specs.Denied.{NoneIs}
 use Rattle.fzn_load.specs.declared.tasks.Tasks.{Tasks}
 use Rattle.fzn_load.specs.Loads.{cumulative_of, IsKeptAt}
 

@@ -2,10 +2,6 @@
 use Rattle.std.specs.Prelude.{◌≡◌, ℕ, List, length}
 use Rattle.fzn_domain.specs.IntSet.{IntSet}
 use Rattle.fzn_meaning.specs.declared.constraint.Constraint.{Constraint}
-use Rattle.fzn_trail.specs.Levels.{Levels}
-use Rattle.fzn_propagator.specs.declared.propagator.Inference.{Inference}
-use Rattle.fzn_propagator.specs.Inference.{AreInferencesOf}
-use Rattle.fzn_load.specs.declared.tasks.Tasks.{Tasks}
 use Rattle.fzn_load.specs.Loads.{AreReady, cumulative_of}
 use Rattle.fzn_schedule.specs.declared.propagator.CumulativePropagator.{CumulativePropagator}
 
@@ -17,7 +13,3 @@ CumulativeIsFor propagator constraint = cumulative_of propagator.tasks ≡ const
 
 abbrev pub CumulativeFits : CumulativePropagator → List IntSet → Type 0
 CumulativeFits propagator declared = AreReady (length declared) propagator.tasks
-
--- what was found are inferences from the constraint on these tasks, which has this number
-abbrev pub AreOfTasks : ℕ → Tasks → Levels → List Inference → Type 0
-AreOfTasks number tasks trail found = AreInferencesOf number (λ constraint. cumulative_of tasks ≡ constraint) trail found

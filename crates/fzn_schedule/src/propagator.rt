@@ -1,7 +1,8 @@
 // The propagator of a cumulative: the clauses of the first kind of which there are any; and which constraint gets one.
-ghost use Rattle.std.specs.Prelude.{◌≡◌, ◌-◌, ◌<◌, ◌≤◌, negsuc, List, [], length, IfOk, IfSome, IfNone, OnOk, MatchBool, slice_index_or};
+ghost use Rattle.std.specs.Prelude.{◌≡◌, ◌-◌, ◌<◌, ◌≤◌, ◌++◌, negsuc, List, [], length, IfOk, IfSome, IfNone, OnOk, MatchBool, slice_index_or};
 ghost use Rattle.fzn_domain.specs.declared.literal.Lit.{Lit};
 ghost use Rattle.fzn_domain.specs.declared.literal.Op.TheVariants as op;
+ghost use Rattle.fzn_domain.specs.IntSet.{IntSet};
 ghost use Rattle.fzn_domain.specs.Narrow.{NoneEmpty};
 ghost use Rattle.fzn_meaning.specs.declared.constraint.Constraint.{Constraint};
 ghost use Rattle.fzn_meaning.specs.declared.constraint.Constraint.TheVariants as constraint;
@@ -10,19 +11,23 @@ ghost use Rattle.fzn_meaning.specs.Meaning.{AreTerms};
 ghost use Rattle.fzn_meaning.specs.Solutions.{declared_sets};
 ghost use Rattle.fzn_meaning.specs.WellFormed.{IsWellFormed};
 ghost use Rattle.fzn_rules.specs.declared.rule.Rule.TheVariants as rule;
-ghost use Rattle.fzn_terms.specs.Denied.{NoneIs, IsInferred};
+ghost use Rattle.fzn_propagator.specs.declared.cost.Cost.TheVariants as cost;
+ghost use Rattle.fzn_propagator.specs.declared.event.Event.TheVariants as event;
+ghost use Rattle.fzn_propagator.specs.Clause.{IsJustified};
+ghost use Rattle.fzn_propagator.specs.Subscriptions.{terms_of, waits, waits_each, AreHeard};
+ghost use Rattle.fzn_terms.specs.Denied.{NoneIs};
 ghost use Rattle.fzn_load.specs.Loads.{AreReady, cumulative_of};
-ghost use Rattle.fzn_schedule.specs.Propagator.{cumulative_number, CumulativeIsFor, CumulativeFits, AreOfTasks};
+ghost use Rattle.fzn_schedule.specs.Propagator.{cumulative_number, CumulativeIsFor, CumulativeFits};
+ghost use Rattle.fzn_propagator.specs.Inference.{AreFoundOf};
 ghost use Rattle.fzn_schedule.specs.Kept.{AreNotBelow, HasNoneBelow, IsSomeBelow, MeetsWhereFixed};
 
 use crate::energy_pass::first_energy;
-use crate::found::hand_over;
 use crate::load_pass::{find_by_profile, first_of_fixed};
 use fzn_domain::{Lit, Memory, Op};
-use fzn_list::Items;
+use fzn_list::{Items, Shared};
 use fzn_load::Tasks;
 use fzn_meaning::{Constraint, Model, Term};
-use fzn_propagator::{Findings, Propagator};
+use fzn_propagator::{Cost, Event, Findings, Propagator, Subscriptions};
 use fzn_rules::Rule;
 use fzn_terms::force;
 use fzn_trail::Trail;
@@ -37,12 +42,54 @@ pub struct CumulativePropagator {
     pub tasks: Tasks,
 }
 
+impl CumulativePropagator {
+    /// The propagator of the cumulative of these tasks, which has this number.
+    pub fn new(
+        number: u64,
+        starts: &Shared<Term>,
+        durations: &Shared<Term>,
+        uses: &Shared<Term>,
+        capacity: Term,
+    ) -> Result<CumulativePropagator, Memory>
+        ensures number { IfOk result (λ propagator. propagator.number ≡ number) }
+        ensures tasks { IfOk result (λ propagator. propagator.tasks ≡ record { starts = starts.now; durations = durations.now; uses = uses.now; capacity = capacity }) }
+    {
+        let tasks = Tasks {
+            starts: starts.share()?,
+            durations: durations.share()?,
+            uses: uses.share()?,
+            capacity,
+        };
+        Ok(CumulativePropagator { number, tasks })
+    }
+}
+
 impl Propagator for CumulativePropagator {
     ghost number = { cumulative_number };
 
     ghost is_for = { CumulativeIsFor };
 
     ghost fits = { CumulativeFits };
+
+    /// That a bound of a start, a duration, a use or the capacity moves.
+    fn subscriptions(&self, alloc: Global) -> Result<Subscriptions, Memory>
+        requires fits { (declared : List IntSet) × CumulativeFits self.now declared }
+        ensures value { IfOk result (λ subscriptions. subscriptions ≡ waits_each event.Bound self.now.tasks.starts ++ waits_each event.Bound self.now.tasks.durations ++ waits_each event.Bound self.now.tasks.uses ++ waits event.Bound self.now.tasks.capacity) }
+        ensures heard { IfOk result (λ subscriptions. (constraint : Constraint) → CumulativeIsFor self.now constraint → AreHeard subscriptions (terms_of constraint)) }
+    {
+        let mut subscriptions = Subscriptions::new(alloc);
+        subscriptions.add_each(self.tasks.starts.as_slice(), Event::Bound)?;
+        subscriptions.add_each(self.tasks.durations.as_slice(), Event::Bound)?;
+        subscriptions.add_each(self.tasks.uses.as_slice(), Event::Bound)?;
+        subscriptions.add(self.tasks.capacity, Event::Bound)?;
+        Ok(subscriptions)
+    }
+
+    fn cost(&self) -> Cost
+        ensures { result ≡ cost.Great }
+    {
+        Cost::Great
+    }
 
     fn propagate(&self, alloc: Global, trail: &Trail, found: &mut Findings) -> Result<(), Memory> {
         find_negative(alloc, trail, self.number, &self.tasks, found)?;
@@ -79,23 +126,17 @@ fn propagator_for(number: u64, given: &Constraint) -> Result<Option<CumulativePr
     ensures is_for { IfOk result (λ found. IfSome found (λ propagator. CumulativeIsFor propagator given.now)) }
     ensures none { IfOk result (λ found. IfNone found ((starts durations uses : List Term) (capacity : Term) → given.now ≡ constraint.Cumulative starts durations uses capacity → ⊥)) }
 {
-    match given {
-        Constraint::Cumulative {
-            starts,
-            durations,
-            uses,
-            capacity,
-        } => {
-            let tasks = Tasks {
-                starts: starts.share()?,
-                durations: durations.share()?,
-                uses: uses.share()?,
-                capacity: *capacity,
-            };
-            Ok(Some(CumulativePropagator { number, tasks }))
-        }
-        _ => Ok(None),
-    }
+    let Constraint::Cumulative {
+        starts,
+        durations,
+        uses,
+        capacity,
+    } = given
+    else {
+        return Ok(None);
+    };
+    let propagator = CumulativePropagator::new(number, starts, durations, uses, *capacity)?;
+    Ok(Some(propagator))
 }
 
 /// Finds of each duration, each use and the capacity that it is not below 0.
@@ -108,8 +149,8 @@ fn find_negative(
 ) -> Result<(), Memory>
     requires tasks { AreReady (length trail.now.declared) tasks.now }
     requires filled { NoneEmpty trail.now.sets }
-    requires before { AreOfTasks number tasks.now trail.now found.old }
-    ensures found { AreOfTasks number tasks.now trail.now found.new }
+    requires before { AreFoundOf number (cumulative_of tasks.now) trail.now found.old }
+    ensures found { AreFoundOf number (cumulative_of tasks.now) trail.now found.new }
     ensures none { OnOk result (found.new ≡ [] → HasNoneBelow trail.now.sets tasks.now) }
 {
     let durations = tasks.durations.as_slice();
@@ -130,16 +171,16 @@ fn find_below(
 ) -> Result<(), Memory>
     requires terms { AreTerms (length trail.now.declared) terms.now }
     requires filled { NoneEmpty trail.now.sets }
-    requires inferred { (clause : List Lit) → IsSomeBelow trail.now terms.now clause → IsInferred trail.now (cumulative_of tasks.now) rule.Rows clause }
-    requires before { AreOfTasks number tasks.now trail.now found.old }
-    ensures found { AreOfTasks number tasks.now trail.now found.new }
+    requires inferred { (clause : List Lit) → IsSomeBelow trail.now terms.now clause → IsJustified trail.now (cumulative_of tasks.now) rule.Rows clause }
+    requires before { AreFoundOf number (cumulative_of tasks.now) trail.now found.old }
+    ensures found { AreFoundOf number (cumulative_of tasks.now) trail.now found.new }
     ensures kept { OnOk result (found.new ≡ [] → found.old ≡ []) }
     ensures none { OnOk result (found.new ≡ [] → AreNotBelow trail.now.sets terms.now) }
 {
     for k in 0..terms.len() {
         let mut clause = Items::new(alloc);
         if is_not_below(trail, terms, k, &mut clause)? {
-            hand_over(trail, number, tasks, Rule::Rows, clause, found)?;
+            found.hand_over(number, Rule::Rows, Some(clause))?;
         }
     }
     Ok(())
@@ -171,14 +212,14 @@ fn find_negative_capacity(
 ) -> Result<(), Memory>
     requires tasks { AreReady (length trail.now.declared) tasks.now }
     requires filled { NoneEmpty trail.now.sets }
-    requires before { AreOfTasks number tasks.now trail.now found.old }
-    ensures found { AreOfTasks number tasks.now trail.now found.new }
+    requires before { AreFoundOf number (cumulative_of tasks.now) trail.now found.old }
+    ensures found { AreFoundOf number (cumulative_of tasks.now) trail.now found.new }
     ensures kept { OnOk result (found.new ≡ [] → found.old ≡ []) }
     ensures none { OnOk result (found.new ≡ [] → NoneIs op.AtMost (negsuc 0) tasks.now.capacity trail.now.sets) }
 {
     let mut clause = Items::new(alloc);
     if force(trail, tasks.capacity, Op::AtMost, -1, &mut clause)? {
-        hand_over(trail, number, tasks, Rule::Rows, clause, found)?;
+        found.hand_over(number, Rule::Rows, Some(clause))?;
     }
     Ok(())
 }
@@ -193,19 +234,12 @@ fn find_energy(
 ) -> Result<(), Memory>
     requires tasks { AreReady (length trail.now.declared) tasks.now }
     requires filled { NoneEmpty trail.now.sets }
-    requires before { AreOfTasks number tasks.now trail.now found.old }
-    ensures { AreOfTasks number tasks.now trail.now found.new }
+    requires before { AreFoundOf number (cumulative_of tasks.now) trail.now found.old }
+    ensures { AreFoundOf number (cumulative_of tasks.now) trail.now found.new }
 {
     let mut clause = Items::new(alloc);
     if let Some(span) = first_energy(alloc, trail, tasks, &mut clause)? {
-        hand_over(
-            trail,
-            number,
-            tasks,
-            Rule::Energy(span.from, span.until),
-            clause,
-            found,
-        )?;
+        found.hand_over(number, Rule::Energy(span.from, span.until), Some(clause))?;
     }
     Ok(())
 }
@@ -221,13 +255,13 @@ fn find_of_fixed(
     requires tasks { AreReady (length trail.now.declared) tasks.now }
     requires filled { NoneEmpty trail.now.sets }
     requires none_below { HasNoneBelow trail.now.sets tasks.now }
-    requires before { AreOfTasks number tasks.now trail.now found.old }
-    ensures found { AreOfTasks number tasks.now trail.now found.new }
+    requires before { AreFoundOf number (cumulative_of tasks.now) trail.now found.old }
+    ensures found { AreFoundOf number (cumulative_of tasks.now) trail.now found.new }
     ensures none { OnOk result (found.new ≡ [] → MeetsWhereFixed trail.now.sets tasks.now) }
 {
     let mut clause = Items::new(alloc);
     if let Some(time) = first_of_fixed(alloc, trail, tasks, &mut clause)? {
-        hand_over(trail, number, tasks, Rule::Load(time), clause, found)?;
+        found.hand_over(number, Rule::Load(time), Some(clause))?;
     }
     Ok(())
 }

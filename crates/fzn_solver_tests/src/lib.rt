@@ -18,4 +18,6 @@ mod restarts;
 #[cfg(test)]
 mod search;
 #[cfg(test)]
+mod wakes;
+#[cfg(test)]
 mod words;

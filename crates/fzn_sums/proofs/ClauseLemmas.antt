@@ -4,7 +4,6 @@ use Rattle.std.specs.Int.{w128}
 use Rattle.std.proofs.lemmas.Int.{ints, fits_signed_from_abs}
 use Rattle.std.proofs.lemmas.Bool.{cases_eq}
 use Rattle.std.proofs.lemmas.List.{get_or_default}
-use Rattle.std.proofs.lemmas.List.Elements.{All-push}
 use Rattle.fzn_domain.specs.declared.literal.VarId.{VarId}
 use Rattle.fzn_domain.specs.declared.literal.Lit.{Lit}
 use Rattle.fzn_domain.specs.Narrow.{IsVariable}
@@ -14,9 +13,8 @@ use Rattle.fzn_meaning.specs.declared.term.Place.{Place}
 use Rattle.fzn_meaning.specs.Term.{IsTerm, IsPlace, total_by}
 use Rattle.fzn_builtin_rules.specs.Linear.{low_product, least_sum}
 use Rattle.fzn_trail.specs.Levels.{Levels}
-use Rattle.fzn_propagator.specs.Inference.{IsWritable}
 use Rattle.fzn_propagator.specs.Left.{IsLeft}
-use Rattle.fzn_propagator.proofs.CallerLemmas.{left_of_more, last_fails, none_left}
+use Rattle.fzn_propagator.proofs.CallerLemmas.{left_of_more, last_fails, false_push, forcing_push}
 use Rattle.fzn_sums.specs.Explained.{IsExplained, IsFloor, IsForced, IsExplanation}
 use Rattle.fzn_sums.specs.Refuted.{IsConflict, IsRefutation}
 use Rattle.fzn_sums.proofs.SumLemmas.{total_le, total_lt_at}
@@ -36,9 +34,7 @@ variable_of_place count place var fits of = subst (λ (t : Term). IsTerm count t
 
 pub explanation_same : (trail : Levels) (places : List Place) (i except : ℕ) (clause : List Lit) (d : Place) → i < length places → IsExplanation trail places i except clause → (i ≢ except → IsExplained trail clause (get_or places i d)) → IsExplanation trail places (i + 1) except clause
 explanation_same trail places i except clause d in_places before here = record {
-  over = before.over;
-  writable = before.writable;
-  impossible = before.impossible;
+  still = before.still;
   explained = λ k e below apart. elim (cases_eq k i) [
     | inl same ↦
         let at : get_or places i d ≡ get_or places k e = get_or_default places i d e in_places ∙ ap (λ (n : ℕ). get_or places n e) (sym same) in
@@ -50,9 +46,7 @@ explanation_same trail places i except clause d in_places before here = record {
 pub explanation_push : (trail : Levels) (places : List Place) (i except : ℕ) (clause : List Lit) (d : Place) (lit : Lit) → i < length places → IsPlace (length trail.declared) (get_or places i d) → IsExplanation trail places i except clause → IsFloor trail (get_or places i d) lit → IsExplanation trail places (i + 1) except (clause ++ lit ∷ [])
 explanation_push trail places i except clause d lit in_places fits before floor =
     let longer : IsExplanation trail places i except (clause ++ lit ∷ []) = record {
-      over = All-push (λ (l : Lit). IsVariable (length trail.declared) l.var) clause lit before.over (variable_of_place (length trail.declared) (get_or places i d) lit.var fits floor.of_place);
-      writable = All-push IsWritable clause lit before.writable floor.writable;
-      impossible = none_left trail.sets clause lit false before.impossible floor.impossible;
+      still = false_push trail clause lit before.still (variable_of_place (length trail.declared) (get_or places i d) lit.var fits floor.of_place) floor.writable floor.impossible;
       explained = λ k e below apart. explained_more trail clause (lit ∷ []) (get_or places k e) (before.explained k e below apart);
     } in
     explanation_same trail places i except (clause ++ lit ∷ []) d in_places longer (λ _. explained_by_floor trail clause (get_or places i d) lit floor)
@@ -68,9 +62,7 @@ lt_le a b c h k = omega (arith, ints)
 -- where the least sum exceeds the bound, an explanation of every place refutes
 pub conflict : (trail : Levels) (places : List Place) (bound : ℤ) (clause : List Lit) → bound <ℤ least_sum trail.sets places → IsExplanation trail places (length places) (length places) clause → IsConflict trail AtMost places bound clause
 conflict trail places bound clause exceeds explanation = record {
-  over = explanation.over;
-  writable = explanation.writable;
-  impossible = explanation.impossible;
+  still = explanation.still;
   rules_out = λ choice left.
       lt_le bound (least_sum trail.sets places) (total_by (λ (p : Place). p.coefficient *ℤ choice p) places) exceeds
       (total_le (low_product trail.sets) (λ (p : Place). p.coefficient *ℤ choice p) places (λ k d below.
@@ -83,9 +75,7 @@ le_of_more a b s h = omega (arith, ints)
 -- where one place gives more than the slack allows without its literal, the explanation of the others with the literal refutes
 pub forcing : (trail : Levels) (places : List Place) (bound : ℤ) (slack : ℕ) (clause : List Lit) (j : ℕ) (d : Place) (lit : Lit) → bound ≡ least_sum trail.sets places +ℤ pos slack → j < length places → IsPlace (length trail.declared) (get_or places j d) → IsForced trail (get_or places j d) slack lit → IsExplanation trail places (length places) j clause → IsRefutation trail AtMost places bound (clause ++ lit ∷ [])
 forcing trail places bound slack clause j d lit bound_is in_places fits forced explanation = record {
-  over = All-push (λ (l : Lit). IsVariable (length trail.declared) l.var) clause lit explanation.over (variable_of_place (length trail.declared) (get_or places j d) lit.var fits forced.of_place);
-  writable = All-push IsWritable clause lit explanation.writable forced.writable;
-  forces = inr (lit, record { only = none_left trail.sets clause lit true explanation.impossible forced.possible; not_yet_true = forced.not_yet_true });
+  forcing = forcing_push trail clause lit explanation.still (variable_of_place (length trail.declared) (get_or places j d) lit.var fits forced.of_place) forced.writable forced.not_yet_true;
   rules_out = λ choice left.
       let give = λ (p : Place). p.coefficient *ℤ choice p in
       let there : (low_product trail.sets (get_or places j d) +ℤ pos slack) <ℤ give (get_or places j d) =

@@ -6,13 +6,11 @@ use Rattle.std.proofs.lemmas.List.{get_or_default, get_or_append_left}
 use Rattle.std.proofs.lemmas.List.Elements.{All-nil, All-push, All-get_or}
 use Rattle.fzn_domain.specs.declared.literal.Lit.{Lit}
 use Rattle.fzn_domain.specs.declared.literal.Op.TheVariants as op
-use Rattle.fzn_domain.specs.Narrow.{IsVariable}
 use Rattle.fzn_meaning.specs.declared.term.Term.TheVariants.{Constant}
 use Rattle.fzn_meaning.specs.declared.term.Place.{Place}
 use Rattle.fzn_meaning.specs.Term.{IsPlace}
 use Rattle.fzn_trail.specs.Levels.{Levels}
-use Rattle.fzn_propagator.specs.Inference.{IsWritable}
-use Rattle.fzn_propagator.proofs.CallerLemmas.{none_left}
+use Rattle.fzn_propagator.proofs.CallerLemmas.{false_of_none, false_push}
 use Rattle.fzn_sums.specs.declared.at_most.PlaceFloor.{PlaceFloor}
 use Rattle.fzn_sums.specs.Explained.{IsExplained, IsFloor, IsExplanation, IsFloorAt, AreFloors, HasFloors}
 use Rattle.fzn_sums.proofs.ClauseLemmas.{explained_more, explained_by_floor, variable_of_place}
@@ -57,17 +55,13 @@ module _ (trail : Levels) (places : List Place) where
   module _ (floors : List PlaceFloor) (except : ℕ) where
     pub has_none : HasFloors trail places floors 0 except []
     has_none = record {
-      over = All-nil (λ (l : Lit). IsVariable (length trail.declared) l.var);
-      writable = All-nil IsWritable;
-      impossible = refl;
+      still = false_of_none trail [] refl;
       explained = λ i f e below apart. absurd (omega arith);
     }
 
     pub has_same : (i : ℕ) (clause : List Lit) (d : PlaceFloor) → i < length floors → HasFloors trail places floors i except clause → (get_or floors i d).place ≡ except → HasFloors trail places floors (i + 1) except clause
     has_same i clause d in_floors before left_out = record {
-      over = before.over;
-      writable = before.writable;
-      impossible = before.impossible;
+      still = before.still;
       explained = λ k f e below apart. elim (cases_eq k i) [
         | inl same ↦
             let at : get_or floors k f ≡ get_or floors i d = ap (λ (n : ℕ). get_or floors n f) same ∙ sym (get_or_default floors i d f in_floors) in
@@ -83,10 +77,9 @@ module _ (trail : Levels) (places : List Place) where
         let here : IsFloorAt trail places (get_or floors i d) = All-get_or (IsFloorAt trail places) floors i d in_floors each in
         let floor : IsFloor trail (get_or places (get_or floors i d).place at) (get_or floors i d).lit = here.literal at in
         record {
-          over = All-push (λ (l : Lit). IsVariable (length trail.declared) l.var) clause lit before.over
-              (variable_of_place (length trail.declared) (get_or places (get_or floors i d).place at) lit.var (All-get_or (IsPlace (length trail.declared)) places (get_or floors i d).place at here.in_places fit) floor.of_place);
-          writable = All-push IsWritable clause lit before.writable floor.writable;
-          impossible = none_left trail.sets clause lit false before.impossible floor.impossible;
+          still = false_push trail clause lit before.still
+              (variable_of_place (length trail.declared) (get_or places (get_or floors i d).place at) lit.var (All-get_or (IsPlace (length trail.declared)) places (get_or floors i d).place at here.in_places fit) floor.of_place)
+              floor.writable floor.impossible;
           explained = λ k f e below apart. elim (cases_eq k i) [
             | inl same ↦
                 let is : get_or floors i d ≡ get_or floors k f = get_or_default floors i d f in_floors ∙ ap (λ (n : ℕ). get_or floors n f) (sym same) in
@@ -100,9 +93,7 @@ module _ (trail : Levels) (places : List Place) where
     explanation_of clause are has =
         let any : PlaceFloor = record { place = 0; lit = record { var = record { 0 = 0 }; op = op.AtMost; value = pos 0 } } in
         record {
-          over = has.over;
-          writable = has.writable;
-          impossible = has.impossible;
+          still = has.still;
           explained = λ k e below apart. elim (are.explained k e below) [
             | inl none ↦ explained_more trail [] clause (get_or places k e) none
             | inr some ↦ subst (λ (n : ℕ). IsExplained trail clause (get_or places n e)) (some.2 any) (has.explained some.0 any e some.1 (λ same. apart (sym (some.2 any) ∙ same)))

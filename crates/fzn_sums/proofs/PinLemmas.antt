@@ -22,15 +22,15 @@ use Rattle.fzn_meaning.specs.Term.{IsTerm, IsPlace, total_by}
 use Rattle.fzn_sets.specs.Terms.{least_value, greatest_value}
 use Rattle.fzn_builtin_rules.specs.Linear.{low_end, high_end, low_product, high_product, least_sum}
 use Rattle.fzn_trail.specs.Levels.{Levels}
-use Rattle.fzn_propagator.specs.Inference.{IsWritable}
 use Rattle.fzn_propagator.specs.Left.{IsLeft}
 use Rattle.fzn_propagator.specs.Barred.{GivesOne}
-use Rattle.fzn_propagator.proofs.CallerLemmas.{left_of_more, last_fails, none_left, value_where_false, denied_one, denied_some, may_fail}
+use Rattle.fzn_propagator.proofs.CallerLemmas.{left_of_more, last_fails, false_push, forcing_push, value_where_false, denied_one, may_fail}
 use Rattle.fzn_sums.specs.Opposite.{opposite, opposites}
 use Rattle.fzn_sums.specs.Refuted.{RulesOut, IsConflict, IsRefutation}
 use Rattle.fzn_sums.specs.Pinned.{IsPinned, IsPin, ArePinned, IsBarring}
 use Rattle.fzn_sums.proofs.OppositeLemmas.{neg_times, total-opposites}
 use Rattle.fzn_builtin_rules.proofs.CallerLemmas.{low_up, low_down, high_up, high_down}
+use Rattle.fzn_sums.proofs.ClauseLemmas.{variable_of_place}
 use Rattle.fzn_sums.proofs.PlaceLemmas.{both_signs}
 use Rattle.fzn_sums.proofs.ProductLemmas.{cancel}
 use Rattle.fzn_sums.proofs.SumLemmas.{total_same, total_but}
@@ -135,14 +135,9 @@ pinned_by : (trail : Levels) (clause : List Lit) (place : Place) (lit : Lit) →
 pinned_by trail clause place lit pin = λ v left.
     pin.gives v (last_fails trail.declared clause lit v (subst (λ (t : Term). IsLeft trail.declared (clause ++ lit ∷ []) t v) pin.of_place left))
 
-variable_of_place : (count : ℕ) (place : Place) (var : VarId) → IsPlace count place → place.term ≡ Variable var → IsVariable count var
-variable_of_place count place var fits of = subst (λ (t : Term). IsTerm count t) of fits.0
-
 pub pins_same : (trail : Levels) (places : List Place) (i except : ℕ) (clause : List Lit) (d : Place) → i < length places → ArePinned trail places i except clause → (i ≢ except → IsPinned trail clause (get_or places i d)) → ArePinned trail places (i + 1) except clause
 pins_same trail places i except clause d in_places before here = record {
-  over = before.over;
-  writable = before.writable;
-  impossible = before.impossible;
+  still = before.still;
   pinned = λ k e below apart. elim (cases_eq k i) [
     | inl same ↦
         let at : get_or places i d ≡ get_or places k e = get_or_default places i d e in_places ∙ ap (λ (n : ℕ). get_or places n e) (sym same) in
@@ -157,9 +152,7 @@ pins_empty trail places i except clause d in_places before pinned = pins_same tr
 pub pins_push : (trail : Levels) (places : List Place) (i except : ℕ) (clause : List Lit) (d : Place) (lit : Lit) → i < length places → IsPlace (length trail.declared) (get_or places i d) → ArePinned trail places i except clause → IsPin trail (get_or places i d) lit → ArePinned trail places (i + 1) except (clause ++ lit ∷ [])
 pins_push trail places i except clause d lit in_places fits before pin =
     let longer : ArePinned trail places i except (clause ++ lit ∷ []) = record {
-      over = All-push (λ (l : Lit). IsVariable (length trail.declared) l.var) clause lit before.over (variable_of_place (length trail.declared) (get_or places i d) lit.var fits pin.of_place);
-      writable = All-push IsWritable clause lit before.writable pin.writable;
-      impossible = none_left trail.sets clause lit false before.impossible pin.impossible;
+      still = false_push trail clause lit before.still (variable_of_place (length trail.declared) (get_or places i d) lit.var fits pin.of_place) pin.writable pin.impossible;
       pinned = λ k e below apart. pinned_more trail clause (lit ∷ []) (get_or places k e) (before.pinned k e below apart);
     } in
     pins_same trail places i except (clause ++ lit ∷ []) d in_places longer (λ _. pinned_by trail clause (get_or places i d) lit pin)
@@ -182,26 +175,19 @@ rules_out_at trail clause places number is = (
 -- where each place gives its one number, and the sum of them is the number, the clause that pins them is a conflict
 pub conflict_settled : (trail : Levels) (places : List Place) (number : ℤ) (clause : List Lit) → least_sum trail.sets places ≡ number → ArePinned trail places (length places) (length places) clause → IsConflict trail NotEqual places number clause
 conflict_settled trail places number clause is pins = record {
-  over = pins.over;
-  writable = pins.writable;
-  impossible = pins.impossible;
+  still = pins.still;
   rules_out = rules_out_at trail clause places number (λ choice left.
       total_same (λ (p : Place). p.coefficient *ℤ choice p) (low_product trail.sets) places (λ k d below.
       pins.pinned k d below (λ e. omega arith) (choice (get_or places k d)) (left k d below)) ∙ is);
 }
 
 -- with the literal that bars a value of one place, the clause that pins the others forces it
-pub barring_refutes : (trail : Levels) (places : List Place) (number : ℤ) (clause : List Lit) (j : ℕ) (d : Place) (lit : Lit) → j < length places → IsPlace (length trail.declared) (get_or places j d) → (GivesOne trail.sets (get_or places j d) → ⊥) → IsBarring trail places (get_or places j d) number lit → ArePinned trail places (length places) j clause → IsRefutation trail NotEqual places number (clause ++ lit ∷ [])
-barring_refutes trail places number clause j d lit in_places fits several barring pins =
+pub barring_refutes : (trail : Levels) (places : List Place) (number : ℤ) (clause : List Lit) (j : ℕ) (d : Place) (lit : Lit) → j < length places → IsPlace (length trail.declared) (get_or places j d) → IsBarring trail places (get_or places j d) number lit → ArePinned trail places (length places) j clause → IsRefutation trail NotEqual places number (clause ++ lit ∷ [])
+barring_refutes trail places number clause j d lit in_places fits barring pins =
     let place = get_or places j d in
-    let apart : least (set_of trail.sets lit.var) ≢ greatest (set_of trail.sets lit.var) =
-    λ same. several (one_of_same trail.sets place (subst (λ (t : Term). least_value trail.sets t ≡ greatest_value trail.sets t) (sym barring.of_place) same)) in
-    let possible = denied_some lit barring.denies (set_of trail.sets lit.var) (size_above_zero (set_of trail.sets lit.var) lit.value barring.member) apart in
     let limits = barring.in_limits in
     record {
-      over = All-push (λ (l : Lit). IsVariable (length trail.declared) l.var) clause lit pins.over (variable_of_place (length trail.declared) place lit.var fits barring.of_place);
-      writable = All-push IsWritable clause lit pins.writable (omega (arith, ints), omega (arith, ints));
-      forces = inr (lit, record { only = none_left trail.sets clause lit true pins.impossible possible; not_yet_true = may_fail lit barring.denies (set_of trail.sets lit.var) barring.member });
+      forcing = forcing_push trail clause lit pins.still (variable_of_place (length trail.declared) place lit.var fits barring.of_place) (omega (arith, ints), omega (arith, ints)) (may_fail lit barring.denies (set_of trail.sets lit.var) barring.member);
       rules_out = rules_out_at trail (clause ++ lit ∷ []) places number (λ choice left.
           let give = λ (p : Place). p.coefficient *ℤ choice p in
           let at : choice place ≡ lit.value =

@@ -5,7 +5,7 @@ use Rattle.fzn_meaning.specs.declared.term.Place.{Place}
 use Rattle.fzn_meaning.specs.declared.relation.Comparison.{Comparison}
 use Rattle.fzn_meaning.specs.declared.relation.Comparison.TheVariants.{AtMost, Equal, NotEqual}
 use Rattle.fzn_trail.specs.Levels.{Levels}
-use Rattle.fzn_propagator.proofs.CallerLemmas.{left_of_more}
+use Rattle.fzn_propagator.proofs.CallerLemmas.{left_of_more, forcing_of_false}
 use Rattle.fzn_sums.specs.Explained.{Exceeds}
 use Rattle.fzn_sums.specs.Opposite.{opposites}
 use Rattle.fzn_sums.specs.Refuted.{RulesOut, IsConflict, IsRefutation}
@@ -26,4 +26,4 @@ rules_out-more trail clause more NotEqual places bound out = (
 )
 
 pub refutation_of : (trail : Levels) (comparison : Comparison) (places : List Place) (bound : ℤ) (clause : List Lit) → IsConflict trail comparison places bound clause → IsRefutation trail comparison places bound clause
-refutation_of trail comparison places bound clause conflict = record { over = conflict.over; writable = conflict.writable; forces = inl conflict.impossible; rules_out = conflict.rules_out }
+refutation_of trail comparison places bound clause conflict = record { forcing = forcing_of_false trail clause conflict.still; rules_out = conflict.rules_out }

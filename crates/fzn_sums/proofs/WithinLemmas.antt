@@ -98,7 +98,7 @@ module _ {E : Type 0} (trail : Levels) (places : List Place) (bound slack : ℤ)
 pub refutes_from_above : (trail : Levels) (places : List Place) (number slack : ℤ) (clause : List Lit) → least_sum trail.sets places +ℤ slack ≡ number → IsRefutation trail AtMost places (least_sum trail.sets places +ℤ slack) clause → IsRefutation trail Equal places number clause
 refutes_from_above trail places number slack clause is refutes =
     let there = subst (λ (b : ℤ). IsRefutation trail AtMost places b clause) is refutes in
-    record { over = there.over; writable = there.writable; forces = there.forces; rules_out = inl there.rules_out }
+    record { forcing = there.forcing; rules_out = inl there.rules_out }
 
 -- the least of the opposite sum and how far the sum may fall
 fallen : (sets : List IntSet) (places : List Place) (number fall : ℤ) → fall ≡ greatest_sum sets places -ℤ number → least_sum sets (opposites places) +ℤ fall ≡ pos 0 -ℤ number
@@ -108,7 +108,7 @@ refutes_below : (trail : Levels) (places named : List Place) (number fall : ℤ)
 refutes_below trail places named number fall clause opposite is refutes =
     let turned = subst (λ (ps : List Place). IsRefutation trail AtMost ps (least_sum trail.sets ps +ℤ fall) clause) opposite refutes in
     let there = subst (λ (b : ℤ). IsRefutation trail AtMost (opposites places) b clause) (fallen trail.sets places number fall is) turned in
-    record { over = there.over; writable = there.writable; forces = there.forces; rules_out = inr there.rules_out }
+    record { forcing = there.forcing; rules_out = inr there.rules_out }
 
 -- neither end is past the number
 pub leaves_number : (sets : List IntSet) (places : List Place) (number rise fall : ℤ) → least_sum sets places +ℤ rise ≡ number → fall ≡ greatest_sum sets places -ℤ number → pos 0 ≤ℤ rise → pos 0 ≤ℤ fall → LeavesEach sets Equal places number

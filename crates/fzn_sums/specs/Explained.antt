@@ -4,7 +4,7 @@ use Rattle.std.specs.List.{All, HoldsAt}
 use Rattle.fzn_domain.specs.declared.literal.Lit.{Lit}
 use Rattle.fzn_domain.specs.Literal.{is_true_at}
 use Rattle.fzn_domain.specs.IntSet.{is_possible}
-use Rattle.fzn_domain.specs.Narrow.{IsClauseOver, set_of, possible_in}
+use Rattle.fzn_domain.specs.Narrow.{set_of}
 use Rattle.fzn_meaning.specs.declared.term.Term.TheVariants.{Variable}
 use Rattle.fzn_meaning.specs.declared.term.Place.{Place}
 use Rattle.fzn_builtin_rules.specs.Linear.{low_product}
@@ -13,7 +13,7 @@ use Rattle.fzn_trail.specs.Unit.{IsOpen}
 use Rattle.fzn_meaning.specs.Term.{total_by}
 use Rattle.fzn_sums.specs.declared.at_most.Forced.{Forced}
 use Rattle.fzn_sums.specs.declared.at_most.PlaceFloor.{PlaceFloor}
-use Rattle.fzn_propagator.specs.Inference.{IsWritable}
+use Rattle.fzn_propagator.specs.Clause.{IsWritable, IsFalseClause}
 use Rattle.fzn_propagator.specs.Left.{IsLeft}
 
 -- at each value that the clause leaves, the place gives no less than on the trail
@@ -37,9 +37,7 @@ pub record IsForced (trail : Levels) (place : Place) (slack : ℕ) (lit : Lit) :
 
 -- a clause that is false on the trail and explains the places before an index, one place left out
 pub record IsExplanation (trail : Levels) (places : List Place) (before except : ℕ) (clause : List Lit) : Type 0 where
-  pub over : IsClauseOver (length trail.declared) clause
-  pub writable : All IsWritable clause
-  pub impossible : possible_in trail.sets clause ≡ []
+  pub still : IsFalseClause trail clause
   pub explained : (k : ℕ) (default : Place) → k < before → k ≢ except → IsExplained trail clause (slice_index_or places k default)
 
 -- whatever values the clause leaves, each place by itself, the sum exceeds the bound
@@ -66,8 +64,6 @@ pub record AreFloors (trail : Levels) (places : List Place) (before : ℕ) (floo
 
 -- a clause that is false on the trail and has those before an index, but for that of one place
 pub record HasFloors (trail : Levels) (places : List Place) (floors : List PlaceFloor) (before except : ℕ) (clause : List Lit) : Type 0 where
-  pub over : IsClauseOver (length trail.declared) clause
-  pub writable : All IsWritable clause
-  pub impossible : possible_in trail.sets clause ≡ []
+  pub still : IsFalseClause trail clause
   pub explained : (i : ℕ) (floor : PlaceFloor) (default : Place) → i < before → (slice_index_or floors i floor).place ≢ except
       → IsExplained trail clause (slice_index_or places (slice_index_or floors i floor).place default)

@@ -6,13 +6,13 @@ use Rattle.fzn_domain.specs.declared.literal.Op.TheVariants as op
 use Rattle.fzn_domain.specs.Literal.{is_true_at}
 use Rattle.fzn_domain.specs.IntSet.{IntSet, contains, is_possible}
 use Rattle.fzn_domain.specs.Limits.{IsInLimits}
-use Rattle.fzn_domain.specs.Narrow.{IsClauseOver, set_of, possible_in}
+use Rattle.fzn_domain.specs.Narrow.{set_of}
 use Rattle.fzn_meaning.specs.declared.term.Term.{Term}
 use Rattle.fzn_meaning.specs.declared.term.Term.TheVariants.{Constant, Variable}
 use Rattle.fzn_meaning.specs.declared.term.Place.{Place}
 use Rattle.fzn_builtin_rules.specs.Linear.{low_product, least_sum}
 use Rattle.fzn_trail.specs.Levels.{Levels}
-use Rattle.fzn_propagator.specs.Inference.{IsWritable}
+use Rattle.fzn_propagator.specs.Clause.{IsWritable, IsFalseClause}
 use Rattle.fzn_propagator.specs.Left.{IsLeft}
 use Rattle.fzn_propagator.specs.Barred.{GivesOne, AreSettledBut}
 
@@ -42,9 +42,7 @@ pub record IsPin (trail : Levels) (place : Place) (lit : Lit) : Type 0 where
 
 -- a clause that is false on the trail and pins the places before an index, one place left out
 pub record ArePinned (trail : Levels) (places : List Place) (before except : ℕ) (clause : List Lit) : Type 0 where
-  pub over : IsClauseOver (length trail.declared) clause
-  pub writable : All IsWritable clause
-  pub impossible : possible_in trail.sets clause ≡ []
+  pub still : IsFalseClause trail clause
   pub pinned : (k : ℕ) (default : Place) → k < before → k ≢ except → IsPinned trail clause (slice_index_or places k default)
 
 -- what the sum is where one place has this value and each other one gives its least

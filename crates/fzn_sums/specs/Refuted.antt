@@ -3,15 +3,14 @@ use Rattle.std.specs.Prelude.{◌≡◌, ◌⊎◌, ℤ, pos, ◌-ℤ◌, ◌<�
 use Rattle.std.specs.List.{All}
 use Rattle.fzn_domain.specs.declared.literal.Lit.{Lit}
 use Rattle.fzn_domain.specs.IntSet.{IntSet}
-use Rattle.fzn_domain.specs.Narrow.{IsClauseOver, possible_in}
 use Rattle.fzn_meaning.specs.declared.term.Place.{Place}
 use Rattle.fzn_meaning.specs.declared.relation.Comparison.{Comparison}
 use Rattle.fzn_meaning.specs.declared.relation.Comparison.TheVariants.{AtMost, Equal, NotEqual}
 use Rattle.fzn_builtin_rules.specs.Linear.{least_sum}
 use Rattle.fzn_trail.specs.Levels.{Levels}
-use Rattle.fzn_trail.specs.Unit.{IsFalseOrUnit}
 use Rattle.fzn_propagator.specs.Barred.{LeavesNoBarred}
-use Rattle.fzn_propagator.specs.Inference.{IsWritable, IsTight}
+use Rattle.fzn_propagator.specs.Clause.{IsFalseClause, IsForcing}
+use Rattle.fzn_propagator.specs.Inference.{IsTight}
 use Rattle.fzn_sums.specs.Explained.{Exceeds}
 use Rattle.fzn_sums.specs.Opposite.{opposites}
 
@@ -23,16 +22,12 @@ RulesOut trail clause NotEqual places bound = Exceeds trail clause places (bound
 
 -- a clause that is false and rules that out
 pub record IsConflict (trail : Levels) (comparison : Comparison) (places : List Place) (bound : ℤ) (clause : List Lit) : Type 0 where
-  pub over : IsClauseOver (length trail.declared) clause
-  pub writable : All IsWritable clause
-  pub impossible : possible_in trail.sets clause ≡ []
+  pub still : IsFalseClause trail clause
   pub rules_out : RulesOut trail clause comparison places bound
 
 -- a clause that is false or forces one literal, and rules that out
 pub record IsRefutation (trail : Levels) (comparison : Comparison) (places : List Place) (bound : ℤ) (clause : List Lit) : Type 0 where
-  pub over : IsClauseOver (length trail.declared) clause
-  pub writable : All IsWritable clause
-  pub forces : IsFalseOrUnit trail.sets clause
+  pub forcing : IsForcing trail clause
   pub rules_out : RulesOut trail clause comparison places bound
 
 -- the ends of the sum leave a sum that compares so with the bound

@@ -1,3 +1,4 @@
+mod HeardLemmas
 mod PropagatorLemmas
 mod TableLemmas
 mod WordsLemmas

@@ -1,7 +1,6 @@
--- What a table has of its clauses, and where there is none.
+-- What justifies the clauses of a table, and where there is none.
 use Rattle.std.proofs.Common.{◌≡◌, ℕ, ◌+◌, ◌*◌, ◌<◌, ◌≤◌, List, [], ◌∷◌, ◌++◌, length, drop, get_or, refl, sym, ap, subst, ◌∙◌, inr, arith, ℤ, pos, All}
 use Rattle.std.proofs.lemmas.List.{ext_get_or, get_or-drop, get_or-take, length-drop, length-take-le}
-use Rattle.std.proofs.lemmas.List.Elements.{All-from_recursion, All-push}
 use Rattle.fzn_domain.specs.declared.literal.Lit.{Lit}
 use Rattle.fzn_domain.specs.IntSet.{IntSet}
 use Rattle.fzn_domain.specs.Narrow.{IsWithin}
@@ -18,31 +17,15 @@ use Rattle.fzn_builtin_rules.specs.Form.{form_of}
 use Rattle.fzn_rules.specs.declared.rule.Rule.TheVariants as rule
 use Rattle.fzn_rules.specs.Rules.{IsMet}
 use Rattle.fzn_trail.specs.Levels.{Levels}
-use Rattle.fzn_propagator.specs.declared.propagator.Inference.{Inference}
-use Rattle.fzn_propagator.specs.Inference.{AllFixed, IsHint, IsExhausted, IsInferenceOf, AreInferencesOf}
-use Rattle.fzn_terms.specs.Claims.{IsJustifiedBy}
-use Rattle.fzn_terms.specs.Law.{IsRuleOf, HoldsWhereFixed}
-use Rattle.fzn_terms.proofs.LawLemmas.{justified_by, inference_of, exhausted, fixed_only, now_fit}
-use Rattle.fzn_table.specs.Supports.{AreRowsOutOn, AreSupported, number_at, AreFromTable}
+use Rattle.fzn_propagator.specs.Inference.{AllFixed, HoldsWhereFixed, IsExhausted}
+use Rattle.fzn_propagator.specs.Clause.{IsJustifiedBy, IsJustified}
+use Rattle.fzn_propagator.proofs.CallerLemmas.{justified_by, exhausted}
+use Rattle.fzn_terms.proofs.FixedLemmas.{fixed_only, now_fit}
+use Rattle.fzn_table.specs.Supports.{AreRowsOutOn, AreSupported, number_at}
 
-pub table_rule : (trail : Levels) (places : List Term) (rows : List ℤ) (clause : List Lit) → IsJustifiedBy trail (AreRowsOutOn places rows) clause → IsRuleOf trail (Table places rows) rule.Rows clause
+pub table_justified : (trail : Levels) (places : List Term) (rows : List ℤ) (clause : List Lit) → IsJustifiedBy trail (AreRowsOutOn places rows) clause → IsJustified trail (Table places rows) rule.Rows clause
 unfolding IsMet IsGlobalRowsMet
-table_rule trail places rows clause explained = record {
-  hints = All-from_recursion IsHint [] tt;
-  justified = justified_by trail clause (AreRowsOutOn places rows) (λ (sets : List IntSet). IsMet (Table places rows) sets rule.Rows) (λ sets met. inr met) explained;
-}
-
--- ---- what was found
-
--- one inference more
-pub found_more : (trail : Levels) (number : ℕ) (places : List Term) (rows : List ℤ) (clause : List Lit) (found : List Inference) → AreFromTable number places rows trail found → IsJustifiedBy trail (AreRowsOutOn places rows) clause → AreFromTable number places rows trail (found ++ record { constraint = number; rule = rule.Rows; clause = clause } ∷ [])
-found_more trail number places rows clause found before explained =
-    All-push (IsInferenceOf number (λ C. Table places rows ≡ C) trail) found (record { constraint = number; rule = rule.Rows; clause = clause }) before
-    (inference_of trail number (Table places rows) rule.Rows clause (table_rule trail places rows clause explained))
-
--- by another name of the table
-pub same_table : (trail : Levels) (number : ℕ) (A B : Constraint) (found : List Inference) → A ≡ B → AreInferencesOf number (λ C. A ≡ C) trail found → AreInferencesOf number (λ C. B ≡ C) trail found
-same_table trail number A B found same inferences = subst (λ (D : Constraint). AreInferencesOf number (λ C. D ≡ C) trail found) same inferences
+table_justified trail places rows clause explained = justified_by trail (Table places rows) rule.Rows clause (AreRowsOutOn places rows) (λ sets met. inr met) explained
 
 -- ---- where all variables are fixed
 

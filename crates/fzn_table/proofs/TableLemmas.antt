@@ -16,22 +16,15 @@ use Rattle.std.proofs.Math.ListN.{get_or-map}
 use Rattle.fzn_meaning.specs.Term.{IsTerm, number_in, numbers_in}
 use Rattle.fzn_sets.specs.Terms.{MayBe}
 use Rattle.fzn_trail.specs.Levels.{Levels}
-use Rattle.fzn_propagator.specs.Inference.{IsWritable}
+use Rattle.fzn_propagator.specs.Clause.{IsWritable, IsJustifiedBy, IsFalseClause}
 use Rattle.fzn_propagator.specs.Left.{IsLeft}
-use Rattle.fzn_propagator.proofs.CallerLemmas.{left_of_more, left_of_later}
-use Rattle.fzn_terms.specs.Claims.{claim, CanFail, LeavesNoMore, IsJustifiedBy, place_at}
-use Rattle.fzn_terms.specs.Denied.{IsFalseClause}
-use Rattle.fzn_terms.proofs.ClaimLemmas.{claim_over, claim_writable, claim_forces, claim_fails, forces-right, left_of_may, refuted_push}
+use Rattle.fzn_propagator.proofs.CallerLemmas.{left_of_more, left_of_later, left_of_may, differs_not, same_value}
+use Rattle.fzn_terms.specs.Claims.{claim, CanFail, LeavesNoMore, place_at}
+use Rattle.fzn_terms.proofs.ClaimLemmas.{claim_over, claim_writable, claim_forces, claim_fails, forces-right, refuted_push}
 use Rattle.fzn_table.specs.Supports.{AreRowsOutOn, number_at, IsWhole, IsRowRefuted, AreRowsRefuted}
 
 unequal : (v k : ℤ) → v ≢ k → int_eq v k ≡ false
 unequal v k apart = grind (arith, ints)
-
-equal_not : (v k : ℤ) → v ≡ k → not (int_eq v k) ≡ false
-equal_not v k same = grind (arith, ints)
-
-same_value : (v k : ℤ) → not (int_eq v k) ≡ false → v ≡ k
-same_value v k h = grind (arith, ints)
 
 unequal_self : (k : ℤ) → int_eq k k ≡ false → ⊥
 unequal_self k h = grind (arith, ints)
@@ -74,7 +67,7 @@ module _ (trail : Levels) (places : List Term) (rows : List ℤ) (p : ℕ) (valu
       let total = length trail.declared in
       let number : IsNearLimits value = (omega (arith, ints, limits.0), omega (arith, ints, limits.1)) in
       let fits : IsTerm total term = fit p (Constant (pos 0)) below in
-      let fails : CanFail trail.sets term NotEqual value = (value, may, equal_not value value refl) in
+      let fails : CanFail trail.sets term NotEqual value = (value, may, differs_not value value refl) in
       let over = All-append (λ (l : Lit). IsVariable total l.var) clause D refuted.over (claim_over term NotEqual value total fits) in
       record {
         forcing = record {
@@ -85,12 +78,12 @@ module _ (trail : Levels) (places : List Term) (rows : List ℤ) (p : ℕ) (valu
         met = λ some r whole. elim (cases_Bool (int_eq (number_at places rows r p) value)) [
           | inl same ↦
               let row = out r (counted r whole) (equal_of (number_at places rows r p) value same) in
-              (row.0, row.1, λ there. row.2 (left_of_more trail.declared clause D (place_at places row.0) (number_at places rows r row.0) (left_of_may trail.declared (clause ++ D) (place_at places row.0) over (number_at places rows r row.0) there)))
+              (row.0, row.1, λ there. row.2 (left_of_more trail.declared clause D (place_at places row.0) (number_at places rows r row.0) (left_of_may (clause ++ D) trail.declared (place_at places row.0) (number_at places rows r row.0) over there)))
           | inr other ↦ (
             p,
             below,
             λ there.
-                let left = left_of_may trail.declared (clause ++ D) term over (number_at places rows r p) there in
+                let left = left_of_may (clause ++ D) trail.declared term (number_at places rows r p) over there in
                 let v_is = same_value (number_at places rows r p) value (claim_fails term NotEqual value trail.sets trail.declared fails (number_at places rows r p) (left_of_later trail.declared clause D term (number_at places rows r p) left)) in
                 differs_of (number_at places rows r p) value other v_is,
           )

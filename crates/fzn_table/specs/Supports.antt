@@ -3,12 +3,8 @@ use Rattle.std.specs.Prelude.{◌≡◌, Bool, true, false, ℕ, ◌+◌, ◌*�
 use Rattle.fzn_domain.specs.declared.literal.Lit.{Lit}
 use Rattle.fzn_domain.specs.IntSet.{IntSet}
 use Rattle.fzn_meaning.specs.declared.term.Term.{Term}
-use Rattle.fzn_meaning.specs.declared.constraint.Constraint.TheVariants.{Table}
 use Rattle.fzn_sets.specs.Terms.{MayBe}
 use Rattle.fzn_global_rules.specs.GlobalRows.{AreRowsOut}
-use Rattle.fzn_trail.specs.Levels.{Levels}
-use Rattle.fzn_propagator.specs.declared.propagator.Inference.{Inference}
-use Rattle.fzn_propagator.specs.Inference.{AreInferencesOf}
 use Rattle.fzn_propagator.specs.Left.{IsLeft}
 use Rattle.fzn_terms.specs.Claims.{place_at}
 
@@ -56,7 +52,3 @@ IsRowRefuted declared clause places rows r = (k : ℕ) × (k < length places) ×
 -- so of each of the first rows that has the value at the place
 abbrev pub AreRowsRefuted : List IntSet → List Lit → List Term → List ℤ → ℕ → ℤ → ℕ → Type 0
 AreRowsRefuted declared clause places rows p value count = (r : ℕ) → r < count → number_at places rows r p ≡ value → IsRowRefuted declared clause places rows r
-
--- each of these is an inference from the table of these places and rows
-abbrev pub AreFromTable : ℕ → List Term → List ℤ → Levels → List Inference → Type 0
-AreFromTable number places rows trail found = AreInferencesOf number (λ constraint. Table places rows ≡ constraint) trail found

@@ -12,7 +12,7 @@ use crate::table::bar_unsupported;
 use fzn_domain::Memory;
 use fzn_list::Shared;
 use fzn_meaning::{Constraint, Model, Rows, Term};
-use fzn_propagator::{Findings, Propagator};
+use fzn_propagator::{Cost, Event, Findings, Propagator, Subscriptions};
 use fzn_trail::Trail;
 use std::alloc::Global;
 
@@ -29,10 +29,35 @@ pub struct TablePropagator {
     pub(crate) supports: Supports,
 }
 
+impl TablePropagator {
+    /// The propagator of the table of these places and rows, which has this number.
+    pub fn new(
+        alloc: Global,
+        number: u64,
+        places: &Shared<Term>,
+        rows: &Rows,
+    ) -> Result<TablePropagator, Memory>
+        ensures number { IfOk result (λ propagator. propagator.number ≡ number) }
+        ensures places { IfOk result (λ propagator. propagator.places ≡ places.now) }
+        ensures rows { IfOk result (λ propagator. propagator.rows ≡ rows.now) }
+    {
+        Ok(TablePropagator {
+            number,
+            places: places.share()?,
+            rows: rows.share()?,
+            supports: Supports::new(alloc, places.as_slice().len(), rows.constants())?,
+        })
+    }
+}
+
 impl Propagator for TablePropagator {
     ghost use Rattle.std.specs.Prelude.{[], OnOk};
+    ghost use Rattle.fzn_domain.specs.IntSet.{IntSet};
     ghost use Rattle.fzn_domain.specs.Narrow.{NoneEmpty};
+    ghost use Rattle.fzn_propagator.specs.declared.cost.Cost.TheVariants as cost;
+    ghost use Rattle.fzn_propagator.specs.declared.event.Event.TheVariants as event;
     ghost use Rattle.fzn_propagator.specs.Inference.{AreInferencesOf, AreExhausted};
+    ghost use Rattle.fzn_propagator.specs.Subscriptions.{terms_of, waits_each, AreHeard};
     ghost use Rattle.fzn_table.specs.Supports.{AreSupported};
 
     ghost number = { table_number };
@@ -40,6 +65,23 @@ impl Propagator for TablePropagator {
     ghost is_for = { TableIsFor };
 
     ghost fits = { TableFits };
+
+    /// Each change of a place.
+    fn subscriptions(&self, alloc: Global) -> Result<Subscriptions, Memory>
+        requires fits { (declared : List IntSet) × TableFits self.now declared }
+        ensures value { IfOk result (λ subscriptions. subscriptions ≡ waits_each event.Any self.now.places) }
+        ensures heard { IfOk result (λ subscriptions. (constraint : Constraint) → TableIsFor self.now constraint → AreHeard subscriptions (terms_of constraint)) }
+    {
+        let mut subscriptions = Subscriptions::new(alloc);
+        subscriptions.add_each(self.places.as_slice(), Event::Any)?;
+        Ok(subscriptions)
+    }
+
+    fn cost(&self) -> Cost
+        ensures { result ≡ cost.Middling }
+    {
+        Cost::Middling
+    }
 
     /// One pass, by the law of the trait. Where it finds nothing, each value of each place stands there in a row whose values are all
     /// in their places' sets.
@@ -93,13 +135,8 @@ fn propagator_for(
     ensures is_for { IfOk result (λ found. IfSome found (λ propagator. TableIsFor propagator given.now)) }
     ensures none { IfOk result (λ found. IfNone found ((places : List Term) (rows : List ℤ) → given.now ≡ constraint.Table places rows → ⊥)) }
 {
-    match given {
-        Constraint::Table { places, rows } => Ok(Some(TablePropagator {
-            number,
-            places: places.share()?,
-            rows: rows.share()?,
-            supports: Supports::new(alloc, places.as_slice().len(), rows.constants())?,
-        })),
-        _ => Ok(None),
-    }
+    let Constraint::Table { places, rows } = given else {
+        return Ok(None);
+    };
+    Ok(Some(TablePropagator::new(alloc, number, places, rows)?))
 }

@@ -3,18 +3,20 @@ ghost use Rattle.std.specs.Prelude.{◌≡◌, ◌↔◌, ◌+◌, ◌*◌, ◌<
 ghost use Rattle.std.specs.List.{All, Contains};
 ghost use Rattle.fzn_domain.specs.Limits.{IsInLimits, IsNearLimits};
 ghost use Rattle.fzn_domain.specs.Narrow.{NoneEmpty};
+ghost use Rattle.fzn_meaning.specs.declared.constraint.Constraint.TheVariants as constraint;
 ghost use Rattle.fzn_meaning.specs.Term.{IsTerm, numbers_in};
 ghost use Rattle.fzn_sets.specs.Terms.{MayBe};
 ghost use Rattle.fzn_propagator.specs.Left.{IsLeft};
-ghost use Rattle.fzn_terms.specs.Claims.{IsJustifiedBy, LeavesNoMore, place_at};
-ghost use Rattle.fzn_terms.specs.Denied.{IsFalseClause};
-ghost use Rattle.fzn_table.specs.Supports.{AreRowsOutOn, number_at, IsWhole, IsOutAt, IsOpenUpTo, AreOpen, IsSupported, AreSupported, IsRowRefuted, AreRowsRefuted, AreFromTable};
+ghost use Rattle.fzn_propagator.specs.Clause.{IsJustifiedBy, IsFalseClause};
+ghost use Rattle.fzn_terms.specs.Claims.{LeavesNoMore, place_at};
+ghost use Rattle.fzn_table.specs.Supports.{AreRowsOutOn, number_at, IsWhole, IsOutAt, IsOpenUpTo, AreOpen, IsSupported, AreSupported, IsRowRefuted, AreRowsRefuted};
+ghost use Rattle.fzn_propagator.specs.Inference.{AreFoundOf};
 
 use crate::supports::Supports;
 use fzn_domain::{Lit, Memory, Op};
 use fzn_list::Items;
 use fzn_meaning::Term;
-use fzn_propagator::{Findings, Inference};
+use fzn_propagator::Findings;
 use fzn_rules::Rule;
 use fzn_terms::{least_of, may_be, next_value, push_claim};
 use fzn_trail::Trail;
@@ -276,8 +278,8 @@ fn bar_value(
     requires limits { IsInLimits value.now }
     requires may { MayBe trail.now.sets (place_at places.now p) value.now }
     requires marks { AreOpen trail.now.sets places.now (numbers_in rows.now) marks.old.items }
-    requires before { AreFromTable number places.now (numbers_in rows.now) trail.now found.old }
-    ensures found { AreFromTable number places.now (numbers_in rows.now) trail.now found.new }
+    requires before { AreFoundOf number (constraint.Table places.now (numbers_in rows.now)) trail.now found.old }
+    ensures found { AreFoundOf number (constraint.Table places.now (numbers_in rows.now)) trail.now found.new }
     ensures kept { found.new ≡ [] → found.old ≡ [] }
     ensures none { OnOk result (found.new ≡ [] → IsSupported trail.now.sets places.now (numbers_in rows.now) p value.now) }
     ensures marks { AreOpen trail.now.sets places.now (numbers_in rows.now) marks.new.items }
@@ -291,11 +293,7 @@ fn bar_value(
     if !explain_value(trail, places, rows, p, value, &mut clause)? {
         return Ok(());
     }
-    found.push(Inference {
-        constraint: number,
-        rule: Rule::Rows,
-        clause,
-    })?;
+    found.hand_over(number, Rule::Rows, Some(clause))?;
     Ok(())
 }
 
@@ -317,8 +315,8 @@ fn bar_values(
     requires filled { NoneEmpty trail.now.sets }
     requires in_range { p < length places.now }
     requires marks { AreOpen trail.now.sets places.now (numbers_in rows.now) marks.old.items }
-    requires before { AreFromTable number places.now (numbers_in rows.now) trail.now found.old }
-    ensures found { AreFromTable number places.now (numbers_in rows.now) trail.now found.new }
+    requires before { AreFoundOf number (constraint.Table places.now (numbers_in rows.now)) trail.now found.old }
+    ensures found { AreFoundOf number (constraint.Table places.now (numbers_in rows.now)) trail.now found.new }
     ensures kept { found.new ≡ [] → found.old ≡ [] }
     ensures none { OnOk result (found.new ≡ [] → (v : ℤ) → MayBe trail.now.sets (place_at places.now p) v → IsSupported trail.now.sets places.now (numbers_in rows.now) p v) }
     ensures marks { AreOpen trail.now.sets places.now (numbers_in rows.now) marks.new.items }
@@ -349,8 +347,8 @@ pub(crate) fn bar_unsupported(
     requires places { All (IsTerm (length trail.now.declared)) places.now }
     requires numbers { All IsInLimits (numbers_in rows.now) }
     requires filled { NoneEmpty trail.now.sets }
-    requires before { AreFromTable number places.now (numbers_in rows.now) trail.now found.old }
-    ensures found { AreFromTable number places.now (numbers_in rows.now) trail.now found.new }
+    requires before { AreFoundOf number (constraint.Table places.now (numbers_in rows.now)) trail.now found.old }
+    ensures found { AreFoundOf number (constraint.Table places.now (numbers_in rows.now)) trail.now found.new }
     ensures none { OnOk result (found.new ≡ [] → AreSupported trail.now.sets places.now (numbers_in rows.now) (length places.now)) }
 {
     let possible = supports.possible(alloc, trail, places)?;

@@ -20,11 +20,10 @@ use Rattle.fzn_sets.specs.Terms.{MayBe, IsFixedTo}
 use Rattle.fzn_sets.proofs.CallerLemmas.{only_value}
 use Rattle.fzn_trail.specs.Levels.{Levels}
 use Rattle.fzn_trail.specs.Unit.{IsFalseOrUnit}
-use Rattle.fzn_propagator.specs.Inference.{IsWritable}
-use Rattle.fzn_propagator.specs.Left.{IsLeft}
-use Rattle.fzn_propagator.proofs.CallerLemmas.{left_of_denied, left_of_more, left_of_later}
+use Rattle.fzn_propagator.specs.Clause.{IsWritable, IsFalseClause}
+use Rattle.fzn_propagator.proofs.CallerLemmas.{same_value, left_of_may, left_of_more, left_of_later}
 use Rattle.fzn_terms.specs.Claims.{claim, CanFail, FailsWhereLeft}
-use Rattle.fzn_terms.specs.Denied.{NoneIs, IsFalseClause}
+use Rattle.fzn_terms.specs.Denied.{NoneIs}
 
 -- ---- one claim
 
@@ -105,26 +104,15 @@ fails-later declared clause more term op bound fails v left = fails v (left_of_l
 -- ---- on the denied sets
 
 module _ (declared : List IntSet) (clause : List Lit) (term : Term) (over : IsClauseOver (length declared) clause) where
-  -- a value of the denied sets is one that the clause leaves
-  pub left_of_may : (v : ℤ) → MayBe (denied declared clause) term v → IsLeft declared clause term v
-  left_of_may v may = by term may
-    where
-      by : (t : Term) → MayBe (denied declared clause) t v → IsLeft declared clause t v
-      by (Constant k) may = sym may
-      by (Variable var) may = left_of_denied clause declared var v over may
-
   -- each value but one is denied
   pub fixed_where : (k : ℤ) → IsTerm (length declared) term → is_some_empty (denied declared clause) ≡ false → FailsWhereLeft declared clause term NotEqual k → IsFixedTo (denied declared clause) term k
   fixed_where k fits some fails =
       only_value (denied declared clause) term k some (subst (λ (n : ℕ). IsTerm n term) (sym (length-denied clause declared)) fits)
-      (λ v may apart. apart (same_value v k (fails v (left_of_may v may))))
-    where
-      same_value : (v k : ℤ) → not (int_eq v k) ≡ false → v ≡ k
-      same_value v k h = grind (arith, ints)
+      (λ v may apart. apart (same_value v k (fails v (left_of_may clause declared term v over may))))
 
   -- the value is denied
   pub not_where : (k : ℤ) → FailsWhereLeft declared clause term Equal k → MayBe (denied declared clause) term k → ⊥
-  not_where k fails may = unequal k (fails k (left_of_may k may))
+  not_where k fails may = unequal k (fails k (left_of_may clause declared term k over may))
     where
       unequal : (k : ℤ) → int_eq k k ≡ false → ⊥
       unequal k h = grind (arith, ints)

@@ -1,8 +1,7 @@
 -- A clause grows by one literal.
-use Rattle.std.proofs.Common.{◌≡◌, ℕ, ◌-◌, Bool, true, false, not, List, [], ◌∷◌, ◌++◌, length, refl, sym, ap, subst, ◌∙◌, inl, inr, arith, ℤ}
+use Rattle.std.proofs.Common.{◌≡◌, ◌-◌, Bool, true, false, not, List, [], ◌∷◌, ◌++◌, length, sym, ap, subst, ◌∙◌, inl, inr, arith, ℤ}
 use Rattle.std.proofs.lemmas.Int.{ints}
-use Rattle.std.proofs.lemmas.Bool.{cases_Bool, true≢false}
-use Rattle.std.proofs.lemmas.List.Elements.{All-nil, All-push}
+use Rattle.std.proofs.lemmas.Bool.{cases_Bool, true≢false, not-true, not-false}
 use Rattle.fzn_domain.specs.declared.literal.VarId.{VarId}
 use Rattle.fzn_domain.specs.declared.literal.Lit.{Lit}
 use Rattle.fzn_domain.specs.declared.literal.Op.{Op}
@@ -10,46 +9,21 @@ use Rattle.fzn_domain.specs.declared.literal.Op.TheVariants.{AtMost, AtLeast, Eq
 use Rattle.fzn_domain.specs.Limits.{IsInLimits, IsLimited}
 use Rattle.fzn_domain.specs.Literal.{compares, is_true_at, negated}
 use Rattle.fzn_domain.specs.IntSet.{IntSet, contains, is_possible}
-use Rattle.fzn_domain.specs.Narrow.{IsVariable, IsClauseOver, NoneEmpty, set_of, denied, is_some_empty}
+use Rattle.fzn_domain.specs.Narrow.{IsVariable, NoneEmpty, set_of}
 use Rattle.fzn_domain.proofs.SetLemmas.{is_true_at-negated, possible_when, impossible_when, witness, member_of_size}
 use Rattle.fzn_meaning.specs.declared.term.Term.{Term}
 use Rattle.fzn_meaning.specs.declared.term.Term.TheVariants.{Constant, Variable}
 use Rattle.fzn_sets.specs.Terms.{MayBe}
 use Rattle.fzn_trail.specs.Levels.{Levels, IsNarrower}
-use Rattle.fzn_propagator.specs.Inference.{IsWritable, HasWritableHints, IsInference}
-use Rattle.fzn_domain.proofs.NarrowLemmas.{length-denied}
-use Rattle.fzn_meaning.specs.declared.constraint.Constraint.{Constraint}
-use Rattle.fzn_rules.specs.declared.rule.Rule.{Rule}
-use Rattle.fzn_propagator.proofs.CallerLemmas.{left_of_more, last_fails, none_left, some_value}
-use Rattle.fzn_terms.proofs.ClaimLemmas.{left_of_may}
-use Rattle.fzn_terms.specs.Denied.{AreLeft, AllAre, NoneIs, IsFalseClause, IsExplained, IsForced, IsInferred}
-
-pub was_true : (b : Bool) → not b ≡ true → b ≡ false
-was_true true h = sym h
-was_true false h = refl
-
-pub was_false : (b : Bool) → not b ≡ false → b ≡ true
-was_false true h = refl
-was_false false h = sym h
+use Rattle.fzn_propagator.specs.Clause.{IsWritable, IsFalseClause, AreLeft}
+use Rattle.fzn_propagator.proofs.CallerLemmas.{last_fails, some_value, forcing_of_false, false_push, forcing_push, left-more}
+use Rattle.fzn_terms.specs.Denied.{AllAre, NoneIs, IsExplained, IsForced}
 
 writable_of : (op : Op) (var : VarId) (number v w : ℤ) → IsInLimits v → IsInLimits w → compares op v number ≡ true → compares op w number ≡ false → IsWritable (negated (record { var = var; op = op; value = number }))
 writable_of AtMost var number v w a b h k = (grind (arith, ints, a.0, a.1, b.0, b.1), grind (arith, ints, a.0, a.1, b.0, b.1))
 writable_of AtLeast var number v w a b h k = (grind (arith, ints, a.0, a.1, b.0, b.1), grind (arith, ints, a.0, a.1, b.0, b.1))
 writable_of Equal var number v w a b h k = (grind (arith, ints, a.0, a.1, b.0, b.1), grind (arith, ints, a.0, a.1, b.0, b.1))
 writable_of NotEqual var number v w a b h k = (grind (arith, ints, a.0, a.1, b.0, b.1), grind (arith, ints, a.0, a.1, b.0, b.1))
-
--- no literal
-pub false_of_none : (trail : Levels) (clause : List Lit) → clause ≡ [] → IsFalseClause trail clause
-false_of_none trail clause none =
-    subst (IsFalseClause trail) (sym none) (record { over = All-nil (λ (l : Lit). IsVariable (length trail.declared) l.var); writable = All-nil IsWritable; impossible = refl })
-
--- sets that the longer clause leaves
-pub left-more : (declared : List IntSet) (clause more : List Lit) (sets : List IntSet) → AreLeft declared (clause ++ more) sets → AreLeft declared clause sets
-left-more declared clause more sets all = record {
-  one_each = all.one_each;
-  filled = all.filled;
-  left = λ term v fits may. left_of_more declared clause more term v (all.left term v fits may);
-}
 
 module _ (trail : Levels) (op : Op) (number : ℤ) (term : Term) (old : List Lit) (still : IsFalseClause trail old) where
   -- nothing is to be added for a constant
@@ -63,7 +37,7 @@ module _ (trail : Levels) (op : Op) (number : ℤ) (term : Term) (old : List Lit
 
   pub forced_constant : (k : ℤ) (r : Bool) → term ≡ Constant k → r ≡ compares op k number → r ≡ true → IsForced trail op number term old old
   forced_constant k r of is told = record {
-    forcing = record { over = still.over; writable = still.writable; forces = inl still.impossible };
+    forcing = forcing_of_false trail old still;
     keeps = λ sets left. left;
     says = λ sets left v may.
         let same : k ≡ v = subst (λ (t : Term). MayBe sets t v) of may in
@@ -78,10 +52,10 @@ module _ (trail : Levels) (op : Op) (number : ℤ) (term : Term) (old : List Lit
   module _ (var : VarId) (of : term ≡ Variable var) (variable : IsVariable (length trail.declared) var) where
     -- a value at which the opposite literal is not true
     holds_where_false : (v : ℤ) → is_true_at (negated (record { var = var; op = op; value = number })) v ≡ false → compares op v number ≡ true
-    holds_where_false v h = was_false (compares op v number) (sym (is_true_at-negated (record { var = var; op = op; value = number }) v) ∙ h)
+    holds_where_false v h = not-false (compares op v number) (sym (is_true_at-negated (record { var = var; op = op; value = number }) v) ∙ h)
 
     fails_where_true : (v : ℤ) → is_true_at (negated (record { var = var; op = op; value = number })) v ≡ true → compares op v number ≡ false
-    fails_where_true v h = was_true (compares op v number) (sym (is_true_at-negated (record { var = var; op = op; value = number }) v) ∙ h)
+    fails_where_true v h = not-true (compares op v number) (sym (is_true_at-negated (record { var = var; op = op; value = number }) v) ∙ h)
 
     false_where_holds : (v : ℤ) → compares op v number ≡ true → is_true_at (negated (record { var = var; op = op; value = number })) v ≡ false
     false_where_holds v h = is_true_at-negated (record { var = var; op = op; value = number }) v ∙ ap not h
@@ -115,12 +89,8 @@ module _ (trail : Levels) (op : Op) (number : ℤ) (term : Term) (old : List Lit
           let all : (v : ℤ) → contains (set_of trail.sets var) v ≡ true → compares op v number ≡ true = λ v h. present v (subst (λ (t : Term). MayBe trail.sets t v) (sym of) h) in
           let some = member_of_size (set_of trail.sets var) (some_value trail.sets trail.declared var variable narrower filled) in
           record {
-            still = record {
-              over = All-push (λ (l : Lit). IsVariable (length trail.declared) l.var) old (negated (record { var = var; op = op; value = number })) still.over variable;
-              writable = All-push IsWritable old (negated (record { var = var; op = op; value = number })) still.writable (pushed_writable some.0 some.1 (all some.0 some.1) possible);
-              impossible = none_left trail.sets old (negated (record { var = var; op = op; value = number })) false still.impossible
-                  (impossible_when (set_of trail.sets var) (negated (record { var = var; op = op; value = number })) (λ v h. false_where_holds v (all v h)));
-            };
+            still = false_push trail old (negated (record { var = var; op = op; value = number })) still variable (pushed_writable some.0 some.1 (all some.0 some.1) possible)
+                (impossible_when (set_of trail.sets var) (negated (record { var = var; op = op; value = number })) (λ v h. false_where_holds v (all v h)));
             keeps = λ sets left. left-more trail.declared old (negated (record { var = var; op = op; value = number }) ∷ []) sets left;
             says = says_pushed;
           }
@@ -131,20 +101,8 @@ module _ (trail : Levels) (op : Op) (number : ℤ) (term : Term) (old : List Lit
           let lit : Lit = negated (record { var = var; op = op; value = number }) in
           let some = witness (set_of trail.sets var) (record { var = var; op = op; value = number }) able in
           record {
-            forcing = record {
-              over = All-push (λ (l : Lit). IsVariable (length trail.declared) l.var) old lit still.over variable;
-              writable = All-push IsWritable old lit still.writable (pushed_writable some.0 some.1 some.2 possible);
-              forces = elim (cases_Bool (is_possible (set_of trail.sets var) (negated (record { var = var; op = op; value = number })))) [
-                | inl may ↦ inr (
-                  lit,
-                  record {
-                    only = none_left trail.sets old lit true still.impossible may;
-                    not_yet_true = possible_when (set_of trail.sets var) (negated lit) some.0 some.1 (is_true_at-negated lit some.0 ∙ ap not (false_where_holds some.0 some.2));
-                  },
-                )
-                | inr cannot ↦ inl (none_left trail.sets old lit false still.impossible cannot)
-              ];
-            };
+            forcing = forcing_push trail old lit still variable (pushed_writable some.0 some.1 some.2 possible)
+                (possible_when (set_of trail.sets var) (negated lit) some.0 some.1 (is_true_at-negated lit some.0 ∙ ap not (false_where_holds some.0 some.2)));
             keeps = λ sets left. left-more trail.declared old (lit ∷ []) sets left;
             says = says_pushed;
           }
@@ -154,7 +112,7 @@ module _ (trail : Levels) (op : Op) (number : ℤ) (term : Term) (old : List Lit
 
     pub forced_declared : is_possible (set_of trail.declared var) (negated (record { var = var; op = op; value = number })) ≡ false → IsForced trail op number term old old
     forced_declared impossible = record {
-      forcing = record { over = still.over; writable = still.writable; forces = inl still.impossible };
+      forcing = forcing_of_false trail old still;
       keeps = λ sets left. left;
       says = says_declared impossible;
     }
@@ -164,27 +122,3 @@ module _ (trail : Levels) (op : Op) (number : ℤ) (term : Term) (old : List Lit
       | inl holds ↦ absurd (true≢false (sym (possible_when (set_of trail.sets var) (record { var = var; op = op; value = number }) v (subst (λ (t : Term). MayBe trail.sets t v) of may) holds) ∙ impossible))
       | inr fails ↦ fails
     ]
-
--- ---- inferences
-
--- the denied sets are so left
-pub left_denied : (declared : List IntSet) (clause : List Lit) → IsClauseOver (length declared) clause → is_some_empty (denied declared clause) ≡ false → AreLeft declared clause (denied declared clause)
-left_denied declared clause over filled = record {
-  one_each = length-denied clause declared;
-  filled = filled;
-  left = λ term v fits may. left_of_may declared clause term over v may;
-}
-
-pub inference_of : (trail : Levels) (number : ℕ) (C : Constraint) (rule : Rule) (clause : List Lit) → IsInferred trail C rule clause → HasWritableHints rule → (constraint : Constraint) → C ≡ constraint → IsInference number constraint trail (record { constraint = number; rule = rule; clause = clause })
-inference_of trail number C rule clause inferred hints constraint same =
-    subst (λ (x : Constraint). IsInference number x trail (record { constraint = number; rule = rule; clause = clause })) same (record {
-      of_constraint = refl;
-      over = inferred.forcing.over;
-      writable = inferred.forcing.writable;
-      hints = hints;
-      accepted = elim (cases_Bool (is_some_empty (denied trail.declared clause))) [
-        | inl empty ↦ inl empty
-        | inr filled ↦ inr (inferred.says (denied trail.declared clause) (left_denied trail.declared clause inferred.forcing.over filled))
-      ];
-      forces = inferred.forcing.forces;
-    })

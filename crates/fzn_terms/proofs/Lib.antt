@@ -2,5 +2,6 @@ pub mod CaseLemmas
 pub mod ClaimLemmas
 pub mod DeniedLemmas
 mod EndLemmas
-pub mod LawLemmas
+pub mod FixedLemmas
 pub mod NextLemmas
+pub mod OrderLemmas

@@ -4,13 +4,10 @@ use Rattle.fzn_domain.specs.declared.literal.Lit.{Lit}
 use Rattle.fzn_domain.specs.declared.literal.Op.{Op}
 use Rattle.fzn_domain.specs.Literal.{compares}
 use Rattle.fzn_domain.specs.IntSet.{IntSet}
-use Rattle.fzn_domain.specs.Narrow.{denied, is_some_empty}
 use Rattle.fzn_meaning.specs.declared.term.Term.{Term}
 use Rattle.fzn_meaning.specs.declared.term.Term.TheVariants.{Constant, Variable}
 use Rattle.fzn_sets.specs.Terms.{MayBe}
-use Rattle.fzn_trail.specs.Levels.{Levels}
 use Rattle.fzn_propagator.specs.Left.{IsLeft}
-use Rattle.fzn_terms.specs.Denied.{IsForcing}
 
 -- ---- values of terms
 
@@ -51,10 +48,3 @@ FailsWhereLeft declared clause term op bound = (v : ℤ) → IsLeft declared cla
 -- every value that the first clause leaves a term is one that the second leaves it
 abbrev pub LeavesNoMore : List IntSet → List Lit → List Lit → Type 0
 LeavesNoMore declared clause other = (term : Term) (v : ℤ) → IsLeft declared clause term v → IsLeft declared other term v
-
--- ---- clauses
-
--- a clause that is false or forces one literal on the trail, and on whose denied sets a rule is met
-pub record IsJustifiedBy (trail : Levels) (IsMetOn : List IntSet → Type 0) (clause : List Lit) : Type 0 where
-  pub forcing : IsForcing trail clause
-  pub met : is_some_empty (denied trail.declared clause) ≡ false → IsMetOn (denied trail.declared clause)

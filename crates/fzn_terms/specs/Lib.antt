@@ -1,3 +1,2 @@
 pub mod Claims
 pub mod Denied
-pub mod Law

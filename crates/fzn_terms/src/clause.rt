@@ -3,7 +3,8 @@ ghost use Rattle.std.specs.Prelude.{◌≡◌, ◌++◌, ◌≤ℤ◌, pos, negs
 ghost use Rattle.fzn_domain.specs.Narrow.{NoneEmpty};
 ghost use Rattle.fzn_meaning.specs.Term.{IsTerm};
 ghost use Rattle.fzn_terms.specs.Claims.{claim};
-ghost use Rattle.fzn_terms.specs.Denied.{AllAre, NoneIs, IsFalseClause, IsExplained, IsForced};
+ghost use Rattle.fzn_propagator.specs.Clause.{IsFalseClause};
+ghost use Rattle.fzn_terms.specs.Denied.{AllAre, NoneIs, IsExplained, IsForced};
 
 use fzn_domain::{Lit, Memory, Op, VarId};
 use fzn_list::Items;

@@ -1,5 +1,5 @@
 use Rattle.fzn_meaning.specs.declared.constraint.Constraint.TheVariants as constraint
-use Rattle.fzn_equality.specs.Found.{AreFoundOf}
+use Rattle.fzn_propagator.specs.Inference.{AreFoundOf}
 use Rattle.fzn_builtin.proofs.amount.part_amounts.Given as goal
 
 abbrev pub invariant-loop-value : goal.invariant-loop-value

@@ -1,4 +1,4 @@
-use Rattle.fzn_equality.specs.Found.{AreFoundOf}
+use Rattle.fzn_propagator.specs.Inference.{AreFoundOf}
 use Rattle.fzn_builtin.specs.Intervals.{shaped}
 use Rattle.fzn_builtin.proofs.quotient.part_values.Given as goal
 

@@ -7,6 +7,9 @@ use Rattle.fzn_meaning.specs.declared.term.Term.TheVariants.{Constant}
 use Rattle.fzn_terms.specs.Denied.{NoneIs, IsForced}
 use Rattle.fzn_terms.proofs.CaseLemmas.{either}
 use Rattle.fzn_circuit.proofs.CircuitLemmas.{at_default, above_met}
+use Rattle.fzn_propagator.proofs.CallerLemmas.{justified_where}
+use Rattle.fzn_rules.specs.declared.rule.Rule.TheVariants.{Rows}
+use Rattle.fzn_meaning.specs.declared.constraint.Constraint.TheVariants.{Circuit}
 use Rattle.fzn_circuit.proofs.circuit.explain_above.Goals as goal
 
 number_is : (n : ℕ) → n ≤ 100000 → to_z w64 (of_z w64 (to_z w64 n +ℤ pos 1)) ≡ pos (n + 1)
@@ -19,7 +22,7 @@ returns c =
     let xs = c.args.successors.now in
     let trail = c.args.trail.now in
     either found
-    (λ forced. record { forcing = forced.forcing; says = λ sets left. above_met sets xs c.args.k (Constant (pos 0)) c.requires.place (forced.says sets left) })
+    (λ forced. justified_where c.args.trail.now (Circuit xs) Rows c.force.new.clause forced.forcing (λ sets left. above_met sets xs c.args.k (Constant (pos 0)) c.requires.place (forced.says sets left)))
     (λ none d. at_default xs c.args.k (Constant (pos 0)) d (λ (t : Term). NoneIs AtLeast (pos (length xs + 1)) t trail.sets) c.requires.place none)
     (subst (λ (x : ℤ). MatchBool found (IsForced trail AtLeast x (get_or xs c.args.k (Constant (pos 0))) c.clear.new.self c.force.new.clause) (NoneIs AtLeast x (get_or xs c.args.k (Constant (pos 0))) trail.sets)) (number_is (length xs) c.requires.terms.1) told))
     c.force.ensures

@@ -7,6 +7,9 @@ use Rattle.fzn_meaning.specs.declared.term.Term.TheVariants.{Constant}
 use Rattle.fzn_terms.specs.Denied.{AllAre, NoneIs, IsExplained, IsForced}
 use Rattle.fzn_terms.proofs.CaseLemmas.{either}
 use Rattle.fzn_circuit.proofs.CircuitLemmas.{at_default, all_fixed, same_met}
+use Rattle.fzn_propagator.proofs.CallerLemmas.{justified_where}
+use Rattle.fzn_rules.specs.declared.rule.Rule.TheVariants.{Hall}
+use Rattle.fzn_meaning.specs.declared.constraint.Constraint.TheVariants.{Circuit}
 use Rattle.fzn_circuit.proofs.circuit.explain_same.Goals as goal
 
 pub explain-requires-clause-present : goal.explain-requires-clause-present
@@ -27,12 +30,9 @@ returns c =
     let same : to_z w64 (of_z w64 c.args.value) ≡ c.args.value = to_z-of_z w64 c.args.value fits in
     let one = subst (λ (x : ℤ). IsExplained trail Equal x (get_or xs c.args.i (Constant (pos 0))) c.clear.new.self c.explain.new.clause) same c.in_ok-explain.ensures in
     either found
-    (λ forced. record {
-      forcing = forced.forcing;
-      says = λ sets left.
-          same_met trail.declared c.force.new.clause sets left xs c.requires.terms.0 c.args.i c.args.j c.args.value at c.requires.apart c.requires.one c.requires.other
-          (one.says sets (forced.keeps sets left)) (forced.says sets left);
-    })
+    (λ forced. justified_where trail (Circuit xs) (Hall c.args.value c.args.value) c.force.new.clause forced.forcing (λ sets left.
+    same_met trail.declared c.force.new.clause sets left xs c.requires.terms.0 c.args.i c.args.j c.args.value at c.requires.apart c.requires.one c.requires.other
+    (one.says sets (forced.keeps sets left)) (forced.says sets left)))
     (λ none d. at_default xs c.args.j (Constant (pos 0)) d (λ (t : Term). NoneIs Equal c.args.value t trail.sets) c.requires.other none)
     (subst (λ (x : ℤ). MatchBool found (IsForced trail Equal x (get_or xs c.args.j (Constant (pos 0))) c.explain.new.clause c.force.new.clause) (NoneIs Equal x (get_or xs c.args.j (Constant (pos 0))) trail.sets)) same told))
     c.force.ensures

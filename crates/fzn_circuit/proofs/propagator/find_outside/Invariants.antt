@@ -2,11 +2,12 @@ use Rattle.std.proofs.Common.{◌≡◌, ℕ, ◌+◌, ◌<◌, pos, [], length,
 use Rattle.fzn_domain.specs.declared.literal.Op.TheVariants.{AtMost, AtLeast}
 use Rattle.fzn_meaning.specs.declared.term.Term.{Term}
 use Rattle.fzn_terms.specs.Denied.{NoneIs}
-use Rattle.fzn_circuit.specs.Propagator.{AreOfCircuit}
+use Rattle.fzn_propagator.specs.Inference.{AreFoundOf}
 use Rattle.fzn_circuit.proofs.propagator.find_outside.Given as goal
+use Rattle.fzn_meaning.specs.declared.constraint.Constraint.TheVariants.{Circuit}
 
 abbrev pub invariant-loop-k : goal.invariant-loop-k
 invariant-loop-k l = record {
-  found : AreOfCircuit l.number l.successors l.trail l.found;
+  found : AreFoundOf l.number (Circuit l.successors) l.trail l.found;
   none : l.found ≡ [] → (k : ℕ) (d : Term) → k < l.k → NoneIs AtMost (pos 0) (get_or l.successors k d) l.trail.sets × NoneIs AtLeast (pos (length l.successors + 1)) (get_or l.successors k d) l.trail.sets;
 }

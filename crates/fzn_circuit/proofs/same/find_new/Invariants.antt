@@ -1,5 +1,6 @@
-use Rattle.fzn_circuit.specs.Propagator.{AreOfCircuit}
+use Rattle.fzn_propagator.specs.Inference.{AreFoundOf}
 use Rattle.fzn_circuit.proofs.same.find_new.Given as goal
+use Rattle.fzn_meaning.specs.declared.constraint.Constraint.TheVariants.{Circuit}
 
 abbrev pub invariant-loop-k : goal.invariant-loop-k
-invariant-loop-k l = AreOfCircuit l.number l.successors l.trail l.found
+invariant-loop-k l = AreFoundOf l.number (Circuit l.successors) l.trail l.found

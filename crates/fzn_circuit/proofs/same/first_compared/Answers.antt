@@ -8,7 +8,8 @@ use Rattle.fzn_meaning.specs.declared.term.Term.TheVariants.{Constant}
 use Rattle.fzn_meaning.specs.declared.constraint.Constraint.TheVariants.{Circuit}
 use Rattle.fzn_rules.specs.declared.rule.Rule.TheVariants.{Hall}
 use Rattle.fzn_sets.specs.Terms.{IsFixedTo}
-use Rattle.fzn_terms.specs.Denied.{NoneIs, IsInferred}
+use Rattle.fzn_terms.specs.Denied.{NoneIs}
+use Rattle.fzn_propagator.specs.Clause.{IsJustified}
 use Rattle.fzn_terms.proofs.CaseLemmas.{if_false}
 use Rattle.fzn_circuit.proofs.same.first_compared.Goals as goal
 use Rattle.fzn_circuit.proofs.same.first_compared.Goals.{then-greatest_value-value+in_ok-first_with+else-branch, else-greatest_value-value}
@@ -31,7 +32,7 @@ loop-i-preserved c =
           elim c.if-greatest_value-value.branch [
             | then-greatest_value-value+in_ok-first_with+else-branch w ↦
                 subst (λ (x : ℤ). NoneIs Equal x (get_or c.args.successors.now j d) c.args.trail.now.sets) (value_is ∙ least)
-                (if_false (IsInferred c.args.trail.now (Circuit c.args.successors.now) (Hall (to_z w64 (of_z w64 c.least_value-value.result)) (to_z w64 (of_z w64 c.least_value-value.result))) w.first_with.new.clause)
+                (if_false (IsJustified c.args.trail.now (Circuit c.args.successors.now) (Hall (to_z w64 (of_z w64 c.least_value-value.result)) (to_z w64 (of_z w64 c.least_value-value.result))) w.first_with.new.clause)
                 ((j : ℕ) (d : Term) → c.loop-i.i ≢ j → j < length c.args.successors.now → NoneIs Equal (to_z w64 (of_z w64 c.least_value-value.result)) (get_or c.args.successors.now j d) c.args.trail.now.sets)
                 w.in_ok-first_with.field-0 w.if-branch.false w.in_ok-first_with.ensures j d (λ e. apart (here ∙ e)) within)
             | else-greatest_value-value w ↦ absurd (w.if-greatest_value-value.false (ap (of_z w64) (greatest ∙ sym least)))

@@ -4,7 +4,8 @@ use Rattle.fzn_domain.specs.declared.literal.Op.TheVariants.{Equal}
 use Rattle.fzn_meaning.specs.declared.term.Term.{Term}
 use Rattle.fzn_meaning.specs.declared.constraint.Constraint.TheVariants.{Circuit}
 use Rattle.fzn_rules.specs.declared.rule.Rule.TheVariants.{Hall}
-use Rattle.fzn_terms.specs.Denied.{NoneIs, IsInferred}
+use Rattle.fzn_terms.specs.Denied.{NoneIs}
+use Rattle.fzn_propagator.specs.Clause.{IsJustified}
 use Rattle.fzn_terms.proofs.CaseLemmas.{if_false}
 use Rattle.fzn_circuit.proofs.same.first_with.Goals as goal
 use Rattle.fzn_circuit.proofs.same.first_with.Goals.{then-j-i+in_ok-explain_same+else-branch, else-j-i}
@@ -18,7 +19,7 @@ loop-j-preserved c =
           elim c.if-j-i.branch [
             | then-j-i+in_ok-explain_same+else-branch w ↦
                 subst (λ (n : ℕ). NoneIs Equal (to_z w64 (of_z w64 c.args.value)) (get_or c.args.successors.now n d) c.args.trail.now.sets) here
-                (if_false (IsInferred c.args.trail.now (Circuit c.args.successors.now) (Hall (to_z w64 (of_z w64 c.args.value)) (to_z w64 (of_z w64 c.args.value))) w.explain_same.new.clause)
+                (if_false (IsJustified c.args.trail.now (Circuit c.args.successors.now) (Hall (to_z w64 (of_z w64 c.args.value)) (to_z w64 (of_z w64 c.args.value))) w.explain_same.new.clause)
                 ((d : Term) → NoneIs Equal (to_z w64 (of_z w64 c.args.value)) (get_or c.args.successors.now c.loop-j.j d) c.args.trail.now.sets) w.in_ok-explain_same.field-0 w.if-branch.false w.in_ok-explain_same.ensures d)
             | else-j-i w ↦ absurd (apart (sym w.if-j-i.false ∙ here))
           ]

@@ -1,5 +1,5 @@
 use Rattle.fzn_meaning.specs.declared.constraint.Constraint.TheVariants as constraint
-use Rattle.fzn_equality.specs.Found.{AreFoundOf}
+use Rattle.fzn_propagator.specs.Inference.{AreFoundOf}
 use Rattle.fzn_equality.proofs.extremum.hold_entries.Given as goal
 
 abbrev pub invariant-loop-k : goal.invariant-loop-k

@@ -1,6 +1,6 @@
 use Rattle.std.proofs.Common.{List, sym, subst}
 use Rattle.fzn_domain.specs.declared.literal.Lit.{Lit}
-use Rattle.fzn_fixed.specs.Denial.{IsForcing}
+use Rattle.fzn_fixed.specs.Denial.{IsDenialOr}
 use Rattle.fzn_fixed.proofs.DenialLemmas.{forced, true_where_certain, certain_of, uncertain_of}
 use Rattle.fzn_fixed.proofs.fixed.force.Goals as goal
 
@@ -11,6 +11,6 @@ returns-then-is_false-clause-none c =
 
 pub returns-clause-found : goal.returns-clause-found
 returns-clause-found c =
-    subst (λ (xs : List Lit). IsForcing c.args.trail.now c.args.inputs.now c.args.lit xs) (sym c.in_ok-push.ensures.ok)
+    subst (λ (xs : List Lit). IsDenialOr c.args.trail.now c.args.inputs.now c.args.lit xs) (sym c.in_ok-push.ensures.ok)
     (forced c.args.trail.now c.args.inputs.now c.in_ok-clause.clause c.args.lit c.requires.variable c.requires.writable c.in_ok-clause.ensures
     (uncertain_of c.args.trail.now _ c.args.lit _ _ c.is_false.ensures c.domain.ensures.value c.negated.ensures.value c.if-is_false.false))

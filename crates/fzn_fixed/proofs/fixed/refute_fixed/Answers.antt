@@ -6,8 +6,8 @@ use Rattle.std.proofs.lemmas.Result.{IfOk-weaker}
 use Rattle.fzn_meaning.specs.declared.term.Term.{Term}
 use Rattle.fzn_meaning.specs.Term.{IsTerm}
 use Rattle.fzn_sets.specs.Terms.{least_value}
-use Rattle.fzn_fixed.specs.Denial.{IsFixed, IsDenial, IsForcing, IsTrueOn}
-use Rattle.fzn_fixed.specs.Fixed.{HoldsWhereFixed}
+use Rattle.fzn_fixed.specs.Denial.{IsFixed, IsDenial, IsDenialOr, IsTrueOn}
+use Rattle.fzn_propagator.specs.Inference.{HoldsWhereFixed}
 use Rattle.fzn_fixed.specs.Outcome.{IsOutcome}
 use Rattle.fzn_fixed.proofs.FixedLemmas.{values_on, fixed_denied, fixed_forced, none_then}
 use Rattle.fzn_fixed.proofs.MeaningLemmas.{inputs_fit, result_fits, holds_of_each, holds_of_literal, holds_of_wide}
@@ -64,7 +64,7 @@ returns-clause-found c =
     let is = subst (λ (xs : List ℤ). IsOutcome parts.constraint xs c.outcome_of-outcome.result) values c.outcome_of-outcome.ensures in
     IfOk-weaker c.force.result _ _ (λ found h. IfSome_then found h (λ clause forcing.
     fixed_forced trail parts c.outcome_of-outcome.result clause c.requires.ready (inputs_fit (length trail.declared) parts c.requires.ready) is c.in-Literal.lit c.in-Literal.ensures
-    (subst (λ (ts : List Term). IsForcing trail ts c.in-Literal.lit clause) c.as_slice-inputs.ensures forcing)))
+    (subst (λ (ts : List Term). IsDenialOr trail ts c.in-Literal.lit clause) c.as_slice-inputs.ensures forcing)))
     c.force.ensures.found
 
 pub returns-clause-none : goal.returns-clause-none

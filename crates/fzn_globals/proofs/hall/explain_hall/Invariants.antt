@@ -1,5 +1,5 @@
 use Rattle.std.specs.List.{All}
-use Rattle.fzn_terms.specs.Claims.{IsJustifiedBy}
+use Rattle.fzn_propagator.specs.Clause.{IsJustifiedBy}
 use Rattle.fzn_globals.specs.Apart.{HasExcessOn}
 use Rattle.fzn_globals.proofs.hall.explain_hall.Given as goal
 

@@ -1,14 +1,14 @@
 use Rattle.std.proofs.Common.{length}
 use Rattle.std.specs.List.{All}
 use Rattle.fzn_meaning.specs.declared.constraint.Constraint.TheVariants.{AllDifferent}
-use Rattle.fzn_terms.specs.Claims.{IsJustifiedBy}
+use Rattle.fzn_propagator.specs.Clause.{IsJustifiedBy}
 use Rattle.fzn_globals.specs.Apart.{HasExcessOn}
-use Rattle.fzn_globals.specs.Kinds.{AreFrom}
+use Rattle.fzn_propagator.specs.Inference.{AreFoundOf}
 use Rattle.fzn_globals.proofs.hall.from_interval.Given as goal
 
 abbrev pub invariant-loop-clause : goal.invariant-loop-clause
 invariant-loop-clause l = record {
-  found : AreFrom l.number (AllDifferent l.places) l.trail l.found;
+  found : AreFoundOf l.number (AllDifferent l.places) l.trail l.found;
   left : All (IsJustifiedBy l.trail (HasExcessOn l.places l.low l.high)) l.clauses.items;
 }
 

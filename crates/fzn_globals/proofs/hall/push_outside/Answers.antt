@@ -4,7 +4,7 @@ use Rattle.std.proofs.lemmas.List.Elements.{All-push}
 use Rattle.fzn_domain.specs.declared.literal.Lit.{Lit}
 use Rattle.fzn_meaning.specs.declared.term.Term.{Term}
 use Rattle.fzn_meaning.specs.declared.term.Term.TheVariants.{Constant}
-use Rattle.fzn_terms.specs.Claims.{IsJustifiedBy}
+use Rattle.fzn_propagator.specs.Clause.{IsJustifiedBy}
 use Rattle.fzn_globals.specs.Apart.{HasExcessOn, IsPushed}
 use Rattle.fzn_globals.proofs.HallLemmas.{end_explained}
 use Rattle.fzn_globals.proofs.hall.push_outside.Goals as goal

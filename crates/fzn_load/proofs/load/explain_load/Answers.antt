@@ -2,10 +2,8 @@ use Rattle.std.proofs.Common.{rules, ◌≡◌, arith, ◌∙◌, ℤ, pos, ◌-
 use Rattle.std.proofs.lemmas.Int.{ints, to_z-of_z}
 use Rattle.fzn_domain.specs.Limits.{IsInLimits}
 use Rattle.fzn_load.proofs.LoadLemmas.{all_most, load_inferred}
+use Rattle.fzn_terms.proofs.OrderLemmas.{ge_same}
 use Rattle.fzn_load.proofs.load.explain_load.Goals as goal
-
-le_same : (a b : ℤ) → a ≡ b → b ≤ℤ a
-le_same a b e = omega (arith, ints)
 
 spare_is : (load total cap : ℤ) → load ≡ total → pos 0 ≤ℤ load → load ≤ℤ pos (100000 * 1000000000) → IsInLimits cap → to_z w64 (of_z w64 (to_z w64 (of_z w64 (to_z w64 (of_z w64 load) -ℤ to_z w64 (of_z w64 cap))) -ℤ pos 1)) ≡ (total -ℤ to_z w64 (of_z w64 cap)) -ℤ pos 1
 spare_is load total cap e low high limits = omega (arith, ints, limits.0, limits.1)
@@ -13,7 +11,7 @@ spare_is load total cap e low high limits = omega (arith, ints, limits.0, limits
 pub explain-requires-clause-present : goal.explain-requires-clause-present
 explain-requires-clause-present c =
     let fits : FitsSigned w64 c.greatest_value-capacity.result = search rules in
-    all_most c.args.trail.now.sets c.args.tasks.now.capacity (to_z w64 (of_z w64 c.greatest_value-capacity.result)) (le_same _ _ (to_z-of_z w64 c.greatest_value-capacity.result fits ∙ c.greatest_value-capacity.ensures.value))
+    all_most c.args.trail.now.sets c.args.tasks.now.capacity (to_z w64 (of_z w64 c.greatest_value-capacity.result)) (ge_same _ _ (to_z-of_z w64 c.greatest_value-capacity.result fits ∙ c.greatest_value-capacity.ensures.value))
 
 pub returns : goal.returns
 returns c =

@@ -1,4 +1,4 @@
-use Rattle.std.proofs.Common.{rules, ◌≡◌, ◌≤ℤ◌, arith, sym, subst, ◌∙◌, ℤ, pos, ◌+ℤ◌, ◌-ℤ◌, w64, to_z, of_z, FitsSigned}
+use Rattle.std.proofs.Common.{rules, ◌≡◌, arith, sym, subst, ◌∙◌, ℤ, pos, ◌+ℤ◌, ◌-ℤ◌, w64, to_z, of_z, FitsSigned}
 use Rattle.std.proofs.lemmas.Int.{ints, to_z-of_z}
 use Rattle.fzn_domain.specs.Limits.{IsInLimits}
 use Rattle.fzn_domain.specs.declared.literal.Op.TheVariants.{AtMost, AtLeast}
@@ -6,10 +6,8 @@ use Rattle.fzn_sets.specs.Terms.{least_value}
 use Rattle.fzn_terms.specs.Denied.{AllAre, IsExplained}
 use Rattle.fzn_load.specs.Loads.{IsTime}
 use Rattle.fzn_load.proofs.LoadLemmas.{all_least, run_most, run_least, use_explained}
+use Rattle.fzn_terms.proofs.OrderLemmas.{le_same}
 use Rattle.fzn_load.proofs.load.explain_use.Goals as goal
-
-le_same : (a b : ℤ) → a ≡ b → a ≤ℤ b
-le_same a b e = omega (arith, ints)
 
 earliest_is : (t s d : ℤ) → IsTime t → IsInLimits s → s ≡ d → to_z w64 (of_z w64 (to_z w64 (of_z w64 (to_z w64 (of_z w64 t) -ℤ to_z w64 (of_z w64 s))) +ℤ pos 1)) ≡ (t -ℤ d) +ℤ pos 1
 earliest_is t s d time limits e = omega (arith, ints, time.0, time.1, limits.0, limits.1)

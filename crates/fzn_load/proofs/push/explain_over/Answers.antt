@@ -2,14 +2,12 @@ use Rattle.std.proofs.Common.{rules, ◌≡◌, ◌*◌, ◌∙◌, arith, ℤ, 
 use Rattle.std.proofs.lemmas.Int.{ints, to_z-of_z}
 use Rattle.fzn_domain.specs.Limits.{IsInLimits}
 use Rattle.fzn_sets.specs.Terms.{greatest_value}
-use Rattle.fzn_terms.proofs.DeniedLemmas.{false_of_none}
+use Rattle.fzn_propagator.proofs.CallerLemmas.{false_of_none}
 use Rattle.fzn_load.specs.Loads.{IsAmount, total_but}
 use Rattle.fzn_load.proofs.LoadLemmas.{all_most}
 use Rattle.fzn_load.proofs.PushLemmas.{over}
+use Rattle.fzn_terms.proofs.OrderLemmas.{ge_same}
 use Rattle.fzn_load.proofs.push.explain_over.Goals as goal
-
-le_same : (a b : ℤ) → a ≡ b → b ≤ℤ a
-le_same a b e = omega (arith, ints)
 
 spare_is : (others but amount cap : ℤ) → others ≡ but → pos 0 ≤ℤ others → others ≤ℤ pos (100000 * 1000000000) → IsAmount amount → IsInLimits cap → to_z w64 (of_z w64 (to_z w64 (of_z w64 (to_z w64 (of_z w64 (to_z w64 (of_z w64 others) +ℤ to_z w64 (of_z w64 amount))) -ℤ to_z w64 (of_z w64 cap))) -ℤ pos 1)) ≡ ((but +ℤ amount) -ℤ to_z w64 (of_z w64 cap)) -ℤ pos 1
 spare_is others but amount cap e low high some limits = omega (arith, ints, some.0, some.1, limits.0, limits.1)
@@ -29,7 +27,7 @@ returns-then-excess-le0 c =
 pub explain-requires-clause-present : goal.explain-requires-clause-present
 explain-requires-clause-present c =
     let fits : FitsSigned w64 c.greatest_value-capacity.result = search rules in
-    all_most c.args.trail.now.sets c.args.tasks.now.capacity (to_z w64 (of_z w64 c.greatest_value-capacity.result)) (le_same _ _ (to_z-of_z w64 c.greatest_value-capacity.result fits ∙ c.greatest_value-capacity.ensures.value))
+    all_most c.args.trail.now.sets c.args.tasks.now.capacity (to_z w64 (of_z w64 c.greatest_value-capacity.result)) (ge_same _ _ (to_z-of_z w64 c.greatest_value-capacity.result fits ∙ c.greatest_value-capacity.ensures.value))
 
 pub explain-requires-clause-still : goal.explain-requires-clause-still
 explain-requires-clause-still c = false_of_none c.args.trail.now c.clear.new.self c.clear.ensures

@@ -1,4 +1,4 @@
-use Rattle.std.proofs.Common.{rules, ◌≡◌, ◌≤ℤ◌, MatchBool, arith, sym, subst, ◌∙◌, ℤ, pos, ◌+ℤ◌, ◌-ℤ◌, w64, to_z, of_z, FitsSigned}
+use Rattle.std.proofs.Common.{rules, ◌≡◌, MatchBool, arith, sym, subst, ◌∙◌, ℤ, pos, ◌+ℤ◌, ◌-ℤ◌, w64, to_z, of_z, FitsSigned}
 use Rattle.std.proofs.lemmas.Int.{ints, to_z-of_z}
 use Rattle.std.proofs.lemmas.Result.{IfOk-weaker}
 use Rattle.fzn_domain.specs.Limits.{IsInLimits}
@@ -9,10 +9,8 @@ use Rattle.fzn_terms.proofs.CaseLemmas.{either}
 use Rattle.fzn_load.specs.Loads.{IsTime}
 use Rattle.fzn_load.proofs.LoadLemmas.{all_least, run_most, run_least}
 use Rattle.fzn_load.proofs.PushLemmas.{forced_less}
+use Rattle.fzn_terms.proofs.OrderLemmas.{le_same}
 use Rattle.fzn_load.proofs.push_amount.force_less.Goals as goal
-
-le_same : (a b : ℤ) → a ≡ b → a ≤ℤ b
-le_same a b e = omega (arith, ints)
 
 earliest_is : (t s d : ℤ) → IsTime t → IsInLimits s → s ≡ d → to_z w64 (of_z w64 (to_z w64 (of_z w64 (to_z w64 (of_z w64 t) -ℤ to_z w64 (of_z w64 s))) +ℤ pos 1)) ≡ (t -ℤ d) +ℤ pos 1
 earliest_is t s d time limits e = omega (arith, ints, time.0, time.1, limits.0, limits.1)

@@ -53,4 +53,4 @@ returns-clause-found c =
     let barring = subst (λ (z : ℤ). IsBarring c.args.trail.now c.args.places.now (get_or c.args.places.now c.in-Some.open at) z c.in-Some-barring.lit) (to_z-of_z w64 c.args.number c.ranges.number) c.in-Some-barring.ensures.found in
     subst (λ (xs : List Lit). IsRefutation c.args.trail.now NotEqual c.args.places.now c.args.number xs) (sym c.in_ok-push.ensures.ok)
     (barring_refutes c.args.trail.now c.args.places.now c.args.number c.in_ok-clause.clause c.in-Some.open at c.in-Some-barring.lit first.in_places
-    (All-get_or (IsPlace (length c.args.trail.now.declared)) c.args.places.now c.in-Some.open at first.in_places c.requires.places) (first.several at) barring c.in_ok-clause.ensures)
+    (All-get_or (IsPlace (length c.args.trail.now.declared)) c.args.places.now c.in-Some.open at first.in_places c.requires.places) barring c.in_ok-clause.ensures)

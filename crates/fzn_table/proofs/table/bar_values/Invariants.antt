@@ -1,10 +1,12 @@
 use Rattle.std.proofs.Common.{◌≡◌, [], ℤ, pos, ◌<ℤ◌}
 use Rattle.fzn_domain.specs.IntSet.{width}
 use Rattle.fzn_domain.specs.Limits.{IsInLimits}
+use Rattle.fzn_meaning.specs.declared.constraint.Constraint.TheVariants.{Table}
 use Rattle.fzn_meaning.specs.Term.{numbers_in}
 use Rattle.fzn_sets.specs.Terms.{MayBe}
 use Rattle.fzn_terms.specs.Claims.{place_at}
-use Rattle.fzn_table.specs.Supports.{AreOpen, IsSupported, AreFromTable}
+use Rattle.fzn_table.specs.Supports.{AreOpen, IsSupported}
+use Rattle.fzn_propagator.specs.Inference.{AreFoundOf}
 use Rattle.fzn_table.proofs.table.bar_values.Given as goal
 
 -- the number is a value of the place, and those below it are supported where nothing was found
@@ -14,7 +16,7 @@ invariant-loop-value l = record {
   in_limits : IsInLimits l.value;
   done : l.found ≡ [] → (v : ℤ) → MayBe l.trail.sets (place_at l.places l.p) v → v <ℤ l.value → IsSupported l.trail.sets l.places (numbers_in l.rows) l.p v;
   marks : AreOpen l.trail.sets l.places (numbers_in l.rows) l.marks.items;
-  found : AreFromTable l.number l.places (numbers_in l.rows) l.trail l.found;
+  found : AreFoundOf l.number (Table l.places (numbers_in l.rows)) l.trail l.found;
   kept : l.found ≡ [] → l.fn.found ≡ [];
 }
 

@@ -3,7 +3,8 @@ use Rattle.std.proofs.lemmas.Bool.{true≢false}
 use Rattle.std.proofs.lemmas.List.{length-map}
 use Rattle.fzn_domain.specs.declared.literal.Op.TheVariants.{NotEqual}
 use Rattle.fzn_meaning.specs.Term.{number_in, numbers_in}
-use Rattle.fzn_terms.specs.Claims.{claim, IsJustifiedBy, place_at}
+use Rattle.fzn_terms.specs.Claims.{claim, place_at}
+use Rattle.fzn_propagator.specs.Clause.{IsJustifiedBy}
 use Rattle.fzn_table.specs.Supports.{AreRowsOutOn}
 use Rattle.fzn_table.proofs.TableLemmas.{value_explained, rows_refuted_fewer, rows_refuted_more, rows_refuted_other}
 use Rattle.fzn_table.proofs.table.explain_value.Goals as goal

@@ -1,5 +1,5 @@
 use Rattle.fzn_meaning.specs.Term.{numbers_in}
-use Rattle.fzn_terms.specs.Denied.{IsFalseClause}
+use Rattle.fzn_propagator.specs.Clause.{IsFalseClause}
 use Rattle.fzn_table.specs.Supports.{AreRowsRefuted}
 use Rattle.fzn_table.proofs.table.explain_value.Given as goal
 

@@ -2,7 +2,7 @@ use Rattle.std.proofs.Common.{List, sym, subst}
 use Rattle.fzn_domain.specs.declared.literal.Lit.{Lit}
 use Rattle.fzn_propagator.specs.Left.{IsLeft}
 use Rattle.fzn_propagator.proofs.CallerLemmas.{left_of_more}
-use Rattle.fzn_terms.specs.Denied.{IsFalseClause}
+use Rattle.fzn_propagator.specs.Clause.{IsFalseClause}
 use Rattle.fzn_table.proofs.TableLemmas.{equal_refuted, equal_out}
 use Rattle.fzn_table.proofs.table.push_equal.Goals as goal
 

@@ -1,5 +1,6 @@
 use Rattle.std.proofs.Common.{rules, w64, to_z, of_z, FitsSigned, ℤ, ◌≡◌, ◌∷◌, [], ◌++◌, true, false, List, length, sym, ap, ap₂, subst, ◌∙◌}
 use Rattle.std.proofs.lemmas.Int.{to_z-of_z}
+use Rattle.std.proofs.lemmas.Bool.{not-true, not-false}
 use Rattle.fzn_domain.specs.declared.literal.Lit.{Lit}
 use Rattle.fzn_domain.specs.Limits.{IsLimited}
 use Rattle.fzn_domain.specs.Literal.{negated}
@@ -7,7 +8,7 @@ use Rattle.fzn_domain.specs.IntSet.{is_possible}
 use Rattle.fzn_domain.specs.Narrow.{set_of}
 use Rattle.fzn_meaning.specs.Term.{IsTerm}
 use Rattle.fzn_terms.specs.Denied.{IsExplained}
-use Rattle.fzn_terms.proofs.DeniedLemmas.{was_true, was_false, explained_constant, explained_declared, explained_push}
+use Rattle.fzn_terms.proofs.DeniedLemmas.{explained_constant, explained_declared, explained_push}
 use Rattle.fzn_terms.proofs.clause.explain.Goals as goal
 
 pub returns-in_default : goal.returns-in_default
@@ -21,7 +22,7 @@ returns-in_ok-push c =
     let opposite : c.negated-lit.result ≡ negated (record { var = c.in-Variable.var; op = c.args.op; value = c.args.number }) = c.negated-lit.ensures.value ∙ ap (λ (x : ℤ). negated (record { var = c.in-Variable.var; op = c.args.op; value = x })) same in
     let variable = subst (IsTerm (length trail.declared)) c.in-Variable.is c.requires.term in
     let possible : is_possible (set_of trail.declared c.in-Variable.var) (negated (record { var = c.in-Variable.var; op = c.args.op; value = c.args.number })) ≡ true =
-    sym (ap₂ is_possible c.declared-declared.ensures opposite) ∙ was_false _ (sym c.is_false.ensures ∙ c.if-not-is_false.true) in
+    sym (ap₂ is_possible c.declared-declared.ensures opposite) ∙ not-false _ (sym c.is_false.ensures ∙ c.if-not-is_false.true) in
     let limited : IsLimited (set_of trail.declared c.in-Variable.var) = subst IsLimited c.declared-declared.ensures c.is_empty-none.ensures.limited in
     subst (λ (xs : List Lit). IsExplained trail c.args.op c.args.number c.args.term c.args.clause.now xs)
     (sym (c.in_ok-push.ensures.ok ∙ ap (λ (l : Lit). c.args.clause.now ++ l ∷ []) opposite))
@@ -35,5 +36,5 @@ returns-else-not-is_false c =
     let opposite : c.negated-lit.result ≡ negated (record { var = c.in-Variable.var; op = c.args.op; value = c.args.number }) = c.negated-lit.ensures.value ∙ ap (λ (x : ℤ). negated (record { var = c.in-Variable.var; op = c.args.op; value = x })) same in
     let variable = subst (IsTerm (length trail.declared)) c.in-Variable.is c.requires.term in
     let impossible : is_possible (set_of trail.declared c.in-Variable.var) (negated (record { var = c.in-Variable.var; op = c.args.op; value = c.args.number })) ≡ false =
-    sym (ap₂ is_possible c.declared-declared.ensures opposite) ∙ was_true _ (sym c.is_false.ensures ∙ c.if-not-is_false.false) in
+    sym (ap₂ is_possible c.declared-declared.ensures opposite) ∙ not-true _ (sym c.is_false.ensures ∙ c.if-not-is_false.false) in
     explained_declared trail c.args.op c.args.number c.args.term c.args.clause.now c.requires.still c.in-Variable.var c.in-Variable.is variable impossible

@@ -1,5 +1,6 @@
 use Rattle.std.proofs.Common.{rules, w64, to_z, of_z, FitsSigned, ℤ, ◌≡◌, ◌∷◌, [], ◌++◌, true, false, List, length, sym, ap, ap₂, subst, ◌∙◌}
 use Rattle.std.proofs.lemmas.Int.{to_z-of_z}
+use Rattle.std.proofs.lemmas.Bool.{not-true, not-false}
 use Rattle.fzn_domain.specs.declared.literal.Lit.{Lit}
 use Rattle.fzn_domain.specs.Limits.{IsLimited}
 use Rattle.fzn_domain.specs.Literal.{negated}
@@ -7,7 +8,7 @@ use Rattle.fzn_domain.specs.IntSet.{IntSet, is_possible}
 use Rattle.fzn_domain.specs.Narrow.{set_of}
 use Rattle.fzn_meaning.specs.Term.{IsTerm}
 use Rattle.fzn_terms.specs.Denied.{IsForced}
-use Rattle.fzn_terms.proofs.DeniedLemmas.{was_true, was_false, forced_declared, forced_push, none_is}
+use Rattle.fzn_terms.proofs.DeniedLemmas.{forced_declared, forced_push, none_is}
 use Rattle.fzn_terms.proofs.clause.force.Goals as goal
 
 pub returns-then-is_false : goal.returns-then-is_false
@@ -16,7 +17,7 @@ returns-then-is_false c =
     let fits : FitsSigned w64 c.args.number = search rules in
     let same : to_z w64 (of_z w64 c.args.number) ≡ c.args.number = to_z-of_z w64 c.args.number fits in
     none_is trail c.args.op c.args.number c.args.term c.args.clause.now c.requires.still c.in-Variable.var c.in-Variable.is (subst (IsTerm (length trail.declared)) c.in-Variable.is c.requires.term)
-    (sym (ap₂ (λ (s : IntSet) (x : ℤ). is_possible s (record { var = c.in-Variable.var; op = c.args.op; value = x })) c.domain-domain.ensures.value same) ∙ was_true _ (sym c.is_false.ensures ∙ c.if-is_false.true))
+    (sym (ap₂ (λ (s : IntSet) (x : ℤ). is_possible s (record { var = c.in-Variable.var; op = c.args.op; value = x })) c.domain-domain.ensures.value same) ∙ not-true _ (sym c.is_false.ensures ∙ c.if-is_false.true))
 
 pub returns-in_ok-push : goal.returns-in_ok-push
 returns-in_ok-push c =
@@ -26,9 +27,9 @@ returns-in_ok-push c =
     let opposite : c.negated-lit.result ≡ negated (record { var = c.in-Variable.var; op = c.args.op; value = c.args.number }) = c.negated-lit.ensures.value ∙ ap (λ (x : ℤ). negated (record { var = c.in-Variable.var; op = c.args.op; value = x })) same in
     let variable = subst (IsTerm (length trail.declared)) c.in-Variable.is c.requires.term in
     let able : is_possible (set_of trail.sets c.in-Variable.var) (record { var = c.in-Variable.var; op = c.args.op; value = c.args.number }) ≡ true =
-    sym (ap₂ (λ (s : IntSet) (x : ℤ). is_possible s (record { var = c.in-Variable.var; op = c.args.op; value = x })) c.domain-domain.ensures.value same) ∙ was_false _ (sym c.is_false.ensures ∙ c.if-is_false.false) in
+    sym (ap₂ (λ (s : IntSet) (x : ℤ). is_possible s (record { var = c.in-Variable.var; op = c.args.op; value = x })) c.domain-domain.ensures.value same) ∙ not-false _ (sym c.is_false.ensures ∙ c.if-is_false.false) in
     let possible : is_possible (set_of trail.declared c.in-Variable.var) (negated (record { var = c.in-Variable.var; op = c.args.op; value = c.args.number })) ≡ true =
-    sym (ap₂ is_possible c.declared-declared.ensures opposite) ∙ was_false _ (sym c.is_false-2.ensures ∙ c.if-not-is_false.true) in
+    sym (ap₂ is_possible c.declared-declared.ensures opposite) ∙ not-false _ (sym c.is_false-2.ensures ∙ c.if-not-is_false.true) in
     let limited : IsLimited (set_of trail.declared c.in-Variable.var) = subst IsLimited c.declared-declared.ensures c.is_empty-none.ensures.limited in
     subst (λ (xs : List Lit). IsForced trail c.args.op c.args.number c.args.term c.args.clause.now xs)
     (sym (c.in_ok-push.ensures.ok ∙ ap (λ (l : Lit). c.args.clause.now ++ l ∷ []) opposite))
@@ -42,5 +43,5 @@ returns-else-not-is_false c =
     let opposite : c.negated-lit.result ≡ negated (record { var = c.in-Variable.var; op = c.args.op; value = c.args.number }) = c.negated-lit.ensures.value ∙ ap (λ (x : ℤ). negated (record { var = c.in-Variable.var; op = c.args.op; value = x })) same in
     let variable = subst (IsTerm (length trail.declared)) c.in-Variable.is c.requires.term in
     let impossible : is_possible (set_of trail.declared c.in-Variable.var) (negated (record { var = c.in-Variable.var; op = c.args.op; value = c.args.number })) ≡ false =
-    sym (ap₂ is_possible c.declared-declared.ensures opposite) ∙ was_true _ (sym c.is_false-2.ensures ∙ c.if-not-is_false.false) in
+    sym (ap₂ is_possible c.declared-declared.ensures opposite) ∙ not-true _ (sym c.is_false-2.ensures ∙ c.if-not-is_false.false) in
     forced_declared trail c.args.op c.args.number c.args.term c.args.clause.now c.requires.still c.in-Variable.var c.in-Variable.is variable impossible

@@ -1,10 +1,9 @@
-use Rattle.std.proofs.Common.{pos, List, Option, subst, IfSome}
+use Rattle.std.proofs.Common.{pos, List, Option, subst, IfSome, length}
 use Rattle.std.proofs.lemmas.Result.{IfOk-weaker}
 use Rattle.std.proofs.lemmas.Option.{IfSome_then}
 use Rattle.fzn_domain.specs.declared.literal.Lit.{Lit}
 use Rattle.fzn_meaning.specs.declared.term.Term.{Term}
 use Rattle.fzn_meaning.specs.Term.{IsTerm}
-use Rattle.std.proofs.Common.{length}
 use Rattle.fzn_sums.specs.Refuted.{IsRefutation}
 use Rattle.fzn_arith.specs.Kinds.{form_in}
 use Rattle.fzn_arith.specs.Sum.{IsFound}

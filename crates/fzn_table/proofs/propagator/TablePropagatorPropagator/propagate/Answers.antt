@@ -1,20 +1,22 @@
 use Rattle.std.proofs.Common.{◌∙◌, ap₂, sym, subst, length}
 use Rattle.std.proofs.lemmas.Result.{on_ok_weaker}
+use Rattle.fzn_meaning.specs.declared.constraint.Constraint.{Constraint}
 use Rattle.fzn_meaning.specs.declared.constraint.Constraint.TheVariants.{Table}
 use Rattle.fzn_meaning.specs.Meaning.{IsWellFormed}
 use Rattle.fzn_meaning.specs.Term.{numbers_in}
-use Rattle.fzn_table.proofs.PropagatorLemmas.{same_table, table_exhausted}
+use Rattle.fzn_propagator.specs.Inference.{AreFoundOf}
+use Rattle.fzn_table.proofs.PropagatorLemmas.{table_exhausted}
 use Rattle.fzn_table.proofs.propagator.TablePropagatorPropagator.propagate.Goals as goal
 
 pub bar_unsupported-requires-clause-before : goal.bar_unsupported-requires-clause-before
 bar_unsupported-requires-clause-before c =
     let is = ap₂ Table c.as_slice-places.ensures c.constants-rows.ensures in
-    same_table c.args.trail.now c.args.self.now.number _ _ c.args.found.now (sym is) c.requires.before
+    subst (λ (C : Constraint). AreFoundOf c.args.self.now.number C c.args.trail.now c.args.found.now) (sym is) (record { all = c.requires.before })
 
 pub returns-clause-found : goal.returns-clause-found
 returns-clause-found c =
     let is = ap₂ Table c.as_slice-places.ensures c.constants-rows.ensures in
-    same_table c.args.trail.now c.args.self.now.number _ _ c.bar_unsupported.new.found is c.bar_unsupported.ensures.found
+    (subst (λ (C : Constraint). AreFoundOf c.args.self.now.number C c.args.trail.now c.bar_unsupported.new.found) is c.bar_unsupported.ensures.found).all
 
 pub returns-clause-none : goal.returns-clause-none
 unfolding IsWellFormed

@@ -1,0 +1,24 @@
+-- The order of integers, where sums on denied sets are compared with those on the trail.
+use Rattle.std.proofs.Common.{◌≡◌, true, arith, int_le, ℤ, pos, ◌+ℤ◌, ◌≤ℤ◌}
+use Rattle.std.proofs.lemmas.Int.{ints}
+
+pub le_same : (a b : ℤ) → a ≡ b → a ≤ℤ b
+le_same a b e = omega (arith, ints)
+
+pub ge_same : (a b : ℤ) → a ≡ b → b ≤ℤ a
+ge_same a b e = omega (arith, ints)
+
+pub at_most : (v n : ℤ) → int_le v n ≡ true → v ≤ℤ n
+at_most v n h = grind (arith, ints)
+
+-- one more on either side
+pub step_more : (a b spare u v : ℤ) → a ≤ℤ (b +ℤ spare) → u ≤ℤ v → (a +ℤ u) ≤ℤ ((b +ℤ v) +ℤ spare)
+step_more a b spare u v h k = omega (arith, ints)
+
+-- one more, which is spared
+pub step_spare : (a b spare u v : ℤ) → a ≤ℤ (b +ℤ spare) → pos 0 ≤ℤ v → (a +ℤ u) ≤ℤ ((b +ℤ v) +ℤ (spare +ℤ u))
+step_spare a b spare u v h k = omega (arith, ints)
+
+-- more is spared
+pub wider : (x y a b : ℤ) → a ≤ℤ b → x ≤ℤ (y +ℤ a) → x ≤ℤ (y +ℤ b)
+wider x y a b h k = omega (arith, ints)
