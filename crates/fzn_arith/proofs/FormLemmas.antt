@@ -34,6 +34,7 @@ use Rattle.fzn_sums.specs.Refuted.{LeavesSome, LeavesEach}
 use Rattle.fzn_sums.proofs.CallerLemmas.{total_le, none_barred_opposites, sum_at-opposites, opposites-twice, opposites_fit}
 use Rattle.fzn_arith.specs.Opposite.{other_comparison, other_bound, opposite_form}
 use Rattle.fzn_arith.specs.Sum.{IsFound, IsLeftAlone}
+use Rattle.fzn_terms.proofs.OrderLemmas.{ge_same}
 
 -- ---- a clause was found
 
@@ -55,16 +56,13 @@ module _ (sets : List IntSet) (values : List ℤ) (fixed : AllFixed sets) (withi
   term_is (Constant k) b fits = flat_cond b k
   term_is (Variable var) b fits = value_is (set_of sets var) (value_of values var) b (fixed (var.0 - 1) _ (omega arith)) (within.inside (var.0 - 1) (omega arith))
 
-  le_same : (a b : ℤ) → a ≡ b → b ≤ℤ a
-  le_same a b e = omega (arith, ints)
-
   -- the sum is no more than the least sum
   fixed_sum : (places : List Place) → All (IsPlace (length sets)) places → sum_at values places ≤ℤ least_sum sets places
   unfolding low_product
   fixed_sum places fit =
       total_le (product_at values) (low_product sets) places (λ k d below.
       let place = get_or places k d in
-      le_same (low_product sets place) (product_at values place)
+      ge_same (low_product sets place) (product_at values place)
       (ap (λ (x : ℤ). place.coefficient *ℤ x) (term_is place.term (int_lt place.coefficient (pos 0)) (fit k d below).0)))
 
   -- ---- and none was found

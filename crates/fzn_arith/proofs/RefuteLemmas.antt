@@ -17,7 +17,8 @@ use Rattle.fzn_propagator.proofs.CallerLemmas.{end_left, ends_ordered}
 use Rattle.fzn_sums.specs.Explained.{Exceeds}
 use Rattle.fzn_sums.specs.Opposite.{opposites}
 use Rattle.fzn_sums.specs.Refuted.{RulesOut, IsRefutation}
-use Rattle.fzn_sums.proofs.CallerLemmas.{mono_up, mono_down, total_le, least_sum-opposites, greatest_sum-opposites, opposites_fit}
+use Rattle.fzn_terms.proofs.ProductLemmas.{mono_up, mono_down}
+use Rattle.fzn_sums.proofs.CallerLemmas.{total_le, least_sum-opposites, greatest_sum-opposites, opposites_fit}
 use Rattle.fzn_arith.specs.Opposite.{other_comparison, other_bound, opposite_form}
 use Rattle.fzn_arith.specs.Guard.{IsGuarded}
 use Rattle.fzn_arith.specs.Sum.{IsFound}

@@ -26,9 +26,8 @@ use fzn_list::Items;
 use fzn_meaning::{Comparison, Place, Term};
 use fzn_propagator::{Cost, Findings, Inference, Propagator, Subscriptions};
 use fzn_rules::Rule;
-use fzn_sums::{
-    ends_of, floors_of, greatest_value, least_value, next_forced, refute_place, slack_within,
-};
+use fzn_sums::{ends_of, floors_of, next_forced, refute_place, slack_within};
+use fzn_terms::{greatest_of, is_fixed, least_of};
 use fzn_trail::Trail;
 use std::alloc::Global;
 
@@ -70,7 +69,7 @@ impl SumPropagator {
         requires filled { NoneEmpty trail.now.sets }
         ensures { IsTrue result → least_value trail.now.sets switch ≢ greatest_value trail.now.sets switch }
     {
-        if least_value(trail, switch) == greatest_value(trail, switch) {
+        if is_fixed(trail, switch) {
             return false;
         }
         let ends = ends_of(trail, self.form.places.as_slice());
@@ -119,8 +118,8 @@ impl SumPropagator {
         let Some(switch) = self.form.switch else {
             return self.rest_of(alloc, trail, &self.form, off, found);
         };
-        let value = least_value(trail, switch);
-        if value != greatest_value(trail, switch) {
+        let value = least_of(trail, switch);
+        if value != greatest_of(trail, switch) {
             return Ok(());
         }
         match value {

@@ -10,8 +10,8 @@ use Rattle.fzn_sets.specs.Terms.{MayBe}
 use Rattle.fzn_builtin_rules.specs.Rows.{IsRowsMet}
 use Rattle.fzn_rules.specs.declared.rule.Rule.TheVariants as rule
 use Rattle.fzn_rules.specs.Rules.{IsMet}
-use Rattle.fzn_explain.specs.declared.claim.Claim.{Claim}
-use Rattle.fzn_explain.specs.Claims.{IsDenied, Refute}
+use Rattle.fzn_terms.specs.declared.claim.Claim.{Claim}
+use Rattle.fzn_terms.specs.Denied.{IsDenied, Refute}
 use Rattle.fzn_builtin.proofs.IntervalLemmas.{amount_sides}
 
 -- the term has one value alone, and the other not its amount

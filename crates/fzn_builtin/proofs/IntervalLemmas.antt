@@ -19,11 +19,11 @@ use Rattle.fzn_sets.proofs.ValueLemmas.{IsBetween, MayBe-ends}
 use Rattle.fzn_builtin_rules.specs.Choices.{inputs_of, result_of, Relates, NoneOf, count_of, IsChoice}
 use Rattle.fzn_builtin_rules.specs.Product.{corners, IsBoxMet}
 use Rattle.fzn_builtin_rules.specs.Rows.{IsRowsMet}
-use Rattle.fzn_sums.proofs.CallerLemmas.{mono_up, mono_down}
+use Rattle.fzn_terms.proofs.ProductLemmas.{mono_up, mono_down}
 use Rattle.fzn_rules.specs.declared.rule.Rule.TheVariants as rule
 use Rattle.fzn_rules.specs.Rules.{IsMet}
-use Rattle.fzn_explain.specs.declared.claim.Claim.{Claim}
-use Rattle.fzn_explain.specs.Claims.{IsDenied, Refute}
+use Rattle.fzn_terms.specs.declared.claim.Claim.{Claim}
+use Rattle.fzn_terms.specs.Denied.{IsDenied, Refute}
 use Rattle.fzn_builtin.specs.declared.interval.Interval.{Interval}
 use Rattle.fzn_builtin.specs.declared.excluded.Shape.{Shape}
 use Rattle.fzn_builtin.specs.declared.excluded.Shape.TheVariants.{Product, Quotient, Remainder, Amount}

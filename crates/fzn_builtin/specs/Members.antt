@@ -5,8 +5,8 @@ use Rattle.fzn_domain.specs.IntSet.{IntSet, contains}
 use Rattle.fzn_meaning.specs.declared.term.Term.{Term}
 use Rattle.fzn_meaning.specs.Term.{IsTerm}
 use Rattle.fzn_sets.specs.Terms.{MayBe}
-use Rattle.fzn_explain.specs.declared.claim.Claim.{Claim}
-use Rattle.fzn_explain.specs.Claims.{IsDenied}
+use Rattle.fzn_terms.specs.declared.claim.Claim.{Claim}
+use Rattle.fzn_terms.specs.Denied.{IsDenied}
 
 -- the first number from this one up that is a member, or that is none
 pub record IsNextAsked (s : IntSet) (asked : Bool) (from next : ℤ) : Type 0 where

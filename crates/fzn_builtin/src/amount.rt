@@ -10,13 +10,12 @@ ghost use Rattle.fzn_propagator.specs.Inference.{AreFoundOf};
 use crate::excluded::Shape;
 use crate::exclusion::infer_ends;
 use fzn_domain::{GREATEST_VALUE, LEAST_VALUE, Lit, Memory};
-use fzn_equality::{SMALL, may_be};
-use fzn_explain::{Claim, explain};
+use fzn_equality::SMALL;
 use fzn_list::Items;
 use fzn_meaning::Term;
 use fzn_propagator::Findings;
 use fzn_rules::Rule;
-use fzn_sums::{greatest_value, least_value};
+use fzn_terms::{Claim, explanation_of, greatest_of, least_of, may_be};
 use fzn_trail::Trail;
 use std::alloc::Global;
 
@@ -64,7 +63,7 @@ fn is_without_amount(trail: &Trail, of: Term, amount: Term, value: i64) -> bool
     requires of { IsTerm (length trail.now.declared) of }
     requires amount { IsTerm (length trail.now.declared) amount }
 {
-    may_be(trail, of, value) && !may_be(trail, amount, amount_of(value))
+    may_be(trail, of, &value) && !may_be(trail, amount, &amount_of(value))
 }
 
 /// Whether the amount may be this value, which no value of the first term has.
@@ -72,7 +71,9 @@ fn is_amount_of_none(trail: &Trail, of: Term, amount: Term, value: i64) -> bool
     requires of { IsTerm (length trail.now.declared) of }
     requires amount { IsTerm (length trail.now.declared) amount }
 {
-    may_be(trail, amount, value) && !may_be(trail, of, value) && !may_be(trail, of, opposite(value))
+    may_be(trail, amount, &value)
+        && !may_be(trail, of, &value)
+        && !may_be(trail, of, &opposite(value))
 }
 
 fn opposite(value: i64) -> i64 {
@@ -100,7 +101,7 @@ fn part_values(
     requires before { AreFoundOf number (constraint.IntAbs of amount) trail.now found.old }
     ensures { AreFoundOf number (constraint.IntAbs of amount) trail.now found.new }
 {
-    let (low, high) = (least_value(trail, of), greatest_value(trail, of));
+    let (low, high) = (least_of(trail, of), greatest_of(trail, of));
     if high - low >= SMALL {
         return Ok(());
     }
@@ -128,7 +129,7 @@ fn part_amounts(
     requires before { AreFoundOf number (constraint.IntAbs of amount) trail.now found.old }
     ensures { AreFoundOf number (constraint.IntAbs of amount) trail.now found.new }
 {
-    let (low, high) = (least_value(trail, amount), greatest_value(trail, amount));
+    let (low, high) = (least_of(trail, amount), greatest_of(trail, amount));
     if high - low >= SMALL {
         return Ok(());
     }
@@ -160,7 +161,7 @@ fn other_value_or_amount(
     }
     let other = Claim::other_than(of, value);
     let equal = Claim::equal(amount, value.abs());
-    explain(alloc, trail, &[other, equal])
+    explanation_of(alloc, trail, &[other, equal])
 }
 
 /// The clause that the amount is not this value, or the other term is it or its opposite.
@@ -181,5 +182,5 @@ fn value_or_other_amount(
     let other = Claim::other_than(amount, value);
     let equal = Claim::equal(of, value);
     let opposite = Claim::equal(of, -value);
-    explain(alloc, trail, &[other, equal, opposite])
+    explanation_of(alloc, trail, &[other, equal, opposite])
 }

@@ -11,7 +11,7 @@ use fzn_fixed::{Outcome, of_operation};
 use fzn_meaning::Operation;
 
 /// How many numbers are gone over at most.
-const STEPS: usize = 4_096;
+pub const STEPS: usize = 4_096;
 
 /// What the third place is to the first two.
 #[derive(Clone, Copy)]

@@ -8,12 +8,13 @@ ghost use Rattle.fzn_builtin.specs.Intervals.{shaped, rule_of};
 
 use crate::excluded::{Shape, is_excluded};
 use crate::interval::{Interval, declared_interval_of, interval_of};
+use crate::seeming::seems_excluded;
 use fzn_domain::{Lit, Memory};
-use fzn_explain::explain;
 use fzn_list::Items;
 use fzn_meaning::Term;
 use fzn_propagator::Findings;
 use fzn_rules::Rule;
+use fzn_terms::explanation_of;
 use fzn_trail::Trail;
 use std::alloc::Global;
 
@@ -197,7 +198,7 @@ fn moved(intervals: Intervals, place: Place, end: End, number: i64) -> Intervals
 }
 
 fn are_excluded(shape: Shape, intervals: Intervals) -> bool {
-    is_excluded(shape, intervals.left, intervals.right, intervals.of)
+    seems_excluded(shape, intervals.left, intervals.right, intervals.of)
 }
 
 // ---- what refutes
@@ -316,7 +317,7 @@ fn outside_of(
     let (left_below, left_above) = in_left.outside(left);
     let (right_below, right_above) = in_right.outside(right);
     let (of_below, of_above) = in_of.outside(of);
-    explain(
+    explanation_of(
         alloc,
         trail,
         &[

@@ -4,14 +4,12 @@ ghost use Rattle.fzn_domain.specs.IntSet.{IntSet};
 ghost use Rattle.fzn_domain.specs.Limits.{IsInLimits};
 ghost use Rattle.fzn_domain.specs.Narrow.{NoneEmpty};
 ghost use Rattle.fzn_meaning.specs.Term.{IsTerm};
-ghost use Rattle.fzn_explain.specs.Claims.{IsDenied};
+ghost use Rattle.fzn_terms.specs.Denied.{IsDenied};
 ghost use Rattle.fzn_builtin.specs.Intervals.{LiesIn, IsLimitedInterval};
 
 use fzn_domain::{GREATEST_VALUE, LEAST_VALUE};
-use fzn_equality::never;
-use fzn_explain::Claim;
 use fzn_meaning::Term;
-use fzn_sums::{greatest_value, least_value};
+use fzn_terms::{Claim, greatest_of, least_of};
 use fzn_trail::Trail;
 
 /// The numbers from one up to another.
@@ -37,7 +35,7 @@ impl Interval {
         ensures inside { (sets : List IntSet) → IsDenied sets result.0 → IsDenied sets result.1 → LiesIn sets term self }
     {
         if self.low == self.high {
-            return (Claim::other_than(term, self.low), never());
+            return (Claim::other_than(term, self.low), Claim::never());
         }
         (Claim::below(term, self.low), Claim::above(term, self.high))
     }
@@ -64,8 +62,8 @@ pub fn interval_of(trail: &Trail, term: Term) -> Interval
     requires filled { NoneEmpty trail.now.sets }
 {
     Interval {
-        low: least_value(trail, term),
-        high: greatest_value(trail, term),
+        low: least_of(trail, term),
+        high: greatest_of(trail, term),
     }
 }
 

@@ -16,3 +16,4 @@ mod kinds;
 mod member;
 mod narrow;
 mod quotient;
+mod seeming;

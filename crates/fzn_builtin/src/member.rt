@@ -9,7 +9,7 @@ ghost use Rattle.fzn_meaning.specs.Meaning.{IsSwitch};
 ghost use Rattle.fzn_meaning.specs.Term.{IsTerm};
 ghost use Rattle.fzn_rules.specs.declared.rule.Rule.TheVariants as rule;
 ghost use Rattle.fzn_sets.specs.Terms.{MayBe};
-ghost use Rattle.fzn_explain.specs.Claims.{IsDenied};
+ghost use Rattle.fzn_terms.specs.Denied.{IsDenied};
 ghost use Rattle.fzn_propagator.specs.Clause.{IsJustified};
 ghost use Rattle.fzn_propagator.specs.Inference.{AreFoundOf};
 ghost use Rattle.fzn_builtin.specs.Intervals.{IsLimitedInterval};
@@ -17,13 +17,12 @@ ghost use Rattle.fzn_builtin.specs.Members.{AreAsked, IsNextAsked, NoneAsked, Is
 
 use crate::interval::{Interval, interval_of};
 use fzn_domain::{Domain, GREATEST_VALUE, LEAST_VALUE, Lit, Memory};
-use fzn_equality::{SMALL, is_fixed, may_be, never};
-use fzn_explain::{Claim, explain};
+use fzn_equality::SMALL;
 use fzn_list::Items;
 use fzn_meaning::Term;
 use fzn_propagator::Findings;
 use fzn_rules::Rule;
-use fzn_sums::{greatest_value, least_value};
+use fzn_terms::{Claim, explanation_of, greatest_of, is_fixed, least_of, may_be};
 use fzn_trail::Trail;
 use std::alloc::Global;
 
@@ -74,7 +73,7 @@ fn asked(trail: &Trail, switch: Option<Term>) -> Option<bool>
 {
     match switch {
         None => Some(true),
-        Some(term) if is_fixed(trail, term) => Some(least_value(trail, term) == 1),
+        Some(term) if is_fixed(trail, term) => Some(least_of(trail, term) == 1),
         _ => None,
     }
 }
@@ -84,12 +83,12 @@ fn are_all(trail: &Trail, term: Term, set: &Domain, within: bool) -> bool
     requires term { IsTerm (length trail.now.declared) term }
     requires filled { NoneEmpty trail.now.sets }
 {
-    let (low, high) = (least_value(trail, term), greatest_value(trail, term));
+    let (low, high) = (least_of(trail, term), greatest_of(trail, term));
     if high - low >= SMALL {
         return false;
     }
     for value in low..high + 1 {
-        if may_be(trail, term, value) && set.contains(value) != within {
+        if may_be(trail, term, &value) && set.contains(value) != within {
             return false;
         }
     }
@@ -109,7 +108,7 @@ fn misfits(
     requires filled { NoneEmpty trail.now.sets }
 {
     let mut all = Items::new(alloc);
-    let (low, high) = (least_value(trail, term), greatest_value(trail, term));
+    let (low, high) = (least_of(trail, term), greatest_of(trail, term));
     let mut from = low.saturating_add(1);
     let mut until = high.saturating_sub(1);
     if set.contains(low) != within {
@@ -141,7 +140,7 @@ fn add_misfits(
     requires term { IsTerm (length trail.now.declared) term }
 {
     for value in from..until.saturating_add(1) {
-        if may_be(trail, term, value) && set.contains(value) != within {
+        if may_be(trail, term, &value) && set.contains(value) != within {
             all.push(Interval::only(value))?;
         }
     }
@@ -261,7 +260,7 @@ fn elsewhere(
         return Ok(None);
     };
     claims.push(otherwise)?;
-    explain(alloc, trail, claims.as_slice())
+    explanation_of(alloc, trail, claims.as_slice())
 }
 
 /// The claims that the term has a value outside of the interval, or one of those in it that are asked for, where these are few.
@@ -299,7 +298,7 @@ fn switched_otherwise(switch: Option<Term>, within: bool) -> Option<Claim>
     ensures denied { IfSome result (λ claim. (sets : List IntSet) → IsDenied sets claim → IsSwitchedTo sets switch within) }
 {
     match switch {
-        None if within => Some(never()),
+        None if within => Some(Claim::never()),
         None => None,
         Some(term) if within => Some(Claim::other_than(term, 1)),
         Some(term) => Some(Claim::other_than(term, 0)),

@@ -14,7 +14,7 @@ use fzn_fixed::{Outcome, of_operation};
 use fzn_list::Items;
 use fzn_meaning::{Operation, Term};
 use fzn_propagator::Findings;
-use fzn_sums::{greatest_value, least_value};
+use fzn_terms::{greatest_of, least_of};
 use fzn_trail::Trail;
 use std::alloc::Global;
 
@@ -131,7 +131,7 @@ fn values_of_none(
     let Term::Variable(var) = of else {
         return Ok(values);
     };
-    let (low, high) = (least_value(trail, of), greatest_value(trail, of));
+    let (low, high) = (least_of(trail, of), greatest_of(trail, of));
     if high - low >= SMALL || !left.is_limited() || !right.is_limited() || !are_few(left, right) {
         return Ok(values);
     }

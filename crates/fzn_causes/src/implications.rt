@@ -1,13 +1,11 @@
 // The trail with the clauses that its reasons are, as the graph of what follows from what.
-ghost use Rattle.std.specs.Prelude.{◌≡◌, IfSome, IfNone, length};
-ghost use Rattle.fzn_trail.specs.declared.trail.Reason.TheVariants.{Decision};
-ghost use Rattle.fzn_learned.specs.Reasoned.{reason_of};
+ghost use Rattle.std.specs.Prelude.{◌≡◌, length};
 
 use crate::causes::Causes;
 use fzn_clauses::Clauses;
 use fzn_domain::{Domain, Lit, Memory, VarId};
 use fzn_inferences::Inferences;
-use fzn_learned::{Source, clause_of, is_known};
+use fzn_learned::{clause_of, is_known};
 use fzn_trail::{Entry, Reason, Trail};
 
 /// The entries of a trail, and the clauses of their reasons.
@@ -86,16 +84,16 @@ impl<'a> Implications<'a> {
         }
     }
 
-    /// Finds what made the literals of the source's clause false, but for the one that it forced. It answers `Err` where memory runs out,
+    /// Finds what made the literals of the reason's clause false, but for the one that it forced. It answers `Err` where memory runs out,
     /// and some may be found then.
     pub fn find_causes(
         self,
         causes: &mut Causes,
-        source: Source,
+        reason: Reason,
         forced: Option<Lit>,
     ) -> Result<(), Memory> {
         causes.clear();
-        for lit in self.clause(source) {
+        for lit in self.clause(reason) {
             if Some(*lit) != forced {
                 causes.add(self, *lit)?;
             }
@@ -103,24 +101,12 @@ impl<'a> Implications<'a> {
         Ok(())
     }
 
-    /// The clause of a source, without literals where there is none.
-    pub fn clause(self, source: Source) -> &'a [Lit] {
-        if is_known(self.clauses, self.inferences, source) {
-            clause_of(self.clauses, self.inferences, source)
+    /// The clause of a reason, without literals where there is none.
+    pub fn clause(self, reason: Reason) -> &'a [Lit] {
+        if is_known(self.clauses, self.inferences, reason) {
+            clause_of(self.clauses, self.inferences, reason)
         } else {
             [].as_slice()
         }
-    }
-}
-
-/// The source of what an entry rests on; none where it is a decision.
-pub fn source_of(reason: Reason) -> Option<Source>
-    ensures some { IfSome result (λ source. reason_of source ≡ reason) }
-    ensures none { IfNone result (reason ≡ Decision) }
-{
-    match reason {
-        Reason::Decision => None,
-        Reason::Clause(id) => Some(Source::Held(id)),
-        Reason::Inference(place) => Some(Source::Stacked(place)),
     }
 }

@@ -7,7 +7,7 @@
 
 pub use causes::{Cause, Causes};
 pub use gaps::{Gap, Gaps};
-pub use implications::{Implications, source_of};
+pub use implications::Implications;
 pub use implied::{canonical, implies, opposite};
 
 mod causes;

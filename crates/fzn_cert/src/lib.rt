@@ -9,6 +9,7 @@ pub use fault::{CertFault, FaultKind};
 pub use header::Header;
 pub use law::{one_line, one_verdict};
 pub use limits::{LAST_STEP, LINE_LIMIT};
+pub use line::has_room;
 pub use refusal::Refusal;
 pub use step::{Step, Version};
 pub use writer::{Stage, StepWriter};

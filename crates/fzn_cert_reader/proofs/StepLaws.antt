@@ -27,7 +27,7 @@ Rises-from_test (x ∷ y ∷ rest) e =
     let t = and_true (not (int_le y x)) (rises (y ∷ rest)) e in
     (grind (arith, ints, t.0), Rises-from_test (y ∷ rest) t.1)
 
-IdsRise-from_test : (xs : List ℕ) → ids_rise xs ≡ true → IdsRise xs
+pub IdsRise-from_test : (xs : List ℕ) → ids_rise xs ≡ true → IdsRise xs
 unfolding ids_rise IdsRise
 IdsRise-from_test [] e = tt
 IdsRise-from_test (x ∷ []) e = tt

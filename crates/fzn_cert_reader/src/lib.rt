@@ -5,6 +5,7 @@
 //! them) and `fzn_cert`'s `Spelling` (the one line of a step) and `Stream` (the fault of a line). Whether a step is accepted is not asked here.
 #![tactic(auto)]
 
+pub use parse::is_deletion;
 pub use reader::StepLines;
 pub use stream::{StepReader, line_of};
 

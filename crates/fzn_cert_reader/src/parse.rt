@@ -161,7 +161,8 @@ fn read_delete(
     }
 }
 
-fn is_deletion(ids: &[u64]) -> bool
+/// Whether a deletion may have these ids: there are some, and each is below the next.
+pub fn is_deletion(ids: &[u64]) -> bool
     ensures { result ≡ is_deletion ids.now }
 {
     !ids.is_empty() && ids_rise(ids)

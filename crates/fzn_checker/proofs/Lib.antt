@@ -1,7 +1,9 @@
 mod AnswerLaws
+pub mod CallerLemmas
 mod ChainLemmas
 mod FaultLaws
 mod GivenLemmas
+mod HoldLemmas
 mod JudgeLemmas
 mod RewriteLemmas
 mod StandingLaws

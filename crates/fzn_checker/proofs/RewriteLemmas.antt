@@ -11,6 +11,7 @@ use Rattle.fzn_cert.specs.declared.fault.FaultKind.{FaultKind}
 use Rattle.fzn_cert.specs.declared.fault.FaultKind.TheVariants as faults
 use Rattle.fzn_cert.specs.declared.refusal.Refusal.{Refusal}
 use Rattle.fzn_cert.specs.declared.step.Step.{Step}
+use Rattle.fzn_cert.specs.declared.step.Version.{Version}
 use Rattle.fzn_cert.specs.declared.step.Version.TheVariants.{One, Two}
 use Rattle.fzn_cert.specs.Spelling.{step_line, end_line, HasLine, IsSized}
 use Rattle.fzn_cert.specs.Stream.{After, IsFaultOf, IsHeaderFaultOf, IsVersionText, IsCountsText, line_of}
@@ -86,13 +87,13 @@ copied-header old left next before now after count none taken written (variables
   written = subst (Appends before after) (ap (λ (t : List ℕ). first_line Two ++ t) (sym (append-nil (second_line variables constraints)))) (Appends-trans before now after (first_line Two) (second_line variables constraints) written copied);
 }
 
-lines_more : (steps : List Step) (step : Step) → lines_of (steps ++ step ∷ []) ≡ lines_of steps ++ step_line step
+pub lines_more : (steps : List Step) (step : Step) → lines_of (steps ++ step ∷ []) ≡ lines_of steps ++ step_line step
 lines_more [] step = append-nil (step_line step)
 lines_more (head ∷ steps) step = ap (λ (t : List ℕ). step_line head ++ t) (lines_more steps step) ∙ sym (append_assoc (step_line head) (lines_of steps) (step_line step))
 
-all_more : (count : ℕ) (steps : List Step) (step : Step) → AllHaveLines One count steps → HasLine One (count + length steps) step → AllHaveLines One count (steps ++ step ∷ [])
-all_more count [] step h k = (subst (λ (n : ℕ). HasLine One n step) (omega arith) k, tt)
-all_more count (head ∷ steps) step h k = (h.0, all_more (count + 1) steps step h.1 (subst (λ (n : ℕ). HasLine One n step) (omega arith) k))
+pub all_more : (version : Version) (count : ℕ) (steps : List Step) (step : Step) → AllHaveLines version count steps → HasLine version (count + length steps) step → AllHaveLines version count (steps ++ step ∷ [])
+all_more version count [] step h k = (subst (λ (n : ℕ). HasLine version n step) (omega arith) k, tt)
+all_more version count (head ∷ steps) step h k = (h.0, all_more version (count + 1) steps step h.1 (subst (λ (n : ℕ). HasLine version n step) (omega arith) k))
 
 -- a text behind the lines so far
 behind : (a b lines text : List ℕ) → (a ++ (b ++ lines)) ++ text ≡ a ++ (b ++ (lines ++ text))
@@ -109,7 +110,7 @@ copied-step old left next before now after count so_far (step, has, (more, copie
       constraints = so_far.constraints;
       sized = so_far.sized;
       steps = so_far.steps ++ step ∷ [];
-      spelled = all_more 0 so_far.steps step so_far.spelled (subst (λ (n : ℕ). HasLine One n step) (omega (arith, so_far.counted)) has);
+      spelled = all_more One 0 so_far.steps step so_far.spelled (subst (λ (n : ℕ). HasLine One n step) (omega (arith, so_far.counted)) has);
       counted = omega (arith, so_far.counted, length-append so_far.steps (step ∷ []));
       taken = subst (Consumes old next) (joined (first_line One)) (Consumes-trans old left next (first_line One ++ (counts ++ lines)) (step_line step) so_far.taken more);
       written = subst (Appends before after) (joined (first_line Two)) (Appends-trans before now after (first_line Two ++ (counts ++ lines)) (step_line step) so_far.written copied);

@@ -39,7 +39,7 @@ verdict-kept model version past count left rest outcome nothing (later, lines, a
 
 -- ---- the first two lines
 
-header_is : (model : Model) (header : Header) → HasCounts model header → header_lines header ≡ header_lines (header_of model header.version)
+pub header_is : (model : Model) (header : Header) → HasCounts model header → header_lines header ≡ header_lines (header_of model header.version)
 header_is model header h = ap₂ (λ n m. header_text header.version n m) h.0 h.1
 
 some_is : {A : Type 0} (a b : A) → Some a ≡ Some b → a ≡ b
@@ -86,7 +86,7 @@ in_bounds : (clause : List Lit) → AllByRecursion IsLiteral clause → AllByRec
 in_bounds [] h = tt
 in_bounds (lit ∷ rest) h = (h.0.1, in_bounds rest h.1)
 
-bounds-spelled : (version : Version) (step : Step) → IsSpelled version step → HasBounds step
+pub bounds-spelled : (version : Version) (step : Step) → IsSpelled version step → HasBounds step
 bounds-spelled version (Infer c rule clause) h = All-from_recursion IsBound clause (in_bounds clause h.2)
 bounds-spelled version (Resolve clause ids) h = All-from_recursion IsBound clause (in_bounds clause h.0)
 bounds-spelled version (Solution values) h = tt

@@ -2,6 +2,7 @@
 ghost use Rattle.std.specs.Prelude.{◌≡◌, true, IfOk, IfErr, length};
 ghost use Rattle.fzn_meaning.specs.Solutions.{declared_sets, IsProper, IsExhausted};
 ghost use Rattle.fzn_meaning.specs.WellFormed.{IsWellFormed};
+ghost use Rattle.fzn_sets.specs.Sets.{start};
 ghost use Rattle.fzn_cert.specs.Verdict.{accepted, VerdictOn};
 ghost use Rattle.fzn_cert_reader.specs.Reader.{progress, input_of};
 ghost use Rattle.fzn_checker.specs.Checked.{IsUnread, IsFaultWhere, IsReadDue};
@@ -65,7 +66,7 @@ pub fn check_certificate<C: TrackedRead + Drop>(
     ensures proper { IfOk result (λ answer. IsProper model.now answer.solutions.items) }
     ensures exhausted { IfOk result (λ answer. answer.closed ≡ true → IsExhausted model.now answer.solutions.items) }
 {
-    let mut sets = Sets::new(alloc, domains_of(alloc, model.vars.as_slice())?)?;
+    let mut sets = first_sets(alloc, model)?;
     let has_empty = sets.has_empty();
     let mut history = History::new(alloc);
     let mut given = Given::new(alloc);
@@ -89,6 +90,13 @@ pub fn check_certificate<C: TrackedRead + Drop>(
         solutions: history.into_solutions(),
         closed: cert.closed().unwrap_or(false),
     })
+}
+
+/// The declared sets, as they are before anything is taken out of them.
+pub fn first_sets(alloc: Global, model: &Model) -> Result<Sets, Memory>
+    ensures { IfOk result (λ sets. sets ≡ start (declared_sets model.now.vars)) }
+{
+    Sets::new(alloc, domains_of(alloc, model.vars.as_slice())?)
 }
 
 /// The declared sets, each copied.

@@ -1,5 +1,5 @@
 -- Where the rules on a circuit are met.
-use Rattle.std.proofs.Common.{◌≡◌, ◌≢◌, ℕ, zero, suc, ◌+◌, ◌<◌, ◌≤◌, Bool, true, false, cond, ◌&&◌, List, [], ◌∷◌, length, get_or, sym, subst, inl, inr, arith, ℤ, pos, ◌+ℤ◌, ◌-ℤ◌, ◌≤ℤ◌, ◌<ℤ◌, All, int_le}
+use Rattle.std.proofs.Common.{◌≡◌, ◌≢◌, ℕ, zero, suc, ◌+◌, ◌<◌, ◌≤◌, Bool, true, false, cond, ◌&&◌, List, [], ◌∷◌, length, get_or, refl, sym, subst, inl, inr, arith, ℤ, pos, ◌+ℤ◌, ◌-ℤ◌, ◌≤ℤ◌, ◌<ℤ◌, All, int_le}
 use Rattle.std.specs.Ordering.{int_eq}
 use Rattle.std.specs.List.{count_by}
 use Rattle.std.proofs.lemmas.Int.{ints}
@@ -21,19 +21,17 @@ use Rattle.fzn_sets.proofs.ValueLemmas.{MayBe-between, MayBe-ends}
 use Rattle.fzn_global_rules.specs.GlobalRows.{IsGlobalRowsMet}
 use Rattle.fzn_global_rules.specs.Hall.{lies_within, IsHallMet}
 use Rattle.fzn_propagator.specs.Clause.{AreLeft}
-use Rattle.fzn_terms.specs.Denied.{AllAre}
+use Rattle.fzn_terms.specs.Denied.{that, IsEntailed}
+use Rattle.fzn_terms.proofs.OrderLemmas.{le_same}
 
 pub at_default : (xs : List Term) (k : ℕ) (d e : Term) (P : Term → Type 0) → k < length xs → P (get_or xs k d) → P (get_or xs k e)
 at_default xs k d e P inside h = subst P (get_or_default xs k d e inside) h
-
-equal_of : (v k : ℤ) → int_eq v k ≡ true → v ≡ k
-equal_of v k h = grind (arith, ints)
 
 int_eq_of : (v low high k : ℤ) → low ≤ℤ v → v ≤ℤ high → low ≡ k → high ≡ k → int_eq v k ≡ true
 int_eq_of v low high k a b e f = grind (arith, ints)
 
 -- the one value
-pub all_fixed : (sets : List IntSet) (term : Term) (k : ℤ) → IsFixedTo sets term k → AllAre Equal k term sets
+pub all_fixed : (sets : List IntSet) (term : Term) (k : ℤ) → IsFixedTo sets term k → IsEntailed sets (that term Equal k)
 all_fixed sets term k fixed v may =
     let between = MayBe-between sets term v may in
     int_eq_of v (least_value sets term) (greatest_value sets term) k between.0 between.1 fixed.0 fixed.1
@@ -45,12 +43,12 @@ too_high : (index : ℤ) (n : ℕ) → index ≤ℤ pos n → int_le (pos (n + 1
 too_high index n a b = grind (arith, ints)
 
 module _ (sets : List IntSet) (successors : List Term) where
-  pub below_met : (k : ℕ) (d : Term) → k < length successors → AllAre AtMost (pos 0) (get_or successors k d) sets → IsMet (Circuit successors) sets Rows
+  pub below_met : (k : ℕ) (d : Term) → k < length successors → IsEntailed sets (that (get_or successors k d) AtMost (pos 0)) → IsMet (Circuit successors) sets Rows
   unfolding IsMet IsGlobalRowsMet
   below_met k d inside all =
       inr (k, get_or successors k d, inside, get_or_default successors k (get_or successors k d) d inside, λ index is may. too_low index is.0 (all index may))
 
-  pub above_met : (k : ℕ) (d : Term) → k < length successors → AllAre AtLeast (pos (length successors + 1)) (get_or successors k d) sets → IsMet (Circuit successors) sets Rows
+  pub above_met : (k : ℕ) (d : Term) → k < length successors → IsEntailed sets (that (get_or successors k d) AtLeast (pos (length successors + 1))) → IsMet (Circuit successors) sets Rows
   unfolding IsMet IsGlobalRowsMet
   above_met k d inside all =
       inr (k, get_or successors k d, inside, get_or_default successors k (get_or successors k d) d inside, λ index is may. too_high index (length successors) is.1 (all index may))
@@ -58,7 +56,7 @@ module _ (sets : List IntSet) (successors : List Term) where
   within_of : (a b v : ℤ) → int_eq a v ≡ true → int_eq b v ≡ true → (int_le v a && int_le b v) ≡ true
   within_of a b v h k = grind (arith, ints)
 
-  lies_of : (term : Term) (v : ℤ) → is_some_empty sets ≡ false → IsTerm (length sets) term → AllAre Equal v term sets → lies_within sets v v term ≡ true
+  lies_of : (term : Term) (v : ℤ) → is_some_empty sets ≡ false → IsTerm (length sets) term → IsEntailed sets (that term Equal v) → lies_within sets v v term ≡ true
   lies_of term v filled fits all =
       let ends = MayBe-ends sets term filled fits in
       within_of (least_value sets term) (greatest_value sets term) v (all (least_value sets term) ends.0) (all (greatest_value sets term) ends.1)
@@ -83,17 +81,14 @@ two_apart p xs i j d apart one other h k = elim (cases_lt i j) [
 excess_of : (v : ℤ) (n : ℕ) → 2 ≤ n → ((v -ℤ v) +ℤ pos 1) <ℤ pos n
 excess_of v n h = omega (arith, ints)
 
-same_number : (v : ℤ) → v ≤ℤ v
-same_number v = omega (arith, ints)
-
 module _ (declared : List IntSet) (clause : List Lit) (sets : List IntSet) (left : AreLeft declared clause sets) (successors : List Term) (fit : All (IsTerm (length declared)) successors) where
   pub fits_left : All (IsTerm (length sets)) successors
   fits_left = subst (λ (n : ℕ). All (IsTerm n) successors) (sym left.one_each) fit
 
-  pub same_met : (i j : ℕ) (v : ℤ) (d : Term) → i ≢ j → i < length successors → j < length successors → AllAre Equal v (get_or successors i d) sets → AllAre Equal v (get_or successors j d) sets → IsMet (Circuit successors) sets (Hall v v)
+  pub same_met : (i j : ℕ) (v : ℤ) (d : Term) → i ≢ j → i < length successors → j < length successors → IsEntailed sets (that (get_or successors i d) Equal v) → IsEntailed sets (that (get_or successors j d) Equal v) → IsMet (Circuit successors) sets (Hall v v)
   unfolding IsMet IsHallMet
   same_met i j v d apart one other all_one all_other = record {
-    in_order = same_number v;
+    in_order = le_same v v refl;
     excess = excess_of v (count_by (lies_within sets v v) successors)
         (two_apart (lies_within sets v v) successors i j d apart one other
         (lies_of sets successors (get_or successors i d) v left.filled (All-get_or (IsTerm (length sets)) successors i d one fits_left) all_one)

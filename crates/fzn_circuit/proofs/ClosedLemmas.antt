@@ -1,5 +1,5 @@
 -- Clauses that say that terms lead into some places.
-use Rattle.std.proofs.Common.{◌≡◌, ℕ, ◌<◌, ◌≤◌, true, List, length, get_or, sym, subst, inl, inr, ◌⊎◌, arith, ℤ, pos, ◌≤ℤ◌, ◌<ℤ◌, int_le}
+use Rattle.std.proofs.Common.{◌≡◌, ℕ, ◌<◌, ◌≤◌, true, List, length, get_or, sym, subst, inl, inr, ◌⊎◌, arith, ℤ, pos, ◌≤ℤ◌, ◌<ℤ◌}
 use Rattle.std.specs.List.{Contains}
 use Rattle.std.proofs.lemmas.Int.{ints}
 use Rattle.std.proofs.lemmas.List.Elements.{All-from_get_or, All-weaker}
@@ -21,10 +21,11 @@ use Rattle.fzn_global_rules.specs.Cut.{LeadsInto, IsCutMet}
 use Rattle.fzn_trail.specs.Levels.{Levels}
 use Rattle.fzn_propagator.specs.Inference.{IsHint, HasWritableHints}
 use Rattle.fzn_propagator.specs.Clause.{Says, IsFalseClause, IsJustified}
-use Rattle.fzn_terms.specs.Denied.{IsExplained}
-use Rattle.fzn_circuit.specs.Closed.{IsGrown, IsFromTo, IsPlaceIf, LeadsIntoBetween}
+use Rattle.fzn_terms.specs.Denied.{that, IsExplained, IsGrown}
+use Rattle.fzn_circuit.specs.Closed.{IsFromTo, IsPlaceIf, LeadsIntoBetween}
 use Rattle.fzn_circuit.proofs.WayLemmas.{hint_of}
 use Rattle.fzn_propagator.proofs.CallerLemmas.{forcing_of_false, justified_where}
+use Rattle.fzn_terms.proofs.OrderLemmas.{le_lt, at_most}
 
 -- ---- numbers
 
@@ -37,17 +38,8 @@ more_or_not v k = grind (arith, ints)
 none_between : (x next : ℤ) → next ≤ℤ x → x <ℤ next → ⊥
 none_between x next h k = omega (arith, ints)
 
-le_lt : (a b c : ℤ) → a ≤ℤ b → b <ℤ c → a <ℤ c
-le_lt a b c h k = omega (arith, ints)
-
 not_below_self : (low v : ℤ) → low ≤ℤ v → v <ℤ low → ⊥
 not_below_self low v h k = omega (arith, ints)
-
-le_of : (a b : ℤ) → int_le a b ≡ true → a ≤ℤ b
-le_of a b h = grind (arith, ints)
-
-pub test_of : (a b c : ℤ) → a ≤ℤ b → b ≤ℤ c → int_le a c ≡ true
-test_of a b c h k = grind (arith, ints)
 
 -- ---- from value to value
 
@@ -94,7 +86,7 @@ last_before value next high v over first to = elim (more_or_not value v) [
 
 -- ---- one term
 
-pub ends_grown : (trail : Levels) (low high : ℤ) (term : Term) (old one two : List Lit) → IsExplained trail AtLeast low term old one → IsExplained trail AtMost high term one two → IsGrown trail (IsFromTo low high term) old two
+pub ends_grown : (trail : Levels) (low high : ℤ) (term : Term) (old one two : List Lit) → IsExplained trail (that term AtLeast low) old one → IsExplained trail (that term AtMost high) one two → IsGrown trail (IsFromTo low high term) old two
 ends_grown trail low high term old one two from to = record {
   still = to.still;
   keeps = λ sets left. from.keeps sets (to.keeps sets left);
@@ -107,7 +99,7 @@ leads_into trail places var low high old ends new from_to between = record {
   keeps = λ sets left. from_to.keeps sets (between.keeps sets left);
   says = λ sets left v may.
       let said = from_to.says sets (between.keeps sets left) in
-      between.says sets left v (le_of low v (said.0 v may)) (le_of v high (said.1 v may)) may;
+      between.says sets left v (at_most low v (said.0 v may)) (at_most v high (said.1 v may)) may;
 }
 
 -- ---- all places

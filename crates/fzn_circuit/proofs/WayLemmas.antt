@@ -2,7 +2,7 @@
 use Rattle.std.proofs.Common.{◌≡◌, ℕ, zero, suc, ◌+◌, ◌-◌, ◌<◌, ◌≤◌, true, false, List, [], ◌∷◌, ◌++◌, length, get_or, take, refl, sym, ap, ap₂, subst, int_lt, ◌∙◌, inl, inr, ◌⊎◌, arith, ℤ, pos, negsuc, ◌≤ℤ◌, ◌<ℤ◌, All, FitsSigned, w64, to_z, of_z}
 use Rattle.std.specs.List.{Contains}
 use Rattle.std.specs.List.Sorted.{IsSorted, IsPermutation}
-use Rattle.std.specs.Ordering.{int_cmp, int_eq, is_lt}
+use Rattle.std.specs.Ordering.{int_cmp, is_lt}
 use Rattle.std.proofs.lemmas.Int.{ints, to_z-of_z}
 use Rattle.std.proofs.lemmas.Bool.{cases_lt}
 use Rattle.std.proofs.lemmas.List.{length-append, get_or_append_left, get_or-take, length-take-le}
@@ -29,10 +29,11 @@ use Rattle.fzn_sets.specs.Terms.{MayBe, IsFixedTo, term_at}
 use Rattle.fzn_global_rules.specs.Cut.{LeadsInto, IsCutMet}
 use Rattle.fzn_trail.specs.Levels.{Levels}
 use Rattle.fzn_propagator.specs.Inference.{IsHint, HasWritableHints}
-use Rattle.fzn_terms.specs.Denied.{NoneIs, IsExplained, IsForced}
+use Rattle.fzn_terms.specs.Denied.{that, IsDenied, IsExplained, IsForced}
 use Rattle.fzn_propagator.specs.Clause.{IsJustified}
 use Rattle.fzn_circuit.specs.Circuits.{AreFixedPlaces, IsWay, IsAtEnd, HasNoShortWay}
 use Rattle.fzn_propagator.proofs.CallerLemmas.{justified_where}
+use Rattle.fzn_terms.proofs.OrderLemmas.{le_trans, equal_of, equal_self, le_lt, le_same}
 
 -- ---- rising lists
 
@@ -62,17 +63,8 @@ ascending-push xs x up below i j d before inside =
           subst (λ v. v <ℤ get_or (xs ++ x ∷ []) j d) (sym first) (subst (λ v. get_or xs i d <ℤ v) (sym (last_is xs x d j inside past)) (below i d (omega arith)))
     ]
 
-le_lt : (a b c : ℤ) → a ≤ℤ b → b <ℤ c → a <ℤ c
-le_lt a b c h k = omega (arith, ints)
-
 lt_le : (a b : ℤ) → a <ℤ b → a ≤ℤ b
 lt_le a b h = omega (arith, ints)
-
-le_trans : (a b c : ℤ) → a ≤ℤ b → b ≤ℤ c → a ≤ℤ c
-le_trans a b c h k = omega (arith, ints)
-
-le_same : (a : ℤ) → a ≤ℤ a
-le_same a = omega (arith, ints)
 
 le_from_cmp : (a b : ℤ) → is_lt (int_cmp b a) ≡ false → a ≤ℤ b
 le_from_cmp a b h = grind (arith, ints)
@@ -97,7 +89,7 @@ module _ (values : List ℤ) (k : ℕ) (items : List ℤ) (inside : k < length v
         all = All-more (Contains (items ++ x ∷ [])) values k (pos 0) inside (All-weaker (Contains items) (Contains (items ++ x ∷ [])) (λ y h. Contains-append_left items (x ∷ []) y h) (take k values) before.all) (Contains-push items x);
         few = let f = before.few in omega (arith, length-append items (x ∷ []));
         below = λ some. subst (λ (n : ℕ). All (λ item. item ≤ℤ get_or values n (pos 0)) (items ++ get_or values k (pos 0) ∷ [])) (sym at_next)
-            (All-push (λ item. item ≤ℤ get_or values k (pos 0)) items x (All-weaker (λ item. item <ℤ get_or values k (pos 0)) (λ item. item ≤ℤ get_or values k (pos 0)) (λ y h. lt_le y (get_or values k (pos 0)) h) items under) (le_same x));
+            (All-push (λ item. item ≤ℤ get_or values k (pos 0)) items x (All-weaker (λ item. item <ℤ get_or values k (pos 0)) (λ item. item ≤ℤ get_or values k (pos 0)) (λ y h. lt_le y (get_or values k (pos 0)) h) items under) (le_same x x refl));
       }
 
   pub risen_same : IsSorted int_cmp values → 0 < k → (get_or values (k - 1) (pos 0) <ℤ get_or values k (pos 0) → ⊥) → IsRisen values (k + 1) items
@@ -171,11 +163,8 @@ module _ (trail : Levels) (successors : List Term) (start last : ℤ) (places : 
   pub comes_back : (next : ℤ) → next ≡ start → IsFixedTo trail.sets (term_at successors last) next → IsAtEnd trail.sets successors start places
   comes_back next back leads = inr (λ values fixed. next_reached next leads values fixed ∙ back)
 
-int_same : (v k : ℤ) → int_eq v k ≡ true → v ≡ k
-int_same v k h = grind (arith, ints)
-
 -- one more place
-pub way_step : (trail : Levels) (successors : List Term) (start last next : ℤ) (places : List ℤ) (old new : List Lit) → IsWay trail successors start last places old → length places < length successors → IsIndex (length successors) next → IsFixedTo trail.sets (term_at successors last) next → (next ≡ start → ⊥) → IsExplained trail Equal next (term_at successors last) old new → IsWay trail successors start next (places ++ next ∷ []) new
+pub way_step : (trail : Levels) (successors : List Term) (start last next : ℤ) (places : List ℤ) (old new : List Lit) → IsWay trail successors start last places old → length places < length successors → IsIndex (length successors) next → IsFixedTo trail.sets (term_at successors last) next → (next ≡ start → ⊥) → IsExplained trail (that (term_at successors last) Equal next) old new → IsWay trail successors start next (places ++ next ∷ []) new
 way_step trail successors start last next places old new way room place leads apart explained =
     let len = length-append places (next ∷ []) in
     let some = way.some in
@@ -190,7 +179,7 @@ way_step trail successors start last next places old new way room place leads ap
           All-push (λ place. (place ≡ next) ⊎ LeadsInto sets (places ++ next ∷ []) (term_at successors place)) places next
           (All-weaker (λ place. (place ≡ last) ⊎ LeadsInto sets places (term_at successors place)) (λ place. (place ≡ next) ⊎ LeadsInto sets (places ++ next ∷ []) (term_at successors place))
           (λ p either. inr (elim either [
-            | inl is_last ↦ λ x may. subst (Contains (places ++ next ∷ [])) (sym (int_same x next (explained.says sets left x (subst (λ (q : ℤ). MayBe sets (term_at successors q) x) is_last may)))) (Contains-push places next)
+            | inl is_last ↦ λ x may. subst (Contains (places ++ next ∷ [])) (sym (equal_of x next (explained.says sets left x (subst (λ (q : ℤ). MayBe sets (term_at successors q) x) is_last may)))) (Contains-push places next)
             | inr before ↦ λ x may. Contains-append_left places (next ∷ []) x (before x may)
           ])) places (way.leads sets (explained.keeps sets left)))
           (inl refl);
@@ -227,7 +216,7 @@ module _ (trail : Levels) (successors : List Term) (start last : ℤ) (places so
   some_items : (x : ℤ) → Contains items x → 0 < length items
   some_items x h = let below = h.1 in omega arith
 
-  pub cut_inferred : (new : List Lit) → IsAscending items → length items < length successors → IsForced trail Equal start (term_at successors last) old new → IsJustified trail (Circuit successors) (Cut items) new
+  pub cut_inferred : (new : List Lit) → IsAscending items → length items < length successors → IsForced trail (that (term_at successors last) Equal start) old new → IsJustified trail (Circuit successors) (Cut items) new
   unfolding IsMet IsCutMet
   cut_inferred new up fewer forced =
       justified_where trail (Circuit successors) (Cut items) new forced.forcing (λ sets left. record {
@@ -237,7 +226,7 @@ module _ (trail : Levels) (successors : List Term) (start last : ℤ) (places so
         not_all = fewer;
         closed = All-weaker (Contains places) (λ place. LeadsInto sets items (term_at successors place))
             (λ p there x may. from_way x (elim (All-contains (λ place. (place ≡ last) ⊎ LeadsInto sets places (term_at successors place)) places p (way.leads sets (forced.keeps sets left)) there) [
-              | inl is_last ↦ subst (Contains places) (sym (int_same x start (forced.says sets left x (subst (λ (q : ℤ). MayBe sets (term_at successors q) x) is_last may)))) (start_in_way trail successors start last places old way)
+              | inl is_last ↦ subst (Contains places) (sym (equal_of x start (forced.says sets left x (subst (λ (q : ℤ). MayBe sets (term_at successors q) x) is_last may)))) (start_in_way trail successors start last places old way)
               | inr leads ↦ leads x may
             ])) items to_way;
       })
@@ -250,9 +239,6 @@ least_may sets (Variable var) v filled fits fixed =
     let some = member_of_size (set_of sets var) (All-get_or (λ (s : IntSet). 0 < size s) sets (var.0 - 1) no_values (omega arith) filled) in
     subst (λ (x : ℤ). contains (set_of sets var) x ≡ true) fixed.0 (contains-least (set_of sets var) some.0 some.1)
 
-int_eq_self : (v : ℤ) → int_eq v v ≡ false → ⊥
-int_eq_self v h = grind (arith, ints)
-
 module _ (trail : Levels) (successors : List Term) (start last : ℤ) (places : List ℤ) (old : List Lit) (way : IsWay trail successors start last places old) where
   pub none_of_long : length successors ≤ length places → HasNoShortWay trail.sets successors start
   none_of_long long values fixed k low high back =
@@ -260,14 +246,14 @@ module _ (trail : Levels) (successors : List Term) (start last : ℤ) (places : 
       let same = fixed.one_each in
       way.not_back k low (omega arith) (way.steps values fixed k (omega arith) ∙ back)
 
-  pub none_of_apart : length places < length successors → NoneEmpty trail.sets → length trail.sets ≡ length trail.declared → All (IsTerm (length trail.declared)) successors → IsAtEnd trail.sets successors start places → NoneIs Equal start (term_at successors last) trail.sets → HasNoShortWay trail.sets successors start
+  pub none_of_apart : length places < length successors → NoneEmpty trail.sets → length trail.sets ≡ length trail.declared → All (IsTerm (length trail.declared)) successors → IsAtEnd trail.sets successors start places → IsDenied trail.sets (that (term_at successors last) Equal start) → HasNoShortWay trail.sets successors start
   none_of_apart short filled one_each fit (inl all) none = absurd (omega arith)
   none_of_apart short filled one_each fit (inr ends) none = λ values fixed k low high back.
       let place = last_place trail successors start last places old way in
       let fits : IsTerm (length trail.sets) (term_at successors last) = subst (λ (n : ℕ). IsTerm n (term_at successors last)) (sym one_each) (IsTerm-term_at (length trail.declared) successors last fit place) in
       let leads : IsFixedTo trail.sets (term_at successors last) start =
       subst (IsFixedTo trail.sets (term_at successors last)) (entry_reached values fixed ∙ ends values fixed) (entry_fixed trail.sets successors values fixed last place) in
-      int_eq_self start (none start (least_may trail.sets (term_at successors last) start filled fits leads))
+      equal_self start (none start (least_may trail.sets (term_at successors last) start filled fits leads))
     where
       entry_reached : (values : List ℤ) → AreFixedPlaces trail.sets successors values → entry_at values last ≡ reached_from values start (length places)
       entry_reached values fixed =

@@ -15,7 +15,7 @@ use Rattle.fzn_global_rules.specs.Cut.{LeadsInto}
 use Rattle.fzn_trail.specs.Levels.{Levels}
 use Rattle.fzn_domain.specs.declared.literal.Op.TheVariants.{AtMost, AtLeast, Equal}
 use Rattle.fzn_propagator.specs.Clause.{Says, IsFalseClause}
-use Rattle.fzn_terms.specs.Denied.{NoneIs}
+use Rattle.fzn_terms.specs.Denied.{that, IsDenied}
 
 -- each successor has one value, these in order, and each is a place
 pub record AreFixedPlaces (sets : List IntSet) (successors : List Term) (values : List ℤ) : Type 0 where
@@ -48,13 +48,13 @@ HasNoShortWay sets successors start =
 -- no successor has a value that is no place
 abbrev pub AreInside : List IntSet → List Term → Type 0
 AreInside sets successors =
-    (k : ℕ) (default : Term) → k < length successors → NoneIs AtMost (pos 0) (slice_index_or successors k default) sets × NoneIs AtLeast (pos (length successors + 1)) (slice_index_or successors k default) sets
+    (k : ℕ) (default : Term) → k < length successors → IsDenied sets (that (slice_index_or successors k default) AtMost (pos 0)) × IsDenied sets (that (slice_index_or successors k default) AtLeast (pos (length successors + 1)))
 
 -- the value of a fixed successor is no value of another
 abbrev pub AreApart : List IntSet → List Term → Type 0
 AreApart sets successors =
     (i j : ℕ) (default : Term) (value : ℤ) → i ≢ j → i < length successors → j < length successors → IsFixedTo sets (slice_index_or successors i default) value
-    → NoneIs Equal value (slice_index_or successors j default) sets
+    → IsDenied sets (that (slice_index_or successors j default) Equal value)
 
 -- where each variable has one value, no two successors are the same
 abbrev pub AreDifferent : List IntSet → List Term → Type 0

@@ -14,7 +14,7 @@ ghost use Rattle.fzn_meaning.specs.Meaning.{AreTerms};
 ghost use Rattle.fzn_rules.specs.declared.rule.Rule.TheVariants as rule;
 ghost use Rattle.fzn_propagator.specs.Inference.{HasWritableHints};
 ghost use Rattle.fzn_sets.specs.Terms.{IsFixedTo, term_at};
-ghost use Rattle.fzn_terms.specs.Denied.{AllAre, NoneIs};
+ghost use Rattle.fzn_terms.specs.Denied.{that, IsDenied};
 ghost use Rattle.fzn_propagator.specs.Clause.{IsFalseClause, IsJustified};
 ghost use Rattle.fzn_circuit.specs.Circuits.{IsWay, IsAtEnd, HasNoShortWay};
 
@@ -22,8 +22,7 @@ use fzn_domain::{Lit, Memory, Op};
 use fzn_list::Items;
 use fzn_meaning::Term;
 use fzn_sets::{is_index, term_at};
-use fzn_sums::{greatest_value, least_value};
-use fzn_terms::{explain, force};
+use fzn_terms::{explain, force, greatest_of, least_of};
 use fzn_trail::Trail;
 use std::alloc::Global;
 
@@ -38,7 +37,7 @@ pub fn explain_below(
     requires terms { AreTerms (length trail.now.declared) successors.now }
     requires filled { NoneEmpty trail.now.sets }
     requires place { k < length successors.now }
-    ensures { IfOk result (λ found. MatchBool found (IsJustified trail.now (constraint.Circuit successors.now) rule.Rows clause.new) ((default : Term) → NoneIs op.AtMost (pos 0) (slice_index_or successors.now k default) trail.now.sets)) }
+    ensures { IfOk result (λ found. MatchBool found (IsJustified trail.now (constraint.Circuit successors.now) rule.Rows clause.new) ((default : Term) → IsDenied trail.now.sets (that (slice_index_or successors.now k default) op.AtMost (pos 0)))) }
 {
     clause.clear();
     force(trail, successors[k], Op::AtMost, 0, clause)
@@ -55,7 +54,7 @@ pub fn explain_above(
     requires terms { AreTerms (length trail.now.declared) successors.now }
     requires filled { NoneEmpty trail.now.sets }
     requires place { k < length successors.now }
-    ensures { IfOk result (λ found. MatchBool found (IsJustified trail.now (constraint.Circuit successors.now) rule.Rows clause.new) ((default : Term) → NoneIs op.AtLeast (pos (length successors.now + 1)) (slice_index_or successors.now k default) trail.now.sets)) }
+    ensures { IfOk result (λ found. MatchBool found (IsJustified trail.now (constraint.Circuit successors.now) rule.Rows clause.new) ((default : Term) → IsDenied trail.now.sets (that (slice_index_or successors.now k default) op.AtLeast (pos (length successors.now + 1))))) }
 {
     clause.clear();
     force(
@@ -84,7 +83,7 @@ pub fn explain_same(
     requires apart { i ≢ j }
     requires value { IsInLimits value }
     requires fixed { (default : Term) → IsFixedTo trail.now.sets (slice_index_or successors.now i default) value }
-    ensures { IfOk result (λ found. MatchBool found (IsJustified trail.now (constraint.Circuit successors.now) (rule.Hall value value) clause.new) ((default : Term) → NoneIs op.Equal value (slice_index_or successors.now j default) trail.now.sets)) }
+    ensures { IfOk result (λ found. MatchBool found (IsJustified trail.now (constraint.Circuit successors.now) (rule.Hall value value) clause.new) ((default : Term) → IsDenied trail.now.sets (that (slice_index_or successors.now j default) op.Equal value))) }
 {
     clause.clear();
     explain(trail, successors[i], Op::Equal, value, clause)?;
@@ -101,8 +100,8 @@ pub(crate) fn only_place(trail: &Trail, successors: &[Term], place: i64) -> Opti
     ensures none { IfNone result ((next : ℤ) → IsIndex (length successors.now) next → IsFixedTo trail.now.sets (term_at successors.now place) next → ⊥) }
 {
     let term = term_at(successors, &place);
-    let next = least_value(trail, term);
-    if greatest_value(trail, term) != next || !is_index(successors.len(), &next) {
+    let next = least_of(trail, term);
+    if greatest_of(trail, term) != next || !is_index(successors.len(), &next) {
         return None;
     }
     Some(next)

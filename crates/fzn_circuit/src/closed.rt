@@ -11,9 +11,9 @@ ghost use Rattle.fzn_meaning.specs.Term.{IsTerm};
 ghost use Rattle.fzn_global_rules.specs.Cut.{LeadsInto};
 ghost use Rattle.fzn_propagator.specs.Inference.{HasWritableHints};
 ghost use Rattle.fzn_rules.specs.declared.rule.Rule.TheVariants as rule;
-ghost use Rattle.fzn_terms.specs.Denied.{AllAre};
+ghost use Rattle.fzn_terms.specs.Denied.{that, IsEntailed, IsGrown};
 ghost use Rattle.fzn_propagator.specs.Clause.{IsFalseClause, IsJustified};
-ghost use Rattle.fzn_circuit.specs.Closed.{IsGrown, IsFromTo, IsPlaceIf, LeadsIntoBetween};
+ghost use Rattle.fzn_circuit.specs.Closed.{IsFromTo, IsPlaceIf, LeadsIntoBetween};
 
 use fzn_domain::{Domain, Lit, Memory, Op, VarId, place_of};
 use fzn_list::Items;
@@ -137,8 +137,8 @@ fn explain_ends(
     requires filled { NoneEmpty trail.now.sets }
     requires low { IsInLimits low.now }
     requires high { IsInLimits high.now }
-    requires from { AllAre op.AtLeast low.now term trail.now.sets }
-    requires to { AllAre op.AtMost high.now term trail.now.sets }
+    requires from { IsEntailed trail.now.sets (that term op.AtLeast low.now) }
+    requires to { IsEntailed trail.now.sets (that term op.AtMost high.now) }
     requires still { IsFalseClause trail.now clause.old }
     ensures { OnOk result (IsGrown trail.now (IsFromTo low.now high.now term) clause.old clause.new) }
 {

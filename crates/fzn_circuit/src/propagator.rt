@@ -14,7 +14,7 @@ ghost use Rattle.fzn_propagator.specs.declared.cost.Cost.TheVariants as cost;
 ghost use Rattle.fzn_propagator.specs.declared.event.Event.TheVariants as event;
 ghost use Rattle.fzn_propagator.specs.Inference.{AreExhausted, AreFoundOf};
 ghost use Rattle.fzn_propagator.specs.Subscriptions.{terms_of, waits_each, AreHeard};
-ghost use Rattle.fzn_terms.specs.Denied.{NoneIs};
+ghost use Rattle.fzn_terms.specs.Denied.{that, IsDenied};
 ghost use Rattle.fzn_circuit.specs.Propagator.{circuit_number, CircuitIsFor, CircuitFits};
 ghost use Rattle.fzn_circuit.specs.Circuits.{AreInside, HasNoShortWay};
 
@@ -171,7 +171,7 @@ fn find_below(
     requires before { AreFoundOf number (constraint.Circuit successors.now) trail.now found.old }
     ensures found { AreFoundOf number (constraint.Circuit successors.now) trail.now found.new }
     ensures kept { OnOk result (found.new ≡ [] → found.old ≡ []) }
-    ensures none { OnOk result (found.new ≡ [] → (default : Term) → NoneIs op.AtMost (pos 0) (slice_index_or successors.now k default) trail.now.sets) }
+    ensures none { OnOk result (found.new ≡ [] → (default : Term) → IsDenied trail.now.sets (that (slice_index_or successors.now k default) op.AtMost (pos 0))) }
 {
     let mut below = Items::new(alloc);
     if explain_below(trail, successors, k, &mut below)? {
@@ -195,7 +195,7 @@ fn find_above(
     requires before { AreFoundOf number (constraint.Circuit successors.now) trail.now found.old }
     ensures found { AreFoundOf number (constraint.Circuit successors.now) trail.now found.new }
     ensures kept { OnOk result (found.new ≡ [] → found.old ≡ []) }
-    ensures none { OnOk result (found.new ≡ [] → (default : Term) → NoneIs op.AtLeast (pos (length successors.now + 1)) (slice_index_or successors.now k default) trail.now.sets) }
+    ensures none { OnOk result (found.new ≡ [] → (default : Term) → IsDenied trail.now.sets (that (slice_index_or successors.now k default) op.AtLeast (pos (length successors.now + 1)))) }
 {
     let mut above = Items::new(alloc);
     if explain_above(trail, successors, k, &mut above)? {

@@ -9,7 +9,7 @@ ghost use Rattle.fzn_meaning.specs.Meaning.{AreTerms};
 ghost use Rattle.fzn_meaning.specs.Term.{IsTerm};
 ghost use Rattle.fzn_rules.specs.declared.rule.Rule.TheVariants as rule;
 ghost use Rattle.fzn_sets.specs.Terms.{IsFixedTo};
-ghost use Rattle.fzn_terms.specs.Denied.{NoneIs};
+ghost use Rattle.fzn_terms.specs.Denied.{that, IsDenied};
 ghost use Rattle.fzn_propagator.specs.Clause.{IsJustified};
 ghost use Rattle.fzn_circuit.specs.Circuits.{AreApart, AreDifferent, HasOpen, owner_of};
 ghost use Rattle.fzn_propagator.specs.Inference.{AreFoundOf};
@@ -20,8 +20,7 @@ use fzn_list::Items;
 use fzn_meaning::Term;
 use fzn_propagator::Findings;
 use fzn_rules::Rule;
-use fzn_sums::{greatest_value, least_value};
-use fzn_terms::{may_be, next_value};
+use fzn_terms::{greatest_of, is_fixed, least_of, may_be, next_value};
 use fzn_trail::Trail;
 use std::alloc::Global;
 
@@ -85,7 +84,7 @@ fn fixed_of(alloc: Global, trail: &Trail, successors: &[Term]) -> Result<Vec<usi
     let mut fixed = Vec::new(alloc);
     for k in 0..successors.len() {
         let term = successors[k];
-        if least_value(trail, term) == greatest_value(trail, term) && is_new(trail, term, told) {
+        if is_fixed(trail, term) && is_new(trail, term, told) {
             fixed.push(k)?;
         }
     }
@@ -136,7 +135,7 @@ fn find_like(
     if i >= successors.len() {
         return Ok(());
     }
-    let value = least_value(trail, successors[i]);
+    let value = least_of(trail, successors[i]);
     for j in 0..successors.len() {
         if j != i && may_be(trail, successors[j], &value) {
             find_pair(alloc, trail, number, successors, i, j, found)?;
@@ -163,8 +162,8 @@ fn find_pair(
     if i >= successors.len() || j >= successors.len() || j == i {
         return Ok(());
     }
-    let value = least_value(trail, successors[i]);
-    if greatest_value(trail, successors[i]) == value {
+    let value = least_of(trail, successors[i]);
+    if greatest_of(trail, successors[i]) == value {
         let mut clause = Items::new(alloc);
         if explain_same(trail, successors, i, j, value, &mut clause)? {
             found.hand_over(number, Rule::Hall(value, value), Some(clause))?;
@@ -229,8 +228,8 @@ fn owners_of(alloc: Global, trail: &Trail, successors: &[Term]) -> Result<Vec<us
 {
     let mut owners = Vec::from_elem(alloc, usize::MAX, successors.len().saturating_add(1))?;
     for k in 0..successors.len() {
-        let value = least_value(trail, successors[k]);
-        if greatest_value(trail, successors[k]) == value {
+        let value = least_of(trail, successors[k]);
+        if greatest_of(trail, successors[k]) == value {
             let at = usize::try_from(value).unwrap_or(0);
             if at < owners.len() {
                 owners[at] = k;
@@ -256,7 +255,7 @@ fn are_owned(trail: &Trail, successors: &[Term], owners: &[usize]) -> bool
     ensures { IsTrue result → AreDifferent trail.now.sets successors.now }
 {
     for k in 0..successors.len() {
-        let value = least_value(trail, successors[k]);
+        let value = least_of(trail, successors[k]);
         if owner_of(owners, &value) != k {
             return false;
         }
@@ -271,7 +270,7 @@ pub(crate) fn has_open(trail: &Trail, successors: &[Term]) -> bool
     ensures { IsTrue result → HasOpen trail.now.sets successors.now }
 {
     for k in 0..successors.len() {
-        if least_value(trail, successors[k]) != greatest_value(trail, successors[k]) {
+        if !is_fixed(trail, successors[k]) {
             return true;
         }
     }
@@ -312,8 +311,8 @@ fn first_compared(
     ensures none { IfOk result (λ found. IfNone found (AreApart trail.now.sets successors.now)) }
 {
     for i in 0..successors.len() {
-        let value = least_value(trail, successors[i]);
-        if greatest_value(trail, successors[i]) == value {
+        let value = least_of(trail, successors[i]);
+        if greatest_of(trail, successors[i]) == value {
             if first_with(trail, successors, i, value, clause)? {
                 return Ok(Some(value));
             }
@@ -335,7 +334,7 @@ fn first_with(
     requires one { i < length successors.now }
     requires value { IsInLimits value }
     requires fixed { (default : Term) → IsFixedTo trail.now.sets (slice_index_or successors.now i default) value }
-    ensures { IfOk result (λ found. MatchBool found (IsJustified trail.now (constraint.Circuit successors.now) (rule.Hall value value) clause.new) ((j : ℕ) (default : Term) → i ≢ j → j < length successors.now → NoneIs op.Equal value (slice_index_or successors.now j default) trail.now.sets)) }
+    ensures { IfOk result (λ found. MatchBool found (IsJustified trail.now (constraint.Circuit successors.now) (rule.Hall value value) clause.new) ((j : ℕ) (default : Term) → i ≢ j → j < length successors.now → IsDenied trail.now.sets (that (slice_index_or successors.now j default) op.Equal value))) }
 {
     for j in 0..successors.len() {
         if j != i {

@@ -13,10 +13,10 @@ use fzn_causes::Implications;
 use fzn_clauses::Clauses;
 use fzn_domain::Memory;
 use fzn_inferences::Inferences;
-use fzn_learned::{Learned, Source, is_derived, is_sound, plain_learned};
+use fzn_learned::{Learned, is_derived, is_sound, plain_learned};
 use fzn_sets::Sets;
 use fzn_strategy::Learn;
-use fzn_trail::Trail;
+use fzn_trail::{Reason, Trail};
 use std::alloc::Global;
 
 /// What is learned from a known clause that is false on the trail. The sets are the declared ones, and are restored. It answers `Err` where
@@ -28,7 +28,7 @@ pub fn analyse(
     inferences: &Inferences,
     sets: &mut Sets,
     marks: &mut Marks,
-    conflict: Source,
+    conflict: Reason,
     learn: Learn,
 ) -> Result<Learned, Memory>
     requires reasoned { IsReasoned (known_of clauses.now inferences.now) trail.now }
@@ -54,7 +54,7 @@ fn first_or_plain(
     inferences: &Inferences,
     sets: &mut Sets,
     marks: &mut Marks,
-    conflict: Source,
+    conflict: Reason,
 ) -> Result<Learned, Memory>
     requires reasoned { IsReasoned (known_of clauses.now inferences.now) trail.now }
     requires limited { All IsLimited trail.now.declared }

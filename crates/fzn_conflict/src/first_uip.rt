@@ -1,19 +1,19 @@
 // The clause of the first unique implication point (Zhang, Madigan, Moskewicz, Malik, Efficient Conflict Driven Learning, 2001).
 // Nothing is promised of it: what is learned is tested.
 use crate::marks::{Marks, Wanted};
-use fzn_causes::{Implications, canonical, implies, opposite, source_of};
+use fzn_causes::{Implications, canonical, implies, opposite};
 use fzn_domain::{Lit, Memory};
-use fzn_learned::{Learned, Source};
+use fzn_learned::Learned;
 use fzn_list::Items;
-use fzn_trail::ClauseId;
+use fzn_trail::{ClauseId, Reason};
 use std::alloc::Global;
 
-/// A clause with the sources that it follows from, if it does.
+/// A clause with the antecedents that it follows from, if it does.
 pub fn first_uip(
     alloc: Global,
     graph: Implications,
     marks: &mut Marks,
-    conflict: Source,
+    conflict: Reason,
 ) -> Result<Learned, Memory> {
     marks.begin(graph.trail.len())?;
     marks.explain(graph, conflict)?;
@@ -31,7 +31,7 @@ pub fn first_uip(
     let clause = widest(alloc, graph, marks, &kept)?;
     Ok(Learned {
         clause: denied(alloc, graph, marks, &clause)?,
-        sources: sources_of(alloc, graph, units, &replaced, marks.cited_gaps(), conflict)?,
+        antecedents: antecedents_of(alloc, graph, units, &replaced, marks.cited_gaps(), conflict)?,
         level: second_level(graph, &clause),
         levels: count_levels(graph, &clause),
         marked: marked_literals(alloc, graph, marks)?,
@@ -52,13 +52,11 @@ fn narrow_down(
             && let Some(entry) = graph.entry(place)
             && entry.level == level
         {
-            match source_of(entry.reason) {
-                Some(source) if marks.open() > 1 => {
-                    replaced.push(place)?;
-                    marks.replace(graph, place, entry.lit, source)?;
-                }
-                _ => return Ok(Some(place)),
+            if entry.reason == Reason::Decision || marks.open() <= 1 {
+                return Ok(Some(place));
             }
+            replaced.push(place)?;
+            marks.replace(graph, place, entry.lit, entry.reason)?;
         }
     }
     Ok(None)
@@ -86,8 +84,8 @@ fn minimise(
             && 0 < entry.level
             && entry.level < level
         {
-            if let Some(source) = source_of(entry.reason)
-                && marks.is_redundant(graph, place, entry.lit, source)?
+            if entry.reason != Reason::Decision
+                && marks.is_redundant(graph, place, entry.lit, entry.reason)?
             {
                 replaced.push(place)?;
             } else {
@@ -104,7 +102,7 @@ fn replace_level_0(
     graph: Implications,
     marks: &mut Marks,
     replaced: &mut Vec<usize>,
-    units: &mut Items<Source>,
+    units: &mut Items<Reason>,
 ) -> Result<(), Memory> {
     for i in 0..graph.trail.len() {
         let Some(place) = marks.marked_at(i) else {
@@ -112,10 +110,9 @@ fn replace_level_0(
         };
         if let Some(entry) = graph.entry(place)
             && entry.level == 0
-            && let Some(source) = source_of(entry.reason)
         {
-            match marks.replace_root(graph, place, entry.lit, source)? {
-                Some(id) => units.push(Source::Held(id))?,
+            match marks.replace_root(graph, place, entry.lit, entry.reason)? {
+                Some(id) => units.push(Reason::Clause(id))?,
                 None => replaced.push(place)?,
             }
         }
@@ -213,16 +210,16 @@ fn denied(
     Ok(items)
 }
 
-/// The clauses that stand for entries of level 0, the sources of the other entries in the order of the trail, each before the clauses
-/// of the gaps that it moved a bound over, then the conflict.
-fn sources_of(
+/// The clauses that stand for entries of level 0, the reasons of the other entries in the order of the trail, each before the clauses of
+/// the gaps that it moved a bound over, then the conflict.
+fn antecedents_of(
     alloc: Global,
     graph: Implications,
-    units: Items<Source>,
+    units: Items<Reason>,
     replaced: &[usize],
     gaps: &[(usize, ClauseId)],
-    conflict: Source,
-) -> Result<Items<Source>, Memory> {
+    conflict: Reason,
+) -> Result<Items<Reason>, Memory> {
     let mut ordered = Vec::new(alloc);
     for place in replaced {
         ordered.push((*place, 0, 0))?;
@@ -232,18 +229,16 @@ fn sources_of(
         ordered.push((place, i.saturating_add(1), id.0))?;
     }
     ordered.sort_unstable();
-    let mut sources = units;
+    let mut antecedents = units;
     for (place, order, id) in &ordered {
         if *order > 0 {
-            sources.push(Source::Held(ClauseId(*id)))?;
-        } else if let Some(entry) = graph.entry(*place)
-            && let Some(source) = source_of(entry.reason)
-        {
-            sources.push(source)?;
+            antecedents.push(Reason::Clause(ClauseId(*id)))?;
+        } else if let Some(entry) = graph.entry(*place) {
+            antecedents.push(entry.reason)?;
         }
     }
-    sources.push(conflict)?;
-    Ok(sources)
+    antecedents.push(conflict)?;
+    Ok(antecedents)
 }
 
 /// What is needed of the marked entries above level 0, and the equations that clauses need.
@@ -291,8 +286,8 @@ fn gap_clause(
         return Ok(None);
     };
     let (low, high) = gap.literals();
-    let sources = marks.gap_sources(alloc, graph, gap)?;
-    Ok(Some(at_level_0(alloc, [low, high].as_slice(), sources)?))
+    let antecedents = marks.gap_antecedents(alloc, graph, gap)?;
+    Ok(Some(at_level_0(alloc, [low, high].as_slice(), antecedents)?))
 }
 
 /// The literal of an entry of level 0 as a clause of its own.
@@ -309,15 +304,19 @@ fn unit_clause(
         return Ok(None);
     };
     let lit = canonical(entry.lit, declared);
-    let sources = marks.root_sources(alloc, graph, entry)?;
-    Ok(Some(at_level_0(alloc, [lit].as_slice(), sources)?))
+    let antecedents = marks.root_antecedents(alloc, graph, entry)?;
+    Ok(Some(at_level_0(alloc, [lit].as_slice(), antecedents)?))
 }
 
-/// A clause that holds at level 0, with the sources that it follows from.
-fn at_level_0(alloc: Global, clause: &[Lit], sources: Items<Source>) -> Result<Learned, Memory> {
+/// A clause that holds at level 0, with the antecedents that it follows from.
+fn at_level_0(
+    alloc: Global,
+    clause: &[Lit],
+    antecedents: Items<Reason>,
+) -> Result<Learned, Memory> {
     Ok(Learned {
         clause: Items::from_slice(alloc, clause)?,
-        sources,
+        antecedents,
         level: 0,
         levels: 1,
         marked: Items::new(alloc),

@@ -1,10 +1,9 @@
 // Which entries of a trail a conflict rests on.
 use crate::roots::Roots;
-use fzn_causes::{Cause, Causes, Gap, Implications, canonical, implies, opposite, source_of};
+use fzn_causes::{Cause, Causes, Gap, Implications, canonical, implies, opposite};
 use fzn_domain::{Lit, Memory, Op, VarId};
-use fzn_learned::Source;
 use fzn_list::Items;
-use fzn_trail::{ClauseId, Entry};
+use fzn_trail::{ClauseId, Entry, Reason};
 use std::alloc::Global;
 
 /// What a clause is wanted for.
@@ -145,7 +144,7 @@ impl Marks {
     }
 
     /// Marks what made the literals of the conflict's clause false.
-    pub fn explain(&mut self, graph: Implications, conflict: Source) -> Result<(), Memory> {
+    pub fn explain(&mut self, graph: Implications, conflict: Reason) -> Result<(), Memory> {
         self.note_equations(graph, conflict, None)?;
         graph.find_causes(&mut self.causes, conflict, None)?;
         self.mark_causes(graph)
@@ -157,10 +156,10 @@ impl Marks {
         graph: Implications,
         place: usize,
         forced: Lit,
-        source: Source,
+        reason: Reason,
     ) -> Result<(), Memory> {
-        self.note_equations(graph, source, Some(forced))?;
-        self.rest_on(graph, place, forced, source)
+        self.note_equations(graph, reason, Some(forced))?;
+        self.rest_on(graph, place, forced, reason)
     }
 
     fn rest_on(
@@ -168,10 +167,10 @@ impl Marks {
         graph: Implications,
         place: usize,
         forced: Lit,
-        source: Source,
+        reason: Reason,
     ) -> Result<(), Memory> {
         self.open = self.open.saturating_sub(1);
-        graph.find_causes(&mut self.causes, source, Some(forced))?;
+        graph.find_causes(&mut self.causes, reason, Some(forced))?;
         self.add_behind(graph, place)?;
         self.mark_causes(graph)
     }
@@ -184,14 +183,14 @@ impl Marks {
         }
     }
 
-    /// Notes the equations that make literals of the source's clause false, but for the one that it forced.
+    /// Notes the equations that make literals of the reason's clause false, but for the one that it forced.
     fn note_equations(
         &mut self,
         graph: Implications,
-        source: Source,
+        reason: Reason,
         forced: Option<Lit>,
     ) -> Result<(), Memory> {
-        for lit in graph.clause(source) {
+        for lit in graph.clause(reason) {
             if lit.op == Op::NotEqual && Some(*lit) != forced {
                 self.equations.push(opposite(*lit))?;
             }
@@ -211,12 +210,12 @@ impl Marks {
         graph: Implications,
         place: usize,
         forced: Lit,
-        source: Source,
+        reason: Reason,
     ) -> Result<Option<ClauseId>, Memory> {
         if let Some(id) = self.roots.unit(place) {
             return Ok(Some(id));
         }
-        self.rest_on(graph, place, forced, source)?;
+        self.rest_on(graph, place, forced, reason)?;
         if self.causes.len() > 0 {
             self.roots.want(place)?;
         }
@@ -253,12 +252,12 @@ impl Marks {
     }
 
     /// What the values of a gap were taken out by: what stands for these entries.
-    pub fn gap_sources(
+    pub fn gap_antecedents(
         &self,
         alloc: Global,
         graph: Implications,
         gap: Gap,
-    ) -> Result<Items<Source>, Memory> {
+    ) -> Result<Items<Reason>, Memory> {
         let mut places = Vec::new(alloc);
         let mut last = graph.last_of(VarId(gap.var));
         for _ in 0..graph.trail.len() {
@@ -281,26 +280,23 @@ impl Marks {
     }
 
     /// What the literal of an entry of level 0 follows from: what stands for those that it rests on, then its reason.
-    pub fn root_sources(
+    pub fn root_antecedents(
         &mut self,
         alloc: Global,
         graph: Implications,
         entry: Entry,
-    ) -> Result<Items<Source>, Memory> {
-        let Some(source) = source_of(entry.reason) else {
-            return Ok(Items::new(alloc));
-        };
+    ) -> Result<Items<Reason>, Memory> {
         self.causes.begin();
-        graph.find_causes(&mut self.causes, source, Some(entry.lit))?;
+        graph.find_causes(&mut self.causes, entry.reason, Some(entry.lit))?;
         let mut places = Vec::new(alloc);
         for i in 0..self.causes.len() {
             if let Some(cause) = self.causes.get(i) {
                 places.push(cause.place)?;
             }
         }
-        let mut sources = self.all_cited(alloc, graph, places)?;
-        sources.push(source)?;
-        Ok(sources)
+        let mut antecedents = self.all_cited(alloc, graph, places)?;
+        antecedents.push(entry.reason)?;
+        Ok(antecedents)
     }
 
     /// What stands for these entries of level 0, in the order of the trail.
@@ -309,22 +305,22 @@ impl Marks {
         alloc: Global,
         graph: Implications,
         mut places: Vec<usize>,
-    ) -> Result<Items<Source>, Memory> {
+    ) -> Result<Items<Reason>, Memory> {
         places.sort_unstable();
-        let mut sources = Items::new(alloc);
+        let mut antecedents = Items::new(alloc);
         for place in &places {
             if let Some(cited) = self.cited(graph, *place) {
-                sources.push(cited)?;
+                antecedents.push(cited)?;
             }
         }
-        Ok(sources)
+        Ok(antecedents)
     }
 
     /// What stands for an entry of level 0, or its reason.
-    fn cited(&self, graph: Implications, place: usize) -> Option<Source> {
+    fn cited(&self, graph: Implications, place: usize) -> Option<Reason> {
         match self.roots.unit(place) {
-            Some(id) => Some(Source::Held(id)),
-            None => source_of(graph.entry(place)?.reason),
+            Some(id) => Some(Reason::Clause(id)),
+            None => Some(graph.entry(place)?.reason),
         }
     }
 
@@ -344,10 +340,10 @@ impl Marks {
         graph: Implications,
         place: usize,
         forced: Lit,
-        source: Source,
+        reason: Reason,
     ) -> Result<bool, Memory> {
         self.causes.clear();
-        for lit in graph.clause(source) {
+        for lit in graph.clause(reason) {
             if *lit != forced && !self.are_kept_for(graph, *lit)? {
                 return Ok(false);
             }

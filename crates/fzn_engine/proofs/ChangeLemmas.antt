@@ -23,10 +23,8 @@ use Rattle.fzn_trail.proofs.CallerLemmas.{declared-returned, level_of-returned}
 use Rattle.fzn_clauses.proofs.HeldLemmas.{at_number-newest}
 use Rattle.fzn_strategy.specs.declared.learn.Learn.{Learn}
 use Rattle.fzn_strategy.specs.declared.learn.Learn.TheVariants.{Plain}
-use Rattle.fzn_learned.specs.declared.source.Source.{Source}
-use Rattle.fzn_learned.specs.declared.source.Source.TheVariants.{Held}
-use Rattle.fzn_learned.specs.Reasoned.{IsBelow, IsReasoned, Open, opens, reason_of}
-use Rattle.fzn_learned.proofs.CallerLemmas.{IsReasoned-returned}
+use Rattle.fzn_learned.specs.Reasoned.{IsBelow, IsReasoned, Open, opens}
+use Rattle.fzn_learned.proofs.CallerLemmas.{IsReasoned-returned, opens-forced}
 use Rattle.fzn_upkeep.specs.Forgetting.{is_cut}
 use Rattle.fzn_engine.specs.Volume.{volume, slack}
 use Rattle.fzn_engine.specs.Learned.{resolved, FreshAfter, negations}
@@ -37,7 +35,7 @@ use Rattle.fzn_engine.proofs.AcceptedLemmas.{past_of-push, AllAccepted-push, res
 use Rattle.fzn_engine.proofs.HeldCutLemmas.{IsHeldCut-grown, IsHeldCut-flagged}
 use Rattle.fzn_engine.proofs.VolumeLemmas.{volume-narrowed_le, slack-narrowed_le, slack-narrowed_lt, work-less, work-lower, spread-filled}
 use Rattle.fzn_engine.proofs.WithinLemmas.{Within, Within-narrowed}
-use Rattle.fzn_engine.proofs.TakenLemmas.{Leads-within, Leads-length, Leads-filled, Leads-slack, Leads-certain, opens-asserted, opens-parts, last_level, negations-unit}
+use Rattle.fzn_engine.proofs.TakenLemmas.{Leads-within, Leads-length, Leads-filled, Leads-slack, Leads-certain, opens-parts, last_level, negations-unit}
 use Rattle.fzn_engine.proofs.StateLemmas.{Core-moved, Core-step, Core-stacked, Core-cut, cuts-grown, Plain-narrowed, Plain-decided, Plain-learned, Plain-fresh}
 
 learned_is : (steps : List Step) (clause : List Lit) (ids : List ℕ) → resolved (steps ++ Resolve clause ids ∷ []) ≡ resolved steps ++ clause ∷ []
@@ -125,9 +123,9 @@ module _ {model : Model} {learn : Learn} {stock : Stock} {steps : List Step} {tr
       }
 
   -- the literal that a known clause forces
-  pub State-asserted : (lit : Lit) (source : Source) → IsReasoned (known_in stock) (asserted lit (reason_of source) trail) → StateOf model learn stock steps (asserted lit (reason_of source) trail) nodes
-  State-asserted lit source reasoned =
-      State-narrowed (asserted lit (reason_of source) trail) refl (opens-asserted trail.declared trail.entries lit source (level_of trail)) (Within-narrowed trail.sets lit) (slack-narrowed_le trail.sets lit) (volume-narrowed_le trail.sets lit) reasoned
+  pub State-asserted : (lit : Lit) (reason : Reason) → reason ≢ Decision → IsReasoned (known_in stock) (asserted lit reason trail) → StateOf model learn stock steps (asserted lit reason trail) nodes
+  State-asserted lit reason apart reasoned =
+      State-narrowed (asserted lit reason trail) refl (opens-forced trail lit reason apart) (Within-narrowed trail.sets lit) (slack-narrowed_le trail.sets lit) (volume-narrowed_le trail.sets lit) reasoned
 
   -- ---- a decision
 
@@ -187,7 +185,7 @@ module _ {model : Model} {learn : Learn} {stock : Stock} {steps : List Step} {tr
       let e : new.declared ≡ trail.declared = last.declared_is in
       let sets_is : new.sets ≡ narrowed last.stood.sets (negated last.lit) = ap (λ (s : List IntSet). narrowed s lit) last.sets_is ∙ ap (narrowed last.stood.sets) lit_is in
       let taken_is : opens new.declared new.entries ≡ before =
-      opens-asserted (returned level trail).declared (returned level trail).entries lit (Held id) (level_of (returned level trail))
+      opens-forced (returned level trail) lit (Clause id) (λ e. cc)
       ∙ ap (λ (d : List IntSet). opens d (returned level trail).entries) last.declared_is ∙ ap (opens trail.declared) last.entries_is in
       let learned : resolved (steps ++ Resolve clause ids ∷ []) ≡ resolved steps ++ negations (opens trail.declared trail.entries) ∷ [] = learned_is steps clause ids ∙ ap (λ (c : List Lit). resolved steps ++ c ∷ []) clause_is in
       let plain = Plain-learned (h.plain in_plain) before at last.taken_is (State-fresh in_plain) count (subst Var count last.var) in

@@ -9,6 +9,7 @@ use Rattle.fzn_meaning.specs.Solutions.{declared_sets}
 use Rattle.fzn_cert.specs.declared.step.Step.{Step}
 use Rattle.fzn_cert.specs.declared.step.Step.TheVariants.{Resolve}
 use Rattle.fzn_cert.specs.Accepted.{IsAccepted, past_of}
+use Rattle.fzn_trail.specs.declared.trail.Reason.{Reason}
 use Rattle.fzn_trail.specs.declared.trail.ClauseId.{ClauseId}
 use Rattle.fzn_trail.specs.declared.trail.Reason.TheVariants.{Clause}
 use Rattle.fzn_trail.specs.Levels.{Levels, level_of, asserted, returned}
@@ -17,14 +18,12 @@ use Rattle.fzn_clauses.proofs.HeldLemmas.{IsHeld-newest, clause_of-newest}
 use Rattle.fzn_strategy.specs.declared.learn.Learn.{Learn}
 use Rattle.fzn_strategy.specs.declared.learn.Learn.TheVariants.{Plain}
 use Rattle.fzn_learned.specs.declared.learned.Learned.{Learned}
-use Rattle.fzn_learned.specs.declared.source.Source.{Source}
-use Rattle.fzn_learned.specs.declared.source.Source.TheVariants.{Held}
 use Rattle.fzn_learned.specs.Learned.{IsEmptyOrForces, IsLearned, IsPlain}
-use Rattle.fzn_learned.specs.Reasoned.{IsKnown, clause_of, reason_of, IsForced, IsReasoned}
-use Rattle.fzn_learned.proofs.CallerLemmas.{IsReasoned-grown, IsReasoned-returned, IsReasoned-forced}
+use Rattle.fzn_learned.specs.Reasoned.{IsKnown, clause_of, IsForced, IsReasoned}
+use Rattle.fzn_learned.proofs.CallerLemmas.{IsReasoned-grown, IsReasoned-returned, IsReasoned-forced, IsKnown-undecided}
 use Rattle.fzn_engine.specs.State.{Stock, known_in, with_held, StateOf}
 use Rattle.fzn_engine.specs.Search.{work}
-use Rattle.fzn_engine.specs.Sources.{GiveSources}
+use Rattle.fzn_engine.specs.Antecedents.{GiveAntecedents}
 use Rattle.fzn_engine.specs.Outcome.{IsCertified, IsRefuted}
 use Rattle.fzn_engine.proofs.NumberLemmas.{Give-chain}
 use Rattle.fzn_engine.proofs.VariableLemmas.{variable-of}
@@ -32,33 +31,33 @@ use Rattle.fzn_engine.proofs.TakenLemmas.{forced-possible}
 use Rattle.fzn_engine.proofs.ChangeLemmas.{slack-stood, slack-returned, Core-resolved, Plain-back, work-learned, work-restarted, State-closed, State-asserted, work-asserted, State-length}
 
 -- a known clause that forces a literal
-module _ {model : Model} {learn : Learn} {stock : Stock} {steps : List Step} {trail : Levels} {nodes : ℕ} (h : StateOf model learn stock steps trail nodes) (source : Source) (lit : Lit) (known : IsKnown (known_in stock) source) (over : IsClauseOver (length trail.declared) (clause_of (known_in stock) source)) (forced : IsForced trail.sets (clause_of (known_in stock) source) lit) where
-  pub forced-state : StateOf model learn stock steps (asserted lit (reason_of source) trail) nodes
+module _ {model : Model} {learn : Learn} {stock : Stock} {steps : List Step} {trail : Levels} {nodes : ℕ} (h : StateOf model learn stock steps trail nodes) (reason : Reason) (lit : Lit) (known : IsKnown (known_in stock) reason) (over : IsClauseOver (length trail.declared) (clause_of (known_in stock) reason)) (forced : IsForced trail.sets (clause_of (known_in stock) reason) lit) where
+  pub forced-state : StateOf model learn stock steps (asserted lit reason trail) nodes
   forced-state =
-      State-asserted h lit source
-      (IsReasoned-forced (known_in stock) trail lit source h.core.reasoned (variable-of trail.sets (length trail.declared) (clause_of (known_in stock) source) lit [] over forced.0) (known, forced))
+      State-asserted h lit reason (IsKnown-undecided (known_in stock) reason known)
+      (IsReasoned-forced (known_in stock) trail lit reason h.core.reasoned (variable-of trail.sets (length trail.declared) (clause_of (known_in stock) reason) lit [] over forced.0) (known, forced))
 
-  pub forced-works : (limit : ℕ) → work limit nodes (asserted lit (reason_of source) trail) < work limit nodes trail
+  pub forced-works : (limit : ℕ) → work limit nodes (asserted lit reason trail) < work limit nodes trail
   forced-works limit =
-      let O : ℕ → Type 0 = λ n. IsClauseOver n (clause_of (known_in stock) source) in
-      let var = variable-of trail.sets (length trail.sets) (clause_of (known_in stock) source) lit [] (subst O (sym (State-length h)) over) forced.0 in
-      work-asserted limit nodes trail lit (reason_of source) var (forced-possible trail.sets (clause_of (known_in stock) source) lit forced.0) forced.1
+      let O : ℕ → Type 0 = λ n. IsClauseOver n (clause_of (known_in stock) reason) in
+      let var = variable-of trail.sets (length trail.sets) (clause_of (known_in stock) reason) lit [] (subst O (sym (State-length h)) over) forced.0 in
+      work-asserted limit nodes trail lit reason var (forced-possible trail.sets (clause_of (known_in stock) reason) lit forced.0) forced.1
 
--- a clause that follows from its sources is an accepted step
-module _ {model : Model} {learn : Learn} {stock : Stock} {steps : List Step} {trail : Levels} {nodes : ℕ} (h : StateOf model learn stock steps trail nodes) (clause : List Lit) (sources : List Source) (over : IsClauseOver (length trail.declared) clause) (follows : IsAcceptedFrom trail.declared clause (map (clause_of (known_in stock)) sources)) (numbers : List ℕ) (give : GiveSources (past_of model steps) (known_in stock) numbers sources) where
+-- a clause that follows from its antecedents is an accepted step
+module _ {model : Model} {learn : Learn} {stock : Stock} {steps : List Step} {trail : Levels} {nodes : ℕ} (h : StateOf model learn stock steps trail nodes) (clause : List Lit) (antecedents : List Reason) (over : IsClauseOver (length trail.declared) clause) (follows : IsAcceptedFrom trail.declared clause (map (clause_of (known_in stock)) antecedents)) (numbers : List ℕ) (give : GiveAntecedents (past_of model steps) (known_in stock) numbers antecedents) where
   pub derived-accepted : IsAccepted model (past_of model steps) (Resolve clause numbers)
   derived-accepted =
       let e = h.core.declared in
       let sizes : length trail.declared ≡ length model.vars = ap length e ∙ length-map model.vars (λ var. var.domain) in
       let O : ℕ → Type 0 = λ n. IsClauseOver n clause in
-      let A : List IntSet → Type 0 = λ d. IsAcceptedFrom d clause (map (clause_of (known_in stock)) sources) in
-      let chain = Give-chain (past_of model steps) numbers (map (clause_of (known_in stock)) sources) give in
+      let A : List IntSet → Type 0 = λ d. IsAcceptedFrom d clause (map (clause_of (known_in stock)) antecedents) in
+      let chain = Give-chain (past_of model steps) numbers (map (clause_of (known_in stock)) antecedents) give in
       (subst O sizes over, chain.0, subst (IsAcceptedFrom (declared_sets model.vars) clause) (sym chain.1) (subst A e follows))
 
-module _ {model : Model} {learn : Learn} {stock : Stock} {steps : List Step} {trail : Levels} {nodes : ℕ} (h : StateOf model learn stock steps trail nodes) (learned : Learned) (conflict : Source) (is : IsLearned (known_in stock) trail learned) (plain : learn ≡ Plain → IsPlain trail conflict learned) (numbers : List ℕ) (give : GiveSources (past_of model steps) (known_in stock) numbers learned.sources) where
+module _ {model : Model} {learn : Learn} {stock : Stock} {steps : List Step} {trail : Levels} {nodes : ℕ} (h : StateOf model learn stock steps trail nodes) (learned : Learned) (conflict : Reason) (is : IsLearned (known_in stock) trail learned) (plain : learn ≡ Plain → IsPlain trail conflict learned) (numbers : List ℕ) (give : GiveAntecedents (past_of model steps) (known_in stock) numbers learned.antecedents) where
   -- the learned clause is an accepted step
   pub learned-accepted : IsAccepted model (past_of model steps) (Resolve learned.clause numbers)
-  learned-accepted = derived-accepted h learned.clause learned.sources is.over is.accepted numbers give
+  learned-accepted = derived-accepted h learned.clause learned.antecedents is.over is.accepted numbers give
 
   -- where it is empty nothing is left
   pub learned-closed : learned.clause ≡ [] → IsCertified model learn (steps ++ Resolve learned.clause numbers ∷ []) nodes × IsRefuted model (steps ++ Resolve learned.clause numbers ∷ [])
@@ -101,11 +100,11 @@ module _ {model : Model} {learn : Learn} {stock : Stock} {steps : List Step} {tr
           let returned_too = IsReasoned-returned more trail learned.level grown (omega arith) in
           let there = returned learned.level trail in
           let F : List Lit → Type 0 = λ c. IsForced there.sets c lit in
-          let forced : IsForced there.sets (clause_of more (Held id)) lit = subst F (sym (clause_of-newest stock.held learned.clause id newest)) forced_there in
+          let forced : IsForced there.sets (clause_of more (Clause id)) lit = subst F (sym (clause_of-newest stock.held learned.clause id newest)) forced_there in
           let Var : List IntSet → Type 0 = λ d. IsVariable (length d) lit.var in
           let var = variable-of there.sets (length trail.declared) learned.clause lit [] is.over forced_there.0 in
           let known = IsHeld-newest stock.held learned.clause id newest in
-          IsReasoned-forced more there lit (Held id) returned_too (subst Var (sym (declared-returned learned.level trail)) var) (known, forced)
+          IsReasoned-forced more there lit (Clause id) returned_too (subst Var (sym (declared-returned learned.level trail)) var) (known, forced)
 
       pub learned-state : StateOf model learn (with_held learned.clause number stock) (steps ++ Resolve learned.clause numbers ∷ []) (asserted lit (Clause id) (returned learned.level trail)) nodes
       learned-state =

@@ -15,6 +15,7 @@ use Rattle.fzn_cert.specs.Accepted.{IsAccepted, AllAccepted, past_of}
 use Rattle.fzn_cert.specs.Spelling.{IsSpelled}
 use Rattle.fzn_sets.specs.Sets.{Narrowed}
 use Rattle.fzn_search.specs.Fixed.{Searching}
+use Rattle.fzn_trail.specs.declared.trail.Reason.{Reason}
 use Rattle.fzn_trail.specs.declared.trail.ClauseId.{ClauseId}
 use Rattle.fzn_trail.specs.declared.trail.Entry.{Entry}
 use Rattle.fzn_trail.specs.declared.trail.Reason.TheVariants.{Clause}
@@ -26,8 +27,6 @@ use Rattle.fzn_clauses.proofs.HeldLemmas.{IsHeld-newest, clause_of-newest}
 use Rattle.fzn_clauses.proofs.WatchingLemmas.{IsWatching-asserted, IsWatching-returned}
 use Rattle.fzn_strategy.specs.declared.learn.Learn.TheVariants.{Plain}
 use Rattle.fzn_learned.specs.declared.learned.Learned.{Learned}
-use Rattle.fzn_learned.specs.declared.source.Source.{Source}
-use Rattle.fzn_learned.specs.declared.source.Source.TheVariants.{Held}
 use Rattle.fzn_learned.specs.Learned.{IsDerived, IsLearned, IsPlain}
 use Rattle.fzn_learned.specs.Reasoned.{Known, IsKnown, IsBelow, clause_of}
 use Rattle.fzn_learned.proofs.CallerLemmas.{IsReasoned-returned}
@@ -37,7 +36,7 @@ use Rattle.fzn_engine.specs.Outcome.{count, IsCertified, IsRefuted}
 use Rattle.fzn_engine.specs.Changes.{IsBehind, IsClosed}
 use Rattle.fzn_engine.specs.Moves.{Holds, IsBackAt, IsForcedBy}
 use Rattle.fzn_engine.specs.Search.{stock_of, Tally, work_of, work}
-use Rattle.fzn_engine.specs.Sources.{GiveSources, IsWritten, Derives, Learns}
+use Rattle.fzn_engine.specs.Antecedents.{GiveAntecedents, IsWritten, Derives, Learns}
 use Rattle.fzn_engine.specs.State.{Stock, known_in, with_held, with_stack, StateOf}
 use Rattle.fzn_engine.proofs.AcceptedLemmas.{past_of-push, logged-accepted, length-past_of}
 use Rattle.fzn_engine.proofs.ChangeLemmas.{State-cut}
@@ -51,15 +50,15 @@ use Rattle.fzn_engine.proofs.SolverLemmas.{solver-is, order-step, holds-tally}
 pub written-beside : {model : Model} {first : List Step} (old : Solver) {new : Solver} (scratch : Narrowed) (notes : Notes) {steps : List Step} → IsWritten model first (record old { scratch = scratch; notes = notes }) new steps → IsWritten model first old new steps
 written-beside old scratch notes w = record { state = w.state; kept = w.kept; known = w.known; trail = w.trail; tally = w.tally }
 
--- what follows from the sources still does once they are written
-pub derives : {model : Model} {first : List Step} {old new : Solver} {steps : List Step} {learned : Learned} → IsWritten model first old new steps → IsDerived (known_in (stock_of old)) old.trail.declared learned → (numbers : List ℕ) → GiveSources (past_of model steps) (known_in (stock_of old)) numbers learned.sources → Derives model new steps learned numbers
+-- what follows from the antecedents still does once they are written
+pub derives : {model : Model} {first : List Step} {old new : Solver} {steps : List Step} {learned : Learned} → IsWritten model first old new steps → IsDerived (known_in (stock_of old)) old.trail.declared learned → (numbers : List ℕ) → GiveAntecedents (past_of model steps) (known_in (stock_of old)) numbers learned.antecedents → Derives model new steps learned numbers
 derives {model = model} {old = old} {new = new} {steps = steps} {learned = learned} written is numbers give =
     let T : Levels → Type 0 = λ t. IsDerived (known_in (stock_of old)) t.declared learned in
     let K : Known → Type 0 = λ k. IsDerived k new.trail.declared learned in
-    let G : Known → Type 0 = λ k. GiveSources (past_of model steps) k numbers learned.sources in
+    let G : Known → Type 0 = λ k. GiveAntecedents (past_of model steps) k numbers learned.antecedents in
     record { state = written.state; derived = subst K (sym written.known) (subst T (sym written.trail) is); give = subst G (sym written.known) give }
 
-pub learns : {model : Model} {first : List Step} {old new : Solver} {steps : List Step} {learned : Learned} → IsWritten model first old new steps → IsLearned (known_in (stock_of old)) old.trail learned → (conflict : Source) → (old.learn ≡ Plain → IsPlain old.trail conflict learned) → (numbers : List ℕ) → GiveSources (past_of model steps) (known_in (stock_of old)) numbers learned.sources → Learns model new steps conflict learned numbers
+pub learns : {model : Model} {first : List Step} {old new : Solver} {steps : List Step} {learned : Learned} → IsWritten model first old new steps → IsLearned (known_in (stock_of old)) old.trail learned → (conflict : Reason) → (old.learn ≡ Plain → IsPlain old.trail conflict learned) → (numbers : List ℕ) → GiveAntecedents (past_of model steps) (known_in (stock_of old)) numbers learned.antecedents → Learns model new steps conflict learned numbers
 learns {old = old} {new = new} {learned = learned} written is conflict plain numbers give =
     let T : Levels → Type 0 = λ t. IsLearned (known_in (stock_of old)) t learned in
     let K : Known → Type 0 = λ k. IsLearned k new.trail learned in
@@ -73,7 +72,7 @@ learns {old = old} {new = new} {learned = learned} written is conflict plain num
 -- a clause that follows is an accepted step, which has a line
 module _ {model : Model} {mid : Solver} {before : List Step} {learned : Learned} {numbers : List ℕ} (h : Derives model mid before learned numbers) where
   pub derives-accepted : IsAccepted model (past_of model before) (Resolve learned.clause numbers)
-  derives-accepted = derived-accepted h.state.state learned.clause learned.sources h.derived.over h.derived.accepted numbers h.give
+  derives-accepted = derived-accepted h.state.state learned.clause learned.antecedents h.derived.over h.derived.accepted numbers h.give
 
   pub derives-spelled : IsWellFormed model → IsSpelled Two (Resolve learned.clause numbers)
   derives-spelled good =
@@ -81,7 +80,7 @@ module _ {model : Model} {mid : Solver} {before : List Step} {learned : Learned}
       let sizes : length mid.trail.declared ≡ length model.vars = ap length h.state.state.core.declared ∙ length-map model.vars (λ var. var.domain) in
       let each = length-past_of model before in
       let room = h.state.few_steps in
-      resolve-spelled (length mid.trail.declared) (past_of model before) learned.clause numbers (map (clause_of (known_in (stock_of mid))) learned.sources) (omega arith) (few_by (length (past_of model before).clauses) (length before) each room) h.derived.over h.derived.in_limits h.give
+      resolve-spelled (length mid.trail.declared) (past_of model before) learned.clause numbers (map (clause_of (known_in (stock_of mid))) learned.antecedents) (omega arith) (few_by (length (past_of model before).clauses) (length before) each room) h.derived.over h.derived.in_limits h.give
     where
       few_by : (a b : ℕ) → a ≡ b → b < 10 ^ 18 → a < 10 ^ 18
       few_by a b e k = omega arith
@@ -89,7 +88,7 @@ module _ {model : Model} {mid : Solver} {before : List Step} {learned : Learned}
   pub derives-logged : (now : List Step) → (now ≡ before) ⊎ (now ≡ before ++ Resolve learned.clause numbers ∷ []) → AllAccepted model now
   derives-logged now log = logged-accepted model before now (Resolve learned.clause numbers) h.state.state.core.accepted derives-accepted log
 
-module _ {model : Model} {mid : Solver} {before : List Step} {conflict : Source} {learned : Learned} {numbers : List ℕ} (h : Learns model mid before conflict learned numbers) {now : List Step} (now_is : now ≡ before ++ Resolve learned.clause numbers ∷ []) where
+module _ {model : Model} {mid : Solver} {before : List Step} {conflict : Reason} {learned : Learned} {numbers : List ℕ} (h : Learns model mid before conflict learned numbers) {now : List Step} (now_is : now ≡ before ++ Resolve learned.clause numbers ∷ []) where
   pub learn-closed : learned.clause ≡ [] → (new : Solver) → Holds learned.clause mid new → IsClosed model mid new now
   learn-closed none new holds =
       let end = learned-closed h.state.state learned conflict h.is h.plain numbers h.give none in
@@ -145,8 +144,8 @@ module _ {model : Model} {mid : Solver} {before : List Step} {conflict : Source}
 
     -- back where it forces a literal
     module _ {held back : Solver} (holds : Holds learned.clause mid held) (at : IsBackAt learned.level held back) (id : ClauseId) (newest : id.0 ≡ length (held_by mid.clauses)) where
-      clause_is : clause_of (known_in (stock_of back)) (Held id) ≡ learned.clause
-      clause_is = ap (λ (k : Stock). clause_of (known_in k) (Held id)) (stock_is holds at) ∙ clause_of-newest (held_by mid.clauses) learned.clause id newest
+      clause_is : clause_of (known_in (stock_of back)) (Clause id) ≡ learned.clause
+      clause_is = ap (λ (k : Stock). clause_of (known_in k) (Clause id)) (stock_is holds at) ∙ clause_of-newest (held_by mid.clauses) learned.clause id newest
 
       forcing : (lit : Lit) (rest : List Lit) → possible_in (returned learned.level mid.trail).sets learned.clause ≡ lit ∷ rest → (limit : ℕ) → IsBehind model limit mid (record (there holds at) { trail = asserted lit (Clause id) (returned learned.level mid.trail) }) now
       forcing lit rest e limit =
@@ -164,7 +163,7 @@ module _ {model : Model} {mid : Solver} {before : List Step} {conflict : Source}
           let watching = IsWatching-asserted back.clauses back_trail (watched holds at) lit (Clause id) (variable-of back_trail.sets (length back_trail.sets) learned.clause lit rest (subst Over (sym sizes) h.is.over) e) in
           behind holds at trail state below watching limit works
 
-      forced-there : (new : Solver) (any : Bool) → IsForcedBy (there holds at) (Held id) new any → (limit : ℕ) → IsBehind model limit mid new now
+      forced-there : (new : Solver) (any : Bool) → IsForcedBy (there holds at) (Clause id) new any → (limit : ℕ) → IsBehind model limit mid new now
       forced-there new true forced limit =
           let P : Solver → Type 0 = λ s. IsBehind model limit mid s now in
           subst P (sym forced.3) (forcing forced.0 forced.1 (ap (possible_in (returned learned.level mid.trail).sets) (sym clause_is) ∙ forced.2) limit)
@@ -175,21 +174,21 @@ module _ {model : Model} {mid : Solver} {before : List Step} {conflict : Source}
           none_there : (l : Lit) → [] ≡ l ∷ [] → ⊥
           none_there l e = cc
 
-      pub learn-known : IsKnown (known_in (stock_of back)) (Held id)
+      pub learn-known : IsKnown (known_in (stock_of back)) (Clause id)
       learn-known =
-          let K : Stock → Type 0 = λ k. IsKnown (known_in k) (Held id) in
+          let K : Stock → Type 0 = λ k. IsKnown (known_in k) (Clause id) in
           subst K (sym (stock_is holds at)) (IsHeld-newest (held_by mid.clauses) learned.clause id newest)
 
-      pub learn-over : IsClauseOver (length back.trail.declared) (clause_of (known_in (stock_of back)) (Held id))
+      pub learn-over : IsClauseOver (length back.trail.declared) (clause_of (known_in (stock_of back)) (Clause id))
       learn-over =
           let C : List Lit → Type 0 = λ c. IsClauseOver (length back.trail.declared) c in
           let D : List IntSet → Type 0 = λ d. IsClauseOver (length d) learned.clause in
           let declared : back.trail.declared ≡ mid.trail.declared = ap (λ (t : Levels). t.declared) (at.trail ∙ ap (returned learned.level) holds.trail) ∙ declared-returned learned.level mid.trail in
           subst C (sym clause_is) (subst D (sym declared) h.is.over)
 
-      pub learn-behind : (new : Solver) (any : Bool) → IsForcedBy back (Held id) new any → (limit : ℕ) → IsBehind model limit mid new now
+      pub learn-behind : (new : Solver) (any : Bool) → IsForcedBy back (Clause id) new any → (limit : ℕ) → IsBehind model limit mid new now
       learn-behind new any forced limit =
-          let F : Solver → Type 0 = λ s. IsForcedBy s (Held id) new any in
+          let F : Solver → Type 0 = λ s. IsForcedBy s (Clause id) new any in
           forced-there new any (subst F (there-is holds at) forced) limit
 
     -- or back at level 0

@@ -1,12 +1,13 @@
 -- Going on and ending.
-use Rattle.std.proofs.Common.{◌≡◌, ◌≢◌, ℕ, ◌+◌, ◌-◌, ◌^◌, ◌<◌, ◌≤◌, ◌⊎◌, inl, Bool, true, false, ℤ, List, [], ◌∷◌, ◌++◌, length, All, Option, None, Some, refl, sym, ap, ◌∙◌, subst, arith}
+use Rattle.std.proofs.Common.{◌≡◌, ◌≢◌, ℕ, zero, suc, ◌==◌, ◌+◌, ◌-◌, ◌^◌, ◌<◌, ◌≤◌, ◌⊎◌, inl, Bool, true, false, ℤ, List, [], ◌∷◌, ◌++◌, length, All, Option, None, Some, refl, sym, ap, ◌∙◌, subst, arith, cond}
+use Rattle.std.proofs.lemmas.Bool.Decides.{nat_tests}
 use Rattle.std.proofs.lemmas.List.Elements.{All-nil}
 use Rattle.fzn_domain.specs.declared.literal.Lit.{Lit}
 use Rattle.fzn_domain.specs.IntSet.{IntSet}
 use Rattle.fzn_domain.specs.Limits.{IsInLimits}
 use Rattle.fzn_domain.specs.Narrow.{IsVariable, IsWithin, possible_in, is_some_empty}
 use Rattle.fzn_meaning.specs.declared.model.Model.{Model}
-use Rattle.fzn_meaning.specs.Solutions.{declared_sets, cut_of}
+use Rattle.fzn_meaning.specs.Solutions.{declared_sets, cut_of, IsExhausted}
 use Rattle.fzn_meaning.specs.WellFormed.{IsWellFormed}
 use Rattle.fzn_cert.specs.declared.step.Step.{Step}
 use Rattle.fzn_cert.specs.declared.step.Step.TheVariants.{Resolve, Solution}
@@ -16,7 +17,7 @@ use Rattle.fzn_cert.specs.Accepted.{IsAccepted, AllAccepted, past_of}
 use Rattle.fzn_cert.proofs.SoundLaws.{accepted-proper, closed-exhausted}
 use Rattle.fzn_cert.specs.Spelling.{IsSpelled}
 use Rattle.fzn_trail.specs.declared.trail.ClauseId.{ClauseId}
-use Rattle.fzn_trail.specs.declared.trail.Reason.TheVariants.{Decision}
+use Rattle.fzn_trail.specs.declared.trail.Reason.TheVariants.{Decision, Clause}
 use Rattle.fzn_trail.specs.Levels.{pushed, asserted}
 use Rattle.fzn_clauses.specs.declared.clauses.Clauses.{Clauses}
 use Rattle.fzn_clauses.specs.Watching.{held_by, IsWatching}
@@ -24,18 +25,18 @@ use Rattle.fzn_clauses.proofs.HeldLemmas.{IsHeld-newest, clause_of-newest}
 use Rattle.fzn_clauses.proofs.WatchingLemmas.{IsWatching-asserted, IsWatching-pushed}
 use Rattle.fzn_strategy.specs.declared.learn.Learn.{Learn}
 use Rattle.fzn_strategy.specs.declared.learn.Learn.TheVariants.{Plain}
-use Rattle.fzn_learned.specs.declared.source.Source.TheVariants.{Held}
 use Rattle.fzn_learned.specs.Reasoned.{IsKnown, clause_of}
 use Rattle.fzn_learned.proofs.CallerLemmas.{IsReasoned-decided}
 use Rattle.fzn_search.specs.Fixed.{HasMany}
-use Rattle.fzn_engine.specs.declared.limits.Ending.{Ending}
-use Rattle.fzn_engine.specs.declared.limits.Ending.TheVariants.{Closed, NodeLimit, SolutionLimit}
+use Rattle.fzn_printer.specs.declared.printer.Ending.{Ending}
+use Rattle.fzn_printer.specs.declared.printer.Ending.TheVariants.{Complete, Unsatisfiable, NodeLimit, SolutionLimit}
+use Rattle.fzn_printer.specs.Shown.{is_closed}
 use Rattle.fzn_engine.specs.declared.limits.Limits.{Limits}
 use Rattle.fzn_engine.specs.declared.solver.Solver.{Solver}
 use Rattle.fzn_upkeep.specs.Forgetting.{is_cut}
 use Rattle.fzn_engine.specs.Volume.{volume}
-use Rattle.fzn_engine.specs.Outcome.{HasRoom, IsReached, count, IsCertified, IsEnded, IsExhaustedIf, IsOutcome}
-use Rattle.fzn_engine.specs.Changes.{IsRecorded, IsKeptBy, Goes, Continues, IsOngoing, IsOver, ending_of}
+use Rattle.fzn_engine.specs.Outcome.{HasRoom, IsReached, count, IsCertified, IsRefuted, IsEnded, EndsTruly, IsOutcome}
+use Rattle.fzn_engine.specs.Changes.{IsRecorded, IsKeptBy, IsClosed, Goes, Continues, IsOngoing, IsOver, closed_after, ending_of}
 use Rattle.fzn_engine.specs.Moves.{IsDecided, Holds}
 use Rattle.fzn_engine.specs.Search.{IsInOrder, IsAfter, stock_of, Tally, work_of, IsWithinLimits, IsComplete, work}
 use Rattle.fzn_engine.specs.State.{Stock, known_in, with_held, with_cuts, StateOf}
@@ -48,11 +49,32 @@ use Rattle.fzn_engine.proofs.UnitLemmas.{within-tally}
 use Rattle.fzn_engine.proofs.VolumeLemmas.{volume-empty}
 use Rattle.fzn_engine.proofs.WithinLemmas.{IsWithin-larger}
 
+-- ---- nothing is left
+
+not_zero : (k : ℕ) → (suc k == 0) ≡ false
+not_zero k = grind (arith, nat_tests)
+
+closed-truly : (model : Model) (learn : Learn) (limits : Limits) (steps : List Step) (nodes n : ℕ) → n ≡ count model steps → IsRefuted model steps → HasRoom model.goal limits.solutions n → EndsTruly model learn limits steps nodes (closed_after n)
+closed-truly model learn limits steps nodes zero found_is refuted room = (refuted, sym found_is)
+closed-truly model learn limits steps nodes (suc k) found_is refuted room =
+    let E : Bool → Type 0 = λ b. EndsTruly model learn limits steps nodes (cond b Unsatisfiable Complete) in
+    subst E (sym (not_zero k)) (refuted, omega arith, subst (λ (n : ℕ). HasRoom model.goal limits.solutions n) found_is room)
+
+pub closed-over : {model : Model} (limits : Limits) {old new : Solver} {steps : List Step} → IsClosed model old new steps → IsWithinLimits model limits new → IsOver model old.learn limits new steps (closed_after new.found)
+closed-over {model = model} limits {old = old} {new = new} {steps = steps} closed within = record {
+  ended = record {
+    certified = closed.certified;
+    truly = closed-truly model old.learn limits steps new.search.nodes new.found closed.found_is closed.refuted within.1;
+    few_nodes = within.0;
+  };
+  found_is = closed.found_is;
+}
+
 -- ---- a decision
 
 -- what the held clauses force, and then one change of the search
 module _ {model : Model} (limits : Limits) {old mid : Solver} {before : List Step} (within : IsWithinLimits model limits old) (kept : IsKeptBy model before old mid) where
-  pub kept-goes : (new : Solver) (steps : List Step) (goes_on : Bool) → Goes model mid new steps goes_on → Continues model limits old new steps (ending_of goes_on)
+  pub kept-goes : (new : Solver) (steps : List Step) (goes_on : Bool) → Goes model mid new steps goes_on → Continues model limits old new steps (ending_of goes_on new.found)
   kept-goes new steps true goes =
       let behind = goes limits.nodes in
       let less = kept.less limits.nodes in
@@ -64,14 +86,7 @@ module _ {model : Model} (limits : Limits) {old mid : Solver} {before : List Ste
       }
   kept-goes new steps false closed =
       let still = within-tally model limits old new (closed.tally ∙ kept.tally) within in
-      record {
-        ended = record {
-          certified = subst (λ (t : Tally). IsCertified model t.learn steps new.search.nodes) kept.tally closed.certified;
-          truly = (closed.refuted, subst (λ (n : ℕ). HasRoom model.goal limits.solutions n) closed.found_is still.1);
-          few_nodes = still.0;
-        };
-        found_is = closed.found_is;
-      }
+      subst (λ (t : Tally). IsOver model t.learn limits new steps (closed_after new.found)) kept.tally (closed-over limits closed still)
 
   pub kept-continues : (new : Solver) (steps : List Step) (ending : Option Ending) → Continues model limits mid new steps ending → Continues model limits old new steps ending
   kept-continues new steps None on =
@@ -157,9 +172,9 @@ module _ {model : Model} (good : IsWellFormed model) {old : Solver} {before : Li
       let state = solution-state h.state good values complete.fixed within (old.steps + 1) flags id newest flagged (λ other apart. others other apart ∙ ap (λ (k : Stock). is_cut k.cuts other) holds.stock) next record-accepted in
       let S : List Step → Type 0 = λ s. StateOf model old.learn (with_cuts flags (with_held (cut_of model values) (old.steps + 1) (stock_of old))) s old.trail old.search.nodes in
       let K : Stock → Type 0 = λ k. StateOf model old.learn (with_cuts flags k) now old.trail old.search.nodes in
-      let L : Stock → Type 0 = λ k. IsKnown (known_in k) (Held id) in
-      let clause_is : clause_of (known_in (stock_of held)) (Held id) ≡ cut_of model values =
-      ap (λ (k : Stock). clause_of (known_in k) (Held id)) holds.stock ∙ clause_of-newest (held_by old.clauses) (cut_of model values) id newest in
+      let L : Stock → Type 0 = λ k. IsKnown (known_in k) (Clause id) in
+      let clause_is : clause_of (known_in (stock_of held)) (Clause id) ≡ cut_of model values =
+      ap (λ (k : Stock). clause_of (known_in k) (Clause id)) holds.stock ∙ clause_of-newest (held_by old.clauses) (cut_of model values) id newest in
       let P : Solver → Type 0 = λ s. IsRecorded model old (record s { cuts = flags; found = s.found + 1 }) now id in
       subst P (sym (solver-is held holds.trail holds.search holds.scratch holds.learn holds.found holds.steps)) (record {
         state = record {
@@ -181,9 +196,9 @@ module _ {model : Model} (good : IsWellFormed model) {old : Solver} {before : Li
 pub empty-accepted : (model : Model) → is_some_empty (declared_sets model.vars) ≡ true → IsAccepted model start (Resolve [] [])
 empty-accepted model empty = (All-nil (λ (lit : Lit). IsVariable (length model.vars) lit.var), All-nil (IsHeld start), inl empty)
 
-pub empty-ended : (model : Model) (learn : Learn) (limits : Limits) → is_some_empty (declared_sets model.vars) ≡ true → HasRoom model.goal limits.solutions 0 → (now : List Step) → now ≡ Resolve [] [] ∷ [] → IsEnded model learn limits now 0 Closed × (count model now ≡ 0)
-empty-ended model learn limits empty room now is =
-    let P : List Step → Type 0 = λ s. IsEnded model learn limits s 0 Closed × (count model s ≡ 0) in
+pub empty-ended : (model : Model) (learn : Learn) (limits : Limits) → is_some_empty (declared_sets model.vars) ≡ true → (now : List Step) → now ≡ Resolve [] [] ∷ [] → IsEnded model learn limits now 0 Unsatisfiable × (count model now ≡ 0)
+empty-ended model learn limits empty now is =
+    let P : List Step → Type 0 = λ s. IsEnded model learn limits s 0 Unsatisfiable × (count model s ≡ 0) in
     let nothing = volume-empty (declared_sets model.vars) empty in
     subst P (sym is) (
       record {
@@ -192,7 +207,7 @@ empty-ended model learn limits empty room now is =
           fresh = λ in_plain some. absurd (omega arith);
           nodes_by_conflicts = omega arith;
         };
-        truly = (refl, room);
+        truly = (refl, refl);
         few_nodes = omega arith;
       },
       refl,
@@ -202,14 +217,16 @@ empty-ended model learn limits empty room now is =
 
 -- a node limit of at least all choices but one is never reached
 never-limited : (model : Model) (learn : Learn) (limits : Limits) (steps : List Step) (nodes : ℕ) (ending : Ending) → IsEnded model learn limits steps nodes ending → learn ≡ Plain → volume (declared_sets model.vars) - 1 ≤ limits.nodes → ending ≢ NodeLimit
-never-limited model learn limits steps nodes Closed h in_plain enough = λ e. cc
+never-limited model learn limits steps nodes Complete h in_plain enough = λ e. cc
+never-limited model learn limits steps nodes Unsatisfiable h in_plain enough = λ e. cc
 never-limited model learn limits steps nodes NodeLimit h in_plain enough = λ e. let reached = h.truly.0 in let fewer = h.truly.1 in_plain in absurd (omega arith)
 never-limited model learn limits steps nodes SolutionLimit h in_plain enough = λ e. cc
 
-exhausted-if : (model : Model) (learn : Learn) (limits : Limits) (steps : List Step) (nodes : ℕ) (ending : Ending) → IsWellFormed model → IsEnded model learn limits steps nodes ending → IsExhaustedIf model steps ending
-exhausted-if model learn limits steps nodes Closed good h = closed-exhausted model steps good h.certified.accepted h.truly.0
-exhausted-if model learn limits steps nodes NodeLimit good h = tt
-exhausted-if model learn limits steps nodes SolutionLimit good h = tt
+exhausted-if : (model : Model) (learn : Learn) (limits : Limits) (steps : List Step) (nodes : ℕ) (ending : Ending) → IsWellFormed model → IsEnded model learn limits steps nodes ending → is_closed ending ≡ true → IsExhausted model (past_of model steps).solutions
+exhausted-if model learn limits steps nodes Complete good h closed = closed-exhausted model steps good h.certified.accepted h.truly.0
+exhausted-if model learn limits steps nodes Unsatisfiable good h closed = closed-exhausted model steps good h.certified.accepted h.truly.0
+exhausted-if model learn limits steps nodes NodeLimit good h closed = cc
+exhausted-if model learn limits steps nodes SolutionLimit good h closed = cc
 
 -- what accepted steps show
 pub ended-outcome : (model : Model) → IsWellFormed model → (learn : Learn) (limits : Limits) (steps : List Step) (nodes : ℕ) (ending : Ending) → IsEnded model learn limits steps nodes ending → IsOutcome model learn limits steps nodes ending

@@ -14,7 +14,7 @@ use Rattle.fzn_engine.specs.Outcome.{HasRoom}
 use Rattle.fzn_engine.specs.Changes.{IsTended, IsOngoing}
 use Rattle.fzn_engine.specs.Moves.{Holds}
 use Rattle.fzn_engine.specs.Search.{Tally, tally_of, IsWithinLimits, stock_of, work_of, work}
-use Rattle.fzn_engine.specs.Sources.{IsWritten, Derives}
+use Rattle.fzn_engine.specs.Antecedents.{IsWritten, Derives}
 use Rattle.fzn_engine.specs.State.{Stock, known_in, with_held, StateOf}
 use Rattle.fzn_engine.proofs.ChangeLemmas.{Core-resolved}
 use Rattle.fzn_engine.proofs.LessonLemmas.{derives-accepted}

@@ -9,12 +9,12 @@ use Rattle.fzn_cert.specs.Past.{clause_held}
 use Rattle.fzn_cert.specs.Accepted.{AllAccepted, past_of}
 use Rattle.fzn_inferences.specs.declared.inferences.Inferred.{Inferred}
 use Rattle.fzn_inferences.specs.Inferences.{inference_at, with_number}
-use Rattle.fzn_learned.specs.declared.source.Source.{Source}
+use Rattle.fzn_trail.specs.declared.trail.Reason.{Reason}
 use Rattle.fzn_learned.specs.Reasoned.{Known, clause_of, opens}
 use Rattle.fzn_engine.specs.declared.solver.Solver.{Solver}
 use Rattle.fzn_engine.specs.State.{Give, with_step, PlainOf, StateOf}
 use Rattle.fzn_engine.specs.Search.{IsAfter, stock_of}
-use Rattle.fzn_engine.specs.Sources.{GiveSources, StillGive, IsWritten}
+use Rattle.fzn_engine.specs.Antecedents.{GiveAntecedents, StillGive, IsWritten}
 use Rattle.fzn_engine.proofs.AcceptedLemmas.{logged-accepted}
 use Rattle.fzn_engine.proofs.NumberLemmas.{Give-push}
 use Rattle.fzn_engine.proofs.SolverLemmas.{order-step}
@@ -37,15 +37,15 @@ Give-still model before now (n ∷ numbers) (clause ∷ clauses) still h =
     let rest : Give (past_of model before) numbers clauses = cc in
     ap₂ (λ (o : Option (List Lit)) (os : List (Option (List Lit))). o ∷ os) (still n clause one) (Give-still model before now numbers clauses still rest)
 
--- one more source has its number
-pub GiveSources-next : (model : Model) (before now : List Step) (known mid : Known) (numbers : List ℕ) (sources : List Source) (i : ℕ) (d : Source) (number : ℕ) → StillGive model before now → mid ≡ known → GiveSources (past_of model before) known numbers (take i sources) → i < length sources → clause_held (past_of model now) number ≡ Some (clause_of mid (get_or sources i d)) → GiveSources (past_of model now) known (numbers ++ number ∷ []) (take (i + 1) sources)
-GiveSources-next model before now known mid numbers sources i d number still same give within gives =
+-- one more antecedent has its number
+pub GiveAntecedents-next : (model : Model) (before now : List Step) (known mid : Known) (numbers : List ℕ) (antecedents : List Reason) (i : ℕ) (d : Reason) (number : ℕ) → StillGive model before now → mid ≡ known → GiveAntecedents (past_of model before) known numbers (take i antecedents) → i < length antecedents → clause_held (past_of model now) number ≡ Some (clause_of mid (get_or antecedents i d)) → GiveAntecedents (past_of model now) known (numbers ++ number ∷ []) (take (i + 1) antecedents)
+GiveAntecedents-next model before now known mid numbers antecedents i d number still same give within gives =
     let C : List (List Lit) → Type 0 = λ cs. Give (past_of model now) (numbers ++ number ∷ []) cs in
-    let source = get_or sources i d in
-    let clauses : map (clause_of known) (take (i + 1) sources) ≡ map (clause_of known) (take i sources) ++ clause_of known source ∷ [] =
-    ap (map (clause_of known)) (take_more sources i d within) ∙ map-append (clause_of known) (take i sources) (source ∷ []) in
-    let one : clause_held (past_of model now) number ≡ Some (clause_of known source) = gives ∙ ap (λ (k : Known). Some (clause_of k source)) same in
-    subst C (sym clauses) (Give-push (past_of model now) numbers (map (clause_of known) (take i sources)) number (clause_of known source) (Give-still model before now numbers (map (clause_of known) (take i sources)) still give) one)
+    let antecedent = get_or antecedents i d in
+    let clauses : map (clause_of known) (take (i + 1) antecedents) ≡ map (clause_of known) (take i antecedents) ++ clause_of known antecedent ∷ [] =
+    ap (map (clause_of known)) (take_more antecedents i d within) ∙ map-append (clause_of known) (take i antecedents) (antecedent ∷ []) in
+    let one : clause_held (past_of model now) number ≡ Some (clause_of known antecedent) = gives ∙ ap (λ (k : Known). Some (clause_of k antecedent)) same in
+    subst C (sym clauses) (Give-push (past_of model now) numbers (map (clause_of known) (take i antecedents)) number (clause_of known antecedent) (Give-still model before now numbers (map (clause_of known) (take i antecedents)) still give) one)
 
 module _ {model : Model} {old : Solver} {before : List Step} (h : IsAfter model old before) (place : ℕ) (stacked : place < length old.inferences) where
   abbrev pub it : Inferred

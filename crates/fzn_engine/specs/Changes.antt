@@ -1,25 +1,25 @@
 -- What each change makes of a search.
-use Rattle.std.specs.Prelude.{◌≡◌, ◌≢◌, ℕ, ◌+◌, ◌^◌, ◌<◌, ◌≤◌, Bool, true, false, List, [], ◌∷◌, ◌++◌, length, Option, Some, None}
+use Rattle.std.specs.Prelude.{◌≡◌, ◌≢◌, ℕ, ◌==◌, if◌then◌else◌, ◌+◌, ◌^◌, ◌<◌, ◌≤◌, Bool, true, false, List, [], ◌∷◌, ◌++◌, length, Option, Some, None}
 use Rattle.fzn_meaning.specs.declared.model.Model.{Model}
 use Rattle.fzn_cert.specs.declared.step.Step.{Step}
 use Rattle.fzn_cert.specs.declared.step.Step.TheVariants.{Resolve}
+use Rattle.fzn_trail.specs.declared.trail.Reason.{Reason}
+use Rattle.fzn_trail.specs.declared.trail.Reason.TheVariants.{Clause}
 use Rattle.fzn_trail.specs.declared.trail.ClauseId.{ClauseId}
 use Rattle.fzn_clauses.specs.Watching.{held_by}
 use Rattle.fzn_strategy.specs.declared.learn.Learn.{Learn}
 use Rattle.fzn_learned.specs.declared.learned.Learned.{Learned}
-use Rattle.fzn_learned.specs.declared.source.Source.{Source}
-use Rattle.fzn_learned.specs.declared.source.Source.TheVariants.{Held}
 use Rattle.fzn_learned.specs.Learned.{IsConflicting}
 use Rattle.fzn_engine.specs.State.{known_in}
 use Rattle.fzn_engine.specs.Outcome.{count, IsCertified, IsRefuted, IsEnded}
 use Rattle.fzn_engine.specs.declared.learning.Lesson.{Lesson}
-use Rattle.fzn_engine.specs.declared.limits.Ending.{Ending}
-use Rattle.fzn_engine.specs.declared.limits.Ending.TheVariants.{Closed}
+use Rattle.fzn_printer.specs.declared.printer.Ending.{Ending}
+use Rattle.fzn_printer.specs.declared.printer.Ending.TheVariants.{Complete, Unsatisfiable}
 use Rattle.fzn_engine.specs.declared.limits.Limits.{Limits}
 use Rattle.fzn_engine.specs.declared.solver.Solver.{Solver}
 use Rattle.fzn_engine.specs.Search.{stock_of, IsAfter, tally_of, work_of, IsWithinLimits}
 use Rattle.fzn_engine.specs.Moves.{Holds}
-use Rattle.fzn_engine.specs.Sources.{IsWritten, Learns}
+use Rattle.fzn_engine.specs.Antecedents.{IsWritten, Learns}
 
 -- the search goes on after these steps with less work
 pub record IsBehind (model : Model) (limit : ℕ) (old new : Solver) (steps : List Step) : Type 0 where
@@ -40,7 +40,7 @@ Goes model old new steps true = (limit : ℕ) → IsBehind model limit old new s
 Goes model old new steps false = IsClosed model old new steps
 
 -- a clause was learned from a conflict and written: it is empty and nothing is left, or it is held, and nothing else was changed
-pub record HasLearned (model : Model) (first : List Step) (old new : Solver) (steps : List Step) (conflict : Source) (lesson : Lesson) : Type 0 where
+pub record HasLearned (model : Model) (first : List Step) (old new : Solver) (steps : List Step) (conflict : Reason) (lesson : Lesson) : Type 0 where
   pub mid : Solver
   pub before : List Step
   pub learned : Learned
@@ -54,14 +54,14 @@ pub record HasLearned (model : Model) (first : List Step) (old new : Solver) (st
   pub newest : lesson.id.0 ≡ length (held_by mid.clauses)
   pub level : lesson.level ≡ learned.level
 
-abbrev pub Teaches : Model → List Step → Solver → Solver → List Step → Source → Option Lesson → Type 0
+abbrev pub Teaches : Model → List Step → Solver → Solver → List Step → Reason → Option Lesson → Type 0
 Teaches model first old new steps conflict None = IsClosed model old new steps
 Teaches model first old new steps conflict (Some lesson) = HasLearned model first old new steps conflict lesson
 
 -- a solution was written, whose cut has this number and is false
 pub record IsRecorded (model : Model) (old new : Solver) (steps : List Step) (id : ClauseId) : Type 0 where
   pub state : IsAfter model new steps
-  pub conflict : IsConflicting (known_in (stock_of new)) new.trail.sets (Held id)
+  pub conflict : IsConflicting (known_in (stock_of new)) new.trail.sets (Clause id)
   pub trail : new.trail ≡ old.trail
   pub tally : tally_of new ≡ record (tally_of old) { found = old.found + 1 }
 
@@ -77,10 +77,14 @@ pub record IsTended (model : Model) (old new : Solver) (steps : List Step) : Typ
   pub trail : new.trail ≡ old.trail
   pub tally : tally_of new ≡ tally_of old
 
+-- how a search ends that leaves nothing, with so many solutions
+abbrev pub closed_after : ℕ → Ending
+closed_after found = if found == 0 then Unsatisfiable else Complete
+
 -- the search has ended where it does not go on
-abbrev pub ending_of : Bool → Option Ending
-ending_of true = None
-ending_of false = Some Closed
+abbrev pub ending_of : Bool → ℕ → Option Ending
+ending_of true found = None
+ending_of false found = Some (closed_after found)
 
 pub record IsOver (model : Model) (learn : Learn) (limits : Limits) (new : Solver) (steps : List Step) (ending : Ending) : Type 0 where
   pub ended : IsEnded model learn limits steps new.search.nodes ending

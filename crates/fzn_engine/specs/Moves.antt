@@ -3,12 +3,12 @@ use Rattle.std.specs.Prelude.{◌≡◌, ℕ, ◌+◌, Bool, true, false, List, 
 use Rattle.fzn_domain.specs.declared.literal.Lit.{Lit}
 use Rattle.fzn_domain.specs.Narrow.{possible_in}
 use Rattle.std.specs.List.{All}
+use Rattle.fzn_trail.specs.declared.trail.Reason.{Reason}
 use Rattle.fzn_trail.specs.declared.trail.Entry.{Entry}
 use Rattle.fzn_trail.specs.declared.trail.Reason.TheVariants.{Decision}
 use Rattle.fzn_trail.specs.Levels.{pushed, asserted, returned}
 use Rattle.fzn_clauses.specs.Kept.{KeepsWatching}
-use Rattle.fzn_learned.specs.declared.source.Source.{Source}
-use Rattle.fzn_learned.specs.Reasoned.{IsBelow, reason_of, clause_of}
+use Rattle.fzn_learned.specs.Reasoned.{IsBelow, clause_of}
 use Rattle.fzn_search.specs.Fixed.{Splits}
 use Rattle.fzn_engine.specs.State.{known_in, with_held, with_stack}
 use Rattle.fzn_engine.specs.declared.solver.Solver.{Solver}
@@ -47,10 +47,10 @@ pub record IsBackAt (level : ℕ) (old new : Solver) : Type 0 where
   pub steps : new.steps ≡ old.steps
 
 -- the clause's first possible literal was asserted, or it has none
-abbrev pub IsForcedBy : Solver → Source → Solver → Bool → Type 0
-IsForcedBy old source new true =
-    (lit : Lit) × (rest : List Lit) × (possible_in old.trail.sets (clause_of (known_in (stock_of old)) source) ≡ lit ∷ rest) × (new ≡ record old { trail = asserted lit (reason_of source) old.trail })
-IsForcedBy old source new false = (possible_in old.trail.sets (clause_of (known_in (stock_of old)) source) ≡ []) × (new ≡ old)
+abbrev pub IsForcedBy : Solver → Reason → Solver → Bool → Type 0
+IsForcedBy old reason new true =
+    (lit : Lit) × (rest : List Lit) × (possible_in old.trail.sets (clause_of (known_in (stock_of old)) reason) ≡ lit ∷ rest) × (new ≡ record old { trail = asserted lit reason old.trail })
+IsForcedBy old reason new false = (possible_in old.trail.sets (clause_of (known_in (stock_of old)) reason) ≡ []) × (new ≡ old)
 
 -- a decision was made
 pub record IsDecided (old new : Solver) : Type 0 where

@@ -3,19 +3,19 @@ ghost use Rattle.std.specs.Prelude.{◌≡◌, ◌+◌, ◌<◌, IfOk, MatchBool
 ghost use Rattle.fzn_meaning.specs.declared.model.Model.{Model};
 ghost use Rattle.fzn_cert.specs.declared.step.Step.{Step};
 ghost use Rattle.fzn_engine.specs.Outcome.{IsReached};
-ghost use Rattle.fzn_engine.specs.Changes.{IsRecorded, Goes, Continues, IsOver, ending_of};
+ghost use Rattle.fzn_engine.specs.Changes.{IsRecorded, Goes, Continues, IsOver, closed_after, ending_of};
 ghost use Rattle.fzn_engine.specs.Search.{IsReady, IsLeft, IsWithinLimits, IsAtFixpoint, IsComplete};
 
 use crate::fault::Fault;
-use crate::limits::{Ending, Limits};
+use crate::limits::Limits;
 use crate::sink::Sink;
 use crate::solver::Solver;
 use fzn_cert::Step;
 use fzn_constraints::Constraints;
-use fzn_learned::Source;
 use fzn_meaning::{Goal, Model};
+use fzn_printer::Ending;
 use fzn_search::{cut, values_of};
-use fzn_trail::ClauseId;
+use fzn_trail::{ClauseId, Reason};
 use std::alloc::Global;
 
 impl Solver {
@@ -59,8 +59,8 @@ impl Solver {
         if is_reached(model.goal, limits.solutions, self.found) {
             return Ok(Some(Ending::SolutionLimit));
         }
-        let goes_on = self.resolve(alloc, model, sink, Source::Held(id))?;
-        Ok(ending_of(goes_on))
+        let goes_on = self.resolve(alloc, model, sink, Reason::Clause(id))?;
+        Ok(ending_of(goes_on, self.found))
     }
 
     /// Goes on where no held clause is false or forces a literal: by an inference, a solution or a decision.
@@ -80,7 +80,7 @@ impl Solver {
     {
         if let Some(inference) = constraints.infer(alloc, model, &self.trail)? {
             let goes_on = self.apply(alloc, model, sink, inference)?;
-            return Ok(ending_of(goes_on));
+            return Ok(ending_of(goes_on, self.found));
         }
         if self.is_fixed() {
             let ending = self.go_on_behind(alloc, model, limits, sink)?;
@@ -109,8 +109,8 @@ impl Solver {
     {
         match self.clauses.propagate(&mut self.trail)? {
             Some(conflict) => {
-                let goes_on = self.resolve(alloc, model, sink, Source::Held(conflict))?;
-                Ok(ending_of(goes_on))
+                let goes_on = self.resolve(alloc, model, sink, Reason::Clause(conflict))?;
+                Ok(ending_of(goes_on, self.found))
             }
             None => self.extend(alloc, model, limits, constraints, sink),
         }
@@ -169,11 +169,26 @@ impl Solver {
     }
 }
 
-/// The search has ended where it does not go on.
-fn ending_of(goes_on: bool) -> Option<Ending>
-    ensures { result ≡ ending_of goes_on }
+/// The search has ended where it does not go on, with so many solutions.
+fn ending_of(goes_on: bool, found: u64) -> Option<Ending>
+    ensures { result ≡ ending_of goes_on found }
 {
-    if goes_on { None } else { Some(Ending::Closed) }
+    if goes_on {
+        None
+    } else {
+        Some(closed_after(found))
+    }
+}
+
+/// How a search ends that leaves nothing, with so many solutions.
+fn closed_after(found: u64) -> Ending
+    ensures { result ≡ closed_after found }
+{
+    if found == 0 {
+        Ending::Unsatisfiable
+    } else {
+        Ending::Complete
+    }
 }
 
 /// Whether these are as many solutions as the limit.

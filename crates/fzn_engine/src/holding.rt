@@ -11,21 +11,20 @@ ghost use Rattle.fzn_engine.specs.Search.{IsAfter};
 use crate::solver::Solver;
 use fzn_cert::Step;
 use fzn_domain::{Lit, Memory};
-use fzn_learned::Source;
 use fzn_meaning::Model;
-use fzn_trail::ClauseId;
+use fzn_trail::{ClauseId, Reason};
 
 /// How many literals the clause of an inference has at most that is held.
 const SHORT: usize = 4;
 
 impl Solver {
-    /// Holds the clause of the next step, and tells the search which literals its conflict rests on, and notes on which sources the
+    /// Holds the clause of the next step, and tells the search which literals its conflict rests on, and notes on which antecedents the
     /// clause rests. One whose literals stand on a number of levels may be forgotten.
     pub fn hold(
         &mut self,
         clause: &[Lit],
         marked: &[Lit],
-        sources: &[Source],
+        antecedents: &[Reason],
         levels: Option<usize>,
     ) -> Result<ClauseId, Memory>
         requires room { self.old.steps < 10 ^ 18 }
@@ -34,7 +33,7 @@ impl Solver {
     {
         self.search.bump(marked)?;
         let id = self.clauses.add(clause)?;
-        self.notes.cite(sources)?;
+        self.notes.cite(antecedents)?;
         if let Some(levels) = levels {
             self.notes.learn(id, levels)?;
         }

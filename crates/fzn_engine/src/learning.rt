@@ -8,7 +8,7 @@ ghost use Rattle.fzn_constraints.specs.Inference.{IsInference};
 ghost use Rattle.fzn_engine.specs.State.{known_in};
 ghost use Rattle.fzn_engine.specs.Changes.{Teaches, Goes};
 ghost use Rattle.fzn_engine.specs.Search.{stock_of, IsReady, IsLeft};
-ghost use Rattle.fzn_engine.specs.Sources.{IsWritten, Learns};
+ghost use Rattle.fzn_engine.specs.Antecedents.{IsWritten, Learns};
 
 use crate::fault::Fault;
 use crate::sink::Sink;
@@ -16,11 +16,11 @@ use crate::solver::Solver;
 use fzn_cert::Step;
 use fzn_conflict::analyse;
 use fzn_constraints::Inference;
-use fzn_learned::{Learned, Source};
+use fzn_learned::Learned;
 use fzn_list::Items;
 use fzn_meaning::Model;
 use fzn_strategy::Learn;
-use fzn_trail::ClauseId;
+use fzn_trail::{ClauseId, Reason};
 use std::alloc::Global;
 
 /// A clause that was learned: the number under which it is held, and the level at which it forces a literal.
@@ -31,13 +31,13 @@ pub struct Lesson {
 }
 
 impl Solver {
-    /// What is learned from a false clause, with the numbers of the steps of its sources, which are written.
+    /// What is learned from a false clause, with the numbers of the steps of its antecedents, which are written.
     fn derive<S: Sink>(
         &mut self,
         alloc: Global,
         model: &Model,
         sink: &mut S,
-        conflict: Source,
+        conflict: Reason,
     ) -> Result<(Learned, Items<u64>), Fault>
         requires ready { IsReady model.now self.old (S.written sink.old) (S.keeps model.now sink.old) }
         requires conflict { IsConflicting (known_in (stock_of self.old)) self.old.trail.sets conflict }
@@ -55,7 +55,7 @@ impl Solver {
             conflict,
             self.learn,
         )?;
-        let ids = self.write_sources(alloc, model, sink, learned.sources.as_slice())?;
+        let ids = self.write_antecedents(alloc, model, sink, learned.antecedents.as_slice())?;
         Ok((learned, ids))
     }
 
@@ -65,7 +65,7 @@ impl Solver {
         alloc: Global,
         model: &Model,
         sink: &mut S,
-        conflict: Source,
+        conflict: Reason,
     ) -> Result<Option<Lesson>, Fault>
         requires ready { IsReady model.now self.old (S.written sink.old) (S.keeps model.now sink.old) }
         requires conflict { IsConflicting (known_in (stock_of self.old)) self.old.trail.sets conflict }
@@ -75,7 +75,7 @@ impl Solver {
         let (learned, ids) = self.derive(alloc, model, sink, conflict)?;
         let Learned {
             clause,
-            sources,
+            antecedents,
             level,
             levels,
             marked,
@@ -83,7 +83,7 @@ impl Solver {
         let id = self.hold(
             clause.as_slice(),
             marked.as_slice(),
-            sources.as_slice(),
+            antecedents.as_slice(),
             Some(levels),
         )?;
         let is_empty = clause.len() == 0;
@@ -101,7 +101,7 @@ impl Solver {
         alloc: Global,
         model: &Model,
         sink: &mut S,
-        conflict: Source,
+        conflict: Reason,
     ) -> Result<bool, Fault>
         requires ready { IsReady model.now self.old (S.written sink.old) (S.keeps model.now sink.old) }
         requires conflict { IsConflicting (known_in (stock_of self.old)) self.old.trail.sets conflict }
@@ -117,7 +117,7 @@ impl Solver {
             return Ok(true);
         }
         self.go_back(lesson.level);
-        self.force(Source::Held(lesson.id))?;
+        self.force(Reason::Clause(lesson.id))?;
         Ok(true)
     }
 
@@ -152,10 +152,10 @@ impl Solver {
             clause,
         } = inference;
         let place = self.inferences.push(constraint, rule, clause)?;
-        let source = Source::Stacked(place);
-        if self.force(source)? {
+        let reason = Reason::Inference(place);
+        if self.force(reason)? {
             return Ok(true);
         }
-        self.resolve(alloc, model, sink, source)
+        self.resolve(alloc, model, sink, reason)
     }
 }

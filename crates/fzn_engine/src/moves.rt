@@ -5,8 +5,7 @@ ghost use Rattle.fzn_domain.specs.declared.literal.Lit.{Lit};
 ghost use Rattle.fzn_domain.specs.Narrow.{IsClauseOver, NoneEmpty, possible_in};
 ghost use Rattle.fzn_meaning.specs.declared.model.Model.{Model};
 ghost use Rattle.fzn_cert.specs.declared.step.Step.{Step};
-ghost use Rattle.fzn_learned.specs.declared.source.Source.TheVariants.{Held};
-ghost use Rattle.fzn_learned.specs.Reasoned.{IsKnown, IsBelow, IsReasoned, reason_of, clause_of};
+ghost use Rattle.fzn_learned.specs.Reasoned.{IsKnown, IsBelow, IsReasoned, clause_of};
 ghost use Rattle.fzn_search.specs.Fixed.{AllFixed, HasMany};
 ghost use Rattle.fzn_trail.specs.Levels.{level_of};
 ghost use Rattle.fzn_engine.specs.State.{known_in};
@@ -18,7 +17,7 @@ use crate::solver::Solver;
 use fzn_cert::Step;
 use fzn_constraints::Inference;
 use fzn_domain::{Lit, Memory};
-use fzn_learned::{Source, clause_of};
+use fzn_learned::clause_of;
 use fzn_meaning::Model;
 use fzn_trail::{Reason, Trail};
 use fzn_upkeep::Notes;
@@ -29,18 +28,18 @@ const SPARE: usize = 64;
 const SHARE: usize = 16;
 
 impl Solver {
-    /// Asserts what the clause of a source forces, and answers whether it has a possible literal.
-    pub fn force(&mut self, source: Source) -> Result<bool, Memory>
-        requires known { IsKnown (known_in (stock_of self.old)) source }
-        requires over { IsClauseOver (length self.old.trail.declared) (clause_of (known_in (stock_of self.old)) source) }
-        ensures { IfOk result (IsForcedBy self.old source self.new) }
+    /// Asserts what the clause of a reason forces, and answers whether it has a possible literal.
+    pub fn force(&mut self, reason: Reason) -> Result<bool, Memory>
+        requires known { IsKnown (known_in (stock_of self.old)) reason }
+        requires over { IsClauseOver (length self.old.trail.declared) (clause_of (known_in (stock_of self.old)) reason) }
+        ensures { IfOk result (IsForcedBy self.old reason self.new) }
     {
         match first_possible(
-            clause_of(&self.clauses, &self.inferences, source),
+            clause_of(&self.clauses, &self.inferences, reason),
             &self.trail,
         ) {
             Some(lit) => {
-                self.trail.assert(lit, reason_of(source))?;
+                self.trail.assert(lit, reason)?;
                 Ok(true)
             }
             None => Ok(false),
@@ -107,16 +106,6 @@ fn first_possible(clause: &[Lit], trail: &Trail) -> Option<Lit>
         }
     }
     None
-}
-
-/// The reason for asserting what the clause of this source forces.
-fn reason_of(source: Source) -> Reason
-    ensures { result ≡ reason_of source }
-{
-    match source {
-        Source::Held(id) => Reason::Clause(id),
-        Source::Stacked(place) => Reason::Inference(place),
-    }
 }
 
 /// How many inferences are kept, all on which entries rest among them. It goes over the trail only where enough were stacked since the

@@ -9,27 +9,18 @@ ghost use Rattle.fzn_engine.specs.Outcome.{HasRoom, count, IsOutcome};
 ghost use Rattle.fzn_engine.specs.Search.{IsLeft};
 
 use crate::fault::Fault;
-use crate::limits::{Ending, Limits};
+use crate::limits::Limits;
+use crate::report::Report;
 use crate::sink::Sink;
 use crate::solver::Solver;
 use fzn_cert::Step;
 use fzn_constraints::Constraints;
 use fzn_list::Items;
 use fzn_meaning::{Model, Var};
+use fzn_printer::Ending;
 use fzn_search::Choice;
 use fzn_strategy::{Annotation, Learn};
 use std::alloc::Global;
-
-/// What a run tells.
-#[derive(Clone, Copy, Debug, PartialEq, Eq)]
-pub struct Outcome {
-    /// How many solutions were found.
-    pub solutions: u64,
-    /// How many decisions were made.
-    pub nodes: u64,
-    /// Why it ended.
-    pub ending: Ending,
-}
 
 /// Searches for solutions of the model, and hands on each step of the argument. How decisions are made is up to the choice and the
 /// annotations; where the choice asks for restarts, they come only where the first unique implication point is learned. It answers `Memory`
@@ -43,28 +34,28 @@ pub fn solve<S: Sink, C: Constraints>(
     annotations: &[Annotation],
     constraints: &mut C,
     sink: &mut S,
-) -> Result<Outcome, Fault>
+) -> Result<Report, Fault>
     requires model { IsWellFormed model.now }
     requires is_for { C.is_for constraints.old model.now }
     requires room { HasRoom model.now.goal limits.solutions 0 }
     requires fresh { S.written sink.old ≡ [] }
     requires kept { S.keeps model.now sink.old }
-    ensures outcome { IfOk result (λ outcome. IsOutcome model.now learn limits (S.written sink.new) outcome.nodes outcome.ending) }
-    ensures solutions { IfOk result (λ outcome. outcome.solutions ≡ count model.now (S.written sink.new)) }
+    ensures outcome { IfOk result (λ report. IsOutcome model.now learn limits (S.written sink.new) report.nodes report.ending) }
+    ensures solutions { IfOk result (λ report. report.solutions ≡ count model.now (S.written sink.new)) }
     ensures accepted { AllAccepted model.now (S.written sink.new) }
     ensures kept { S.keeps model.now sink.new × (S.origin sink.new ≡ S.origin sink.old) }
 {
     if has_empty(model.vars.as_slice()) {
         refute(alloc, model, sink)?;
-        return Ok(Outcome {
+        return Ok(Report {
             solutions: 0,
             nodes: 0,
-            ending: Ending::Closed,
+            ending: Ending::Unsatisfiable,
         });
     }
     let mut solver = Solver::new(alloc, model, learn, choice, annotations)?;
     let ending = solver.run(alloc, model, limits, constraints, sink)?;
-    Ok(Outcome {
+    Ok(Report {
         solutions: solver.found,
         nodes: solver.search.nodes(),
         ending,

@@ -5,7 +5,7 @@ ghost use Rattle.fzn_cert.specs.declared.step.Step.{Step};
 ghost use Rattle.fzn_strategy.specs.declared.learn.Learn.TheVariants.{First};
 ghost use Rattle.fzn_engine.specs.Changes.{IsTended};
 ghost use Rattle.fzn_engine.specs.Search.{IsReady, IsLeft};
-ghost use Rattle.fzn_engine.specs.Sources.{IsWritten, Derives};
+ghost use Rattle.fzn_engine.specs.Antecedents.{IsWritten, Derives};
 
 use crate::fault::Fault;
 use crate::sink::Sink;
@@ -74,7 +74,7 @@ impl Solver {
         Ok(())
     }
 
-    /// The clause that is wanted, where it follows as it should, with the numbers of the steps of its sources, which are written.
+    /// The clause that is wanted, where it follows as it should, with the numbers of the steps of its antecedents, which are written.
     fn derive_unit<S: Sink>(
         &mut self,
         alloc: Global,
@@ -99,7 +99,7 @@ impl Solver {
         let Some(unit) = found else {
             return Ok(None);
         };
-        let ids = self.write_sources(alloc, model, sink, unit.sources.as_slice())?;
+        let ids = self.write_antecedents(alloc, model, sink, unit.antecedents.as_slice())?;
         Ok(Some((unit, ids)))
     }
 

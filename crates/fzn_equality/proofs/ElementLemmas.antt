@@ -13,9 +13,9 @@ use Rattle.fzn_sets.specs.Terms.{MayBe, term_at}
 use Rattle.fzn_builtin_rules.specs.Rows.{ShareNone, NoEntryFits, IsRowsMet}
 use Rattle.fzn_rules.specs.declared.rule.Rule.TheVariants as rule
 use Rattle.fzn_rules.specs.Rules.{IsMet}
-use Rattle.fzn_explain.specs.declared.claim.Claim.{Claim}
-use Rattle.fzn_explain.specs.Claims.{opposite, IsDenied, Refute}
-use Rattle.fzn_explain.proofs.CallerLemmas.{are_opposite}
+use Rattle.fzn_terms.specs.declared.claim.Claim.{Claim}
+use Rattle.fzn_terms.specs.Denied.{opposite, IsDenied, Refute}
+use Rattle.fzn_terms.proofs.ExplanationLemmas.{are_opposite}
 use Rattle.fzn_equality.specs.Rows.{LeavesNoIndex, IsRuledOut}
 use Rattle.fzn_equality.specs.Shared.{KeepApart}
 use Rattle.fzn_equality.proofs.ListLemmas.{All-front, All-last}

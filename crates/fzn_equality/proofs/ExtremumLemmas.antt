@@ -14,9 +14,9 @@ use Rattle.fzn_sets.proofs.ValueLemmas.{MayBe-ends}
 use Rattle.fzn_builtin_rules.specs.Rows.{ShareNone, Passes, IsRowsMet}
 use Rattle.fzn_rules.specs.declared.rule.Rule.TheVariants as rule
 use Rattle.fzn_rules.specs.Rules.{IsMet}
-use Rattle.fzn_explain.specs.declared.claim.Claim.{Claim}
-use Rattle.fzn_explain.specs.Claims.{opposite, IsDenied, Refute}
-use Rattle.fzn_explain.proofs.CallerLemmas.{are_opposite}
+use Rattle.fzn_terms.specs.declared.claim.Claim.{Claim}
+use Rattle.fzn_terms.specs.Denied.{opposite, IsDenied, Refute}
+use Rattle.fzn_terms.proofs.ExplanationLemmas.{are_opposite}
 use Rattle.fzn_equality.proofs.ListLemmas.{All-front, All-last}
 
 met_passing : (sets : List IntSet) (extreme : Extreme) (entries : List Term) (of : Term) (k : ℕ) (d : Term) → k < length entries → Passes sets extreme of (get_or entries k d) → IsMet (constraint.Extremum extreme entries of) sets rule.Rows

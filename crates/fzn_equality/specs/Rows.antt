@@ -4,8 +4,8 @@ use Rattle.fzn_domain.specs.IntSet.{IntSet}
 use Rattle.fzn_meaning.specs.declared.term.Term.{Term}
 use Rattle.fzn_meaning.specs.Entries.{IsIndex}
 use Rattle.fzn_sets.specs.Terms.{MayBe}
-use Rattle.fzn_explain.specs.declared.claim.Claim.{Claim}
-use Rattle.fzn_explain.specs.Claims.{IsDenied}
+use Rattle.fzn_terms.specs.declared.claim.Claim.{Claim}
+use Rattle.fzn_terms.specs.Denied.{IsDenied}
 
 -- no value of the index is one of a list of this many entries
 abbrev pub LeavesNoIndex : List IntSet → Term → ℕ → Type 0

@@ -5,8 +5,8 @@ use Rattle.fzn_domain.specs.IntSet.{IntSet}
 use Rattle.fzn_meaning.specs.declared.term.Term.{Term}
 use Rattle.fzn_meaning.specs.Term.{IsTerm}
 use Rattle.fzn_builtin_rules.specs.Rows.{ShareNone}
-use Rattle.fzn_explain.specs.declared.claim.Claim.{Claim}
-use Rattle.fzn_explain.specs.Claims.{IsDenied}
+use Rattle.fzn_terms.specs.declared.claim.Claim.{Claim}
+use Rattle.fzn_terms.specs.Denied.{IsDenied}
 
 -- claims of variables among so many; where all are denied the terms share no value
 pub record KeepApart (count : ℕ) (left right : Term) (claims : List Claim) : Type 0 where

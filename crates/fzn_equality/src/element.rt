@@ -7,23 +7,19 @@ ghost use Rattle.fzn_meaning.specs.declared.constraint.Constraint.TheVariants as
 ghost use Rattle.fzn_meaning.specs.Term.{IsTerm};
 ghost use Rattle.fzn_rules.specs.declared.rule.Rule.TheVariants as rule;
 ghost use Rattle.fzn_domain.specs.IntSet.{IntSet};
-ghost use Rattle.fzn_explain.specs.Claims.{IsDenied};
+ghost use Rattle.fzn_terms.specs.Denied.{IsDenied};
 ghost use Rattle.fzn_propagator.specs.Clause.{IsJustified};
 ghost use Rattle.fzn_propagator.specs.Inference.{AreFoundOf};
 ghost use Rattle.fzn_equality.specs.Rows.{IsRuledOut, LeavesNoIndex};
 
 use crate::shared::{share_none, shared_values};
-use crate::terms::{
-    Bound, SMALL, apart, claim_of, is_fixed, is_never, may_be, narrowings, other_than_each,
-    take_out,
-};
+use crate::terms::{Bound, SMALL, apart, claim_of, narrowings, other_than_each, take_out};
 use fzn_domain::{Lit, Memory, Op};
-use fzn_explain::{Claim, explain};
 use fzn_list::Items;
 use fzn_meaning::Term;
 use fzn_propagator::Findings;
 use fzn_rules::Rule;
-use fzn_sums::{greatest_value, least_value};
+use fzn_terms::{Claim, explanation_of, greatest_of, is_fixed, is_never, least_of, may_be};
 use fzn_trail::Trail;
 use std::alloc::Global;
 
@@ -96,9 +92,9 @@ fn is_outside(trail: &Trail, index: Term, count: usize, at_start: bool) -> bool
     requires short { count ≤ 100000 }
 {
     if at_start {
-        least_value(trail, index) < 1
+        least_of(trail, index) < 1
     } else {
-        greatest_value(trail, index) > count as i64
+        greatest_of(trail, index) > count as i64
     }
 }
 
@@ -119,16 +115,16 @@ fn ends_of_all(
     let mut least = i64::MAX;
     let mut greatest = i64::MIN;
     for k in 0..entries.len() {
-        if may_be(trail, index, k as i64 + 1) {
-            least = least.min(least_value(trail, entries[k]));
-            greatest = greatest.max(greatest_value(trail, entries[k]));
+        if may_be(trail, index, &(k as i64 + 1)) {
+            least = least.min(least_of(trail, entries[k]));
+            greatest = greatest.max(greatest_of(trail, entries[k]));
         }
     }
     let mut ends = Items::new(alloc);
-    if greatest < greatest_value(trail, value) {
+    if greatest < greatest_of(trail, value) {
         ends.push((Op::AtMost, greatest))?;
     }
-    if least_value(trail, value) < least {
+    if least_of(trail, value) < least {
         ends.push((Op::AtLeast, least))?;
     }
     Ok(ends)
@@ -151,13 +147,13 @@ fn values_of_none(
     let Term::Variable(var) = value else {
         return Ok(Items::new(alloc));
     };
-    let (low, high) = (least_value(trail, value), greatest_value(trail, value));
+    let (low, high) = (least_of(trail, value), greatest_of(trail, value));
     if high - low >= SMALL {
         return Ok(Items::new(alloc));
     }
     let mut left = trail.domain(var).copy()?;
     for k in 0..entries.len() {
-        if may_be(trail, index, k as i64 + 1) {
+        if may_be(trail, index, &(k as i64 + 1)) {
             take_out(trail, entries[k], low, high, var, &mut left)?;
             if left.is_empty() {
                 return Ok(Items::new(alloc));
@@ -209,7 +205,7 @@ fn equate_entry(
     requires before { AreFoundOf number (constraint.Element index entries.now value) trail.now found.old }
     ensures { AreFoundOf number (constraint.Element index entries.now value) trail.now found.new }
 {
-    let first = least_value(trail, index);
+    let first = least_of(trail, index);
     if first < 1 || first > entries.len() as i64 {
         return Ok(());
     }
@@ -243,7 +239,7 @@ fn part_entries(
     ensures { AreFoundOf number (constraint.Element index entries.now value) trail.now found.new }
 {
     for k in 0..entries.len() {
-        if may_be(trail, index, k as i64 + 1) {
+        if may_be(trail, index, &(k as i64 + 1)) {
             part_entry(alloc, trail, number, index, entries, value, k, found)?;
         }
     }
@@ -328,7 +324,7 @@ fn index_within(
     if !is_outside(trail, index, entries.len(), at_start) {
         return Ok(None);
     }
-    explain(alloc, trail, &[within(index, entries.len(), at_start)])
+    explanation_of(alloc, trail, &[within(index, entries.len(), at_start)])
 }
 
 /// That the index is no less than 1, or no more than the number of entries.
@@ -371,7 +367,7 @@ fn index_or_apart(
         return Ok(None);
     };
     let leads = Claim::other_than(index, place as i64 + 1);
-    explain(alloc, trail, &[leads, claim, other])
+    explanation_of(alloc, trail, &[leads, claim, other])
 }
 
 /// The clause that the index leads elsewhere, or the entry and the result share a value.
@@ -398,7 +394,7 @@ fn index_or_shared(
         return Ok(None);
     };
     claims.push(Claim::other_than(index, place as i64 + 1))?;
-    explain(alloc, trail, claims.as_slice())
+    explanation_of(alloc, trail, claims.as_slice())
 }
 
 /// The clause that the claim is true of the result, or the index leads to an entry of which its opposite is.
@@ -418,7 +414,7 @@ fn value_or_entries(
     requires filled { NoneEmpty trail.now.sets }
     ensures { IfOk result (λ found. IfSome found (IsJustified trail.now (constraint.Element index entries.now value) rule.Rows)) }
 {
-    let (low, high) = (least_value(trail, index), greatest_value(trail, index));
+    let (low, high) = (least_of(trail, index), greatest_of(trail, index));
     let mut claims = Items::new(alloc);
     claims.push(claim)?;
     claims.push(Claim::below(index, low))?;
@@ -433,7 +429,7 @@ fn value_or_entries(
             claims.push(ruled_out)?;
         }
     }
-    explain(alloc, trail, claims.as_slice())
+    explanation_of(alloc, trail, claims.as_slice())
 }
 
 /// That the index leads to this entry, where the trail says that it does not; else the claim of the entry.
@@ -445,7 +441,7 @@ fn other_place_or(trail: &Trail, index: Term, k: usize, entry: Claim) -> Claim
     ensures denied { (sets : List IntSet) → IsDenied sets result → IsRuledOut sets index k entry }
 {
     let place = k as i64 + 1;
-    if may_be(trail, index, place) || is_never(trail, entry.term, entry.op, entry.number) {
+    if may_be(trail, index, &place) || is_never(trail, entry) {
         entry
     } else {
         Claim::equal(index, place)

@@ -6,16 +6,16 @@ ghost use Rattle.fzn_meaning.specs.declared.constraint.Constraint.TheVariants as
 ghost use Rattle.fzn_meaning.specs.Meaning.{IsSwitch};
 ghost use Rattle.fzn_meaning.specs.Term.{IsTerm};
 ghost use Rattle.fzn_rules.specs.declared.rule.Rule.TheVariants as rule;
-ghost use Rattle.fzn_explain.specs.Claims.{IsDenied};
+ghost use Rattle.fzn_terms.specs.Denied.{IsDenied};
 ghost use Rattle.fzn_propagator.specs.Clause.{IsJustified};
 ghost use Rattle.fzn_equality.specs.Equality.{IsAskedEqual};
 
 use crate::shared::{share_none, shared_values};
-use crate::terms::{Bound, apart, claim_of, is_fixed, may_be, narrowing, never};
+use crate::terms::{Bound, apart, claim_of, narrowing};
 use fzn_domain::{Lit, Memory};
-use fzn_explain::{Claim, explain};
 use fzn_list::Items;
 use fzn_meaning::{Relation, Term};
+use fzn_terms::{Claim, explanation_of, is_fixed, may_be};
 use fzn_trail::Trail;
 use std::alloc::Global;
 
@@ -81,7 +81,7 @@ fn bound_of(
 {
     match switch {
         Some(term) if !is_fixed(trail, term) => apart(trail, left, right),
-        Some(term) if !may_be(trail, term, asking_value(relation)) => None,
+        Some(term) if !may_be(trail, term, &asking_value(relation)) => None,
         _ => narrowing(trail, left, right),
     }
 }
@@ -116,7 +116,7 @@ fn unasked_or_apart(
     let Some(other) = claim.opposite(right) else {
         return Ok(None);
     };
-    explain(alloc, trail, &[unasked, claim, other])
+    explanation_of(alloc, trail, &[unasked, claim, other])
 }
 
 /// The clause that equality is not asked for, or the terms share a value.
@@ -141,7 +141,7 @@ fn unasked_or_shared(
         return Ok(None);
     };
     claims.push(unasked)?;
-    explain(alloc, trail, claims.as_slice())
+    explanation_of(alloc, trail, claims.as_slice())
 }
 
 /// The claim that equality is not asked for. Nothing where it never is.
@@ -150,7 +150,7 @@ fn unasked(relation: Relation, switch: Option<Term>) -> Option<Claim>
     ensures denied { IfSome result (λ claim. (sets : List IntSet) → IsDenied sets claim → IsAskedEqual sets relation switch) }
 {
     match (relation, switch) {
-        (Relation::Equal, None) => Some(never()),
+        (Relation::Equal, None) => Some(Claim::never()),
         (Relation::Equal, Some(term)) => Some(Claim::other_than(term, 1)),
         (Relation::NotEqual, Some(term)) => Some(Claim::other_than(term, 0)),
         _ => None,

@@ -13,12 +13,11 @@ ghost use Rattle.fzn_propagator.specs.Inference.{AreFoundOf};
 
 use crate::terms::{Bound, SMALL, claim_of, other_than_each, take_out};
 use fzn_domain::{Lit, Memory, Op};
-use fzn_explain::{Claim, explain};
 use fzn_list::Items;
 use fzn_meaning::{Extreme, Term};
 use fzn_propagator::Findings;
 use fzn_rules::Rule;
-use fzn_sums::{greatest_value, least_value};
+use fzn_terms::{Claim, explanation_of, greatest_of, least_of};
 use fzn_trail::Trail;
 use std::alloc::Global;
 
@@ -84,8 +83,8 @@ fn foremost(trail: &Trail, extreme: Extreme, entries: &[Term], of: Term) -> Opti
     ensures number { IfSome result (λ found. (negsuc 1000000000 ≤ℤ found.1) × (found.1 ≤ℤ pos 1000000001)) }
 {
     match extreme {
-        Extreme::Greatest => greatest_least(trail, entries, least_value(trail, of)),
-        Extreme::Least => least_greatest(trail, entries, greatest_value(trail, of)),
+        Extreme::Greatest => greatest_least(trail, entries, least_of(trail, of)),
+        Extreme::Least => least_greatest(trail, entries, greatest_of(trail, of)),
     }
 }
 
@@ -99,7 +98,7 @@ fn greatest_least(trail: &Trail, entries: &[Term], low: i64) -> Option<(usize, i
     let mut found = None;
     let mut passed = low;
     for k in 0..entries.len() {
-        let least = least_value(trail, entries[k]);
+        let least = least_of(trail, entries[k]);
         if passed < least {
             passed = least;
             found = Some((k, least));
@@ -118,7 +117,7 @@ fn least_greatest(trail: &Trail, entries: &[Term], high: i64) -> Option<(usize, 
     let mut found = None;
     let mut passed = high;
     for k in 0..entries.len() {
-        let greatest = greatest_value(trail, entries[k]);
+        let greatest = greatest_of(trail, entries[k]);
         if greatest < passed {
             passed = greatest;
             found = Some((k, greatest + 1));
@@ -135,8 +134,8 @@ fn first_beyond(trail: &Trail, extreme: Extreme, of: Term) -> i64
     ensures greatest { result ≤ℤ pos 1000000001 }
 {
     match extreme {
-        Extreme::Greatest => greatest_value(trail, of) + 1,
-        Extreme::Least => least_value(trail, of),
+        Extreme::Greatest => greatest_of(trail, of) + 1,
+        Extreme::Least => least_of(trail, of),
     }
 }
 
@@ -146,8 +145,8 @@ fn may_pass(trail: &Trail, extreme: Extreme, entry: Term, number: i64) -> bool
     requires filled { NoneEmpty trail.now.sets }
 {
     match extreme {
-        Extreme::Greatest => number <= greatest_value(trail, entry),
-        Extreme::Least => least_value(trail, entry) < number,
+        Extreme::Greatest => number <= greatest_of(trail, entry),
+        Extreme::Least => least_of(trail, entry) < number,
     }
 }
 
@@ -181,16 +180,16 @@ fn ends_of_greatest(
     requires of { IsTerm (length trail.now.declared) of }
     requires filled { NoneEmpty trail.now.sets }
 {
-    let (low, high) = (least_value(trail, of), greatest_value(trail, of));
+    let (low, high) = (least_of(trail, of), greatest_of(trail, of));
     let mut all = i64::MIN;
     let mut several = false;
     let mut alone = None;
     for entry in entries {
-        let greatest = greatest_value(trail, *entry);
+        let greatest = greatest_of(trail, *entry);
         all = all.max(greatest);
         if low <= greatest {
             several = several || alone.is_some();
-            alone = Some(least_value(trail, *entry));
+            alone = Some(least_of(trail, *entry));
         }
     }
     let mut ends = Items::new(alloc);
@@ -218,16 +217,16 @@ fn ends_of_least(
     requires of { IsTerm (length trail.now.declared) of }
     requires filled { NoneEmpty trail.now.sets }
 {
-    let (low, high) = (least_value(trail, of), greatest_value(trail, of));
+    let (low, high) = (least_of(trail, of), greatest_of(trail, of));
     let mut all = i64::MAX;
     let mut several = false;
     let mut alone = None;
     for entry in entries {
-        let least = least_value(trail, *entry);
+        let least = least_of(trail, *entry);
         all = all.min(least);
         if least <= high {
             several = several || alone.is_some();
-            alone = Some(greatest_value(trail, *entry));
+            alone = Some(greatest_of(trail, *entry));
         }
     }
     let mut ends = Items::new(alloc);
@@ -257,7 +256,7 @@ fn values_of_none(
     let Term::Variable(var) = of else {
         return Ok(Items::new(alloc));
     };
-    let (low, high) = (least_value(trail, of), greatest_value(trail, of));
+    let (low, high) = (least_of(trail, of), greatest_of(trail, of));
     if high - low >= SMALL {
         return Ok(Items::new(alloc));
     }
@@ -366,7 +365,7 @@ fn entry_or_extremum(
     ensures { IfOk result (λ found. IfSome found (IsJustified trail.now (constraint.Extremum extreme entries.now of) rule.Rows)) }
 {
     let (lower, upper) = in_order(extreme, of, entries[place]);
-    explain(
+    explanation_of(
         alloc,
         trail,
         &[Claim::above(lower, number - 1), Claim::below(upper, number)],
@@ -406,5 +405,5 @@ fn extremum_or_entries(
         };
         claims.push(entry)?;
     }
-    explain(alloc, trail, claims.as_slice())
+    explanation_of(alloc, trail, claims.as_slice())
 }

@@ -8,7 +8,7 @@
 pub use element::infer_element;
 pub use equality::infer_equal;
 pub use extremum::infer_extremum;
-pub use terms::{SMALL, is_fixed, may_be, never};
+pub use terms::SMALL;
 
 mod element;
 mod equality;

@@ -5,15 +5,14 @@ ghost use Rattle.fzn_domain.specs.Limits.{IsInLimits};
 ghost use Rattle.fzn_domain.specs.Narrow.{NoneEmpty};
 ghost use Rattle.fzn_meaning.specs.Term.{IsTerm};
 ghost use Rattle.fzn_sets.specs.Terms.{MayBe};
-ghost use Rattle.fzn_explain.specs.Claims.{IsDenied};
+ghost use Rattle.fzn_terms.specs.Denied.{IsDenied};
 ghost use Rattle.fzn_equality.specs.Shared.{KeepApart};
 
-use crate::terms::{SMALL, may_be};
+use crate::terms::SMALL;
 use fzn_domain::{Domain, Memory};
-use fzn_explain::Claim;
 use fzn_list::Items;
 use fzn_meaning::Term;
-use fzn_sums::{greatest_value, least_value};
+use fzn_terms::{Claim, greatest_of, least_of, may_be};
 use fzn_trail::Trail;
 use std::alloc::Global;
 
@@ -63,8 +62,8 @@ pub fn shared_values(
 {
     let low = common_low(trail, left, right);
     let high = common_high(trail, left, right);
-    let below = one_below(left, right, low == least_value(trail, left), low);
-    let above = one_above(left, right, high == greatest_value(trail, left), high);
+    let below = one_below(left, right, low == least_of(trail, left), low);
+    let above = one_above(left, right, high == greatest_of(trail, left), high);
     values_from(alloc, trail, left, right, below, above, low, high)
 }
 
@@ -75,7 +74,7 @@ fn common_low(trail: &Trail, left: Term, right: Term) -> i64
     requires filled { NoneEmpty trail.now.sets }
     ensures { IsInLimits result }
 {
-    let (low, other) = (least_value(trail, left), least_value(trail, right));
+    let (low, other) = (least_of(trail, left), least_of(trail, right));
     if low < other { other } else { low }
 }
 
@@ -86,7 +85,7 @@ fn common_high(trail: &Trail, left: Term, right: Term) -> i64
     requires filled { NoneEmpty trail.now.sets }
     ensures { IsInLimits result }
 {
-    let (high, other) = (greatest_value(trail, left), greatest_value(trail, right));
+    let (high, other) = (greatest_of(trail, left), greatest_of(trail, right));
     if high < other { high } else { other }
 }
 
@@ -156,7 +155,7 @@ fn one_is(trail: &Trail, left: Term, right: Term, number: i64) -> Claim
     ensures term { (count : ℕ) → IsTerm count left → IsTerm count right → IsTerm count result.term }
     ensures denied { (sets : List IntSet) → IsDenied sets result → MayBe sets left number → MayBe sets right number → ⊥ }
 {
-    if may_be(trail, left, number) {
+    if may_be(trail, left, &number) {
         Claim::equal(right, number)
     } else {
         Claim::equal(left, number)

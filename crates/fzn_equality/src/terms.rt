@@ -1,15 +1,14 @@
 // What a trail leaves to terms.
-ghost use Rattle.std.specs.Prelude.{◌≡◌, true, ℕ, length, ◌≤ℤ◌, pos, negsuc};
+ghost use Rattle.std.specs.Prelude.{◌≡◌, true, length, ◌≤ℤ◌, pos, negsuc};
 ghost use Rattle.fzn_domain.specs.IntSet.{contains};
 ghost use Rattle.fzn_domain.specs.Limits.{IsInLimits};
 ghost use Rattle.fzn_domain.specs.Narrow.{NoneEmpty};
 ghost use Rattle.fzn_meaning.specs.Term.{IsTerm};
 
 use fzn_domain::{Domain, Lit, Memory, Op, VarId};
-use fzn_explain::Claim;
 use fzn_list::Items;
 use fzn_meaning::Term;
-use fzn_sums::{greatest_value, least_value};
+use fzn_terms::{Claim, greatest_of, is_never, least_of, may_be};
 use fzn_trail::Trail;
 use std::alloc::Global;
 
@@ -30,50 +29,6 @@ pub fn claim_of(term: Term, bound: Bound) -> Claim
     }
 }
 
-/// What is true of no value.
-pub fn never() -> Claim
-    ensures { (count : ℕ) → IsTerm count result.term }
-{
-    Claim::other_than(Term::Constant(0), 0)
-}
-
-/// Whether the term may have this value.
-pub fn may_be(trail: &Trail, term: Term, value: i64) -> bool
-    requires { IsTerm (length trail.now.declared) term }
-{
-    match term {
-        Term::Constant(k) => k == value,
-        Term::Variable(var) => trail.domain(var).contains(value),
-    }
-}
-
-/// Whether the term has one value. Each present set has a value.
-pub fn is_fixed(trail: &Trail, term: Term) -> bool
-    requires term { IsTerm (length trail.now.declared) term }
-    requires filled { NoneEmpty trail.now.sets }
-{
-    least_value(trail, term) == greatest_value(trail, term)
-}
-
-/// Whether no declared value of the term stands so to the number.
-pub fn is_never(trail: &Trail, term: Term, op: Op, number: i64) -> bool
-    requires { IsTerm (length trail.now.declared) term }
-{
-    match term {
-        Term::Constant(k) => !Lit {
-            var: VarId(1),
-            op,
-            value: number,
-        }
-        .is_true_at(k),
-        Term::Variable(var) => trail.declared(var).is_false(Lit {
-            var,
-            op,
-            value: number,
-        }),
-    }
-}
-
 /// Where two terms have no common value by their ends, or by the one value of one of them: what keeps them apart. It is false of the
 /// first, and its opposite of the second.
 pub fn apart(trail: &Trail, one: Term, other: Term) -> Option<Bound>
@@ -81,18 +36,18 @@ pub fn apart(trail: &Trail, one: Term, other: Term) -> Option<Bound>
     requires other { IsTerm (length trail.now.declared) other }
     requires filled { NoneEmpty trail.now.sets }
 {
-    let (low, high) = (least_value(trail, one), greatest_value(trail, one));
-    let (other_low, other_high) = (least_value(trail, other), greatest_value(trail, other));
+    let (low, high) = (least_of(trail, one), greatest_of(trail, one));
+    let (other_low, other_high) = (least_of(trail, other), greatest_of(trail, other));
     if high < other_low {
         return Some((Op::AtLeast, parting(trail, other, high, other_low)));
     }
     if other_high < low {
         return Some((Op::AtMost, parting(trail, one, other_high, low) - 1));
     }
-    if low == high && !may_be(trail, other, low) {
+    if low == high && !may_be(trail, other, &low) {
         return Some((Op::NotEqual, low));
     }
-    if other_low == other_high && !may_be(trail, one, other_low) {
+    if other_low == other_high && !may_be(trail, one, &other_low) {
         return Some((Op::Equal, other_low));
     }
     None
@@ -106,7 +61,7 @@ fn parting(trail: &Trail, upper: Term, high: i64, low: i64) -> i64
     ensures least { negsuc 1000000000 ≤ℤ result }
     ensures greatest { result ≤ℤ pos 1000000001 }
 {
-    if is_never(trail, upper, Op::AtMost, low - 1) {
+    if is_never(trail, Claim::below(upper, low)) {
         low
     } else {
         high + 1
@@ -124,7 +79,7 @@ pub fn narrowing(trail: &Trail, one: Term, other: Term) -> Option<Bound>
             return *bound;
         }
     }
-    let value = difference(trail, one, other, least_value(trail, one))?;
+    let value = difference(trail, one, other, least_of(trail, one))?;
     Some(difference_at(trail, one, value))
 }
 
@@ -157,8 +112,8 @@ fn narrowed_ends(trail: &Trail, one: Term, other: Term) -> [Option<Bound>; 4]
     requires other { IsTerm (length trail.now.declared) other }
     requires filled { NoneEmpty trail.now.sets }
 {
-    let (low, high) = (least_value(trail, one), greatest_value(trail, one));
-    let (other_low, other_high) = (least_value(trail, other), greatest_value(trail, other));
+    let (low, high) = (least_of(trail, one), greatest_of(trail, one));
+    let (other_low, other_high) = (least_of(trail, other), greatest_of(trail, other));
     [
         bound_where(other_high < high, Op::AtMost, other_high),
         bound_where(low < other_low, Op::AtLeast, other_low),
@@ -183,12 +138,12 @@ fn add_differences(
     requires other { IsTerm (length trail.now.declared) other }
     requires filled { NoneEmpty trail.now.sets }
 {
-    let Some(first) = difference(trail, one, other, least_value(trail, one)) else {
+    let Some(first) = difference(trail, one, other, least_of(trail, one)) else {
         return Ok(());
     };
-    let last = greatest_value(trail, one).min(first.saturating_add(SMALL));
+    let last = greatest_of(trail, one).min(first.saturating_add(SMALL));
     for value in first..last + 1 {
-        if may_be(trail, one, value) != may_be(trail, other, value) {
+        if may_be(trail, one, &value) != may_be(trail, other, &value) {
             bounds.push(difference_at(trail, one, value))?;
         }
     }
@@ -199,7 +154,7 @@ fn add_differences(
 fn difference_at(trail: &Trail, one: Term, value: i64) -> Bound
     requires { IsTerm (length trail.now.declared) one }
 {
-    if may_be(trail, one, value) {
+    if may_be(trail, one, &value) {
         (Op::NotEqual, value)
     } else {
         (Op::Equal, value)
@@ -275,10 +230,10 @@ pub fn take_out(
     requires low { IsInLimits low }
     requires high { IsInLimits high }
 {
-    let from = low.max(least_value(trail, term));
-    let until = high.min(greatest_value(trail, term));
+    let from = low.max(least_of(trail, term));
+    let until = high.min(greatest_of(trail, term));
     for value in from..until + 1 {
-        if left.contains(value) && may_be(trail, term, value) {
+        if left.contains(value) && may_be(trail, term, &value) {
             left.restrict(Lit {
                 var,
                 op: Op::NotEqual,

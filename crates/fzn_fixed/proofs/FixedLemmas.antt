@@ -74,7 +74,7 @@ literal_none trail clause of outcome lit where_true fails =
     subst (λ (o : Option Term). NoneLeft trail clause o outcome) (sym where_true.of_result)
     (λ v left admitted. true≢false (sym ((where_true.admitted v left.0).0 admitted) ∙ fails v left))
 
-some_and : {A : Type 0} (found : Option A) (a : A) (P : A → Type 0) → found ≡ Some a → P a → IsSomeAnd found P
+pub some_and : {A : Type 0} (found : Option A) (a : A) (P : A → Type 0) → found ≡ Some a → P a → IsSomeAnd found P
 some_and {A = A} found a P is h = subst (λ (o : Option A). IsSomeAnd o P) (sym is) h
 
 module _ (trail : Levels) (parts : Parts) (outcome : Outcome) (clause : List Lit) (ready : IsReady (length trail.declared) parts) (fit : All (IsTerm (length trail.declared)) parts.inputs) (is : IsOutcome parts.constraint (values_on trail parts.inputs) outcome) where

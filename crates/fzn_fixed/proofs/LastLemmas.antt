@@ -1,5 +1,5 @@
 -- Inputs that have these values alone, and a result that has none of those that they admit.
-use Rattle.std.proofs.Common.{◌≡◌, ◌↔◌, ℕ, suc, ◌+◌, ◌*◌, ◌<◌, false, List, [], ◌∷◌, ◌++◌, length, get_or, refl, sym, ap, ap₂, subst, ◌∙◌, inl, inr, arith, ℤ, pos, All, Option, Some, None, IsSomeAnd, MatchOption}
+use Rattle.std.proofs.Common.{◌≡◌, ◌↔◌, ℕ, suc, ◌+◌, ◌*◌, ◌<◌, false, List, [], ◌∷◌, ◌++◌, length, get_or, refl, sym, ap, ap₂, subst, ◌∙◌, inl, inr, arith, ℤ, pos, All, Option, Some, None, MatchOption}
 use Rattle.std.proofs.lemmas.Bool.{cases_eq}
 use Rattle.std.proofs.lemmas.List.{get_or_default}
 use Rattle.std.proofs.lemmas.List.Elements.{All-nil, All-head, All-tail, All-push}
@@ -14,14 +14,15 @@ use Rattle.fzn_sets.proofs.ValueLemmas.{some_value}
 use Rattle.fzn_builtin_rules.specs.Choices.{inputs_of, result_of, Relates, NoneOf, count_of, choices, IsChoice}
 use Rattle.fzn_rules.specs.declared.rule.Rule.TheVariants as rule
 use Rattle.fzn_rules.specs.Rules.{IsMet}
-use Rattle.fzn_explain.specs.declared.claim.Claim.{Claim}
-use Rattle.fzn_explain.specs.Claims.{IsDenied, Refute}
+use Rattle.fzn_terms.specs.declared.claim.Claim.{Claim}
+use Rattle.fzn_terms.specs.Denied.{IsDenied, Refute}
 use Rattle.fzn_fixed.specs.declared.outcome.Outcome.{Outcome}
 use Rattle.fzn_fixed.specs.declared.parts.Parts.{Parts}
 use Rattle.fzn_fixed.specs.Outcome.{Admits, IsOutcome}
 use Rattle.fzn_fixed.specs.Parts.{IsReady}
 use Rattle.fzn_fixed.proofs.MeaningLemmas.{inputs_fit}
 use Rattle.fzn_equality.proofs.CallerLemmas.{All-front, All-last}
+use Rattle.fzn_fixed.proofs.FixedLemmas.{some_and}
 
 -- the terms at the first places have these values alone
 abbrev pub HaveOnly : List IntSet → List Term → List ℤ → ℕ → Type 0
@@ -55,9 +56,6 @@ module _ (sets : List IntSet) (filled : is_some_empty sets ≡ false) where
 none_related : (sets : List IntSet) (of : Option Term) (outcome : Outcome) (R : Option ℤ → Type 0) → MatchOption of (R None ↔ Admits outcome None) (λ _. (r : ℤ) → R (Some r) ↔ Admits outcome (Some r)) → NoneOf sets of (Admits outcome) → NoneOf sets of R
 none_related sets None outcome R is none = λ related. none (is.0 related)
 none_related sets (Some t) outcome R is none = λ v may related. none v may ((is v).0 related)
-
-some_and : {A : Type 0} (found : Option A) (a : A) (P : A → Type 0) → found ≡ Some a → P a → IsSomeAnd found P
-some_and {A = A} found a P is h = subst (λ (o : Option A). IsSomeAnd o P) (sym is) h
 
 -- ---- the claims
 

@@ -3,16 +3,15 @@ use Rattle.std.proofs.Common.{◌≡◌, ◌↔◌, ℕ, ◌-◌, true, List, []
 use Rattle.std.proofs.lemmas.List.Elements.{All-head, All-tail, All-cons, All-from_recursion}
 use Rattle.std.proofs.lemmas.Option.{none-some}
 use Rattle.fzn_domain.specs.declared.literal.Lit.{Lit}
-use Rattle.fzn_domain.specs.IntSet.{IntSet, contains, least, greatest, no_values}
+use Rattle.fzn_domain.specs.IntSet.{IntSet, contains}
 use Rattle.fzn_domain.specs.Narrow.{IsWithin, set_of, value_of}
-use Rattle.fzn_domain.proofs.SetLemmas.{only_member, contains-least, contains-greatest}
 use Rattle.fzn_meaning.specs.declared.term.Term.{Term}
-use Rattle.fzn_meaning.specs.declared.term.Term.TheVariants.{Constant, Variable}
 use Rattle.fzn_meaning.specs.declared.constraint.Constraint.{Constraint}
 use Rattle.fzn_meaning.specs.declared.constraint.Constraint.TheVariants as constraint
 use Rattle.fzn_meaning.specs.Term.{IsTerm, term_value, values_of}
 use Rattle.fzn_meaning.specs.Meaning.{Meets, IsWellFormed, IsSwitch, switch_value}
-use Rattle.fzn_sets.specs.Terms.{MayBe, least_value, greatest_value}
+use Rattle.fzn_sets.specs.Terms.{least_value}
+use Rattle.fzn_sets.proofs.CallerLemmas.{MayBe-term_value}
 use Rattle.fzn_builtin_rules.specs.Form.{form_of}
 use Rattle.fzn_builtin_rules.specs.Choices.{inputs_of, result_of, Relates}
 use Rattle.fzn_trail.specs.Levels.{Levels}
@@ -20,7 +19,9 @@ use Rattle.fzn_propagator.specs.Inference.{AllFixed, HoldsWhereFixed}
 use Rattle.fzn_fixed.specs.declared.outcome.Outcome.{Outcome}
 use Rattle.fzn_fixed.specs.declared.parts.Parts.{Parts}
 use Rattle.fzn_fixed.specs.Demand.{AdmitsEach, AdmitsWhere}
-use Rattle.fzn_fixed.specs.Denial.{IsFixed, IsTrueOn}
+use Rattle.fzn_terms.specs.Claims.{IsFixed}
+use Rattle.fzn_terms.proofs.FixedLemmas.{fixed_to, fixed_ends}
+use Rattle.fzn_fixed.specs.Denial.{IsTrueOn}
 use Rattle.fzn_fixed.specs.Outcome.{Admits, IsOutcome}
 use Rattle.fzn_fixed.specs.Parts.{IsReady}
 use Rattle.fzn_fixed.proofs.FixedLemmas.{values_on}
@@ -45,31 +46,15 @@ meets (constraint.BoolClause positive negative) values other = absurd (none-some
 meets _ values other = tt
 
 module _ (sets : List IntSet) (values : List ℤ) (within : IsWithin sets values) where
-  value_may : (term : Term) → IsTerm (length sets) term → MayBe sets term (term_value values term)
-  value_may (Constant k) fits = refl
-  value_may (Variable var) fits = within.inside (var.0 - 1) (omega arith)
-
-  -- so it is one that is admitted of each
+  -- it is one that is admitted of each
   admitted : (of : Option Term) (outcome : Outcome) → IsSwitch (length sets) of → AdmitsEach sets of outcome → Admits outcome (switch_value values of)
   admitted None outcome fits each = each
-  admitted (Some term) outcome fits each = each (term_value values term) (value_may term fits)
+  admitted (Some term) outcome fits each = each (term_value values term) (MayBe-term_value sets values term within fits)
 
   module _ (fixed : AllFixed sets) where
-    value_is : (term : Term) → IsTerm (length sets) term → term_value values term ≡ least_value sets term
-    value_is (Constant k) fits = refl
-    value_is (Variable var) fits =
-        let here : contains (set_of sets var) (value_of values var) ≡ true = within.inside (var.0 - 1) (omega arith) in
-        only_member (set_of sets var) (value_of values var) (least (set_of sets var)) (fixed (var.0 - 1) no_values (omega arith)) here (contains-least (set_of sets var) (value_of values var) here)
-
-    pub fixed_ends : (term : Term) → IsTerm (length sets) term → least_value sets term ≡ greatest_value sets term
-    fixed_ends (Constant k) fits = refl
-    fixed_ends (Variable var) fits =
-        let here : contains (set_of sets var) (value_of values var) ≡ true = within.inside (var.0 - 1) (omega arith) in
-        only_member (set_of sets var) (least (set_of sets var)) (greatest (set_of sets var)) (fixed (var.0 - 1) no_values (omega arith)) (contains-least (set_of sets var) (value_of values var) here) (contains-greatest (set_of sets var) (value_of values var) here)
-
     values_are : (terms : List Term) → All (IsTerm (length sets)) terms → values_of values terms ≡ map (least_value sets) terms
     values_are [] fit = refl
-    values_are (t ∷ terms) fit = ap₂ (λ (x : ℤ) (xs : List ℤ). x ∷ xs) (value_is t (All-head (IsTerm (length sets)) t terms fit)) (values_are terms (All-tail (IsTerm (length sets)) t terms fit))
+    values_are (t ∷ terms) fit = ap₂ (λ (x : ℤ) (xs : List ℤ). x ∷ xs) (sym (fixed_to sets values within fixed t (All-head (IsTerm (length sets)) t terms fit)).0) (values_are terms (All-tail (IsTerm (length sets)) t terms fit))
 
 related_of : (values : List ℤ) (of : Option Term) (outcome : Outcome) (R : Option ℤ → Type 0) → MatchOption of (R None ↔ Admits outcome None) (λ _. (r : ℤ) → R (Some r) ↔ Admits outcome (Some r)) → Admits outcome (switch_value values of) → R (switch_value values of)
 related_of values None outcome R is here = is.1 here

@@ -1,5 +1,5 @@
 -- Outcomes of the kinds of constraints.
-use Rattle.std.proofs.Common.{◌≡◌, ◌↔◌, ℕ, ◌+◌, ◌<◌, true, false, List, [], ◌∷◌, length, get_or, drop, sym, subst, ◌∙◌, inl, inr, arith, ℤ, pos, ◌≤ℤ◌, int_le, Option, Some, None, MatchOption}
+use Rattle.std.proofs.Common.{◌≡◌, ◌↔◌, ℕ, ◌+◌, ◌<◌, false, List, [], ◌∷◌, length, get_or, drop, sym, subst, ◌∙◌, inl, inr, arith, ℤ, pos, ◌≤ℤ◌, int_le, Option, Some, None, MatchOption}
 use Rattle.std.proofs.lemmas.Int.{ints}
 use Rattle.std.specs.List.{All}
 use Rattle.std.proofs.lemmas.List.Elements.{All-contains, All-from_get_or, Contains-get_or}
@@ -19,6 +19,7 @@ use Rattle.fzn_meaning.specs.Extrema.{Bounds, IsExtremum}
 use Rattle.fzn_builtin_rules.specs.Choices.{result_of, Relates}
 use Rattle.fzn_fixed.specs.declared.outcome.Outcome.{Outcome}
 use Rattle.fzn_fixed.specs.Outcome.{Admits, IsOutcome}
+use Rattle.fzn_terms.proofs.OrderLemmas.{at_most}
 
 module _ (outcome : Outcome) where
   pub arithmetic_is : (operation : Operation) (left right of : Term) (values : List ℤ) → 2 ≡ length values → ((r : ℤ) → IsArithmetic operation (get_or values 0 (pos 0)) (get_or values 1 (pos 0)) r ↔ Admits outcome (Some r)) → IsOutcome (constraint.Arithmetic operation left right of) values outcome
@@ -95,15 +96,12 @@ any_member_is term set (Some switch) values outcome P count same is = switched_m
 
 -- ---- the extremum so far
 
-le_of : (a b : ℤ) → int_le a b ≡ true → a ≤ℤ b
-le_of a b h = grind (arith, ints)
-
 le_other : (a b : ℤ) → int_le a b ≡ false → b ≤ℤ a
 le_other a b h = grind (arith, ints)
 
 either_bounds : (extreme : Extreme) (a b : ℤ) → (Bounds extreme a b → ⊥) → Bounds extreme b a
-either_bounds Least a b h = elim (cases_Bool (int_le a b)) [ inl holds ↦ absurd (h (le_of a b holds)) | inr fails ↦ le_other a b fails ]
-either_bounds Greatest a b h = elim (cases_Bool (int_le b a)) [ inl holds ↦ absurd (h (le_of b a holds)) | inr fails ↦ le_other b a fails ]
+either_bounds Least a b h = elim (cases_Bool (int_le a b)) [ inl holds ↦ absurd (h (at_most a b holds)) | inr fails ↦ le_other a b fails ]
+either_bounds Greatest a b h = elim (cases_Bool (int_le b a)) [ inl holds ↦ absurd (h (at_most b a holds)) | inr fails ↦ le_other b a fails ]
 
 bounds_self : (extreme : Extreme) (a : ℤ) → Bounds extreme a a
 bounds_self Least a = omega (arith, ints)

@@ -7,14 +7,10 @@ use Rattle.fzn_domain.specs.IntSet.{IntSet, contains, is_possible}
 use Rattle.fzn_domain.specs.Narrow.{set_of}
 use Rattle.fzn_meaning.specs.declared.term.Term.{Term}
 use Rattle.fzn_meaning.specs.declared.term.Term.TheVariants.{Variable}
-use Rattle.fzn_sets.specs.Terms.{least_value, greatest_value}
+use Rattle.fzn_sets.specs.Terms.{least_value}
 use Rattle.fzn_trail.specs.Levels.{Levels}
 use Rattle.fzn_propagator.specs.Clause.{IsWritable, IsFalseClause, IsForcing}
 use Rattle.fzn_propagator.specs.Left.{IsLeft}
-
--- the term has one value
-abbrev pub IsFixed : List IntSet → Term → Type 0
-IsFixed sets term = least_value sets term ≡ greatest_value sets term
 
 -- the clause leaves the term the value that it has on the trail, and no other
 abbrev pub IsOnlyLeft : Levels → List Lit → Term → Type 0

@@ -5,17 +5,19 @@ ghost use Rattle.fzn_domain.specs.Narrow.{IsVariable, NoneEmpty};
 ghost use Rattle.fzn_meaning.specs.Term.{IsTerm};
 ghost use Rattle.fzn_rules.specs.declared.rule.Rule.TheVariants as rule;
 ghost use Rattle.fzn_propagator.specs.Clause.{IsWritable, IsJustified};
-ghost use Rattle.fzn_fixed.specs.Denial.{IsFixed, IsDenialOr, IsTrueOn};
 ghost use Rattle.fzn_propagator.specs.Inference.{HoldsWhereFixed};
+ghost use Rattle.fzn_terms.specs.Claims.{IsFixed};
+ghost use Rattle.fzn_fixed.specs.Denial.{IsDenialOr, IsTrueOn};
 ghost use Rattle.fzn_fixed.specs.Parts.{IsReady};
 
 use crate::demand::{Demand, demand_of};
 use crate::outcome::outcome_of;
 use crate::parts::Parts;
-use crate::values::{are_fixed, denial, values_of};
+use crate::values::{denial, values_of};
 use fzn_domain::{Lit, Memory};
 use fzn_list::Items;
 use fzn_meaning::Term;
+use fzn_terms::are_fixed;
 use fzn_trail::Trail;
 use std::alloc::Global;
 

@@ -8,7 +8,7 @@ ghost use Rattle.fzn_meaning.specs.Meaning.{IsSwitch};
 ghost use Rattle.fzn_meaning.specs.Term.{IsTerm};
 ghost use Rattle.fzn_builtin_rules.specs.Choices.{NoneOf};
 ghost use Rattle.fzn_rules.specs.declared.rule.Rule.TheVariants as rule;
-ghost use Rattle.fzn_explain.specs.Claims.{IsDenied};
+ghost use Rattle.fzn_terms.specs.Denied.{IsDenied};
 ghost use Rattle.fzn_propagator.specs.Clause.{IsJustified};
 ghost use Rattle.fzn_fixed.specs.Outcome.{Admits};
 ghost use Rattle.fzn_fixed.specs.Parts.{IsReady};
@@ -16,11 +16,9 @@ ghost use Rattle.fzn_fixed.specs.Parts.{IsReady};
 use crate::outcome::{Outcome, outcome_of};
 use crate::parts::Parts;
 use fzn_domain::{Lit, Memory};
-use fzn_equality::{is_fixed, may_be, never};
-use fzn_explain::{Claim, explain};
 use fzn_list::Items;
 use fzn_meaning::Term;
-use fzn_sums::{greatest_value, least_value};
+use fzn_terms::{Claim, explanation_of, greatest_of, is_fixed, least_of, may_be};
 use fzn_trail::Trail;
 use std::alloc::Global;
 
@@ -43,15 +41,15 @@ pub fn infer_last(alloc: Global, trail: &Trail, parts: &Parts) -> Result<Option<
         return Ok(None);
     };
     let (low, high) = (
-        least_value(trail, inputs[place]),
-        greatest_value(trail, inputs[place]),
+        least_of(trail, inputs[place]),
+        greatest_of(trail, inputs[place]),
     );
     for step in 0..STEPS {
         let value = low + step as i64;
         if high < value {
             return Ok(None);
         }
-        if may_be(trail, inputs[place], value) {
+        if may_be(trail, inputs[place], &value) {
             let values = values_with(alloc, trail, inputs, place, value)?;
             let outcome = outcome_of(&parts.constraint, values.as_slice());
             if is_missed(trail, parts.result, outcome) {
@@ -114,7 +112,7 @@ fn value_or_least(trail: &Trail, term: Term, is_open: bool, value: i64) -> i64
     if is_open {
         value
     } else {
-        least_value(trail, term)
+        least_of(trail, term)
     }
 }
 
@@ -136,9 +134,9 @@ fn is_missed(trail: &Trail, of: Option<Term>, outcome: Outcome) -> bool
 {
     match (of, outcome) {
         (_, Outcome::Fails) => true,
-        (Some(term), Outcome::Only(value)) => !may_be(trail, term, value),
+        (Some(term), Outcome::Only(value)) => !may_be(trail, term, &value),
         (Some(term), Outcome::AllBut(value)) => {
-            is_fixed(trail, term) && least_value(trail, term) == value
+            is_fixed(trail, term) && least_of(trail, term) == value
         }
         _ => false,
     }
@@ -168,7 +166,7 @@ fn other_values(
         claims.push(Claim::other_than(inputs[k], values[k]))?;
     }
     claims.push(claim)?;
-    explain(alloc, trail, claims.as_slice())
+    explanation_of(alloc, trail, claims.as_slice())
 }
 
 /// The claim that the result has a value which the outcome admits. Nothing where the constraint holds without a result.
@@ -180,6 +178,6 @@ fn admitted(of: Option<Term>, outcome: Outcome) -> Option<Claim>
         (None, Outcome::Holds) => None,
         (Some(term), Outcome::Only(value)) => Some(Claim::equal(term, value)),
         (Some(term), Outcome::AllBut(value)) => Some(Claim::other_than(term, value)),
-        _ => Some(never()),
+        _ => Some(Claim::never()),
     }
 }

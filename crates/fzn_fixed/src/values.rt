@@ -1,33 +1,20 @@
 // The values of terms that have one value each, and the clause that some term has another.
-ghost use Rattle.std.specs.Prelude.{◌≡◌, ◌↔◌, IsTrue, IfOk, IfSome, IfNone, [], length, map, ℤ};
+ghost use Rattle.std.specs.Prelude.{◌≡◌, IfOk, IfSome, IfNone, [], length, map, ℤ};
 ghost use Rattle.std.specs.List.{All};
 ghost use Rattle.fzn_domain.specs.Limits.{IsInLimits};
 ghost use Rattle.fzn_domain.specs.Narrow.{NoneEmpty};
 ghost use Rattle.fzn_meaning.specs.Term.{IsTerm};
-ghost use Rattle.fzn_sets.specs.Terms.{least_value, greatest_value};
+ghost use Rattle.fzn_sets.specs.Terms.{least_value};
 ghost use Rattle.fzn_propagator.specs.Left.{IsLeft};
-ghost use Rattle.fzn_fixed.specs.Denial.{IsFixed, IsOtherValue, IsDenial};
+ghost use Rattle.fzn_terms.specs.Claims.{IsFixed};
+ghost use Rattle.fzn_fixed.specs.Denial.{IsOtherValue, IsDenial};
 
 use fzn_domain::{Lit, Memory, Op};
 use fzn_list::Items;
 use fzn_meaning::Term;
-use fzn_sums::{greatest_value, least_value};
+use fzn_terms::least_of;
 use fzn_trail::Trail;
 use std::alloc::Global;
-
-/// Whether each of the terms has one value.
-pub fn are_fixed(trail: &Trail, terms: &[Term]) -> bool
-    requires terms { All (IsTerm (length trail.now.declared)) terms.now }
-    requires filled { NoneEmpty trail.now.sets }
-    ensures { IsTrue result ↔ All (IsFixed trail.now.sets) terms.now }
-{
-    for term in terms {
-        if least_value(trail, *term) != greatest_value(trail, *term) {
-            return false;
-        }
-    }
-    true
-}
 
 /// The least value of each term, in order.
 pub fn values_of(alloc: Global, trail: &Trail, terms: &[Term]) -> Result<Items<i64>, Memory>
@@ -38,7 +25,7 @@ pub fn values_of(alloc: Global, trail: &Trail, terms: &[Term]) -> Result<Items<i
 {
     let mut values = Items::new(alloc);
     for term in terms {
-        values.push(least_value(trail, *term))?;
+        values.push(least_of(trail, *term))?;
     }
     Ok(values)
 }

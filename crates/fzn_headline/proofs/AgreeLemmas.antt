@@ -5,6 +5,7 @@ use Rattle.fzn_cert.specs.Verdict.{Outcome, accepted, refused, Verdict}
 use Rattle.fzn_checker.specs.declared.certificate.Verdict.{Verdict as Checked}
 use Rattle.fzn_checker.specs.declared.fault.CheckFault.{CheckFault}
 use Rattle.fzn_checker.specs.declared.fault.CheckFault.TheVariants.{File, Refused, NotVersionOne, Memory, Read, WriteOutput, WriteCert}
+use Rattle.fzn_engine.specs.declared.report.Report.{Report}
 use Rattle.fzn_lexer.specs.declared.fault.Fault.{Fault}
 use Rattle.fzn_lexer.specs.declared.halt.Halt.{Halt}
 use Rattle.fzn_lexer.specs.declared.halt.Halt.TheVariants as errors
@@ -13,7 +14,6 @@ use Rattle.fzn_printer.specs.Answer.{answer_text}
 use Rattle.fzn_printer.specs.Shown.{is_closed}
 use Rattle.fzn_reading.specs.Reads.{Reads}
 use Rattle.fzn_solver.specs.Standing.{found_by, certificate}
-use Rattle.fzn_solver.specs.declared.report.Report.{Report}
 use Rattle.fzn_words.specs.declared.solve.Options.{Options}
 use Rattle.fzn_headline.specs.Headline.{Ran, Checked as IsChecked, Agrees}
 

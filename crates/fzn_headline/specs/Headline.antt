@@ -4,9 +4,9 @@ use Rattle.fzn_checker.specs.Answered.{IsAnswered, IsCheckFault}
 use Rattle.fzn_checker.specs.declared.certificate.Verdict.{Verdict}
 use Rattle.fzn_checker.specs.declared.fault.CheckFault.{CheckFault}
 use Rattle.fzn_checker.specs.declared.fault.CheckFault.TheVariants.{Memory, Read, WriteOutput}
+use Rattle.fzn_engine.specs.declared.report.Report.{Report}
 use Rattle.fzn_printer.specs.Shown.{is_closed}
 use Rattle.fzn_solver.specs.Run.{IsRun}
-use Rattle.fzn_solver.specs.declared.report.Report.{Report}
 use Rattle.fzn_words.specs.declared.solve.Options.{Options}
 
 -- `run` answered Ok with this report: it added the answer to its output, and the certificate's bytes to its other writer

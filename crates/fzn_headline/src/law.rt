@@ -2,7 +2,7 @@
 ghost use Rattle.std.specs.Prelude.{ℕ, List, Result};
 ghost use Rattle.fzn_checker.specs.declared.certificate.Verdict.{Verdict};
 ghost use Rattle.fzn_checker.specs.declared.fault.CheckFault.{CheckFault};
-ghost use Rattle.fzn_solver.specs.declared.report.Report.{Report};
+ghost use Rattle.fzn_engine.specs.declared.report.Report.{Report};
 ghost use Rattle.fzn_words.specs.declared.solve.Options.{Options};
 ghost use Rattle.fzn_headline.specs.Headline.{Ran, Checked, Agrees};
 

@@ -1,5 +1,5 @@
 -- How a trail stays reasoned as it changes, and what becomes of its decisions.
-use Rattle.std.proofs.Common.{◌≡◌, ℕ, ◌+◌, ◌<◌, ◌≤◌, List, [], ◌∷◌, ◌++◌, map, length, take, length-append, refl, sym, ap, subst, ◌∙◌, inl, inr, arith, All}
+use Rattle.std.proofs.Common.{◌≡◌, ◌≢◌, ℕ, ◌+◌, ◌<◌, ◌≤◌, List, [], ◌∷◌, ◌++◌, map, length, take, length-append, refl, sym, ap, subst, ◌∙◌, inl, inr, arith, All}
 use Rattle.std.proofs.lemmas.Bool.{cases_lt}
 use Rattle.std.proofs.lemmas.List.{append-nil, append_assoc, map-append, take-map, length-take-le, take_all, length_push, take_more}
 use Rattle.std.proofs.lemmas.Option.{get_or_from_slice_get}
@@ -8,16 +8,15 @@ use Rattle.fzn_domain.specs.Literal.{negated}
 use Rattle.fzn_domain.specs.IntSet.{IntSet}
 use Rattle.fzn_domain.specs.Narrow.{IsVariable, IsOpen, narrowed}
 use Rattle.fzn_clauses.specs.Held as numbered
-use Rattle.fzn_learned.specs.declared.source.Source.{Source}
-use Rattle.fzn_learned.specs.declared.source.Source.TheVariants.{Held, Stacked}
 use Rattle.fzn_trail.specs.declared.trail.ClauseId.{ClauseId}
 use Rattle.fzn_trail.specs.declared.trail.Entry.{Entry}
 use Rattle.fzn_trail.specs.declared.trail.Reason.{Reason}
-use Rattle.fzn_trail.specs.declared.trail.Reason.TheVariants.{Decision}
+use Rattle.fzn_trail.specs.declared.trail.Reason.TheVariants.{Decision, Clause, Inference}
 use Rattle.fzn_trail.specs.Levels.{Levels, standing, level_of, fresh, pushed, asserted, restored, returned}
 use Rattle.fzn_trail.proofs.CallerLemmas.{returned-present}
-use Rattle.fzn_learned.specs.Reasoned.{Known, reason_of, IsBelow, cut_at, IsOther, without, IsForcedFrom, open_at, IsReason, Leads, Open, opens, IsStanding, IsReasoned, negated_decisions}
+use Rattle.fzn_learned.specs.Reasoned.{Known, IsBelow, cut_at, IsOther, without, IsForcedFrom, open_at, IsReason, Leads, Open, opens, IsStanding, IsReasoned, negated_decisions}
 use Rattle.fzn_learned.proofs.KnownLemmas.{grown, stacked_more, All-front}
+pub use Rattle.fzn_learned.proofs.KnownLemmas.{IsKnown-undecided}
 use Rattle.fzn_learned.proofs.EntryLemmas.{after, Leads-after, Leads-append, Leads-grown, Leads-stacked, Leads-below, Leads-without, opens-append, front_cases}
 use Rattle.fzn_learned.proofs.DecisionLemmas.{slice_get_front, slice_get_at, slice_get_take, opens-below, returned-standing}
 pub use Rattle.fzn_learned.proofs.DecisionLemmas.{length-reasoned, narrower-reasoned, filled-reasoned, length-opens, taken-reasoned, IsDecisionAt, decision_at}
@@ -184,39 +183,37 @@ module _ (known : Known) (trail : Levels) (lit : Lit) (reasoned : IsReasoned kno
 
 -- ---- a forced literal
 
-reason-forced : (known : Known) (sets : List IntSet) (lit : Lit) (source : Source) → IsForcedFrom known sets lit source → IsReason known sets lit (reason_of source)
-reason-forced known sets lit (Held id) h = h
-reason-forced known sets lit (Stacked place) h = h
+reason-forced : (known : Known) (sets : List IntSet) (lit : Lit) (reason : Reason) → IsForcedFrom known sets lit reason → IsReason known sets lit reason
+reason-forced known sets lit Decision h = absurd h.0
+reason-forced known sets lit (Clause id) h = h
+reason-forced known sets lit (Inference place) h = h
 
-opened : (sets : List IntSet) (lit : Lit) (source : Source) (later : List Open) → open_at sets lit (reason_of source) later ≡ later
-opened sets lit (Held id) later = refl
-opened sets lit (Stacked place) later = refl
+opened : (sets : List IntSet) (lit : Lit) (reason : Reason) (later : List Open) → reason ≢ Decision → open_at sets lit reason later ≡ later
+opened sets lit Decision later apart = absurd (apart refl)
+opened sets lit (Clause id) later apart = refl
+opened sets lit (Inference place) later apart = refl
 
-module _ (known : Known) (trail : Levels) (lit : Lit) (source : Source) (reasoned : IsReasoned known trail) where
-  pub opens-forced : opens (asserted lit (reason_of source) trail).declared (asserted lit (reason_of source) trail).entries ≡ opens trail.declared trail.entries
-  opens-forced =
-      opens-append trail.entries (record { lit = lit; reason = reason_of source; level = level_of trail } ∷ []) trail.declared
-      ∙ ap (λ (os : List Open). opens trail.declared trail.entries ++ os) (opened (after trail.declared trail.entries) lit source [])
-      ∙ append-nil (opens trail.declared trail.entries)
+pub opens-forced : (trail : Levels) (lit : Lit) (reason : Reason) → reason ≢ Decision → opens (asserted lit reason trail).declared (asserted lit reason trail).entries ≡ opens trail.declared trail.entries
+opens-forced trail lit reason apart =
+    opens-append trail.entries (record { lit = lit; reason = reason; level = level_of trail } ∷ []) trail.declared
+    ∙ ap (λ (os : List Open). opens trail.declared trail.entries ++ os) (opened (after trail.declared trail.entries) lit reason [] apart)
+    ∙ append-nil (opens trail.declared trail.entries)
 
-  pub negated_decisions-forced : negated_decisions (asserted lit (reason_of source) trail).declared (asserted lit (reason_of source) trail).entries ≡ negated_decisions trail.declared trail.entries
-  negated_decisions-forced = ap (λ (taken : List Open). map (λ (at : Open). negated at.decision) taken) opens-forced
-
-  pub IsReasoned-forced : IsVariable (length trail.declared) lit.var → IsForcedFrom known trail.sets lit source → IsReasoned known (asserted lit (reason_of source) trail)
-  IsReasoned-forced var forced = record {
-    leads = Leads-more known trail lit (reason_of source) reasoned var (reason-forced known trail.sets lit source forced) (level_of trail);
-    one_each = ap length opens-forced ∙ reasoned.one_each;
-    standing = λ k below. let stands = reasoned.standing k below in record {
-      stood = stands.stood;
-      here = stands.here;
-      lit = stands.lit;
-      level = stands.level;
-      later = stands.later ++ record { lit = lit; reason = reason_of source; level = level_of trail } ∷ [];
-      parts = parts_more known trail lit (reason_of source) reasoned var (reason-forced known trail.sets lit source forced) (level_of trail) k stands;
-      leads = stands.leads;
-      below = stands.below;
-    };
-  }
+pub IsReasoned-forced : (known : Known) (trail : Levels) (lit : Lit) (reason : Reason) → IsReasoned known trail → IsVariable (length trail.declared) lit.var → IsForcedFrom known trail.sets lit reason → IsReasoned known (asserted lit reason trail)
+IsReasoned-forced known trail lit reason reasoned var forced = record {
+  leads = Leads-more known trail lit reason reasoned var (reason-forced known trail.sets lit reason forced) (level_of trail);
+  one_each = ap length (opens-forced trail lit reason (IsKnown-undecided known reason forced.0)) ∙ reasoned.one_each;
+  standing = λ k below. let stands = reasoned.standing k below in record {
+    stood = stands.stood;
+    here = stands.here;
+    lit = stands.lit;
+    level = stands.level;
+    later = stands.later ++ record { lit = lit; reason = reason; level = level_of trail } ∷ [];
+    parts = parts_more known trail lit reason reasoned var (reason-forced known trail.sets lit reason forced) (level_of trail) k stands;
+    leads = stands.leads;
+    below = stands.below;
+  };
+}
 
 -- ---- the way back
 

@@ -6,8 +6,6 @@ use Rattle.fzn_domain.specs.Literal.{negated}
 use Rattle.fzn_domain.specs.IntSet.{IntSet, is_possible}
 use Rattle.fzn_domain.specs.Narrow.{IsVariable, set_of, narrowed, denied, possible_in, ChainOutcome, accepted, not_unit, by_count, chain_outcome, IsAcceptedFrom}
 use Rattle.fzn_domain.proofs.NarrowLemmas.{length-narrowed}
-use Rattle.fzn_learned.specs.declared.source.Source.{Source}
-use Rattle.fzn_learned.specs.declared.source.Source.TheVariants.{Held, Stacked}
 use Rattle.fzn_trail.specs.declared.trail.Entry.{Entry}
 use Rattle.fzn_trail.specs.declared.trail.Reason.{Reason}
 use Rattle.fzn_trail.specs.declared.trail.Reason.TheVariants.{Decision, Clause, Inference}
@@ -36,21 +34,21 @@ by_one possible lit after (inl e) h = by_none possible after e
 by_one possible lit after (inr e) h = ap (λ (p : List Lit). by_count p accepted after not_unit) e ∙ h
 
 -- along one entry, and then along the rest
-step : (known : Known) (rest : List (List Lit)) (ids : List Source) (taken : List Open) (small from : List IntSet) (lit : Lit) (reason : Reason) → IsVariable (length from) lit.var → IsNarrower small from → IsReason known from lit reason → AllTrueOn small (open_at from lit reason taken) → ((s : List IntSet) → IsNarrower s (narrowed from lit) → AllTrueOn s taken → chain_outcome s (map (clause_of known) ids ++ rest) ≡ accepted) → chain_outcome small (map (clause_of known) (reason_before reason ids) ++ rest) ≡ accepted
+step : (known : Known) (rest : List (List Lit)) (ids : List Reason) (taken : List Open) (small from : List IntSet) (lit : Lit) (reason : Reason) → IsVariable (length from) lit.var → IsNarrower small from → IsReason known from lit reason → AllTrueOn small (open_at from lit reason taken) → ((s : List IntSet) → IsNarrower s (narrowed from lit) → AllTrueOn s taken → chain_outcome s (map (clause_of known) ids ++ rest) ≡ accepted) → chain_outcome small (map (clause_of known) (reason_before reason ids) ++ rest) ≡ accepted
 step known rest ids taken small from lit Decision var narrower h holds go_on =
     go_on small
     (narrowed_where_true small from lit var (All-head (λ (at : Open). IsTrueOn small at.decision) (record { sets = from; decision = lit }) taken holds) narrower)
     (All-tail (λ (at : Open). IsTrueOn small at.decision) (record { sets = from; decision = lit }) taken holds)
 step known rest ids taken small from lit (Clause id) var narrower h holds go_on =
     let var_small : IsVariable (length small) lit.var = subst (λ (n : ℕ). IsVariable n lit.var) (sym narrower.one_each) var in
-    by_one (possible_in small (clause_of known (Held id))) lit (λ l. chain_outcome (narrowed small l) (map (clause_of known) ids ++ rest))
-    (unit_on_narrower small from (clause_of known (Held id)) lit narrower h.1.0)
+    by_one (possible_in small (clause_of known (Clause id))) lit (λ l. chain_outcome (narrowed small l) (map (clause_of known) ids ++ rest))
+    (unit_on_narrower small from (clause_of known (Clause id)) lit narrower h.1.0)
     (go_on (narrowed small lit) (narrowed_both small from lit var narrower)
     (AllTrueOn-narrower (narrowed small lit) small taken (IsNarrower-narrowed small small lit var_small (IsNarrower-self small)) holds))
 step known rest ids taken small from lit (Inference place) var narrower h holds go_on =
     let var_small : IsVariable (length small) lit.var = subst (λ (n : ℕ). IsVariable n lit.var) (sym narrower.one_each) var in
-    by_one (possible_in small (clause_of known (Stacked place))) lit (λ l. chain_outcome (narrowed small l) (map (clause_of known) ids ++ rest))
-    (unit_on_narrower small from (clause_of known (Stacked place)) lit narrower h.1.0)
+    by_one (possible_in small (clause_of known (Inference place))) lit (λ l. chain_outcome (narrowed small l) (map (clause_of known) ids ++ rest))
+    (unit_on_narrower small from (clause_of known (Inference place)) lit narrower h.1.0)
     (go_on (narrowed small lit) (narrowed_both small from lit var narrower)
     (AllTrueOn-narrower (narrowed small lit) small taken (IsNarrower-narrowed small small lit var_small (IsNarrower-self small)) holds))
 

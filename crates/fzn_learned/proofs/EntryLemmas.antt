@@ -7,8 +7,6 @@ use Rattle.fzn_domain.specs.IntSet.{IntSet, is_possible}
 use Rattle.fzn_domain.specs.Narrow.{IsVariable, IsOpen, set_of, narrowed}
 use Rattle.fzn_domain.proofs.NarrowLemmas.{length-narrowed}
 use Rattle.fzn_clauses.specs.Held as numbered
-use Rattle.fzn_learned.specs.declared.source.Source.{Source}
-use Rattle.fzn_learned.specs.declared.source.Source.TheVariants.{Held, Stacked}
 use Rattle.fzn_trail.specs.declared.trail.ClauseId.{ClauseId}
 use Rattle.fzn_trail.specs.declared.trail.Entry.{Entry}
 use Rattle.fzn_trail.specs.declared.trail.Reason.{Reason}
@@ -58,8 +56,8 @@ Leads-narrower known (entry ∷ later) from to leads =
 -- a reason stays one where more clauses are known
 IsReason-grown : (known : Known) (more : numbered.Held) (sets : List IntSet) (lit : Lit) (reason : Reason) → IsReason known sets lit reason → IsReason (grown more known) sets lit reason
 IsReason-grown known more sets lit Decision h = h
-IsReason-grown known more sets lit (Clause id) h = IsForcedFrom-grown known more sets lit (Held id) h
-IsReason-grown known more sets lit (Inference place) h = IsForcedFrom-grown known more sets lit (Stacked place) h
+IsReason-grown known more sets lit (Clause id) h = IsForcedFrom-grown known more sets lit (Clause id) h
+IsReason-grown known more sets lit (Inference place) h = IsForcedFrom-grown known more sets lit (Inference place) h
 
 pub Leads-grown : (known : Known) (more : numbered.Held) (entries : List Entry) (from to : List IntSet) → Leads known from entries to → Leads (grown more known) from entries to
 Leads-grown known more [] from to leads = leads
@@ -69,8 +67,8 @@ Leads-grown known more (entry ∷ later) from to leads =
 -- and where more inferences are stacked
 IsReason-stacked : (known : Known) (more : List (List Lit)) (sets : List IntSet) (lit : Lit) (reason : Reason) → IsReason known sets lit reason → IsReason (stacked_more more known) sets lit reason
 IsReason-stacked known more sets lit Decision h = h
-IsReason-stacked known more sets lit (Clause id) h = IsForcedFrom-stacked known more sets lit (Held id) h
-IsReason-stacked known more sets lit (Inference place) h = IsForcedFrom-stacked known more sets lit (Stacked place) h
+IsReason-stacked known more sets lit (Clause id) h = IsForcedFrom-stacked known more sets lit (Clause id) h
+IsReason-stacked known more sets lit (Inference place) h = IsForcedFrom-stacked known more sets lit (Inference place) h
 
 pub Leads-stacked : (known : Known) (more : List (List Lit)) (entries : List Entry) (from to : List IntSet) → Leads known from entries to → Leads (stacked_more more known) from entries to
 Leads-stacked known more [] from to leads = leads
@@ -80,8 +78,8 @@ Leads-stacked known more (entry ∷ later) from to leads =
 -- and where the stack is cut above the reasons that are used
 IsReason-below : (known : Known) (n : ℕ) (sets : List IntSet) (lit : Lit) (reason : Reason) → IsBelow n reason → IsReason known sets lit reason → IsReason (cut_at n known) sets lit reason
 IsReason-below known n sets lit Decision low h = h
-IsReason-below known n sets lit (Clause id) low h = IsForcedFrom-below known n sets lit (Held id) tt h
-IsReason-below known n sets lit (Inference place) low h = IsForcedFrom-below known n sets lit (Stacked place) low h
+IsReason-below known n sets lit (Clause id) low h = IsForcedFrom-below known n sets lit (Clause id) tt h
+IsReason-below known n sets lit (Inference place) low h = IsForcedFrom-below known n sets lit (Inference place) low h
 
 pub Leads-below : (known : Known) (n : ℕ) (entries : List Entry) (from to : List IntSet) → All (λ (entry : Entry). IsBelow n entry.reason) entries → Leads known from entries to → Leads (cut_at n known) from entries to
 Leads-below known n [] from to low leads = leads
@@ -94,7 +92,7 @@ Leads-below known n (entry ∷ later) from to low leads = (
 -- and where a clause is taken out that is none of the reasons
 IsReason-without : (known : Known) (id : ClauseId) (sets : List IntSet) (lit : Lit) (reason : Reason) → IsOther id reason → IsReason known sets lit reason → IsReason (without id known) sets lit reason
 IsReason-without known id sets lit Decision apart h = h
-IsReason-without known id sets lit (Clause other) apart h = IsForcedFrom-without known id sets lit (Held other) apart h
+IsReason-without known id sets lit (Clause other) apart h = IsForcedFrom-without known id sets lit (Clause other) apart h
 IsReason-without known id sets lit (Inference place) apart h = h
 
 pub Leads-without : (known : Known) (id : ClauseId) (entries : List Entry) (from to : List IntSet) → All (λ (entry : Entry). IsOther id entry.reason) entries → Leads known from entries to → Leads (without id known) from entries to
@@ -107,8 +105,8 @@ Leads-without known id (entry ∷ later) from to apart leads = (
 
 possible_by_reason : (known : Known) (sets : List IntSet) (lit : Lit) (reason : Reason) → IsReason known sets lit reason → is_possible (set_of sets lit.var) lit ≡ true
 possible_by_reason known sets lit Decision h = h.0
-possible_by_reason known sets lit (Clause id) h = possible_if_unit sets (clause_of known (Held id)) lit h.1.0
-possible_by_reason known sets lit (Inference place) h = possible_if_unit sets (clause_of known (Stacked place)) lit h.1.0
+possible_by_reason known sets lit (Clause id) h = possible_if_unit sets (clause_of known (Clause id)) lit h.1.0
+possible_by_reason known sets lit (Inference place) h = possible_if_unit sets (clause_of known (Inference place)) lit h.1.0
 
 pub Leads-filled : (known : Known) (entries : List Entry) (from to : List IntSet) → Leads known from entries to → NoneEmpty from → NoneEmpty to
 Leads-filled known [] from to leads filled = subst NoneEmpty leads filled
@@ -116,17 +114,17 @@ Leads-filled known (entry ∷ later) from to leads filled =
     Leads-filled known later (narrowed from entry.lit) to leads.2
     (NoneEmpty-narrowed from entry.lit (possible_by_reason known from entry.lit entry.reason leads.1) filled)
 
-held_reason : (known : Known) (sets : List IntSet) (lit : Lit) (reason : Reason) (later : List Source) → IsReason known sets lit reason → All (IsKnown known) later → All (IsKnown known) (reason_before reason later)
+held_reason : (known : Known) (sets : List IntSet) (lit : Lit) (reason : Reason) (later : List Reason) → IsReason known sets lit reason → All (IsKnown known) later → All (IsKnown known) (reason_before reason later)
 held_reason known sets lit Decision later h rest = rest
-held_reason known sets lit (Clause id) later h rest = All-cons (IsKnown known) (Held id) later h.0 rest
-held_reason known sets lit (Inference place) later h rest = All-cons (IsKnown known) (Stacked place) later h.0 rest
+held_reason known sets lit (Clause id) later h rest = All-cons (IsKnown known) (Clause id) later h.0 rest
+held_reason known sets lit (Inference place) later h rest = All-cons (IsKnown known) (Inference place) later h.0 rest
 
 pub held_reasons : (known : Known) (entries : List Entry) (from to : List IntSet) → Leads known from entries to → All (IsKnown known) (reasons entries)
 held_reasons known [] from to leads = All-nil (IsKnown known)
 held_reasons known (entry ∷ later) from to leads =
     held_reason known from entry.lit entry.reason (reasons later) leads.1 (held_reasons known later (narrowed from entry.lit) to leads.2)
 
-reason_before-append : (reason : Reason) (later more : List Source) → reason_before reason later ++ more ≡ reason_before reason (later ++ more)
+reason_before-append : (reason : Reason) (later more : List Reason) → reason_before reason later ++ more ≡ reason_before reason (later ++ more)
 reason_before-append Decision later more = refl
 reason_before-append (Clause id) later more = refl
 reason_before-append (Inference place) later more = refl

@@ -1,5 +1,5 @@
 -- The learned clause and its ids, as far as the entries were read, and what they promise.
-use Rattle.std.proofs.Common.{◌≡◌, ℕ, ◌+◌, ◌-◌, ◌<◌, true, ℤ, pos, ◌+ℤ◌, ◌-ℤ◌, ◌≤ℤ◌, cond, List, [], ◌∷◌, ◌++◌, map, length, take, get_or, Some, refl, sym, ap, subst, ◌∙◌, inr, arith, All}
+use Rattle.std.proofs.Common.{◌≡◌, ◌≢◌, ℕ, ◌+◌, ◌-◌, ◌<◌, true, ℤ, pos, ◌+ℤ◌, ◌-ℤ◌, ◌≤ℤ◌, cond, List, [], ◌∷◌, ◌++◌, map, length, take, get_or, Some, refl, sym, ap, subst, ◌∙◌, inr, arith, All}
 use Rattle.std.specs.List.{slice_get}
 use Rattle.std.proofs.lemmas.Int.{ints}
 use Rattle.std.proofs.lemmas.Bool.Decides.{Decides-int_eq}
@@ -15,8 +15,6 @@ use Rattle.fzn_domain.specs.Limits.{IsInLimits, IsLimited}
 use Rattle.fzn_domain.specs.Narrow.{IsVariable, IsOpen, set_of, possible_in, IsAcceptedFrom}
 use Rattle.fzn_domain.proofs.SetLemmas.{witness}
 use Rattle.fzn_trail.specs.declared.trail.ClauseId.{ClauseId}
-use Rattle.fzn_learned.specs.declared.source.Source.{Source}
-use Rattle.fzn_learned.specs.declared.source.Source.TheVariants.{Held, Stacked}
 use Rattle.fzn_trail.specs.declared.trail.Entry.{Entry}
 use Rattle.fzn_trail.specs.declared.trail.Reason.{Reason}
 use Rattle.fzn_trail.specs.declared.trail.Reason.TheVariants.{Decision, Clause, Inference}
@@ -63,15 +61,10 @@ no_reason lit Decision level e = refl
 no_reason lit (Clause id) level e = cc
 no_reason lit (Inference place) level e = cc
 
-one_reason : (lit : Lit) (reason : Reason) (level : ℕ) (id : ClauseId) → reason ≡ Clause id → reasons (record { lit = lit; reason = reason; level = level } ∷ []) ≡ Held id ∷ []
-one_reason lit Decision level id e = cc
-one_reason lit (Clause other) level id e = let same : other ≡ id = cc in ap (λ (i : ClauseId). Held i ∷ []) same
-one_reason lit (Inference place) level id e = cc
-
-one_inference : (lit : Lit) (reason : Reason) (level place : ℕ) → reason ≡ Inference place → reasons (record { lit = lit; reason = reason; level = level } ∷ []) ≡ Stacked place ∷ []
-one_inference lit Decision level place e = cc
-one_inference lit (Clause id) level place e = cc
-one_inference lit (Inference other) level place e = let same : other ≡ place = cc in ap (λ (k : ℕ). Stacked k ∷ []) same
+one_reason : (lit : Lit) (reason : Reason) (level : ℕ) → reason ≢ Decision → reasons (record { lit = lit; reason = reason; level = level } ∷ []) ≡ reason ∷ []
+one_reason lit Decision level apart = absurd (apart refl)
+one_reason lit (Clause id) level apart = refl
+one_reason lit (Inference place) level apart = refl
 
 module _ (from : List IntSet) (entries : List Entry) (i : ℕ) (entry : Entry) (is : slice_get entries i ≡ Some entry) where
   pub negated_decisions-decision : entry.reason ≡ Decision → negated_decisions from (take (i + 1) entries) ≡ negated_decisions from (take i entries) ++ negated entry.lit ∷ []
@@ -91,13 +84,13 @@ module _ (from : List IntSet) (entries : List Entry) (i : ℕ) (entry : Entry) (
   pub reasons-decision : entry.reason ≡ Decision → reasons (take (i + 1) entries) ≡ reasons (take i entries)
   reasons-decision e =
       reasons-more from entries i entry is
-      ∙ ap (λ (ids : List Source). reasons (take i entries) ++ ids) (no_reason entry.lit entry.reason entry.level e)
+      ∙ ap (λ (antecedents : List Reason). reasons (take i entries) ++ antecedents) (no_reason entry.lit entry.reason entry.level e)
       ∙ append-nil (reasons (take i entries))
 
-  pub reasons-clause : (id : ClauseId) → entry.reason ≡ Clause id → reasons (take (i + 1) entries) ≡ reasons (take i entries) ++ Held id ∷ []
-  reasons-clause id e =
+  pub reasons-other : entry.reason ≢ Decision → reasons (take (i + 1) entries) ≡ reasons (take i entries) ++ entry.reason ∷ []
+  reasons-other apart =
       reasons-more from entries i entry is
-      ∙ ap (λ (ids : List Source). reasons (take i entries) ++ ids) (one_reason entry.lit entry.reason entry.level id e)
+      ∙ ap (λ (antecedents : List Reason). reasons (take i entries) ++ antecedents) (one_reason entry.lit entry.reason entry.level apart)
 
   pub negated_decisions-inference : (place : ℕ) → entry.reason ≡ Inference place → negated_decisions from (take (i + 1) entries) ≡ negated_decisions from (take i entries)
   negated_decisions-inference place e =
@@ -105,11 +98,6 @@ module _ (from : List IntSet) (entries : List Entry) (i : ℕ) (entry : Entry) (
       (opens-more from entries i entry is
       ∙ ap (λ (taken : List Open). opens from (take i entries) ++ taken) (by_inference (after from (take i entries)) entry.lit entry.reason entry.level place e)
       ∙ append-nil (opens from (take i entries)))
-
-  pub reasons-inference : (place : ℕ) → entry.reason ≡ Inference place → reasons (take (i + 1) entries) ≡ reasons (take i entries) ++ Stacked place ∷ []
-  reasons-inference place e =
-      reasons-more from entries i entry is
-      ∙ ap (λ (ids : List Source). reasons (take i entries) ++ ids) (one_inference entry.lit entry.reason entry.level place e)
 
 -- ---- numbers
 
@@ -167,20 +155,20 @@ forced_there sets before clause lit is none is_open = (
   possible-twice (set_of sets lit.var) lit is_open.0,
 )
 
-module _ (known : Known) (trail : Levels) (conflict : Source) (learned : Learned) (reasoned : IsReasoned known trail) (limited : All IsLimited trail.declared) (false_there : IsConflicting known trail.sets conflict) (clause_is : learned.clause ≡ negated_decisions trail.declared trail.entries) (sources_is : learned.sources ≡ reasons trail.entries ++ conflict ∷ []) (level_is : learned.level ≡ level_of trail - 1) where
-  clauses_is : map (clause_of known) learned.sources ≡ map (clause_of known) (reasons trail.entries) ++ clause_of known conflict ∷ []
-  clauses_is = ap (map (clause_of known)) sources_is ∙ map-append (clause_of known) (reasons trail.entries) (conflict ∷ [])
+module _ (known : Known) (trail : Levels) (conflict : Reason) (learned : Learned) (reasoned : IsReasoned known trail) (limited : All IsLimited trail.declared) (false_there : IsConflicting known trail.sets conflict) (clause_is : learned.clause ≡ negated_decisions trail.declared trail.entries) (antecedents_is : learned.antecedents ≡ reasons trail.entries ++ conflict ∷ []) (level_is : learned.level ≡ level_of trail - 1) where
+  clauses_is : map (clause_of known) learned.antecedents ≡ map (clause_of known) (reasons trail.entries) ++ clause_of known conflict ∷ []
+  clauses_is = ap (map (clause_of known)) antecedents_is ∙ map-append (clause_of known) (reasons trail.entries) (conflict ∷ [])
 
-  is_accepted : IsAcceptedFrom trail.declared learned.clause (map (clause_of known) learned.sources)
+  is_accepted : IsAcceptedFrom trail.declared learned.clause (map (clause_of known) learned.antecedents)
   is_accepted =
       let all = accepted_plain known (clause_of known conflict) trail.entries trail.declared trail.sets reasoned.leads false_there.is_false in
       let with_ids = subst (λ (earlier : List (List Lit)). IsAcceptedFrom trail.declared (negated_decisions trail.declared trail.entries) earlier) (sym clauses_is) all in
-      subst (λ (c : List Lit). IsAcceptedFrom trail.declared c (map (clause_of known) learned.sources)) (sym clause_is) with_ids
+      subst (λ (c : List Lit). IsAcceptedFrom trail.declared c (map (clause_of known) learned.antecedents)) (sym clause_is) with_ids
 
-  all_known : All (IsKnown known) learned.sources
+  all_known : All (IsKnown known) learned.antecedents
   all_known =
-      let P : Source → Type 0 = IsKnown known in
-      All-same P learned.sources (reasons trail.entries ++ conflict ∷ []) sources_is
+      let P : Reason → Type 0 = IsKnown known in
+      All-same P learned.antecedents (reasons trail.entries ++ conflict ∷ []) antecedents_is
       (All-append P (reasons trail.entries) (conflict ∷ []) (held_reasons known trail.entries trail.declared trail.sets reasoned.leads) (All-cons P conflict [] false_there.is_known (All-nil P)))
 
   each_negation : (P : Lit → Type 0) → ((at : Open) → IsTaken trail.declared at → P (negated at.decision)) → All P learned.clause
@@ -229,4 +217,4 @@ module _ (known : Known) (trail : Levels) (conflict : Source) (learned : Learned
   }
 
   pub plain_is : IsPlain trail conflict learned
-  plain_is = record { clause = clause_is; sources = sources_is; back = forces_back }
+  plain_is = record { clause = clause_is; antecedents = antecedents_is; back = forces_back }

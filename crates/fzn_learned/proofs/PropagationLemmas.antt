@@ -4,7 +4,6 @@ use Rattle.fzn_domain.specs.declared.literal.Lit.{Lit}
 use Rattle.fzn_domain.specs.IntSet.{IntSet}
 use Rattle.fzn_domain.specs.Narrow.{IsClauseOver}
 use Rattle.fzn_trail.specs.declared.trail.Reason.TheVariants.{Clause}
-use Rattle.fzn_learned.specs.declared.source.Source.TheVariants.{Held}
 use Rattle.fzn_trail.specs.Levels.{Levels, asserted}
 use Rattle.fzn_trail.specs.Unit.{IsUnit}
 use Rattle.fzn_clauses.specs.Held.{AllHeld}
@@ -37,17 +36,17 @@ along known [] old new over reasoned is = record {
 }
 along known (forced ∷ rest) old new over reasoned is =
     let unit = is.0.unit in
-    let over_here : IsClauseOver (length old.declared) (clause_of known (Held forced.id)) = over forced.id is.0.is_held in
-    let var = IsVariable-unit old.sets (clause_of known (Held forced.id)) forced.lit (length old.declared) over_here unit.only in
+    let over_here : IsClauseOver (length old.declared) (clause_of known (Clause forced.id)) = over forced.id is.0.is_held in
+    let var = IsVariable-unit old.sets (clause_of known (Clause forced.id)) forced.lit (length old.declared) over_here unit.only in
     let next : IsReasoned known (asserted forced.lit (Clause forced.id) old) =
-    IsReasoned-forced known old forced.lit (Held forced.id) reasoned var (is.0.is_held, IsForced-from_unit old.sets (clause_of known (Held forced.id)) forced.lit unit) in
+    IsReasoned-forced known old forced.lit (Clause forced.id) reasoned var (is.0.is_held, IsForced-from_unit old.sets (clause_of known (Clause forced.id)) forced.lit unit) in
     let later = along known rest (asserted forced.lit (Clause forced.id) old) new over next is.1 in
     record {
       reasoned = later.reasoned;
       keeps = record {
         declared = later.keeps.declared;
         saved = later.keeps.saved;
-        same_opens = later.keeps.same_opens ∙ opens-forced known old forced.lit (Held forced.id) reasoned;
+        same_opens = later.keeps.same_opens ∙ opens-forced old forced.lit (Clause forced.id) (λ e. cc);
       };
     }
 

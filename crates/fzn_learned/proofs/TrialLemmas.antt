@@ -9,25 +9,25 @@ use Rattle.fzn_domain.specs.declared.literal.Lit.{Lit}
 use Rattle.fzn_domain.specs.IntSet.{IntSet, is_possible}
 use Rattle.fzn_domain.specs.Narrow.{IsVariable, set_of, narrowed, possible_in, by_count, ChainOutcome, accepted, not_unit, chain_outcome}
 use Rattle.fzn_domain.proofs.NarrowLemmas.{length-narrowed}
+use Rattle.fzn_trail.specs.declared.trail.Reason.{Reason}
 use Rattle.fzn_trail.specs.declared.trail.Entry.{Entry}
 use Rattle.fzn_trail.specs.Replay.{replayed}
-use Rattle.fzn_learned.specs.declared.source.Source.{Source}
 use Rattle.fzn_learned.specs.Reasoned.{Known, Leads}
 
 -- along one more clause
-pub chain-more : (clause : Source → List Lit) (sets new : List IntSet) (sources : List Source) (i : ℕ) (d : Source) (lit : Lit) (all : ChainOutcome) → i < length sources → possible_in sets (clause (get_or sources i d)) ≡ lit ∷ [] → new ≡ narrowed sets lit → chain_outcome sets (map clause (drop i sources)) ≡ all → chain_outcome new (map clause (drop (i + 1) sources)) ≡ all
-chain-more clause sets new sources i d lit all below one new_is rest =
-    ap (λ (n : ℕ). chain_outcome new (map clause (drop n sources))) (add-one i)
-    ∙ ap (λ (s : List IntSet). chain_outcome s (map clause (drop (suc i) sources))) new_is
-    ∙ sym (ap (λ (p : List Lit). by_count p accepted (λ l. chain_outcome (narrowed sets l) (map clause (drop (suc i) sources))) not_unit) one)
-    ∙ sym (ap (λ (rest_of : List Source). chain_outcome sets (map clause rest_of)) (drop-cons sources i d below))
+pub chain-more : (clause : Reason → List Lit) (sets new : List IntSet) (antecedents : List Reason) (i : ℕ) (d : Reason) (lit : Lit) (all : ChainOutcome) → i < length antecedents → possible_in sets (clause (get_or antecedents i d)) ≡ lit ∷ [] → new ≡ narrowed sets lit → chain_outcome sets (map clause (drop i antecedents)) ≡ all → chain_outcome new (map clause (drop (i + 1) antecedents)) ≡ all
+chain-more clause sets new antecedents i d lit all below one new_is rest =
+    ap (λ (n : ℕ). chain_outcome new (map clause (drop n antecedents))) (add-one i)
+    ∙ ap (λ (s : List IntSet). chain_outcome s (map clause (drop (suc i) antecedents))) new_is
+    ∙ sym (ap (λ (p : List Lit). by_count p accepted (λ l. chain_outcome (narrowed sets l) (map clause (drop (suc i) antecedents))) not_unit) one)
+    ∙ sym (ap (λ (rest_of : List Reason). chain_outcome sets (map clause rest_of)) (drop-cons antecedents i d below))
     ∙ rest
 
 -- a clause without a possible literal
-pub chain-ends : (clause : Source → List Lit) (sets : List IntSet) (sources : List Source) (i : ℕ) (d : Source) (all : ChainOutcome) → i < length sources → possible_in sets (clause (get_or sources i d)) ≡ [] → chain_outcome sets (map clause (drop i sources)) ≡ all → all ≡ accepted
-chain-ends clause sets sources i d all below none rest =
-    sym rest ∙ ap (λ (rest_of : List Source). chain_outcome sets (map clause rest_of)) (drop-cons sources i d below)
-    ∙ ap (λ (p : List Lit). by_count p accepted (λ l. chain_outcome (narrowed sets l) (map clause (drop (suc i) sources))) not_unit) none
+pub chain-ends : (clause : Reason → List Lit) (sets : List IntSet) (antecedents : List Reason) (i : ℕ) (d : Reason) (all : ChainOutcome) → i < length antecedents → possible_in sets (clause (get_or antecedents i d)) ≡ [] → chain_outcome sets (map clause (drop i antecedents)) ≡ all → all ≡ accepted
+chain-ends clause sets antecedents i d all below none rest =
+    sym rest ∙ ap (λ (rest_of : List Reason). chain_outcome sets (map clause rest_of)) (drop-cons antecedents i d below)
+    ∙ ap (λ (p : List Lit). by_count p accepted (λ l. chain_outcome (narrowed sets l) (map clause (drop (suc i) antecedents))) not_unit) none
 
 -- by one more entry
 pub replayed-more : (sets now : List IntSet) (entries : List Entry) (i : ℕ) (entry : Entry) → slice_get entries i ≡ Some entry → now ≡ replayed sets (take i entries) → narrowed now entry.lit ≡ replayed sets (take (i + 1) entries)

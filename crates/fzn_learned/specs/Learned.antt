@@ -10,24 +10,22 @@ use Rattle.fzn_trail.specs.declared.trail.Entry.{Entry}
 use Rattle.fzn_trail.specs.declared.trail.Reason.{Reason}
 use Rattle.fzn_trail.specs.declared.trail.Reason.TheVariants.{Decision, Clause, Inference}
 use Rattle.fzn_trail.specs.Levels.{Levels, level_of, returned}
-use Rattle.fzn_learned.specs.declared.source.Source.{Source}
-use Rattle.fzn_learned.specs.declared.source.Source.TheVariants.{Held, Stacked}
 use Rattle.fzn_learned.specs.declared.learned.Learned.{Learned}
 use Rattle.fzn_learned.specs.Reasoned.{Known, IsKnown, clause_of, IsForced, Open, opens, negated_decisions}
 
 -- a known clause of which no literal is possible
-pub record IsConflicting (known : Known) (sets : List IntSet) (source : Source) : Type 0 where
-  pub is_known : IsKnown known source
-  pub is_false : possible_in sets (clause_of known source) ≡ []
+pub record IsConflicting (known : Known) (sets : List IntSet) (reason : Reason) : Type 0 where
+  pub is_known : IsKnown known reason
+  pub is_false : possible_in sets (clause_of known reason) ≡ []
 
 -- the clause of a reason, before those found further on
-abbrev pub reason_before : Reason → List Source → List Source
+abbrev pub reason_before : Reason → List Reason → List Reason
 reason_before Decision later = later
-reason_before (Clause id) later = Held id ∷ later
-reason_before (Inference place) later = Stacked place ∷ later
+reason_before (Clause id) later = Clause id ∷ later
+reason_before (Inference place) later = Inference place ∷ later
 
 -- the clauses that are reasons among the entries, in order
-abbrev pub reasons : List Entry → List Source
+abbrev pub reasons : List Entry → List Reason
 reasons [] = []
 reasons (entry ∷ later) = reason_before entry.reason (reasons later)
 
@@ -35,18 +33,18 @@ reasons (entry ∷ later) = reason_before entry.reason (reasons later)
 abbrev pub IsEmptyOrForces : List IntSet → List Lit → Type 0
 IsEmptyOrForces sets clause = (clause ≡ []) ⊎ ((lit : Lit) × IsForced sets clause lit)
 
--- unit propagation along its sources, which are known, refutes the clause's denial
+-- unit propagation along its antecedents, which are known, refutes the clause's denial
 pub record IsDerived (known : Known) (declared : List IntSet) (learned : Learned) : Type 0 where
-  pub accepted : IsAcceptedFrom declared learned.clause (map (clause_of known) learned.sources)
-  pub all_known : All (IsKnown known) learned.sources
+  pub accepted : IsAcceptedFrom declared learned.clause (map (clause_of known) learned.antecedents)
+  pub all_known : All (IsKnown known) learned.antecedents
   pub over : IsClauseOver (length declared) learned.clause
   pub in_limits : All (λ lit. IsInLimits lit.value) learned.clause
 
--- what every learned clause promises: unit propagation along its sources refutes its denial; at level 0 it is
+-- what every learned clause promises: unit propagation along its antecedents refutes its denial; at level 0 it is
 -- empty, and above it is empty or forces a literal at its level, which is below
 pub record IsLearned (known : Known) (trail : Levels) (learned : Learned) : Type 0 where
-  pub accepted : IsAcceptedFrom trail.declared learned.clause (map (clause_of known) learned.sources)
-  pub all_known : All (IsKnown known) learned.sources
+  pub accepted : IsAcceptedFrom trail.declared learned.clause (map (clause_of known) learned.antecedents)
+  pub all_known : All (IsKnown known) learned.antecedents
   pub over : IsClauseOver (length trail.declared) learned.clause
   pub in_limits : All (λ lit. IsInLimits lit.value) learned.clause
   pub at_level_0 : level_of trail ≡ 0 → learned.clause ≡ []
@@ -62,7 +60,7 @@ pub record ForcesBack (trail : Levels) (learned : Learned) : Type 0 where
   pub forced : IsForced last.sets learned.clause (negated last.decision)
 
 -- the plain clause says that one of the decisions is wrong, by all reasons and then the conflict
-pub record IsPlain (trail : Levels) (conflict : Source) (learned : Learned) : Type 0 where
+pub record IsPlain (trail : Levels) (conflict : Reason) (learned : Learned) : Type 0 where
   pub clause : learned.clause ≡ negated_decisions trail.declared trail.entries
-  pub sources : learned.sources ≡ reasons trail.entries ++ conflict ∷ []
+  pub antecedents : learned.antecedents ≡ reasons trail.entries ++ conflict ∷ []
   pub back : 0 < level_of trail → ForcesBack trail learned

@@ -14,8 +14,6 @@ use Rattle.fzn_trail.specs.declared.trail.Entry.{Entry}
 use Rattle.fzn_trail.specs.declared.trail.Reason.{Reason}
 use Rattle.fzn_trail.specs.declared.trail.Reason.TheVariants.{Decision, Clause, Inference}
 use Rattle.fzn_trail.specs.Levels.{Levels, Standing}
-use Rattle.fzn_learned.specs.declared.source.Source.{Source}
-use Rattle.fzn_learned.specs.declared.source.Source.TheVariants.{Held, Stacked}
 
 -- the clauses that may be reasons: those that are held, and those of the inferences that stand
 pub record Known : Type 0 where
@@ -34,18 +32,16 @@ pub record AreOver (count : ℕ) (known : Known) : Type 0 where
   pub held : numbered.AllHeld (IsClauseOver count) known.held
   pub stacked : All (IsClauseOver count) known.stacked
 
-abbrev pub IsKnown : Known → Source → Type 0
-IsKnown known (Held id) = numbered.IsHeld known.held id
-IsKnown known (Stacked place) = place < length known.stacked
+-- the reason is one of them; a decision is none
+abbrev pub IsKnown : Known → Reason → Type 0
+IsKnown known Decision = ⊥
+IsKnown known (Clause id) = numbered.IsHeld known.held id
+IsKnown known (Inference place) = place < length known.stacked
 
-abbrev pub clause_of : Known → Source → List Lit
-clause_of known (Held id) = numbered.clause_of known.held id
-clause_of known (Stacked place) = slice_index_or known.stacked place []
-
--- an assertion for which this clause is the reason
-abbrev pub reason_of : Source → Reason
-reason_of (Held id) = Clause id
-reason_of (Stacked place) = Inference place
+abbrev pub clause_of : Known → Reason → List Lit
+clause_of known Decision = []
+clause_of known (Clause id) = numbered.clause_of known.held id
+clause_of known (Inference place) = slice_index_or known.stacked place []
 
 -- with so many inferences left
 abbrev pub cut_at : ℕ → Known → Known
@@ -72,14 +68,14 @@ abbrev pub IsForced : List IntSet → List Lit → Lit → Type 0
 IsForced sets clause lit = (possible_in sets clause ≡ lit ∷ []) × (can_fail sets lit ≡ true)
 
 -- the literal is forced by a known clause
-abbrev pub IsForcedFrom : Known → List IntSet → Lit → Source → Type 0
-IsForcedFrom known sets lit source = IsKnown known source × IsForced sets (clause_of known source) lit
+abbrev pub IsForcedFrom : Known → List IntSet → Lit → Reason → Type 0
+IsForcedFrom known sets lit reason = IsKnown known reason × IsForced sets (clause_of known reason) lit
 
 -- the reason for asserting the literal on these sets: a decision is open there, any other is forced by a known clause
 abbrev pub IsReason : Known → List IntSet → Lit → Reason → Type 0
 IsReason known sets lit Decision = IsOpen sets lit
-IsReason known sets lit (Clause id) = IsForcedFrom known sets lit (Held id)
-IsReason known sets lit (Inference place) = IsForcedFrom known sets lit (Stacked place)
+IsReason known sets lit (Clause id) = IsForcedFrom known sets lit (Clause id)
+IsReason known sets lit (Inference place) = IsForcedFrom known sets lit (Inference place)
 
 -- the entries, each with its reason, lead one after another from the first sets to the last
 abbrev pub Leads : Known → List IntSet → List Entry → List IntSet → Type 0

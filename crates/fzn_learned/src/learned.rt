@@ -1,16 +1,16 @@
 // What is learned.
 
-use crate::source::Source;
 use fzn_domain::Lit;
 use fzn_list::Items;
+use fzn_trail::Reason;
 
-/// A clause that follows by unit propagation from the clauses of these sources, in this order.
+/// A clause that follows by unit propagation from the clauses of these antecedents, in this order.
 #[derive(Debug, Drop)]
 pub struct Learned {
     /// What is learned. It forces a literal at `level`, or is empty.
     pub clause: Items<Lit>,
-    /// What it follows from, in the order of the propagation.
-    pub sources: Items<Source>,
+    /// The reasons whose clauses it follows from, none of them a decision, in the order of the propagation.
+    pub antecedents: Items<Reason>,
     /// The level, counted from 0, where the search goes back to: below the present one.
     pub level: usize,
     /// How many levels its literals stand on.

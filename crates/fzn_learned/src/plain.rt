@@ -6,7 +6,6 @@ ghost use Rattle.fzn_learned.specs.Learned.{reasons, IsConflicting, IsLearned, I
 ghost use Rattle.fzn_learned.specs.Reasoned.{known_of, IsReasoned, negated_decisions};
 
 use crate::learned::Learned;
-use crate::source::Source;
 use fzn_clauses::Clauses;
 use fzn_domain::{Lit, Memory};
 use fzn_inferences::Inferences;
@@ -21,7 +20,7 @@ pub fn plain_learned(
     trail: &Trail,
     clauses: &Clauses,
     inferences: &Inferences,
-    conflict: Source,
+    conflict: Reason,
 ) -> Result<Learned, Memory>
     requires reasoned { IsReasoned (known_of clauses.now inferences.now) trail.now }
     requires limited { All IsLimited trail.now.declared }
@@ -31,7 +30,7 @@ pub fn plain_learned(
 {
     Ok(Learned {
         clause: plain_clause(alloc, trail, clauses, inferences)?,
-        sources: plain_sources(alloc, trail, conflict)?,
+        antecedents: plain_antecedents(alloc, trail, conflict)?,
         level: trail.level().saturating_sub(1),
         levels: trail.level(),
         marked: Items::new(alloc),
@@ -62,17 +61,21 @@ fn plain_clause(
 }
 
 /// The reasons of all other entries, and then the conflict.
-fn plain_sources(alloc: Global, trail: &Trail, conflict: Source) -> Result<Items<Source>, Memory>
+fn plain_antecedents(
+    alloc: Global,
+    trail: &Trail,
+    conflict: Reason,
+) -> Result<Items<Reason>, Memory>
     ensures { IfOk result (λ it. it ≡ reasons trail.now.entries ++ conflict ∷ []) }
 {
-    let mut sources = Items::new(alloc);
+    let mut antecedents = Items::new(alloc);
     for place in 0..trail.len() {
-        match trail.entry(place).reason {
+        let reason = trail.entry(place).reason;
+        match reason {
             Reason::Decision => {}
-            Reason::Clause(id) => sources.push(Source::Held(id))?,
-            Reason::Inference(stacked) => sources.push(Source::Stacked(stacked))?,
+            Reason::Clause(_) | Reason::Inference(_) => antecedents.push(reason)?,
         }
     }
-    sources.push(conflict)?;
-    Ok(sources)
+    antecedents.push(conflict)?;
+    Ok(antecedents)
 }

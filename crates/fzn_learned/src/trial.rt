@@ -10,15 +10,15 @@ ghost use Rattle.fzn_trail.specs.Levels.{level_of};
 ghost use Rattle.fzn_learned.specs.Learned.{IsDerived, IsLearned};
 ghost use Rattle.fzn_learned.specs.Reasoned.{known_of, AreOver, IsKnown, IsReasoned, clause_of};
 
+use crate::antecedent::{clause_of, is_known};
 use crate::learned::Learned;
-use crate::source::{Source, clause_of, is_known};
 use crate::standing::forces_at;
 use fzn_chain::{Link, deny, follow};
 use fzn_clauses::Clauses;
 use fzn_domain::{GREATEST_VALUE, LEAST_VALUE, Lit, Memory};
 use fzn_inferences::Inferences;
 use fzn_sets::Sets;
-use fzn_trail::Trail;
+use fzn_trail::{Reason, Trail};
 
 /// Whether the clause may be learned. The sets are used and restored. It answers `Err` where memory runs out, and the sets may be narrowed
 /// then.
@@ -51,7 +51,7 @@ pub fn is_sound(
     ))
 }
 
-/// Whether the clause follows from its sources. The sets are used and restored. It answers `Err` where memory runs out, and the sets may be
+/// Whether the clause follows from its antecedents. The sets are used and restored. It answers `Err` where memory runs out, and the sets may be
 /// narrowed then.
 pub fn is_derived(
     trail: &Trail,
@@ -66,11 +66,11 @@ pub fn is_derived(
     ensures fresh { OnOk result (sets.new ≡ start trail.now.declared) }
 {
     let clause = learned.clause.as_slice();
-    let sources = learned.sources.as_slice();
-    if !is_in_range(clause, sets.len()) || !are_known(clauses, inferences, sources) {
+    let antecedents = learned.antecedents.as_slice();
+    if !is_in_range(clause, sets.len()) || !are_known(clauses, inferences, antecedents) {
         return Ok(false);
     }
-    let refuted = is_refuted(clauses, inferences, sets, clause, sources)?;
+    let refuted = is_refuted(clauses, inferences, sets, clause, antecedents)?;
     sets.restore();
     Ok(refuted)
 }
@@ -96,12 +96,12 @@ fn is_allowed(lit: Lit, vars: usize) -> bool
     1 <= lit.var.0 && lit.var.0 <= vars && LEAST_VALUE <= lit.value && lit.value <= GREATEST_VALUE
 }
 
-/// Whether there is a clause of each of the sources.
-fn are_known(clauses: &Clauses, inferences: &Inferences, sources: &[Source]) -> bool
-    ensures { IsTrue result → All (IsKnown (known_of clauses.now inferences.now)) sources.now }
+/// Whether there is a clause of each of the antecedents.
+fn are_known(clauses: &Clauses, inferences: &Inferences, antecedents: &[Reason]) -> bool
+    ensures { IsTrue result → All (IsKnown (known_of clauses.now inferences.now)) antecedents.now }
 {
-    for source in sources {
-        if !is_known(clauses, inferences, *source) {
+    for antecedent in antecedents {
+        if !is_known(clauses, inferences, *antecedent) {
             return false;
         }
     }
@@ -120,41 +120,41 @@ fn goes_back(trail: &Trail, learned: &Learned) -> bool
     }
 }
 
-/// Whether unit propagation along the sources refutes the clause's denial.
+/// Whether unit propagation along the antecedents refutes the clause's denial.
 fn is_refuted(
     clauses: &Clauses,
     inferences: &Inferences,
     sets: &mut Sets,
     clause: &[Lit],
-    sources: &[Source],
+    antecedents: &[Reason],
 ) -> Result<bool, Memory>
     requires over { IsClauseOver (length sets.old.present) clause.now }
     requires bounds { All IsBound clause.now }
-    requires known { All (IsKnown (known_of clauses.now inferences.now)) sources.now }
+    requires known { All (IsKnown (known_of clauses.now inferences.now)) antecedents.now }
     requires all_over { AreOver (length sets.old.present) (known_of clauses.now inferences.now) }
-    ensures accepted { IfOk result (λ yes. IsTrue yes → IsAcceptedFrom sets.old.present clause.now (map (clause_of (known_of clauses.now inferences.now)) sources.now)) }
+    ensures accepted { IfOk result (λ yes. IsTrue yes → IsAcceptedFrom sets.old.present clause.now (map (clause_of (known_of clauses.now inferences.now)) antecedents.now)) }
     ensures declared { sets.new.declared ≡ sets.old.declared }
 {
     if deny(sets, clause)? {
         return Ok(true);
     }
-    ends_well(clauses, inferences, sets, sources)
+    ends_well(clauses, inferences, sets, antecedents)
 }
 
-/// Whether the chain of the sources' clauses ends well.
+/// Whether the chain of the antecedents' clauses ends well.
 fn ends_well(
     clauses: &Clauses,
     inferences: &Inferences,
     sets: &mut Sets,
-    sources: &[Source],
+    antecedents: &[Reason],
 ) -> Result<bool, Memory>
-    requires known { All (IsKnown (known_of clauses.now inferences.now)) sources.now }
+    requires known { All (IsKnown (known_of clauses.now inferences.now)) antecedents.now }
     requires over { AreOver (length sets.old.present) (known_of clauses.now inferences.now) }
-    ensures accepted { IfOk result (λ yes. IsTrue yes → chain_outcome sets.old.present (map (clause_of (known_of clauses.now inferences.now)) sources.now) ≡ accepted) }
+    ensures accepted { IfOk result (λ yes. IsTrue yes → chain_outcome sets.old.present (map (clause_of (known_of clauses.now inferences.now)) antecedents.now) ≡ accepted) }
     ensures declared { sets.new.declared ≡ sets.old.declared }
 {
-    for source in sources {
-        match follow(sets, clause_of(clauses, inferences, *source))? {
+    for antecedent in antecedents {
+        match follow(sets, clause_of(clauses, inferences, *antecedent))? {
             Link::Refuted => return Ok(true),
             Link::Narrowed => {}
             Link::Open => return Ok(false),

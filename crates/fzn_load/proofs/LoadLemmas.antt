@@ -1,11 +1,12 @@
 -- What tasks use at a time, task by task.
-use Rattle.std.proofs.Common.{◌≡◌, ◌≢◌, ℕ, zero, suc, ◌+◌, ◌<◌, ◌≤◌, true, cond, ◌&&◌, List, [], ◌∷◌, length, get_or, take, refl, sym, ap, subst, ◌∙◌, arith, add-one, ℤ, pos, ◌+ℤ◌, ◌-ℤ◌, ◌≤ℤ◌, ◌<ℤ◌, int_lt, int_le}
+use Rattle.std.proofs.Common.{◌≡◌, ◌≢◌, ℕ, zero, suc, ◌+◌, ◌<◌, ◌≤◌, true, cond, ◌&&◌, List, [], ◌∷◌, length, get_or, take, refl, sym, ap, subst, ◌∙◌, arith, add-one, ℤ, pos, ◌+ℤ◌, ◌-ℤ◌, ◌≤ℤ◌, ◌<ℤ◌, int_lt, int_le, w64, to_z, of_z}
 use Rattle.std.specs.Int.{int_max}
 use Rattle.std.proofs.lemmas.Int.{ints}
 use Rattle.std.proofs.lemmas.List.{take_all}
 use Rattle.fzn_domain.specs.declared.literal.Lit.{Lit}
 use Rattle.fzn_domain.specs.declared.literal.Op.TheVariants.{AtMost, AtLeast}
 use Rattle.fzn_domain.specs.IntSet.{IntSet}
+use Rattle.fzn_domain.specs.Limits.{IsInLimits}
 use Rattle.fzn_meaning.specs.declared.term.Term.{Term}
 use Rattle.fzn_meaning.specs.Term.{IsTerm}
 use Rattle.fzn_rules.specs.declared.rule.Rule.TheVariants.{Load}
@@ -15,11 +16,11 @@ use Rattle.fzn_sets.proofs.ValueLemmas.{MayBe-ends, MayBe-between}
 use Rattle.fzn_global_rules.specs.Load.{IsLoadMet}
 use Rattle.fzn_trail.specs.Levels.{Levels}
 use Rattle.fzn_propagator.specs.Clause.{AreLeft, IsJustified}
-use Rattle.fzn_terms.specs.Denied.{AllAre, IsExplained}
+use Rattle.fzn_terms.specs.Denied.{that, IsEntailed, IsExplained}
 use Rattle.fzn_load.specs.declared.tasks.Tasks.{Tasks}
-use Rattle.fzn_load.specs.Loads.{AreReady, cumulative_of, least_use_of, runs_surely, total_of, total_but, IsUseExplained, AreExplained}
+use Rattle.fzn_load.specs.Loads.{AreReady, cumulative_of, IsTime, least_use_of, runs_surely, total_of, total_but, IsUseExplained, AreExplained}
 use Rattle.fzn_propagator.proofs.CallerLemmas.{forcing_of_false, justified_where}
-use Rattle.fzn_terms.proofs.OrderLemmas.{at_most, step_more, step_spare, wider}
+use Rattle.fzn_terms.proofs.OrderLemmas.{at_most, step_more, step_spare, wider, le_test}
 
 module _ (sets : List IntSet) (t : ℤ) where
   total-take : (ss ds rs : List Term) (k : ℕ) (x : Term) → length ds ≡ length ss → length rs ≡ length ss → k < length ss → total_of sets t (take (suc k) ss) (take (suc k) ds) (take (suc k) rs) ≡ total_of sets t (take k ss) (take k ds) (take k rs) +ℤ least_use_of sets t (get_or ss k x) (get_or ds k x) (get_or rs k x)
@@ -79,31 +80,29 @@ module _ (sets : List IntSet) (t : ℤ) where
 runs_then : (t low high shortest lowest s l h u : ℤ) → int_le high t ≡ true → int_le ((t -ℤ s) +ℤ pos 1) low ≡ true → int_le s shortest ≡ true → int_le u lowest ≡ true → cond (int_le h t && int_lt t (l +ℤ s)) (int_max (pos 0) u) (pos 0) ≤ℤ cond (int_le high t && int_lt t (low +ℤ shortest)) (int_max (pos 0) lowest) (pos 0)
 runs_then t low high shortest lowest s l h u a b c d = grind (arith, ints)
 
-pub all_most : (sets : List IntSet) (term : Term) (n : ℤ) → greatest_value sets term ≤ℤ n → AllAre AtMost n term sets
+pub all_most : (sets : List IntSet) (term : Term) (n : ℤ) → greatest_value sets term ≤ℤ n → IsEntailed sets (that term AtMost n)
 all_most sets term n h v may = let b = MayBe-between sets term v may in le_test v (greatest_value sets term) n b.1 h
-  where
-    le_test : (a b c : ℤ) → a ≤ℤ b → b ≤ℤ c → int_le a c ≡ true
-    le_test a b c p q = grind (arith, ints)
 
-pub all_least : (sets : List IntSet) (term : Term) (n : ℤ) → n ≤ℤ least_value sets term → AllAre AtLeast n term sets
+pub all_least : (sets : List IntSet) (term : Term) (n : ℤ) → n ≤ℤ least_value sets term → IsEntailed sets (that term AtLeast n)
 all_least sets term n h v may = let b = MayBe-between sets term v may in le_test n (least_value sets term) v h b.0
-  where
-    le_test : (a b c : ℤ) → a ≤ℤ b → b ≤ℤ c → int_le a c ≡ true
-    le_test a b c p q = grind (arith, ints)
 
 run_parts : (high t low s : ℤ) → (int_le high t && int_lt t (low +ℤ s)) ≡ true → (high ≤ℤ t) × (((t -ℤ s) +ℤ pos 1) ≤ℤ low)
 run_parts high t low s h = (grind (arith, ints), grind (arith, ints))
 
+-- how the code computes the earliest start of a task that runs at the time
+pub earliest_is : (t s d : ℤ) → IsTime t → IsInLimits s → s ≡ d → to_z w64 (of_z w64 (to_z w64 (of_z w64 (to_z w64 (of_z w64 t) -ℤ to_z w64 (of_z w64 s))) +ℤ pos 1)) ≡ (t -ℤ d) +ℤ pos 1
+earliest_is t s d time limits e = omega (arith, ints, time.0, time.1, limits.0, limits.1)
+
 module _ (trail : Levels) (t : ℤ) (start duration uses : Term) where
   -- what the four literals say on the trail
-  pub run_most : runs_surely trail.sets t start duration ≡ true → AllAre AtMost t start trail.sets
+  pub run_most : runs_surely trail.sets t start duration ≡ true → IsEntailed trail.sets (that start AtMost t)
   run_most runs = all_most trail.sets start t (run_parts (greatest_value trail.sets start) t (least_value trail.sets start) (least_value trail.sets duration) runs).0
 
-  pub run_least : runs_surely trail.sets t start duration ≡ true → AllAre AtLeast ((t -ℤ least_value trail.sets duration) +ℤ pos 1) start trail.sets
+  pub run_least : runs_surely trail.sets t start duration ≡ true → IsEntailed trail.sets (that start AtLeast ((t -ℤ least_value trail.sets duration) +ℤ pos 1))
   run_least runs = all_least trail.sets start _ (run_parts (greatest_value trail.sets start) t (least_value trail.sets start) (least_value trail.sets duration) runs).1
 
   -- and wherever they are denied
-  use_stays : (clause : List Lit) (sets : List IntSet) → AreLeft trail.declared clause sets → IsTerm (length trail.declared) start → IsTerm (length trail.declared) duration → IsTerm (length trail.declared) uses → AllAre AtMost t start sets → AllAre AtLeast ((t -ℤ least_value trail.sets duration) +ℤ pos 1) start sets → AllAre AtLeast (least_value trail.sets duration) duration sets → AllAre AtLeast (least_value trail.sets uses) uses sets → least_use_of trail.sets t start duration uses ≤ℤ least_use_of sets t start duration uses
+  use_stays : (clause : List Lit) (sets : List IntSet) → AreLeft trail.declared clause sets → IsTerm (length trail.declared) start → IsTerm (length trail.declared) duration → IsTerm (length trail.declared) uses → IsEntailed sets (that start AtMost t) → IsEntailed sets (that start AtLeast ((t -ℤ least_value trail.sets duration) +ℤ pos 1)) → IsEntailed sets (that duration AtLeast (least_value trail.sets duration)) → IsEntailed sets (that uses AtLeast (least_value trail.sets uses)) → least_use_of trail.sets t start duration uses ≤ℤ least_use_of sets t start duration uses
   use_stays clause sets left fit_start fit_duration fit_uses a b d e =
       let count = sym left.one_each in
       let starts = MayBe-ends sets start left.filled (subst (λ (n : ℕ). IsTerm n start) count fit_start) in
@@ -112,7 +111,7 @@ module _ (trail : Levels) (t : ℤ) (start duration uses : Term) where
       runs_then t (least_value sets start) (greatest_value sets start) (least_value sets duration) (least_value sets uses) (least_value trail.sets duration) (least_value trail.sets start) (greatest_value trail.sets start) (least_value trail.sets uses)
       (a (greatest_value sets start) starts.1) (b (least_value sets start) starts.0) (d (least_value sets duration) durations.0) (e (least_value sets uses) used.0)
 
-  pub use_explained : (c0 c1 c2 c3 c4 : List Lit) → IsTerm (length trail.declared) start → IsTerm (length trail.declared) duration → IsTerm (length trail.declared) uses → IsExplained trail AtMost t start c0 c1 → IsExplained trail AtLeast ((t -ℤ least_value trail.sets duration) +ℤ pos 1) start c1 c2 → IsExplained trail AtLeast (least_value trail.sets duration) duration c2 c3 → IsExplained trail AtLeast (least_value trail.sets uses) uses c3 c4 → IsUseExplained trail t start duration uses c0 c4
+  pub use_explained : (c0 c1 c2 c3 c4 : List Lit) → IsTerm (length trail.declared) start → IsTerm (length trail.declared) duration → IsTerm (length trail.declared) uses → IsExplained trail (that start AtMost t) c0 c1 → IsExplained trail (that start AtLeast ((t -ℤ least_value trail.sets duration) +ℤ pos 1)) c1 c2 → IsExplained trail (that duration AtLeast (least_value trail.sets duration)) c2 c3 → IsExplained trail (that uses AtLeast (least_value trail.sets uses)) c3 c4 → IsUseExplained trail t start duration uses c0 c4
   use_explained c0 c1 c2 c3 c4 fit_start fit_duration fit_uses a b d e = record {
     still = e.still;
     keeps = λ sets left. a.keeps sets (b.keeps sets (d.keeps sets (e.keeps sets left)));
@@ -212,7 +211,7 @@ explained_all trail t e k spare ss ds rs old new p q past h =
 over_of : (capacity load spare most total : ℤ) → most ≤ℤ capacity → load ≤ℤ (total +ℤ spare) → spare ≡ (load -ℤ capacity) -ℤ pos 1 → most <ℤ total
 over_of capacity load spare most total a b e = omega (arith, ints)
 
-pub load_inferred : (trail : Levels) (tasks : Tasks) (t capacity spare : ℤ) (n : ℕ) (c0 c1 c2 : List Lit) → AreReady (length trail.declared) tasks → length tasks.starts ≤ n → IsExplained trail AtMost capacity tasks.capacity c0 c1 → AreExplained trail t n spare tasks.starts tasks.durations tasks.uses c1 c2 → spare ≡ (total_of trail.sets t tasks.starts tasks.durations tasks.uses -ℤ capacity) -ℤ pos 1 → IsJustified trail (cumulative_of tasks) (Load t) c2
+pub load_inferred : (trail : Levels) (tasks : Tasks) (t capacity spare : ℤ) (n : ℕ) (c0 c1 c2 : List Lit) → AreReady (length trail.declared) tasks → length tasks.starts ≤ n → IsExplained trail (that tasks.capacity AtMost capacity) c0 c1 → AreExplained trail t n spare tasks.starts tasks.durations tasks.uses c1 c2 → spare ≡ (total_of trail.sets t tasks.starts tasks.durations tasks.uses -ℤ capacity) -ℤ pos 1 → IsJustified trail (cumulative_of tasks) (Load t) c2
 unfolding IsMet IsLoadMet
 load_inferred trail tasks t capacity spare n c0 c1 c2 ready all most explained is =
     justified_where trail (cumulative_of tasks) (Load t) c2 (forcing_of_false trail c2 explained.still) (λ sets left.

@@ -14,13 +14,14 @@ use Rattle.fzn_sets.proofs.ValueLemmas.{MayBe-ends}
 use Rattle.fzn_global_rules.specs.Load.{IsLoadMet}
 use Rattle.fzn_trail.specs.Levels.{Levels}
 use Rattle.fzn_propagator.specs.Clause.{AreLeft, IsJustified}
-use Rattle.fzn_terms.specs.Denied.{AllAre, NoneIs, IsExplained, IsForced}
-use Rattle.fzn_terms.proofs.CaseLemmas.{either, if_true}
+use Rattle.fzn_terms.specs.Denied.{that, IsEntailed, IsDenied, IsExplained, IsForced}
+use Rattle.fzn_terms.proofs.CaseLemmas.{either}
 use Rattle.fzn_load.specs.declared.tasks.Tasks.{Tasks}
 use Rattle.fzn_load.specs.Loads.{AreReady, cumulative_of, least_use_of, total_of, total_but, least_amount, IsUseForced, AreExplained, AreOver, others_of, HasRoom}
 use Rattle.fzn_load.proofs.LoadLemmas.{but-one, but-none}
 use Rattle.fzn_propagator.proofs.CallerLemmas.{justified_where}
 use Rattle.fzn_terms.proofs.OrderLemmas.{at_most}
+use Rattle.std.proofs.lemmas.Bool.{MatchBool-at_true}
 
 runs_full : (t low high shortest lowest s u : ℤ) → int_le high t ≡ true → int_le ((t -ℤ s) +ℤ pos 1) low ≡ true → int_le s shortest ≡ true → int_le u lowest ≡ true → int_max (pos 0) u ≤ℤ cond (int_le high t && int_lt t (low +ℤ shortest)) (int_max (pos 0) lowest) (pos 0)
 runs_full t low high shortest lowest s u a b c d = grind (arith, ints)
@@ -33,7 +34,7 @@ back t s e h = omega (arith, ints)
 
 module _ (trail : Levels) (t s u : ℤ) (start duration uses : Term) (fit_start : IsTerm (length trail.declared) start) (fit_duration : IsTerm (length trail.declared) duration) (fit_uses : IsTerm (length trail.declared) uses) where
   -- a task whose terms are so runs at the time, and uses so much
-  use_full : (clause : List Lit) (sets : List IntSet) → AreLeft trail.declared clause sets → AllAre AtMost t start sets → AllAre AtLeast ((t -ℤ s) +ℤ pos 1) start sets → AllAre AtLeast s duration sets → AllAre AtLeast u uses sets → int_max (pos 0) u ≤ℤ least_use_of sets t start duration uses
+  use_full : (clause : List Lit) (sets : List IntSet) → AreLeft trail.declared clause sets → IsEntailed sets (that start AtMost t) → IsEntailed sets (that start AtLeast ((t -ℤ s) +ℤ pos 1)) → IsEntailed sets (that duration AtLeast s) → IsEntailed sets (that uses AtLeast u) → int_max (pos 0) u ≤ℤ least_use_of sets t start duration uses
   use_full clause sets left by from for at =
       let count = sym left.one_each in
       let starts = MayBe-ends sets start left.filled (subst (λ (n : ℕ). IsTerm n start) count fit_start) in
@@ -42,7 +43,7 @@ module _ (trail : Levels) (t s u : ℤ) (start duration uses : Term) (fit_start 
       runs_full t (least_value sets start) (greatest_value sets start) (least_value sets duration) (least_value sets uses) s u
       (by (greatest_value sets start) starts.1) (from (least_value sets start) starts.0) (for (least_value sets duration) durations.0) (at (least_value sets uses) used.0)
 
-  pub forced_after : (c0 c1 c2 c3 c4 : List Lit) → IsExplained trail AtLeast ((t -ℤ s) +ℤ pos 1) start c0 c1 → IsExplained trail AtLeast s duration c1 c2 → IsExplained trail AtLeast u uses c2 c3 → IsForced trail AtMost t start c3 c4 → IsUseForced trail t (int_max (pos 0) u) start duration uses c0 c4
+  pub forced_after : (c0 c1 c2 c3 c4 : List Lit) → IsExplained trail (that start AtLeast ((t -ℤ s) +ℤ pos 1)) c0 c1 → IsExplained trail (that duration AtLeast s) c1 c2 → IsExplained trail (that uses AtLeast u) c2 c3 → IsForced trail (that start AtMost t) c3 c4 → IsUseForced trail t (int_max (pos 0) u) start duration uses c0 c4
   forced_after c0 c1 c2 c3 c4 from for at by = record {
     forcing = by.forcing;
     keeps = λ sets left. from.keeps sets (for.keeps sets (at.keeps sets (by.keeps sets left)));
@@ -53,7 +54,7 @@ module _ (trail : Levels) (t s u : ℤ) (start duration uses : Term) (fit_start 
         use_full c4 sets left (by.says sets left) (from.says sets left1) (for.says sets left2) (at.says sets left3);
   }
 
-  pub forced_before : (c0 c1 c2 c3 c4 : List Lit) → IsExplained trail AtMost t start c0 c1 → IsExplained trail AtLeast s duration c1 c2 → IsExplained trail AtLeast u uses c2 c3 → IsForced trail AtLeast ((t -ℤ s) +ℤ pos 1) start c3 c4 → IsUseForced trail t (int_max (pos 0) u) start duration uses c0 c4
+  pub forced_before : (c0 c1 c2 c3 c4 : List Lit) → IsExplained trail (that start AtMost t) c0 c1 → IsExplained trail (that duration AtLeast s) c1 c2 → IsExplained trail (that uses AtLeast u) c2 c3 → IsForced trail (that start AtLeast ((t -ℤ s) +ℤ pos 1)) c3 c4 → IsUseForced trail t (int_max (pos 0) u) start duration uses c0 c4
   forced_before c0 c1 c2 c3 c4 by for at from = record {
     forcing = from.forcing;
     keeps = λ sets left. by.keeps sets (for.keeps sets (at.keeps sets (from.keeps sets left)));
@@ -64,7 +65,7 @@ module _ (trail : Levels) (t s u : ℤ) (start duration uses : Term) (fit_start 
         use_full c4 sets left (by.says sets left1) (from.says sets left) (for.says sets left2) (at.says sets left3);
   }
 
-  pub forced_less : (c0 c1 c2 c3 c4 : List Lit) → IsExplained trail AtMost t start c0 c1 → IsExplained trail AtLeast ((t -ℤ s) +ℤ pos 1) start c1 c2 → IsExplained trail AtLeast s duration c2 c3 → IsForced trail AtLeast u uses c3 c4 → IsUseForced trail t u start duration uses c0 c4
+  pub forced_less : (c0 c1 c2 c3 c4 : List Lit) → IsExplained trail (that start AtMost t) c0 c1 → IsExplained trail (that start AtLeast ((t -ℤ s) +ℤ pos 1)) c1 c2 → IsExplained trail (that duration AtLeast s) c2 c3 → IsForced trail (that uses AtLeast u) c3 c4 → IsUseForced trail t u start duration uses c0 c4
   forced_less c0 c1 c2 c3 c4 by from for at = record {
     forcing = at.forcing;
     keeps = λ sets left. by.keeps sets (from.keeps sets (for.keeps sets (at.keeps sets left)));
@@ -75,7 +76,7 @@ module _ (trail : Levels) (t s u : ℤ) (start duration uses : Term) (fit_start 
         not_less u _ (use_full c4 sets left (by.says sets left1) (from.says sets left2) (for.says sets left3) (at.says sets left));
   }
 
-  pub forced_shorter : (e : ℤ) → s ≡ (t -ℤ e) +ℤ pos 1 → (c0 c1 c2 c3 c4 : List Lit) → IsExplained trail AtMost t start c0 c1 → IsExplained trail AtLeast e start c1 c2 → IsExplained trail AtLeast u uses c2 c3 → IsForced trail AtLeast s duration c3 c4 → IsUseForced trail t (int_max (pos 0) u) start duration uses c0 c4
+  pub forced_shorter : (e : ℤ) → s ≡ (t -ℤ e) +ℤ pos 1 → (c0 c1 c2 c3 c4 : List Lit) → IsExplained trail (that start AtMost t) c0 c1 → IsExplained trail (that start AtLeast e) c1 c2 → IsExplained trail (that uses AtLeast u) c2 c3 → IsForced trail (that duration AtLeast s) c3 c4 → IsUseForced trail t (int_max (pos 0) u) start duration uses c0 c4
   forced_shorter e is c0 c1 c2 c3 c4 by from at for = record {
     forcing = for.forcing;
     keeps = λ sets left. by.keeps sets (from.keeps sets (at.keeps sets (for.keeps sets left)));
@@ -83,13 +84,13 @@ module _ (trail : Levels) (t s u : ℤ) (start duration uses : Term) (fit_start 
         let left3 = for.keeps sets left in
         let left2 = at.keeps sets left3 in
         let left1 = from.keeps sets left2 in
-        use_full c4 sets left (by.says sets left1) (subst (λ (n : ℤ). AllAre AtLeast n start sets) (back t s e is) (from.says sets left2)) (for.says sets left) (at.says sets left3);
+        use_full c4 sets left (by.says sets left1) (subst (λ (n : ℤ). IsEntailed sets (that start AtLeast n)) (back t s e is) (from.says sets left2)) (for.says sets left) (at.says sets left3);
   }
 
 over_of : (capacity others spare amount most but : ℤ) → most ≤ℤ capacity → others ≤ℤ (but +ℤ spare) → spare ≡ ((others +ℤ amount) -ℤ capacity) -ℤ pos 1 → most <ℤ (but +ℤ amount)
 over_of capacity others spare amount most but a b e = omega (arith, ints)
 
-pub over : (trail : Levels) (tasks : Tasks) (t capacity spare amount : ℤ) (k : ℕ) (c0 c1 c2 : List Lit) → AreReady (length trail.declared) tasks → IsExplained trail AtMost capacity tasks.capacity c0 c1 → AreExplained trail t k spare tasks.starts tasks.durations tasks.uses c1 c2 → spare ≡ ((total_but k trail.sets t tasks.starts tasks.durations tasks.uses +ℤ amount) -ℤ capacity) -ℤ pos 1 → AreOver trail t k amount tasks c2
+pub over : (trail : Levels) (tasks : Tasks) (t capacity spare amount : ℤ) (k : ℕ) (c0 c1 c2 : List Lit) → AreReady (length trail.declared) tasks → IsExplained trail (that tasks.capacity AtMost capacity) c0 c1 → AreExplained trail t k spare tasks.starts tasks.durations tasks.uses c1 c2 → spare ≡ ((total_but k trail.sets t tasks.starts tasks.durations tasks.uses +ℤ amount) -ℤ capacity) -ℤ pos 1 → AreOver trail t k amount tasks c2
 over trail tasks t capacity spare amount k c0 c1 c2 ready most explained is = record {
   still = explained.still;
   says = λ sets left.
@@ -116,7 +117,7 @@ pub pushed : {N F : Type 0} (trail : Levels) (tasks : Tasks) (t held amount : �
 pushed trail tasks t held amount k x ss ds rs old new first found ready inside a b c are_over yes_over same otherwise forced =
     either found
     (λ one. push_inferred trail tasks t amount k x old new ready inside
-    (subst (λ (n : ℤ). AreOver trail t k n tasks old) same (if_true (AreOver trail t k held tasks old) (HasRoom trail.sets t k held tasks) first yes_over are_over))
+    (subst (λ (n : ℤ). AreOver trail t k n tasks old) same (MatchBool-at_true (AreOver trail t k held tasks old) (HasRoom trail.sets t k held tasks) yes_over are_over))
     (subst (λ (xs : List Term). IsUseForced trail t amount (get_or tasks.starts k x) (get_or tasks.durations k x) (get_or xs k x) old new) c
     (subst (λ (xs : List Term). IsUseForced trail t amount (get_or tasks.starts k x) (get_or xs k x) (get_or rs k x) old new) b
     (subst (λ (xs : List Term). IsUseForced trail t amount (get_or xs k x) (get_or ds k x) (get_or rs k x) old new) a one))))
@@ -133,13 +134,13 @@ pub room_for : (sets : List IntSet) (tasks : Tasks) (t held : ℤ) (k : ℕ) (x 
 room_for sets tasks t held k x rs same is room =
     room_of (others_of sets t k tasks) held (least_amount sets (get_or tasks.uses k x)) (greatest_value sets tasks.capacity) (is ∙ ap (λ (xs : List Term). least_amount sets (get_or xs k x)) same) room
 
-pub starts_not_by : (sets : List IntSet) (t : ℤ) (k : ℕ) (x : Term) (ss xs : List Term) → ss ≡ xs → NoneIs AtMost t (get_or ss k x) sets → NoneIs AtMost t (get_or xs k x) sets
-starts_not_by sets t k x ss xs same none = subst (λ (ts : List Term). NoneIs AtMost t (get_or ts k x) sets) same none
+pub starts_not_by : (sets : List IntSet) (t : ℤ) (k : ℕ) (x : Term) (ss xs : List Term) → ss ≡ xs → IsDenied sets (that (get_or ss k x) AtMost t) → IsDenied sets (that (get_or xs k x) AtMost t)
+starts_not_by sets t k x ss xs same none = subst (λ (ts : List Term). IsDenied sets (that (get_or ts k x) AtMost t)) same none
 
-pub is_not_from : (sets : List IntSet) (t : ℤ) (k : ℕ) (x : Term) (qs qs' bs bs' : List Term) → qs ≡ qs' → bs ≡ bs' → NoneIs AtLeast ((t -ℤ least_value sets (get_or qs k x)) +ℤ pos 1) (get_or bs k x) sets → NoneIs AtLeast ((t -ℤ least_value sets (get_or qs' k x)) +ℤ pos 1) (get_or bs' k x) sets
+pub is_not_from : (sets : List IntSet) (t : ℤ) (k : ℕ) (x : Term) (qs qs' bs bs' : List Term) → qs ≡ qs' → bs ≡ bs' → IsDenied sets (that (get_or bs k x) AtLeast ((t -ℤ least_value sets (get_or qs k x)) +ℤ pos 1)) → IsDenied sets (that (get_or bs' k x) AtLeast ((t -ℤ least_value sets (get_or qs' k x)) +ℤ pos 1))
 is_not_from sets t k x qs qs' bs bs' a b none =
-    subst (λ (ts : List Term). NoneIs AtLeast ((t -ℤ least_value sets (get_or qs' k x)) +ℤ pos 1) (get_or ts k x) sets) b
-    (subst (λ (ts : List Term). NoneIs AtLeast ((t -ℤ least_value sets (get_or ts k x)) +ℤ pos 1) (get_or bs k x) sets) a none)
+    subst (λ (ts : List Term). IsDenied sets (that (get_or ts k x) AtLeast ((t -ℤ least_value sets (get_or qs' k x)) +ℤ pos 1))) b
+    (subst (λ (ts : List Term). IsDenied sets (that (get_or bs k x) AtLeast ((t -ℤ least_value sets (get_or ts k x)) +ℤ pos 1))) a none)
 
 pub ends_by : (sets : List IntSet) (t end : ℤ) (k : ℕ) (x : Term) (ss ss' ds ds' : List Term) → ss ≡ ss' → ds ≡ ds' → end ≡ least_value sets (get_or ss k x) +ℤ least_value sets (get_or ds k x) → end ≤ℤ t → (least_value sets (get_or ss' k x) +ℤ least_value sets (get_or ds' k x)) ≤ℤ t
 ends_by sets t end k x ss ss' ds ds' a b is h =
@@ -153,7 +154,7 @@ starts_past sets t latest k x ss ss' a is h = subst (λ (n : ℤ). t <ℤ n) (is
 least_of : (most limit load total trail_total : ℤ) → most ≤ℤ limit → trail_total ≤ℤ (total +ℤ pos 0) → load ≡ trail_total → limit ≡ load -ℤ pos 1 → most <ℤ total
 least_of most limit load total trail_total a b e f = omega (arith, ints)
 
-pub capacity_inferred : (trail : Levels) (tasks : Tasks) (t load limit : ℤ) (n : ℕ) (c0 c1 c2 : List Lit) → AreReady (length trail.declared) tasks → length tasks.starts ≤ n → AreExplained trail t n (pos 0) tasks.starts tasks.durations tasks.uses c0 c1 → IsForced trail AtMost limit tasks.capacity c1 c2 → load ≡ total_of trail.sets t tasks.starts tasks.durations tasks.uses → limit ≡ load -ℤ pos 1 → IsJustified trail (cumulative_of tasks) (Load t) c2
+pub capacity_inferred : (trail : Levels) (tasks : Tasks) (t load limit : ℤ) (n : ℕ) (c0 c1 c2 : List Lit) → AreReady (length trail.declared) tasks → length tasks.starts ≤ n → AreExplained trail t n (pos 0) tasks.starts tasks.durations tasks.uses c0 c1 → IsForced trail (that tasks.capacity AtMost limit) c1 c2 → load ≡ total_of trail.sets t tasks.starts tasks.durations tasks.uses → limit ≡ load -ℤ pos 1 → IsJustified trail (cumulative_of tasks) (Load t) c2
 unfolding IsMet IsLoadMet
 capacity_inferred trail tasks t load limit n c0 c1 c2 ready all explained forced is limit_is =
     justified_where trail (cumulative_of tasks) (Load t) c2 forced.forcing (λ sets left.

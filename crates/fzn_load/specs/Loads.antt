@@ -14,8 +14,8 @@ use Rattle.fzn_sets.specs.Terms.{least_value, greatest_value}
 use Rattle.fzn_global_rules.specs.Tasks.{task_terms, sum_over}
 use Rattle.fzn_global_rules.specs.Load.{least_use_at}
 use Rattle.fzn_trail.specs.Levels.{Levels}
-use Rattle.fzn_propagator.specs.Clause.{Says, Keeps, IsFalseClause, IsForcing}
-use Rattle.fzn_terms.specs.Denied.{NoneIs}
+use Rattle.fzn_propagator.specs.Clause.{Says, IsFalseClause}
+use Rattle.fzn_terms.specs.Denied.{that, IsDenied, IsGrown, IsGrownToForce}
 use Rattle.fzn_load.specs.declared.tasks.Tasks.{Tasks}
 
 -- tasks on this many variables
@@ -55,26 +55,20 @@ total_but zero sets time (s ∷ ss) (d ∷ ds) (r ∷ rs) = total_of sets time s
 total_but (suc except) sets time (s ∷ ss) (d ∷ ds) (r ∷ rs) = least_use_of sets time s d r +ℤ total_but except sets time ss ds rs
 
 -- the clause, grown from a false one, is false, and says besides that the task uses at the time no less than on the trail
-pub record IsUseExplained (trail : Levels) (time : ℤ) (start duration uses : Term) (old new : List Lit) : Type 0 where
-  pub still : IsFalseClause trail new
-  pub keeps : Keeps trail.declared old new
-  pub says : Says trail.declared new (λ sets. least_use_of trail.sets time start duration uses ≤ℤ least_use_of sets time start duration uses)
+abbrev pub IsUseExplained : Levels → ℤ → Term → Term → Term → List Lit → List Lit → Type 0
+IsUseExplained trail time start duration uses old new = IsGrown trail (λ sets. least_use_of trail.sets time start duration uses ≤ℤ least_use_of sets time start duration uses) old new
 
 -- so of the tasks but for the one at an index, together and but for so much
-pub record AreExplained (trail : Levels) (time : ℤ) (except : ℕ) (spare : ℤ) (starts durations uses : List Term) (old new : List Lit) : Type 0 where
-  pub still : IsFalseClause trail new
-  pub keeps : Keeps trail.declared old new
-  pub says : Says trail.declared new (λ sets. total_but except trail.sets time starts durations uses ≤ℤ (total_but except sets time starts durations uses +ℤ spare))
+abbrev pub AreExplained : Levels → ℤ → ℕ → ℤ → List Term → List Term → List Term → List Lit → List Lit → Type 0
+AreExplained trail time except spare starts durations uses old new = IsGrown trail (λ sets. total_but except trail.sets time starts durations uses ≤ℤ (total_but except sets time starts durations uses +ℤ spare)) old new
 
 -- the tasks surely use no more at the time than the capacity may be
 abbrev pub IsKeptAt : List IntSet → Tasks → ℤ → Type 0
 IsKeptAt sets tasks time = total_of sets time tasks.starts tasks.durations tasks.uses ≤ℤ greatest_value sets tasks.capacity
 
 -- the clause, grown from a false one, is false or forces a literal, and says besides that the task uses so much at the time
-pub record IsUseForced (trail : Levels) (time amount : ℤ) (start duration uses : Term) (old new : List Lit) : Type 0 where
-  pub forcing : IsForcing trail new
-  pub keeps : Keeps trail.declared old new
-  pub says : Says trail.declared new (λ sets. amount ≤ℤ least_use_of sets time start duration uses)
+abbrev pub IsUseForced : Levels → ℤ → ℤ → Term → Term → Term → List Lit → List Lit → Type 0
+IsUseForced trail time amount start duration uses old new = IsGrownToForce trail (λ sets. amount ≤ℤ least_use_of sets time start duration uses) old new
 
 -- what a task uses at least while it runs
 abbrev pub least_amount : List IntSet → Term → ℤ
@@ -112,31 +106,31 @@ abbrev pub IsFreeAfter : List IntSet → ℤ → ℕ → Tasks → Type 0
 IsFreeAfter sets time k tasks =
     ((least_value sets (start_at tasks k) +ℤ least_value sets (duration_at tasks k)) ≤ℤ time)
     ⊎ (HasRoom sets time k (least_amount sets (uses_at tasks k)) tasks
-    ⊎ NoneIs AtMost time (start_at tasks k) sets)
+    ⊎ IsDenied sets (that (start_at tasks k) AtMost time))
 
 -- it may start after the time, there is room for it, or it ends by then anyway
 abbrev pub IsFreeBefore : List IntSet → ℤ → ℕ → Tasks → Type 0
 IsFreeBefore sets time k tasks =
     (time <ℤ greatest_value sets (start_at tasks k))
     ⊎ (HasRoom sets time k (least_amount sets (uses_at tasks k)) tasks
-    ⊎ NoneIs AtLeast ((time -ℤ least_value sets (duration_at tasks k)) +ℤ pos 1) (start_at tasks k) sets)
+    ⊎ IsDenied sets (that (start_at tasks k) AtLeast ((time -ℤ least_value sets (duration_at tasks k)) +ℤ pos 1)))
 
 -- it may start after the time, there is room for it, or it is short enough anyway to end by then from its earliest start
 abbrev pub IsFreeForLong : List IntSet → ℤ → ℕ → Tasks → Type 0
 IsFreeForLong sets time k tasks =
     (time <ℤ greatest_value sets (start_at tasks k))
     ⊎ (HasRoom sets time k (least_amount sets (uses_at tasks k)) tasks
-    ⊎ NoneIs AtLeast ((time -ℤ least_value sets (start_at tasks k)) +ℤ pos 1) (duration_at tasks k) sets)
+    ⊎ IsDenied sets (that (duration_at tasks k) AtLeast ((time -ℤ least_value sets (start_at tasks k)) +ℤ pos 1)))
 
 -- it may not run at the time, the others use too much alone, or it uses no more than what they leave
 abbrev pub IsFreeToUse : List IntSet → ℤ → ℕ → Tasks → Type 0
 IsFreeToUse sets time k tasks =
     (runs_surely sets time (start_at tasks k) (duration_at tasks k) ≡ false)
     ⊎ ((greatest_value sets tasks.capacity <ℤ others_of sets time k tasks)
-    ⊎ NoneIs AtLeast ((greatest_value sets tasks.capacity -ℤ others_of sets time k tasks) +ℤ pos 1) (uses_at tasks k) sets)
+    ⊎ IsDenied sets (that (uses_at tasks k) AtLeast ((greatest_value sets tasks.capacity -ℤ others_of sets time k tasks) +ℤ pos 1)))
 
 -- the tasks surely use more at the time than any capacity, or the capacity is no less than that
 abbrev pub IsFreeAt : List IntSet → ℤ → Tasks → Type 0
 IsFreeAt sets time tasks =
     (pos 1000000000 <ℤ total_of sets time tasks.starts tasks.durations tasks.uses)
-    ⊎ NoneIs AtMost (total_of sets time tasks.starts tasks.durations tasks.uses -ℤ pos 1) tasks.capacity sets
+    ⊎ IsDenied sets (that tasks.capacity AtMost (total_of sets time tasks.starts tasks.durations tasks.uses -ℤ pos 1))

@@ -12,8 +12,7 @@ use crate::tasks::Tasks;
 use fzn_domain::{Lit, Memory, Op};
 use fzn_list::Items;
 use fzn_meaning::Term;
-use fzn_sums::{greatest_value, least_value};
-use fzn_terms::explain;
+use fzn_terms::{explain, greatest_of, least_of};
 use fzn_trail::Trail;
 
 /// What a task uses at least while it runs, and no less than 0. Each present set has a value.
@@ -24,7 +23,7 @@ pub fn least_use(trail: &Trail, uses: Term) -> i64
     ensures not_negative { pos 0 ≤ℤ result }
     ensures bounded { result ≤ℤ pos 1000000000 }
 {
-    least_value(trail, uses).max(0)
+    least_of(trail, uses).max(0)
 }
 
 /// The least end of a task: its least start and its least duration together. Each present set has a value.
@@ -34,7 +33,7 @@ pub fn least_end(trail: &Trail, start: Term, duration: Term) -> i64
     requires filled { NoneEmpty trail.now.sets }
     ensures { result ≡ least_value trail.now.sets start +ℤ least_value trail.now.sets duration }
 {
-    least_value(trail, start) + least_value(trail, duration)
+    least_of(trail, start) + least_of(trail, duration)
 }
 
 /// Whether a task runs at the time wherever it starts and however long it takes.
@@ -44,7 +43,7 @@ pub(crate) fn surely_runs(trail: &Trail, start: Term, duration: Term, time: &i64
     requires filled { NoneEmpty trail.now.sets }
     ensures { result ≡ runs_surely trail.now.sets time.now start duration }
 {
-    greatest_value(trail, start) <= *time && *time < least_end(trail, start, duration)
+    greatest_of(trail, start) <= *time && *time < least_end(trail, start, duration)
 }
 
 /// What a task uses at least at the time, where it surely runs then, else 0.
@@ -101,8 +100,8 @@ fn explain_use(
     requires still { IsFalseClause trail.now clause.old }
     ensures { OnOk result (IsUseExplained trail.now time.now start duration uses clause.old clause.new) }
 {
-    let shortest = least_value(trail, duration);
-    let least = least_value(trail, uses);
+    let shortest = least_of(trail, duration);
+    let least = least_of(trail, uses);
     explain(trail, start, Op::AtMost, *time, clause)?;
     explain(trail, start, Op::AtLeast, *time - shortest + 1, clause)?;
     explain(trail, duration, Op::AtLeast, shortest, clause)?;
@@ -158,7 +157,7 @@ pub fn explain_load(
     ensures { IfOk result (λ found. MatchBool found (IsJustified trail.now (cumulative_of tasks.now) (rule.Load time.now) clause.new) (IsKeptAt trail.now.sets tasks.now time.now)) }
 {
     let load = load_at(trail, tasks, time);
-    let capacity = greatest_value(trail, tasks.capacity);
+    let capacity = greatest_of(trail, tasks.capacity);
     if load <= capacity {
         return Ok(false);
     }

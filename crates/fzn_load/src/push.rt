@@ -5,7 +5,7 @@ ghost use Rattle.fzn_domain.specs.Narrow.{NoneEmpty};
 ghost use Rattle.fzn_meaning.specs.Term.{IsTerm};
 ghost use Rattle.fzn_sets.specs.Terms.{least_value, greatest_value};
 ghost use Rattle.fzn_rules.specs.declared.rule.Rule.TheVariants as rule;
-ghost use Rattle.fzn_terms.specs.Denied.{NoneIs};
+ghost use Rattle.fzn_terms.specs.Denied.{that, IsDenied};
 ghost use Rattle.fzn_propagator.specs.Clause.{IsFalseClause, IsJustified};
 ghost use Rattle.fzn_load.specs.Loads.{AreReady, cumulative_of, IsTime, IsAmount, others_of, least_amount, IsUseForced, AreOver, HasRoom, IsFreeAfter, IsFreeBefore};
 
@@ -14,8 +14,7 @@ use crate::tasks::Tasks;
 use fzn_domain::{Lit, Memory, Op};
 use fzn_list::Items;
 use fzn_meaning::Term;
-use fzn_sums::{greatest_value, least_value};
-use fzn_terms::{explain, force};
+use fzn_terms::{explain, force, greatest_of, least_of};
 use fzn_trail::Trail;
 
 /// What the tasks but for the one at place k, counted from 0, use at least at the time.
@@ -50,7 +49,7 @@ pub(crate) fn explain_over(
     requires time { IsTime time.now }
     ensures { IfOk result (λ found. MatchBool found (AreOver trail.now time.now k amount.now tasks.now clause.new) (HasRoom trail.now.sets time.now k amount.now tasks.now)) }
 {
-    let capacity = greatest_value(trail, tasks.capacity);
+    let capacity = greatest_of(trail, tasks.capacity);
     let excess = others_at(trail, tasks, k, time) + *amount - capacity;
     if excess <= 0 {
         return Ok(false);
@@ -78,10 +77,10 @@ fn force_after(
     requires time { IsTime time.now }
     requires ends { time.now <ℤ (least_value trail.now.sets start +ℤ least_value trail.now.sets duration) }
     requires still { IsFalseClause trail.now clause.old }
-    ensures { IfOk result (λ found. MatchBool found (IsUseForced trail.now time.now (least_amount trail.now.sets uses) start duration uses clause.old clause.new) (NoneIs op.AtMost time.now start trail.now.sets)) }
+    ensures { IfOk result (λ found. MatchBool found (IsUseForced trail.now time.now (least_amount trail.now.sets uses) start duration uses clause.old clause.new) (IsDenied trail.now.sets (that start op.AtMost time.now))) }
 {
-    let shortest = least_value(trail, duration);
-    let least = least_value(trail, uses);
+    let shortest = least_of(trail, duration);
+    let least = least_of(trail, uses);
     explain(trail, start, Op::AtLeast, *time - shortest + 1, clause)?;
     explain(trail, duration, Op::AtLeast, shortest, clause)?;
     explain(trail, uses, Op::AtLeast, least, clause)?;
@@ -105,10 +104,10 @@ fn force_before(
     requires time { IsTime time.now }
     requires begins { greatest_value trail.now.sets start ≤ℤ time.now }
     requires still { IsFalseClause trail.now clause.old }
-    ensures { IfOk result (λ found. MatchBool found (IsUseForced trail.now time.now (least_amount trail.now.sets uses) start duration uses clause.old clause.new) (NoneIs op.AtLeast ((time.now -ℤ least_value trail.now.sets duration) +ℤ pos 1) start trail.now.sets)) }
+    ensures { IfOk result (λ found. MatchBool found (IsUseForced trail.now time.now (least_amount trail.now.sets uses) start duration uses clause.old clause.new) (IsDenied trail.now.sets (that start op.AtLeast ((time.now -ℤ least_value trail.now.sets duration) +ℤ pos 1)))) }
 {
-    let shortest = least_value(trail, duration);
-    let least = least_value(trail, uses);
+    let shortest = least_of(trail, duration);
+    let least = least_of(trail, uses);
     explain(trail, start, Op::AtMost, *time, clause)?;
     explain(trail, duration, Op::AtLeast, shortest, clause)?;
     explain(trail, uses, Op::AtLeast, least, clause)?;
@@ -163,7 +162,7 @@ pub fn push_before(
     let start = tasks.starts.as_slice()[k];
     let duration = tasks.durations.as_slice()[k];
     let uses = tasks.uses.as_slice()[k];
-    if *time < greatest_value(trail, start) {
+    if *time < greatest_of(trail, start) {
         return Ok(false);
     }
     let amount = least_use(trail, uses);

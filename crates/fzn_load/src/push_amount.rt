@@ -5,7 +5,7 @@ ghost use Rattle.fzn_domain.specs.Narrow.{NoneEmpty};
 ghost use Rattle.fzn_meaning.specs.Term.{IsTerm};
 ghost use Rattle.fzn_sets.specs.Terms.{least_value, greatest_value};
 ghost use Rattle.fzn_rules.specs.declared.rule.Rule.TheVariants as rule;
-ghost use Rattle.fzn_terms.specs.Denied.{NoneIs};
+ghost use Rattle.fzn_terms.specs.Denied.{that, IsDenied};
 ghost use Rattle.fzn_propagator.specs.Clause.{IsFalseClause, IsJustified};
 ghost use Rattle.fzn_load.specs.Loads.{AreReady, cumulative_of, IsTime, IsAmount, runs_surely, least_amount, IsUseForced, IsFreeForLong, IsFreeToUse, IsFreeAt};
 
@@ -15,8 +15,7 @@ use crate::tasks::Tasks;
 use fzn_domain::{GREATEST_VALUE, Lit, Memory, Op};
 use fzn_list::Items;
 use fzn_meaning::Term;
-use fzn_sums::{greatest_value, least_value};
-use fzn_terms::{explain, force};
+use fzn_terms::{explain, force, greatest_of, least_of};
 use fzn_trail::Trail;
 
 /// Adds to a false clause what it takes to say that a task which surely runs at the time does so, and the literal that it uses less than
@@ -38,9 +37,9 @@ fn force_less(
     requires time { IsTime time.now }
     requires runs { runs_surely trail.now.sets time.now start duration ≡ true }
     requires still { IsFalseClause trail.now clause.old }
-    ensures { IfOk result (λ found. MatchBool found (IsUseForced trail.now time.now amount.now start duration uses clause.old clause.new) (NoneIs op.AtLeast amount.now uses trail.now.sets)) }
+    ensures { IfOk result (λ found. MatchBool found (IsUseForced trail.now time.now amount.now start duration uses clause.old clause.new) (IsDenied trail.now.sets (that uses op.AtLeast amount.now))) }
 {
-    let shortest = least_value(trail, duration);
+    let shortest = least_of(trail, duration);
     explain(trail, start, Op::AtMost, *time, clause)?;
     explain(trail, start, Op::AtLeast, *time - shortest + 1, clause)?;
     explain(trail, duration, Op::AtLeast, shortest, clause)?;
@@ -64,10 +63,10 @@ fn force_shorter(
     requires time { IsTime time.now }
     requires begins { greatest_value trail.now.sets start ≤ℤ time.now }
     requires still { IsFalseClause trail.now clause.old }
-    ensures { IfOk result (λ found. MatchBool found (IsUseForced trail.now time.now (least_amount trail.now.sets uses) start duration uses clause.old clause.new) (NoneIs op.AtLeast ((time.now -ℤ least_value trail.now.sets start) +ℤ pos 1) duration trail.now.sets)) }
+    ensures { IfOk result (λ found. MatchBool found (IsUseForced trail.now time.now (least_amount trail.now.sets uses) start duration uses clause.old clause.new) (IsDenied trail.now.sets (that duration op.AtLeast ((time.now -ℤ least_value trail.now.sets start) +ℤ pos 1)))) }
 {
-    let earliest = least_value(trail, start);
-    let least = least_value(trail, uses);
+    let earliest = least_of(trail, start);
+    let least = least_of(trail, uses);
     explain(trail, start, Op::AtMost, *time, clause)?;
     explain(trail, start, Op::AtLeast, earliest, clause)?;
     explain(trail, uses, Op::AtLeast, least, clause)?;
@@ -96,7 +95,7 @@ pub fn push_less(
     if !surely_runs(trail, start, duration, time) {
         return Ok(false);
     }
-    let amount = greatest_value(trail, tasks.capacity) - others_at(trail, tasks, k, time) + 1;
+    let amount = greatest_of(trail, tasks.capacity) - others_at(trail, tasks, k, time) + 1;
     if amount < 0 {
         return Ok(false);
     }
@@ -125,7 +124,7 @@ pub fn push_shorter(
     let start = tasks.starts.as_slice()[k];
     let duration = tasks.durations.as_slice()[k];
     let uses = tasks.uses.as_slice()[k];
-    if *time < greatest_value(trail, start) {
+    if *time < greatest_of(trail, start) {
         return Ok(false);
     }
     let amount = least_use(trail, uses);

@@ -8,12 +8,11 @@ use Rattle.std.proofs.lemmas.List.{get_or_default, length-map}
 use Rattle.std.proofs.lemmas.List.Elements.{All-head, All-tail, All-get_or}
 use Rattle.fzn_domain.specs.declared.literal.Lit.{Lit}
 use Rattle.fzn_domain.specs.declared.literal.Op.TheVariants.{AtMost}
-use Rattle.fzn_domain.specs.IntSet.{IntSet, size, least, greatest, no_values}
+use Rattle.fzn_domain.specs.IntSet.{IntSet}
 use Rattle.fzn_domain.specs.Limits.{IsInLimits}
-use Rattle.fzn_domain.specs.Narrow.{IsWithin, set_of, is_some_empty}
-use Rattle.fzn_domain.proofs.SetLemmas.{only_member, member_of_size, contains-least, contains-greatest}
+use Rattle.fzn_domain.specs.Narrow.{IsWithin, is_some_empty}
 use Rattle.fzn_meaning.specs.declared.term.Term.{Term}
-use Rattle.fzn_meaning.specs.declared.term.Term.TheVariants.{Constant, Variable}
+use Rattle.fzn_meaning.specs.declared.term.Term.TheVariants.{Constant}
 use Rattle.fzn_meaning.specs.declared.constraint.Constraint.{Constraint}
 use Rattle.fzn_meaning.specs.declared.constraint.Constraint.TheVariants.{Cumulative}
 use Rattle.fzn_meaning.specs.Cumulative.{tasks, load_at, IsCumulative}
@@ -30,13 +29,15 @@ use Rattle.fzn_global_rules.specs.GlobalRows.{IsBelowZero, IsGlobalRowsMet}
 use Rattle.fzn_builtin_rules.specs.Form.{form_of}
 use Rattle.fzn_trail.specs.Levels.{Levels}
 use Rattle.fzn_propagator.specs.Inference.{AllFixed, IsExhausted}
-use Rattle.fzn_terms.specs.Denied.{AllAre}
+use Rattle.fzn_terms.specs.Denied.{that, IsEntailed}
 use Rattle.fzn_propagator.specs.Clause.{IsJustified, IsForcing, Says}
-use Rattle.fzn_terms.proofs.FixedLemmas.{fixed_to}
+use Rattle.fzn_terms.specs.Claims.{IsFixed}
+use Rattle.fzn_terms.proofs.FixedLemmas.{fixed_to, fixed_ends}
 use Rattle.fzn_load.specs.declared.tasks.Tasks.{Tasks}
 use Rattle.fzn_load.specs.Loads.{AreReady, cumulative_of, total_of}
-use Rattle.fzn_schedule.specs.Kept.{AreNotBelow, HasNoneBelow, IsSomeBelow, AreKept, IsSettled, least_terms, least_cumulative, MeetsWhereFixed}
+use Rattle.fzn_schedule.specs.Kept.{AreNotBelow, HasNoneBelow, IsSomeBelow, AreKept, least_terms, least_cumulative, MeetsWhereFixed}
 use Rattle.fzn_propagator.proofs.CallerLemmas.{justified_where, exhausted as no_sum}
+use Rattle.fzn_terms.proofs.OrderLemmas.{le_same}
 
 -- ---- amounts below 0
 
@@ -44,10 +45,10 @@ below_of : (v : ℤ) → int_le v (negsuc 0) ≡ true → v <ℤ pos 0
 below_of v h = grind (arith, ints)
 
 -- each value of the term is below 0
-pub is_below : (sets : List IntSet) (term : Term) → is_some_empty sets ≡ false → IsTerm (length sets) term → AllAre AtMost (negsuc 0) term sets → IsBelowZero sets term
+pub is_below : (sets : List IntSet) (term : Term) → is_some_empty sets ≡ false → IsTerm (length sets) term → IsEntailed sets (that term AtMost (negsuc 0)) → IsBelowZero sets term
 is_below sets term filled fits all = below_of (greatest_value sets term) (all (greatest_value sets term) (MayBe-ends sets term filled fits).1)
 
-pub some_below : (sets : List IntSet) (terms : List Term) (k : ℕ) (d : Term) → k < length terms → is_some_empty sets ≡ false → All (IsTerm (length sets)) terms → AllAre AtMost (negsuc 0) (get_or terms k d) sets → Any (IsBelowZero sets) terms
+pub some_below : (sets : List IntSet) (terms : List Term) (k : ℕ) (d : Term) → k < length terms → is_some_empty sets ≡ false → All (IsTerm (length sets)) terms → IsEntailed sets (that (get_or terms k d) AtMost (negsuc 0)) → Any (IsBelowZero sets) terms
 some_below sets terms k d inside filled fit all =
     (k, get_or terms k d, inside, get_or_default terms k (get_or terms k d) d inside, is_below sets (get_or terms k d) filled (All-get_or (IsTerm (length sets)) terms k d inside fit) all)
 
@@ -75,17 +76,14 @@ use_of t gs ls ld lr s d r a b e f = grind (arith, ints)
 plus_mono : (a b c d : ℤ) → a ≤ℤ b → c ≤ℤ d → (a +ℤ c) ≤ℤ (b +ℤ d)
 plus_mono a b c d p q = omega (arith, ints)
 
-same_le : (a : ℤ) → a ≤ℤ a
-same_le a = omega (arith, ints)
-
 up_to : (load total most capacity : ℤ) → load ≤ℤ total → total ≤ℤ most → most ≡ capacity → load ≤ℤ capacity
 up_to load total most capacity a b e = omega (arith, ints)
 
 module _ (sets : List IntSet) (values : List ℤ) (within : IsWithin sets values) (fixed : AllFixed sets) where
   load_total : (t : ℤ) (ss ds rs : List Term) → All (IsTerm (length sets)) ss → All (IsTerm (length sets)) ds → All (IsTerm (length sets)) rs → load_at t (tasks (values_of values ss) (values_of values ds) (values_of values rs)) ≤ℤ total_of sets t ss ds rs
-  load_total t [] ds rs a b c = same_le (pos 0)
-  load_total t (s ∷ ss) [] rs a b c = same_le (pos 0)
-  load_total t (s ∷ ss) (d ∷ ds) [] a b c = same_le (pos 0)
+  load_total t [] ds rs a b c = le_same (pos 0) (pos 0) refl
+  load_total t (s ∷ ss) [] rs a b c = le_same (pos 0) (pos 0) refl
+  load_total t (s ∷ ss) (d ∷ ds) [] a b c = le_same (pos 0) (pos 0) refl
   load_total t (s ∷ ss) (d ∷ ds) (r ∷ rs) a b c =
       let start = fixed_to sets values within fixed s (All-head (IsTerm (length sets)) s ss a) in
       let duration = fixed_to sets values within fixed d (All-head (IsTerm (length sets)) d ds b) in
@@ -110,18 +108,10 @@ module _ (sets : List IntSet) (values : List ℤ) (within : IsWithin sets values
       (load_total (term_value values (get_or group.starts k d)) group.starts group.durations group.uses ready.starts.0 ready.durations.0 ready.uses.0)
       (subst (λ (t : ℤ). total_of sets t group.starts group.durations group.uses ≤ℤ greatest_value sets group.capacity) start.1 (kept k d below)) most.1))
 
-pub settled_where_fixed : (sets : List IntSet) → AllFixed sets → (term : Term) → IsTerm (length sets) term → IsSettled sets term
-settled_where_fixed sets fixed (Constant k) fits = refl
-settled_where_fixed sets fixed (Variable var) fits =
-    let s = set_of sets var in
-    let one : size (set_of sets var) ≡ 1 = fixed (var.0 - 1) no_values (omega arith) in
-    let some = member_of_size (set_of sets var) (omega arith) in
-    only_member s (least s) (greatest s) one (contains-least s some.0 some.1) (contains-greatest s some.0 some.1)
-
 -- a test that says that terms are not
-pub not_fixed : (sets : List IntSet) (count : ℕ) (terms held : List Term) (r : Bool) → length sets ≡ count → All (IsTerm count) terms → held ≡ terms → (All (IsSettled sets) held → r ≡ true) → r ≡ false → AllFixed sets → ⊥
-not_fixed sets count terms held r same fit is test told fixed =
-    true≢false (sym (test (subst (All (IsSettled sets)) (sym is) (λ k d below. settled_where_fixed sets fixed (get_or terms k d) (All-get_or (IsTerm (length sets)) terms k d below (subst (λ (n : ℕ). All (IsTerm n) terms) (sym same) fit))))) ∙ told)
+pub not_fixed : (sets : List IntSet) (count : ℕ) (terms held : List Term) (r : Bool) → length sets ≡ count → All (IsTerm count) terms → held ≡ terms → (All (IsFixed sets) held → r ≡ true) → r ≡ false → (values : List ℤ) → IsWithin sets values → AllFixed sets → ⊥
+not_fixed sets count terms held r same fit is test told values within fixed =
+    true≢false (sym (test (subst (All (IsFixed sets)) (sym is) (λ k d below. fixed_ends sets values within fixed (get_or terms k d) (All-get_or (IsTerm (length sets)) terms k d below (subst (λ (n : ℕ). All (IsTerm n) terms) (sym same) fit))))) ∙ told)
 
 -- ---- tasks of constants
 

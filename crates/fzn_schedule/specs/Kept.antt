@@ -1,5 +1,5 @@
 -- When the tasks keep the capacity, where all variables are fixed.
-use Rattle.std.specs.Prelude.{◌≡◌, ℕ, ◌<◌, ℤ, negsuc, List, length, map, slice_index_or}
+use Rattle.std.specs.Prelude.{ℕ, ◌<◌, ℤ, negsuc, List, length, map, slice_index_or}
 use Rattle.std.specs.List.{Any}
 use Rattle.fzn_domain.specs.declared.literal.Lit.{Lit}
 use Rattle.fzn_domain.specs.declared.literal.Op.TheVariants.{AtMost}
@@ -15,19 +15,19 @@ use Rattle.fzn_global_rules.specs.GlobalRows.{IsBelowZero}
 use Rattle.fzn_trail.specs.Levels.{Levels}
 use Rattle.fzn_propagator.specs.Inference.{AllFixed}
 use Rattle.fzn_propagator.specs.Clause.{Says, IsForcing}
-use Rattle.fzn_terms.specs.Denied.{NoneIs}
+use Rattle.fzn_terms.specs.Denied.{that, IsDenied}
 use Rattle.fzn_load.specs.declared.tasks.Tasks.{Tasks}
 use Rattle.fzn_load.specs.Loads.{cumulative_of, IsKeptAt}
 
 -- no term of these has a value below 0
 abbrev pub AreNotBelow : List IntSet → List Term → Type 0
-AreNotBelow sets terms = (k : ℕ) (default : Term) → k < length terms → NoneIs AtMost (negsuc 0) (slice_index_or terms k default) sets
+AreNotBelow sets terms = (k : ℕ) (default : Term) → k < length terms → IsDenied sets (that (slice_index_or terms k default) AtMost (negsuc 0))
 
 -- nor has a duration, a use or the capacity
 pub record HasNoneBelow (sets : List IntSet) (tasks : Tasks) : Type 0 where
   pub durations : AreNotBelow sets tasks.durations
   pub uses : AreNotBelow sets tasks.uses
-  pub capacity : NoneIs AtMost (negsuc 0) tasks.capacity sets
+  pub capacity : IsDenied sets (that tasks.capacity AtMost (negsuc 0))
 
 -- a clause that is false or forces a literal, and says that some of the terms is below 0
 pub record IsSomeBelow (trail : Levels) (terms : List Term) (clause : List Lit) : Type 0 where
@@ -37,10 +37,6 @@ pub record IsSomeBelow (trail : Levels) (terms : List Term) (clause : List Lit) 
 -- so it is kept at the greatest start of each task
 abbrev pub AreKept : List IntSet → Tasks → Type 0
 AreKept sets tasks = (k : ℕ) (default : Term) → k < length tasks.starts → IsKeptAt sets tasks (greatest_value sets (slice_index_or tasks.starts k default))
-
--- the term has one value
-abbrev pub IsSettled : List IntSet → Term → Type 0
-IsSettled sets term = least_value sets term ≡ greatest_value sets term
 
 -- the least value of each term, as a constant
 abbrev pub least_terms : List IntSet → List Term → List Term

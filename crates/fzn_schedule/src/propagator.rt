@@ -15,7 +15,7 @@ ghost use Rattle.fzn_propagator.specs.declared.cost.Cost.TheVariants as cost;
 ghost use Rattle.fzn_propagator.specs.declared.event.Event.TheVariants as event;
 ghost use Rattle.fzn_propagator.specs.Clause.{IsJustified};
 ghost use Rattle.fzn_propagator.specs.Subscriptions.{terms_of, waits, waits_each, AreHeard};
-ghost use Rattle.fzn_terms.specs.Denied.{NoneIs};
+ghost use Rattle.fzn_terms.specs.Denied.{that, IsDenied};
 ghost use Rattle.fzn_load.specs.Loads.{AreReady, cumulative_of};
 ghost use Rattle.fzn_schedule.specs.Propagator.{cumulative_number, CumulativeIsFor, CumulativeFits};
 ghost use Rattle.fzn_propagator.specs.Inference.{AreFoundOf};
@@ -196,7 +196,7 @@ fn is_not_below(
     requires terms { AreTerms (length trail.now.declared) terms.now }
     requires filled { NoneEmpty trail.now.sets }
     requires place { k < length terms.now }
-    ensures { IfOk result (λ found. MatchBool found (IsSomeBelow trail.now terms.now clause.new) ((default : Term) → NoneIs op.AtMost (negsuc 0) (slice_index_or terms.now k default) trail.now.sets)) }
+    ensures { IfOk result (λ found. MatchBool found (IsSomeBelow trail.now terms.now clause.new) ((default : Term) → IsDenied trail.now.sets (that (slice_index_or terms.now k default) op.AtMost (negsuc 0)))) }
 {
     clause.clear();
     force(trail, terms[k], Op::AtMost, -1, clause)
@@ -215,7 +215,7 @@ fn find_negative_capacity(
     requires before { AreFoundOf number (cumulative_of tasks.now) trail.now found.old }
     ensures found { AreFoundOf number (cumulative_of tasks.now) trail.now found.new }
     ensures kept { OnOk result (found.new ≡ [] → found.old ≡ []) }
-    ensures none { OnOk result (found.new ≡ [] → NoneIs op.AtMost (negsuc 0) tasks.now.capacity trail.now.sets) }
+    ensures none { OnOk result (found.new ≡ [] → IsDenied trail.now.sets (that tasks.now.capacity op.AtMost (negsuc 0))) }
 {
     let mut clause = Items::new(alloc);
     if force(trail, tasks.capacity, Op::AtMost, -1, &mut clause)? {

@@ -5,7 +5,7 @@ use crate::choice::Ties;
 use crate::heap::Heap;
 use crate::open::open_domain;
 use crate::pool::Pool;
-use fzn_domain::{Domain, Lit, Memory, Op, VarId};
+use fzn_domain::{Domain, Lit, Memory, VarId};
 use fzn_strategy::{Annotation, ValueChoice, VarChoice};
 use fzn_trail::Trail;
 use std::alloc::Global;
@@ -203,7 +203,11 @@ impl Group {
             _ => self.best()?,
         };
         let domain = open_domain(trail, vars, number)?;
-        literal_for(domain, VarId(number.saturating_add(1)), self.value_choice)
+        if domain.is_empty() {
+            return None;
+        }
+        let var = VarId(number.saturating_add(1));
+        Some(self.value_choice.literal(var, domain))
     }
 
     /// The variable that the choice prefers, counted from 0.
@@ -241,18 +245,3 @@ fn preference(domain: &Domain, var_choice: VarChoice) -> f64 {
 
 /// No domain has more values.
 const WIDEST: usize = 2_000_000_001;
-
-fn literal_for(domain: &Domain, var: VarId, value_choice: ValueChoice) -> Option<Lit> {
-    if domain.is_empty() {
-        return None;
-    }
-    let (least, greatest) = (domain.min(), domain.max());
-    let half = (least + greatest).div_euclid(2);
-    let (op, value) = match value_choice {
-        ValueChoice::Min => (Op::AtMost, least),
-        ValueChoice::Max => (Op::AtLeast, greatest),
-        ValueChoice::Split => (Op::AtMost, half),
-        ValueChoice::ReverseSplit => (Op::AtLeast, half + 1),
-    };
-    Some(Lit { var, op, value })
-}

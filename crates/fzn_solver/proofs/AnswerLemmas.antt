@@ -1,13 +1,12 @@
 -- The whole answer with its certificate.
-use Rattle.std.proofs.Common.{◌≡◌, ◌≢◌, ℕ, zero, suc, ◌-◌, ◌≤◌, ◌==◌, not, Bool, true, false, ℤ, List, [], ◌∷◌, ◌++◌, length, Option, Some, None, refl, sym, ap, ◌∙◌, subst, arith, append_assoc, append-nil, cond, inr}
+use Rattle.std.proofs.Common.{◌≡◌, ◌≢◌, ℕ, ◌-◌, ◌<◌, ◌≤◌, ◌==◌, not, Bool, true, false, ℤ, List, [], ◌∷◌, ◌++◌, length, Option, Some, None, refl, sym, ap, ◌∙◌, subst, arith, append_assoc, append-nil, inr}
 use Rattle.std.specs.Borrow.{GName}
 use Rattle.std.specs.Io.KnownBytes.{Appends}
 use Rattle.std.proofs.Math.Nat.{le-max_right}
-use Rattle.std.proofs.lemmas.Bool.Decides.{nat_tests}
 use Rattle.fzn_meaning.specs.declared.model.Goal.{Goal}
 use Rattle.fzn_meaning.specs.declared.model.Goal.TheVariants.{Satisfy, Minimize, Maximize}
 use Rattle.fzn_meaning.specs.declared.model.Model.{Model}
-use Rattle.fzn_meaning.specs.Solutions.{declared_sets, IsExhausted}
+use Rattle.fzn_meaning.specs.Solutions.{declared_sets}
 use Rattle.fzn_meaning.specs.WellFormed.{IsWellFormed}
 use Rattle.fzn_cert.specs.declared.step.Step.{Step}
 use Rattle.fzn_cert.specs.declared.step.Version.TheVariants.{Two}
@@ -16,17 +15,15 @@ use Rattle.fzn_cert.specs.Spelling.{header_lines, end_line}
 use Rattle.fzn_cert.specs.Verdict.{Verdict, accepted, header_of, lines_of, AllHaveLines}
 use Rattle.fzn_cert.specs.Writer.{contents_of as cert_contents}
 use Rattle.fzn_strategy.specs.declared.learn.Learn.{Learn}
-use Rattle.fzn_engine.specs.declared.limits.Ending.{Ending as EngineEnding}
-use Rattle.fzn_engine.specs.declared.limits.Ending.TheVariants as engine
 use Rattle.fzn_engine.specs.declared.limits.Limits.{Limits}
 use Rattle.fzn_engine.specs.Volume.{volume}
-use Rattle.fzn_engine.specs.Outcome.{HasRoom, IsReached, EndsTruly as EndsTrulyThere, IsExhaustedIf, IsOutcome}
-use Rattle.fzn_printer.specs.declared.printer.Ending.TheVariants.{Complete, Unsatisfiable, NodeLimit}
+use Rattle.fzn_engine.specs.Outcome.{HasRoom, IsReached, EndsTruly as EndsTrulyThere, IsOutcome}
+use Rattle.fzn_printer.specs.declared.printer.Ending.{Ending}
+use Rattle.fzn_printer.specs.declared.printer.Ending.TheVariants.{Complete, Unsatisfiable, NodeLimit, SolutionLimit}
 use Rattle.fzn_printer.specs.Printer.{contents_of as out_contents}
 use Rattle.fzn_printer.specs.Answer.{answer_text}
 use Rattle.fzn_printer.specs.Shown.{ending_text, is_closed}
 use Rattle.fzn_solver.specs.declared.writers.Writers.{Writers}
-use Rattle.fzn_solver.specs.Endings.{ending_for}
 use Rattle.fzn_solver.specs.Standing.{found_by, is_alone, early, late, certificate, shown_all}
 use Rattle.fzn_solver.specs.Answer.{wanted, EndsTruly, IsAnswer}
 use Rattle.fzn_solver.specs.Writers.{taken, at_first, origin, IsFresh, IsClosed}
@@ -65,61 +62,44 @@ answer-is model all closed found = by model.goal all refl
 
 -- ---- how it ended
 
-not_zero : (k : ℕ) → (suc k == 0) ≡ false
-not_zero k = grind (arith, nat_tests)
-
 none-found : (found : List (List ℤ)) → length found ≡ 0 → found ≡ []
 none-found [] e = refl
 none-found (first ∷ found) e = absurd (omega arith)
 
-some-found : (found : List (List ℤ)) (k : ℕ) → length found ≡ suc k → found ≢ []
-some-found found k e none = let l = ap length none in absurd (omega arith)
+some-found : (found : List (List ℤ)) → 0 < length found → found ≢ []
+some-found found some none = let l = ap length none in absurd (omega arith)
 
-pub ends-truly : (model : Model) (options : Options) (learn : Learn) (limits : Limits) (steps : List Step) (nodes n : ℕ) (ending : EngineEnding) → limits.nodes ≡ options.nodes → limits.solutions ≡ wanted options.all options.limit → n ≡ length (found_by model steps) → EndsTrulyThere model learn limits steps nodes ending → EndsTruly model options (found_by model steps) nodes (ending_for ending n)
-ends-truly model options learn limits steps nodes n engine.Closed limit_is most count truly = closed n count
-  where
-    closed : (k : ℕ) → k ≡ length (found_by model steps) → EndsTruly model options (found_by model steps) nodes (ending_for engine.Closed k)
-    closed zero e = none-found (found_by model steps) (sym e)
-    closed (suc k) e =
-        let H : Option ℕ → Type 0 = λ m. HasRoom model.goal m (length (found_by model steps)) in
-        let E : Bool → Type 0 = λ b. EndsTruly model options (found_by model steps) nodes (cond b Unsatisfiable Complete) in
-        subst E (sym (not_zero k)) (some-found (found_by model steps) k (sym e), subst H most truly.1)
-ends-truly model options learn limits steps nodes n engine.NodeLimit limit_is most count truly =
+pub ends-truly : (model : Model) (options : Options) (learn : Learn) (limits : Limits) (steps : List Step) (nodes : ℕ) (ending : Ending) → limits.nodes ≡ options.nodes → limits.solutions ≡ wanted options.all options.limit → EndsTrulyThere model learn limits steps nodes ending → EndsTruly model options (found_by model steps) nodes ending
+ends-truly model options learn limits steps nodes Complete limit_is most truly =
+    let H : Option ℕ → Type 0 = λ m. HasRoom model.goal m (length (found_by model steps)) in
+    (some-found (found_by model steps) truly.1, subst H most truly.2)
+ends-truly model options learn limits steps nodes Unsatisfiable limit_is most truly = none-found (found_by model steps) truly.1
+ends-truly model options learn limits steps nodes NodeLimit limit_is most truly =
     let H : Option ℕ → Type 0 = λ m. HasRoom model.goal m (length (found_by model steps)) in
     (truly.0 ∙ limit_is, subst H most truly.2)
-ends-truly model options learn limits steps nodes n engine.SolutionLimit limit_is most count truly =
+ends-truly model options learn limits steps nodes SolutionLimit limit_is most truly =
     let R : Option ℕ → Type 0 = λ m. IsReached model.goal m (length (found_by model steps)) in
     subst R most truly
 
-pub closed-refuted : (model : Model) (learn : Learn) (limits : Limits) (steps : List Step) (nodes n : ℕ) (ending : EngineEnding) → EndsTrulyThere model learn limits steps nodes ending → is_closed (ending_for ending n) ≡ true → (past_of model steps).refuted ≡ true
-closed-refuted model learn limits steps nodes n engine.Closed truly closed = truly.0
-closed-refuted model learn limits steps nodes n engine.NodeLimit truly closed = cc
-closed-refuted model learn limits steps nodes n engine.SolutionLimit truly closed = cc
-
-pub closed-exhausted : (model : Model) (steps : List Step) (n : ℕ) (ending : EngineEnding) → IsExhaustedIf model steps ending → is_closed (ending_for ending n) ≡ true → IsExhausted model (found_by model steps)
-closed-exhausted model steps n engine.Closed exhausted closed = exhausted
-closed-exhausted model steps n engine.NodeLimit exhausted closed = cc
-closed-exhausted model steps n engine.SolutionLimit exhausted closed = cc
-
-node-limit-is : (ending : EngineEnding) (n : ℕ) → ending_for ending n ≡ NodeLimit → ending ≡ engine.NodeLimit
-node-limit-is engine.Closed zero e = cc
-node-limit-is engine.Closed (suc k) e = let f = sym (ap (λ (b : Bool). cond b Unsatisfiable Complete) (not_zero k)) ∙ e in cc
-node-limit-is engine.NodeLimit n e = refl
-node-limit-is engine.SolutionLimit n e = cc
+pub closed-refuted : (model : Model) (learn : Learn) (limits : Limits) (steps : List Step) (nodes : ℕ) (ending : Ending) → EndsTrulyThere model learn limits steps nodes ending → is_closed ending ≡ true → (past_of model steps).refuted ≡ true
+closed-refuted model learn limits steps nodes Complete truly closed = truly.0
+closed-refuted model learn limits steps nodes Unsatisfiable truly closed = truly.0
+closed-refuted model learn limits steps nodes NodeLimit truly closed = cc
+closed-refuted model learn limits steps nodes SolutionLimit truly closed = cc
 
 -- ---- all of it
 
 module _ {W C : Type 0} (outs : W → Option (List ℕ)) (certs : C → Option (List ℕ)) (model : Model) (options : Options) where
-  pub answer-of : IsWellFormed model → (before searched after : Writers W C) (limits : Limits) (nodes n : ℕ) (ending : EngineEnding) → IsFresh outs certs before → before.alone ≡ is_alone model.goal options.all → origin searched ≡ origin before → limits.nodes ≡ options.nodes → limits.solutions ≡ wanted options.all options.limit
-      → AllAccepted model (taken searched) → IsOutcome model options.learn limits (taken searched) nodes ending → n ≡ length (found_by model (taken searched)) → IsClosed outs certs model (is_closed (ending_for ending n)) searched after
-      → IsAnswer model options (out_contents outs before.out) (out_contents outs after.out) (cert_contents certs before.cert) (cert_contents certs after.cert) (record { solutions = n; nodes = nodes; ending = ending_for ending n })
+  pub answer-of : IsWellFormed model → (before searched after : Writers W C) (limits : Limits) (nodes n : ℕ) (ending : Ending) → IsFresh outs certs before → before.alone ≡ is_alone model.goal options.all → origin searched ≡ origin before → limits.nodes ≡ options.nodes → limits.solutions ≡ wanted options.all options.limit
+      → AllAccepted model (taken searched) → IsOutcome model options.learn limits (taken searched) nodes ending → n ≡ length (found_by model (taken searched)) → IsClosed outs certs model (is_closed ending) searched after
+      → IsAnswer model options (out_contents outs before.out) (out_contents outs after.out) (cert_contents certs before.cert) (cert_contents certs after.cert) (record { solutions = n; nodes = nodes; ending = ending })
   answer-of formed before searched after limits nodes n ending fresh alone same limit_is most all_accepted outcome count closed =
       let steps = taken searched in
       let found = found_by model steps in
       let is : searched.alone ≡ is_alone model.goal options.all = ap (λ (o : (W × C) × Bool × GName × GName). o.1) same ∙ alone in
-      let K : Option (List ℕ) → Type 0 = λ w. Appends w (cert_contents certs after.cert) (certificate model steps (is_closed (ending_for ending n))) in
-      let O : Option (List ℕ) → Type 0 = λ w. Appends w (out_contents outs after.out) (shown_all model (early searched.alone found ++ late searched.alone found) ++ ending_text (is_closed (ending_for ending n)) (not (length found == 0))) in
-      let A : Bool → Type 0 = λ b. Appends (out_contents outs before.out) (out_contents outs after.out) (shown_all model (early b found ++ late b found) ++ ending_text (is_closed (ending_for ending n)) (not (length found == 0))) in
+      let K : Option (List ℕ) → Type 0 = λ w. Appends w (cert_contents certs after.cert) (certificate model steps (is_closed ending)) in
+      let O : Option (List ℕ) → Type 0 = λ w. Appends w (out_contents outs after.out) (shown_all model (early searched.alone found ++ late searched.alone found) ++ ending_text (is_closed ending) (not (length found == 0))) in
+      let A : Bool → Type 0 = λ b. Appends (out_contents outs before.out) (out_contents outs after.out) (shown_all model (early b found ++ late b found) ++ ending_text (is_closed ending) (not (length found == 0))) in
       let cert : certs (at_first searched).1 ≡ cert_contents certs before.cert = ap (λ (o : (W × C) × Bool × GName × GName). certs o.0.1) same ∙ sym fresh.same_cert in
       let out : outs (at_first searched).0 ≡ out_contents outs before.out = ap (λ (o : (W × C) × Bool × GName × GName). outs o.0.0) same ∙ sym fresh.same_out in
       let B : ℕ → Type 0 = λ limit. nodes ≤ limit in
@@ -129,16 +109,16 @@ module _ {W C : Type 0} (outs : W → Option (List ℕ)) (certs : C → Option (
         steps = steps;
         certified = record {
           written = subst K cert closed.cert;
-          verdict = certificate-verdict model steps (is_closed (ending_for ending n)) formed all_accepted closed.have_lines (closed-refuted model options.learn limits steps nodes n ending outcome.ended.truly);
-          printed = subst T (answer-is model options.all (is_closed (ending_for ending n)) found) (subst A is (subst O out closed.out));
+          verdict = certificate-verdict model steps (is_closed ending) formed all_accepted closed.have_lines (closed-refuted model options.learn limits steps nodes ending outcome.ended.truly);
+          printed = subst T (answer-is model options.all (is_closed ending) found) (subst A is (subst O out closed.out));
         };
         proper = outcome.proper;
-        exhausted = closed-exhausted model steps n ending outcome.exhausted;
+        exhausted = outcome.exhausted;
         solutions = count;
-        ends = ends-truly model options options.learn limits steps nodes n ending limit_is most count outcome.ended.truly;
+        ends = ends-truly model options options.learn limits steps nodes ending limit_is most outcome.ended.truly;
         bounded = record {
           by_limit = subst B limit_is outcome.ended.few_nodes;
-          by_choices = λ plain enough is_limit. outcome.enough_nodes plain (subst V (sym limit_is) enough) (node-limit-is ending n is_limit);
+          by_choices = λ plain enough is_limit. outcome.enough_nodes plain (subst V (sym limit_is) enough) is_limit;
           by_conflicts = outcome.ended.certified.nodes_by_conflicts;
           fresh = λ plain. outcome.ended.certified.fresh plain;
         };

@@ -15,14 +15,13 @@ use Rattle.fzn_cert.proofs.SoundLaws.{accepted-proper}
 use Rattle.fzn_strategy.specs.declared.learn.Learn.{Learn}
 use Rattle.fzn_engine.specs.declared.fault.Fault.{Fault}
 use Rattle.fzn_engine.specs.declared.fault.Fault.TheVariants as engine
-use Rattle.fzn_engine.specs.declared.limits.Ending.{Ending as EngineEnding}
 use Rattle.fzn_engine.specs.declared.limits.Limits.{Limits}
 use Rattle.fzn_engine.specs.Outcome.{IsOutcome}
+use Rattle.fzn_printer.specs.declared.printer.Ending.{Ending}
 use Rattle.fzn_printer.specs.declared.printer.Printer.{Printer}
 use Rattle.fzn_printer.specs.Printer.{contents_of as out_contents, is_open, has_printed}
 use Rattle.fzn_printer.specs.Shown.{ending_text, is_closed}
 use Rattle.fzn_solver.specs.declared.writers.Writers.{Writers}
-use Rattle.fzn_solver.specs.Endings.{ending_for}
 use Rattle.fzn_solver.specs.FaultsFrom.{fault_of_model, fault_of_engine}
 use Rattle.fzn_solver.specs.Standing.{found_by, is_alone, early, late, begun_certificate, certificate, shown_all, IsStanding}
 use Rattle.fzn_reading.specs.declared.fault.ModelFault.{ModelFault}
@@ -36,7 +35,7 @@ use Rattle.fzn_solver.specs.Writers.{taken, at_first, origin, IsFresh, IsKept, I
 use Rattle.fzn_solver.proofs.StandingLemmas.{standing-refused}
 use Rattle.fzn_solver.proofs.WritersLemmas.{Keeps-same}
 use Rattle.fzn_solver.proofs.ClosedLemmas.{answer-front}
-use Rattle.fzn_solver.proofs.AnswerLemmas.{certificate-verdict, closed-refuted, closed-exhausted, answer-is}
+use Rattle.fzn_solver.proofs.AnswerLemmas.{certificate-verdict, closed-refuted, answer-is}
 
 -- an error that is this fault
 pub error-is : {A : Type 0} (result : Result A RunFault) (fault : RunFault) (P : RunFault → Type 0) → IsErrAnd result (λ e. e ≡ fault) → P fault → IfErr result P
@@ -141,19 +140,19 @@ module _ {W C : Type 0} (outs : W → Option (List ℕ)) (certs : C → Option (
   )
 
   -- at the end
-  pub left-at_end : (before now after : Writers W C) (fault : Fault) (learn : Learn) (limits : Limits) (nodes n : ℕ) (ending : EngineEnding) → IsWellFormed model → IsFresh outs certs before → before.alone ≡ is_alone model.goal all → origin now ≡ origin before → AllAccepted model (taken now)
-      → IsOutcome model learn limits (taken now) nodes ending → IsKept outs certs model now → IsUnclosed outs certs model (is_closed (ending_for ending n)) now after fault → Left before after fault
-  left-at_end before now after fault learn limits nodes n ending formed fresh alone same all_accepted outcome kept (inl unfinished) =
+  pub left-at_end : (before now after : Writers W C) (fault : Fault) (learn : Learn) (limits : Limits) (nodes : ℕ) (ending : Ending) → IsWellFormed model → IsFresh outs certs before → before.alone ≡ is_alone model.goal all → origin now ≡ origin before → AllAccepted model (taken now)
+      → IsOutcome model learn limits (taken now) nodes ending → IsKept outs certs model now → IsUnclosed outs certs model (is_closed ending) now after fault → Left before after fault
+  left-at_end before now after fault learn limits nodes ending formed fresh alone same all_accepted outcome kept (inl unfinished) =
       let O : Printer W → Type 0 = λ p. IsStanding model now.alone (taken now) (certs (at_first now).1) (cert_contents certs after.cert) (outs (at_first now).0) (out_contents outs p) in (
         later fault,
         inl (stopped-by model all now.alone (taken now) (certs (at_first now).1) (cert_contents certs before.cert) (cert_contents certs after.cert) (outs (at_first now).0) (out_contents outs before.out) (out_contents outs after.out) formed all_accepted
             (ap (λ (o : (W × C) × Bool × GName × GName). o.1) same ∙ alone) (certs-first before now fresh same) (outs-first before now fresh same)
-            (subst O (sym unfinished.out) (standing-refused model now.alone (taken now) (certs (at_first now).1) (cert_contents certs now.cert) (cert_contents certs after.cert) (outs (at_first now).0) (out_contents outs now.out) (end_line (is_closed (ending_for ending n))) kept.standing unfinished.front))),
+            (subst O (sym unfinished.out) (standing-refused model now.alone (taken now) (certs (at_first now).1) (cert_contents certs now.cert) (cert_contents certs after.cert) (outs (at_first now).0) (out_contents outs now.out) (end_line (is_closed ending)) kept.standing unfinished.front))),
       )
-  left-at_end before now after fault learn limits nodes n ending formed fresh alone same all_accepted outcome kept (inr (is_output, cut)) =
+  left-at_end before now after fault learn limits nodes ending formed fresh alone same all_accepted outcome kept (inr (is_output, cut)) =
       let steps = taken now in
       let found = found_by model steps in
-      let closed = is_closed (ending_for ending n) in
+      let closed = is_closed ending in
       let in_step = kept.cert_in_step cut.was_open in
       let K : Option (List ℕ) → Type 0 = λ o. Appends o (cert_contents certs after.cert) (certificate model steps closed) in
       let O : Option (List ℕ) → Type 0 = λ o. AppendsFront o (out_contents outs after.out) (shown_all model (early now.alone found ++ late now.alone found) ++ ending_text closed (not (length found == 0))) in
@@ -167,9 +166,9 @@ module _ {W C : Type 0} (outs : W → Option (List ℕ)) (certs : C → Option (
             steps = steps;
             closed = closed;
             written = subst K (certs-first before now fresh same) (Appends-then (certs (at_first now).1) (cert_contents certs now.cert) (cert_contents certs after.cert) (begun_certificate model steps) (end_line closed) in_step.lines cut.end);
-            verdict = certificate-verdict model steps closed formed all_accepted in_step.have_lines (closed-refuted model learn limits steps nodes n ending outcome.ended.truly);
+            verdict = certificate-verdict model steps closed formed all_accepted in_step.have_lines (closed-refuted model learn limits steps nodes ending outcome.ended.truly);
             proper = outcome.proper;
-            exhausted = closed-exhausted model steps n ending outcome.exhausted;
+            exhausted = outcome.exhausted;
             shown = subst T (answer-is model all closed found) (subst A (ap (λ (o : (W × C) × Bool × GName × GName). o.1) same ∙ alone) (subst O (outs-first before now fresh same) front));
           },
         ),

@@ -12,7 +12,7 @@ use Rattle.fzn_printer.specs.Shown.{is_closed}
 use Rattle.fzn_engine.specs.Resolved.{resolved, FreshAfter}
 use Rattle.fzn_engine.specs.Volume.{volume, spread}
 use Rattle.fzn_engine.specs.Wanted.{HasRoom, IsReached}
-use Rattle.fzn_solver.specs.declared.report.Report.{Report}
+use Rattle.fzn_engine.specs.declared.report.Report.{Report}
 use Rattle.fzn_solver.specs.Standing.{found_by, certificate}
 use Rattle.fzn_strategy.specs.declared.learn.Learn.TheVariants.{Plain}
 use Rattle.fzn_words.specs.declared.solve.Options.{Options}

@@ -1,12 +1,12 @@
 -- What a run leaves, from the bytes of a file.
 use Rattle.std.specs.Prelude.{◌≡◌, ◌⊎◌, ℕ, Bool, true, List, Option, IfSome, Ok, Err}
 use Rattle.std.specs.Io.KnownBytes.{Keeps}
+use Rattle.fzn_engine.specs.declared.report.Report.{Report}
 use Rattle.fzn_lexer.specs.declared.halt.Halt.TheVariants as errors
 use Rattle.fzn_meaning.specs.declared.model.Model.{Model}
 use Rattle.fzn_reading.specs.Reads.{Reads}
 use Rattle.fzn_solver.specs.declared.fault.RunFault.{RunFault}
 use Rattle.fzn_solver.specs.declared.fault.RunFault.TheVariants.{File, Memory, Read}
-use Rattle.fzn_solver.specs.declared.report.Report.{Report}
 use Rattle.fzn_solver.specs.Answer.{IsAnswer}
 use Rattle.fzn_solver.specs.Causes.{HasCause}
 use Rattle.fzn_solver.specs.Left.{IsLeft}

@@ -15,10 +15,9 @@ use crate::choice::choice_for;
 use crate::fault::RunFault;
 use crate::history::{History, Initial};
 use crate::progress::{Watch, solve_watched};
-use crate::report::{Report, ending_for};
 use crate::writers::{Writers, is_alone};
 use fzn_cert::StepWriter;
-use fzn_engine::Limits;
+use fzn_engine::{Limits, Report};
 use fzn_meaning::Model;
 use fzn_printer::Printer;
 use fzn_propagators::Propagators;
@@ -153,7 +152,7 @@ fn search<W: TrackedWrite, C: TrackedWrite, P: Watch>(
         nodes: options.nodes,
         solutions: wanted(options.all, options.limit),
     };
-    let outcome = match solve_watched(
+    let report = match solve_watched(
         alloc,
         model,
         limits,
@@ -164,16 +163,11 @@ fn search<W: TrackedWrite, C: TrackedWrite, P: Watch>(
         writers,
         watch,
     ) {
-        Ok(outcome) => outcome,
+        Ok(report) => report,
         Err(_) => return Err(writers.fault().into()),
     };
-    let ending = ending_for(outcome.ending, outcome.solutions);
-    writers.close(model, ending)?;
-    Ok(Report {
-        solutions: outcome.solutions,
-        nodes: outcome.nodes,
-        ending,
-    })
+    writers.close(model, report.ending)?;
+    Ok(report)
 }
 
 /// How many solutions are wanted at most, in satisfaction.

@@ -8,13 +8,12 @@
 
 pub use answer::{run, run_tracked};
 pub use fault::RunFault;
+pub use fzn_engine::Report;
 pub use progress::{Progress, Unwatched, Watch};
-pub use report::Report;
 
 mod answer;
 mod choice;
 mod fault;
 mod history;
 mod progress;
-mod report;
 mod writers;

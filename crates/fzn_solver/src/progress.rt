@@ -8,7 +8,7 @@ ghost use Rattle.fzn_engine.specs.Outcome.{HasRoom, count, IsOutcome};
 use fzn_cert::Step;
 use fzn_constraints::Constraints;
 use fzn_domain::VarId;
-use fzn_engine::{Fault, Limits, Outcome, Sink, solve};
+use fzn_engine::{Fault, Limits, Report, Sink, solve};
 use fzn_meaning::{Goal, Model};
 use fzn_search::Choice;
 use fzn_strategy::{Annotation, Learn};
@@ -114,14 +114,14 @@ pub fn solve_watched<S: Sink, C: Constraints, P: Watch>(
     constraints: &mut C,
     sink: &mut S,
     watch: &mut P,
-) -> Result<Outcome, Fault>
+) -> Result<Report, Fault>
     requires model { IsWellFormed model.now }
     requires is_for { C.is_for constraints.old model.now }
     requires room { HasRoom model.now.goal limits.solutions 0 }
     requires fresh { S.written sink.old ≡ [] }
     requires kept { S.keeps model.now sink.old }
-    ensures outcome { IfOk result (λ outcome. IsOutcome model.now learn limits (S.written sink.new) outcome.nodes outcome.ending) }
-    ensures solutions { IfOk result (λ outcome. outcome.solutions ≡ count model.now (S.written sink.new)) }
+    ensures outcome { IfOk result (λ report. IsOutcome model.now learn limits (S.written sink.new) report.nodes report.ending) }
+    ensures solutions { IfOk result (λ report. report.solutions ≡ count model.now (S.written sink.new)) }
     ensures accepted { AllAccepted model.now (S.written sink.new) }
     ensures kept { S.keeps model.now sink.new × (S.origin sink.new ≡ S.origin sink.old) }
 {

@@ -6,9 +6,10 @@ ghost use Rattle.fzn_engine.specs.Outcome.{HasRoom};
 
 use crate::models::model_of;
 use fzn_cert::Step;
-use fzn_engine::{Ending, Fault, Limits, Outcome, Sink, solve};
+use fzn_engine::{Fault, Limits, Report, Sink, solve};
 use fzn_list::Items;
 use fzn_meaning::{Goal, Model};
+use fzn_printer::Ending;
 use fzn_propagators::Propagators;
 use fzn_search::Choice;
 use fzn_strategy::Learn;
@@ -62,13 +63,13 @@ fn has_room(goal: Goal, solutions: Option<u64>) -> bool
     }
 }
 
-fn outcome_of(
+fn report_of(
     alloc: Global,
     model: &Model,
     limits: Limits,
     learn: Learn,
     restart_after: Option<u64>,
-) -> Result<Outcome, Fault>
+) -> Result<Report, Fault>
     requires model { IsWellFormed model.now }
     requires room { HasRoom model.now.goal limits.solutions 0 }
 {
@@ -109,12 +110,12 @@ fn ends_so(
         return false;
     }
     let (solutions, nodes, ending) = wanted;
-    let wanted = Outcome {
+    let wanted = Report {
         solutions,
         nodes,
         ending,
     };
-    outcome_of(alloc, model, limits, learn, restart_after) == Ok(wanted)
+    report_of(alloc, model, limits, learn, restart_after) == Ok(wanted)
 }
 
 /// Whether both solutions are found, however it is learned and with restarts.
@@ -125,7 +126,7 @@ fn are_two_found(alloc: Global, model: &Model) -> bool
         nodes: 9,
         solutions: None,
     };
-    let wanted = (2, 1, Ending::Closed);
+    let wanted = (2, 1, Ending::Complete);
     ends_so(alloc, model, limits, Learn::Plain, None, wanted)
         && ends_so(alloc, model, limits, Learn::Plain, Some(1), wanted)
         && ends_so(alloc, model, limits, Learn::First, None, wanted)

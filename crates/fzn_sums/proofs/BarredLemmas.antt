@@ -1,28 +1,26 @@
 -- What is left of a sum that is not to be a number.
-use Rattle.std.proofs.Common.{◌≡◌, ◌≢◌, ◌⊎◌, ℕ, ◌+◌, ◌-◌, ◌<◌, ◌≤◌, List, length, get_or, refl, sym, ap, subst, ◌∙◌, inl, inr, arith, ℤ, pos, ◌+ℤ◌, ◌-ℤ◌, ◌*ℤ◌, ◌≤ℤ◌, ◌<ℤ◌, All}
+use Rattle.std.proofs.Common.{◌≡◌, ◌≢◌, ◌⊎◌, ℕ, ◌+◌, ◌-◌, ◌<◌, ◌≤◌, List, length, get_or, sym, ap, subst, ◌∙◌, inl, inr, arith, ℤ, pos, ◌+ℤ◌, ◌-ℤ◌, ◌*ℤ◌, ◌≤ℤ◌, ◌<ℤ◌, All}
 use Rattle.std.specs.List.{AllWithin}
 use Rattle.std.proofs.lemmas.Int.{ints}
 use Rattle.std.proofs.lemmas.Bool.{cases_eq}
 use Rattle.std.proofs.lemmas.List.{get_or-map, length-map}
 use Rattle.fzn_domain.specs.IntSet.{IntSet}
-use Rattle.fzn_domain.specs.Narrow.{IsWithin, set_of}
-use Rattle.fzn_domain.proofs.SetLemmas.{least_le, le_greatest}
-use Rattle.fzn_meaning.specs.declared.term.Term.{Term}
-use Rattle.fzn_meaning.specs.declared.term.Term.TheVariants.{Constant, Variable}
+use Rattle.fzn_domain.specs.Narrow.{IsWithin}
 use Rattle.fzn_meaning.specs.declared.term.Place.{Place}
 use Rattle.fzn_meaning.specs.declared.relation.Comparison.TheVariants.{NotEqual}
-use Rattle.fzn_meaning.specs.Term.{IsTerm, IsPlace, term_value, product_at}
+use Rattle.fzn_meaning.specs.Term.{IsPlace, term_value, product_at}
 use Rattle.fzn_sets.specs.Terms.{least_value, greatest_value}
+use Rattle.fzn_sets.proofs.CallerLemmas.{MayBe-term_value, term_between}
 use Rattle.fzn_builtin_rules.specs.Linear.{low_product, high_product, least_sum, greatest_sum}
 use Rattle.fzn_propagator.specs.Barred.{GivesOne, LeavesNoBarred}
 use Rattle.fzn_sums.specs.Opposite.{opposite, opposites}
 use Rattle.fzn_sums.specs.Refuted.{LeavesSome}
-use Rattle.fzn_sums.specs.Pinned.{IsOpenFrom, IsOnlyOpen, IsValueOf, NoneIsBarred}
+use Rattle.fzn_sums.specs.Pinned.{IsOpenFrom, IsOnlyOpen, NoneIsBarred}
 use Rattle.fzn_sums.proofs.OppositeLemmas.{low_product-opposite, opposite-twice, least_sum-opposites, sum_at-opposites}
 use Rattle.fzn_sums.proofs.PinLemmas.{term_ordered}
 use Rattle.fzn_builtin_rules.proofs.CallerLemmas.{low_up, low_down, high_up, high_down}
 use Rattle.fzn_sums.proofs.PlaceLemmas.{both_signs}
-use Rattle.fzn_sums.proofs.ProductLemmas.{mono_up, mono_down}
+use Rattle.fzn_terms.proofs.ProductLemmas.{mono_up, mono_down}
 use Rattle.fzn_sums.proofs.SumLemmas.{total_lt_at, total_same, total_but}
 
 -- ---- places that are open
@@ -63,17 +61,9 @@ low_high sets place =
     omega (arith, ints)
 
 module _ (sets : List IntSet) (values : List ℤ) (within : IsWithin sets values) where
-  value_is : (term : Term) → IsTerm (length sets) term → IsValueOf sets term (term_value values term)
-  value_is (Constant k) fits = refl
-  value_is (Variable var) fits = within.inside (var.0 - 1) (omega arith)
-
-  inside : (term : Term) (v : ℤ) → IsValueOf sets term v → (least_value sets term ≤ℤ v) × (v ≤ℤ greatest_value sets term)
-  inside (Constant k) v is = (omega (arith, ints), omega (arith, ints))
-  inside (Variable var) v is = (least_le (set_of sets var) v is, le_greatest (set_of sets var) v is)
-
   gives : (place : Place) → IsPlace (length sets) place → GivesOne sets place → low_product sets place ≡ product_at values place
   gives place fits one =
-      let ends = inside place.term (term_value values place.term) (value_is place.term fits.0) in
+      let ends = term_between sets values place.term within in
       let h = between sets place (term_value values place.term) ends.0 ends.1 in
       same _ _ _ one h.0 h.1
     where
@@ -126,7 +116,7 @@ module _ (sets : List IntSet) (places : List Place) (number : ℤ) (fit : All (I
   none_barred_open j d only none = λ _ values _ within is.
       let place = get_or places j d in
       let sum = total_but (low_product sets) (product_at values) places j d only.in_places (λ k e below apart. gives sets values within (get_or places k e) (fit k e below) (only.others k e below apart)) in
-      none (term_value values place.term) (value_is sets values within place.term (fit j d only.in_places).0) (sym sum ∙ is)
+      none (term_value values place.term) (MayBe-term_value sets values place.term within (fit j d only.in_places).0) (sym sum ∙ is)
 
 -- ---- the opposite places
 

@@ -11,15 +11,13 @@ use Rattle.fzn_sets.specs.Terms.{least_value, greatest_value}
 use Rattle.fzn_builtin_rules.specs.Linear.{low_product, high_product, least_sum, greatest_sum}
 use Rattle.fzn_sums.specs.Opposite.{opposite, opposites}
 use Rattle.fzn_builtin_rules.proofs.CallerLemmas.{total_by-cons}
+use Rattle.fzn_sums.proofs.ProductLemmas.{no_times}
 
 -- ---- products
 
 neg_suc : (n : ℕ) (x : ℤ) → negsuc n *ℤ x ≡ pos 0 -ℤ pos (suc n) *ℤ x
 neg_suc n (pos m) = let a = negsuc-*ℤ-pos n m in let b = pos-*ℤ-pos (suc n) m in omega (arith, ints)
 neg_suc n (negsuc m) = let a = negsuc-*ℤ-negsuc n m in let b = pos-*ℤ-negsuc (suc n) m in omega (arith, ints)
-
-no_times : (a x : ℤ) → a ≡ pos 0 → a *ℤ x ≡ pos 0
-no_times a x e = ap (λ (c : ℤ). c *ℤ x) e ∙ zero-*ℤ x
 
 pub neg_times : (c x : ℤ) → (pos 0 -ℤ c) *ℤ x ≡ pos 0 -ℤ c *ℤ x
 neg_times (pos zero) x =

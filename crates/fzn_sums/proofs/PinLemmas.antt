@@ -5,20 +5,18 @@ use Rattle.std.specs.Int.{int_min, int_max}
 use Rattle.std.proofs.lemmas.Int.{ints, int_min_is, int_max_is}
 use Rattle.std.proofs.lemmas.Bool.{cases_eq}
 use Rattle.std.proofs.lemmas.List.{get_or_default, get_or-map, length-map}
-use Rattle.std.proofs.lemmas.List.Elements.{All-push}
-use Rattle.std.proofs.Math.IntN.{zero-*ℤ}
 use Rattle.fzn_domain.specs.declared.literal.VarId.{VarId}
 use Rattle.fzn_domain.specs.declared.literal.Lit.{Lit}
 use Rattle.fzn_domain.specs.declared.literal.Op.TheVariants as op
 use Rattle.fzn_domain.specs.IntSet.{IntSet, contains, least_in, greatest_in, least, greatest}
 use Rattle.fzn_domain.specs.Limits.{IsInLimits}
-use Rattle.fzn_domain.specs.Narrow.{IsVariable, set_of}
-use Rattle.fzn_domain.proofs.SetLemmas.{size_above_zero, least_le, le_greatest}
+use Rattle.fzn_domain.specs.Narrow.{set_of}
+use Rattle.fzn_domain.proofs.SetLemmas.{least_le, le_greatest}
 use Rattle.fzn_meaning.specs.declared.term.Term.{Term}
 use Rattle.fzn_meaning.specs.declared.term.Term.TheVariants.{Constant, Variable}
 use Rattle.fzn_meaning.specs.declared.term.Place.{Place}
 use Rattle.fzn_meaning.specs.declared.relation.Comparison.TheVariants.{NotEqual}
-use Rattle.fzn_meaning.specs.Term.{IsTerm, IsPlace, total_by}
+use Rattle.fzn_meaning.specs.Term.{IsPlace, total_by}
 use Rattle.fzn_sets.specs.Terms.{least_value, greatest_value}
 use Rattle.fzn_builtin_rules.specs.Linear.{low_end, high_end, low_product, high_product, least_sum}
 use Rattle.fzn_trail.specs.Levels.{Levels}
@@ -32,17 +30,14 @@ use Rattle.fzn_sums.proofs.OppositeLemmas.{neg_times, total-opposites}
 use Rattle.fzn_builtin_rules.proofs.CallerLemmas.{low_up, low_down, high_up, high_down}
 use Rattle.fzn_sums.proofs.ClauseLemmas.{variable_of_place}
 use Rattle.fzn_sums.proofs.PlaceLemmas.{both_signs}
-use Rattle.fzn_sums.proofs.ProductLemmas.{cancel}
+use Rattle.fzn_sums.proofs.ProductLemmas.{cancel, no_times}
 use Rattle.fzn_sums.proofs.SumLemmas.{total_same, total_but}
 
 -- ---- a place that gives one number
 
-at_zero : (c x : ℤ) → c ≡ pos 0 → c *ℤ x ≡ pos 0
-at_zero c x e = ap (λ (z : ℤ). z *ℤ x) e ∙ zero-*ℤ x
-
 pub one_of_zero : (sets : List IntSet) (place : Place) → place.coefficient ≡ pos 0 → GivesOne sets place
 unfolding low_product high_product
-one_of_zero sets place e = at_zero place.coefficient (low_end sets place) e ∙ sym (at_zero place.coefficient (high_end sets place) e)
+one_of_zero sets place e = no_times place.coefficient (low_end sets place) e ∙ sym (no_times place.coefficient (high_end sets place) e)
 
 either : (b : Bool) (low high : ℤ) → low ≡ high → cond b high low ≡ cond b low high
 either true low high e = sym e
@@ -94,7 +89,7 @@ pinned_constant trail place k of = λ value left.
 
 pub pinned_zero : (trail : Levels) (place : Place) → place.coefficient ≡ pos 0 → IsPinned trail [] place
 unfolding low_product
-pinned_zero trail place e = λ value left. at_zero place.coefficient value e ∙ sym (at_zero place.coefficient (low_end trail.sets place) e)
+pinned_zero trail place e = λ value left. no_times place.coefficient value e ∙ sym (no_times place.coefficient (low_end trail.sets place) e)
 
 -- the declared set has one value
 pub pinned_declared : (trail : Levels) (place : Place) (var : VarId) (value low high : ℤ) → place.term ≡ Variable var → place.coefficient ≢ pos 0 → GivesOne trail.sets place → value ≡ least (set_of trail.sets var) → contains (set_of trail.declared var) value ≡ true → low ≡ least (set_of trail.declared var) → high ≡ greatest (set_of trail.declared var) → low ≡ high → IsPinned trail [] place

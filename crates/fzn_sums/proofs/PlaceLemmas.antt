@@ -17,7 +17,9 @@ use Rattle.fzn_trail.specs.Levels.{Levels}
 use Rattle.fzn_propagator.specs.Inference.{spread}
 use Rattle.fzn_propagator.specs.Left.{IsLeft}
 use Rattle.fzn_sums.specs.Explained.{IsExplained, IsFloor, IsForced}
-use Rattle.fzn_sums.proofs.ProductLemmas.{mono_up, mono_down, past_up, past_down, near_up, near_down}
+use Rattle.fzn_terms.proofs.ProductLemmas.{mono_up, mono_down}
+use Rattle.fzn_sums.proofs.ProductLemmas.{past_up, past_down, near_up, near_down}
+use Rattle.fzn_terms.proofs.OrderLemmas.{le_trans, le_same}
 
 least_at : (sets : List IntSet) (place : Place) (var : VarId) (low : ℤ) → place.term ≡ Variable var → low ≡ least (set_of sets var) → least_value sets place.term ≡ low
 least_at sets place var low of is = ap (least_value sets) of ∙ sym is
@@ -47,33 +49,27 @@ pub both_signs : {P : Type 0} (c : ℤ) → (pos 0 ≤ℤ c → P) → (c <ℤ p
 both_signs (pos n) up down = up (omega (arith, ints))
 both_signs (negsuc m) up down = down (omega (arith, ints))
 
-same_product : (a b : ℤ) → a ≡ b → a ≤ℤ b
-same_product a b e = omega (arith, ints)
-
 pub explained_constant : (trail : Levels) (place : Place) (k : ℤ) → place.term ≡ Constant k → IsExplained trail [] place
 explained_constant trail place k of = λ value left.
     let is : value ≡ k = subst (λ (t : Term). IsLeft trail.declared [] t value) of left in
     both_signs place.coefficient
-    (λ sign. same_product _ _ (low_up trail.sets place sign ∙ ap (λ (x : ℤ). place.coefficient *ℤ x) (ap (least_value trail.sets) of ∙ sym is)))
-    (λ sign. same_product _ _ (low_down trail.sets place sign ∙ ap (λ (x : ℤ). place.coefficient *ℤ x) (ap (greatest_value trail.sets) of ∙ sym is)))
+    (λ sign. le_same _ _ (low_up trail.sets place sign ∙ ap (λ (x : ℤ). place.coefficient *ℤ x) (ap (least_value trail.sets) of ∙ sym is)))
+    (λ sign. le_same _ _ (low_down trail.sets place sign ∙ ap (λ (x : ℤ). place.coefficient *ℤ x) (ap (greatest_value trail.sets) of ∙ sym is)))
 
 le_from : (a b c : ℤ) → a ≡ b → b ≤ℤ c → a ≤ℤ c
 le_from a b c e h = omega (arith, ints)
-
-le_both : (a b c : ℤ) → a ≤ℤ b → b ≤ℤ c → a ≤ℤ c
-le_both a b c e h = omega (arith, ints)
 
 pub explained_up : (trail : Levels) (place : Place) (var : VarId) (low bound : ℤ) → pos 0 ≤ℤ place.coefficient → place.term ≡ Variable var → low ≡ least (set_of trail.sets var) → bound ≡ least (set_of trail.declared var) → low ≤ℤ bound → IsExplained trail [] place
 explained_up trail place var low bound sign of is declared_is h = λ value left.
     let parts = subst (λ (t : Term). IsLeft trail.declared [] t value) of left in
     let above : bound ≤ℤ value = le_from bound _ value declared_is (least_le (set_of trail.declared var) value parts.0) in
-    le_from _ _ _ (product_up trail.sets place var low sign of is) (mono_up place.coefficient low value sign (le_both low bound value h above))
+    le_from _ _ _ (product_up trail.sets place var low sign of is) (mono_up place.coefficient low value sign (le_trans low bound value h above))
 
 pub explained_down : (trail : Levels) (place : Place) (var : VarId) (high bound : ℤ) → place.coefficient <ℤ pos 0 → place.term ≡ Variable var → high ≡ greatest (set_of trail.sets var) → bound ≡ greatest (set_of trail.declared var) → bound ≤ℤ high → IsExplained trail [] place
 explained_down trail place var high bound sign of is declared_is h = λ value left.
     let parts = subst (λ (t : Term). IsLeft trail.declared [] t value) of left in
     let below : value ≤ℤ bound = subst (λ (x : ℤ). value ≤ℤ x) (sym declared_is) (le_greatest (set_of trail.declared var) value parts.0) in
-    le_from _ _ _ (product_down trail.sets place var high sign of is) (mono_down place.coefficient value high sign (le_both value bound high below h))
+    le_from _ _ _ (product_down trail.sets place var high sign of is) (mono_down place.coefficient value high sign (le_trans value bound high below h))
 
 -- ---- the literal that says that the bound was no better
 

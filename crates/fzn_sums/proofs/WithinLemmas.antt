@@ -20,6 +20,7 @@ use Rattle.fzn_sums.specs.Refuted.{IsRefutation, LeavesEach}
 use Rattle.fzn_sums.proofs.ClauseLemmas.{conflict, forcing}
 use Rattle.fzn_sums.proofs.OppositeLemmas.{least_sum-opposites}
 use Rattle.fzn_sums.proofs.RefutedLemmas.{refutation_of}
+use Rattle.fzn_terms.proofs.OrderLemmas.{le_trans}
 
 -- ---- a sum that may rise by a slack
 
@@ -38,10 +39,7 @@ tight_within sets places slack some covered = record {
 
 pub tight_by_widest : (sets : List IntSet) (places : List Place) (ends : Ends) (slack : ℤ) → AreEnds sets places ends → ends.widest ≤ℤ slack → IsTight sets places (least_sum sets places +ℤ slack)
 tight_by_widest sets places ends slack are covers =
-    tight_within sets places slack (le_both (pos 0) ends.widest slack are.not_below covers) (λ k d below. le_both _ ends.widest slack (are.none_wider k d below) covers)
-  where
-    le_both : (a b c : ℤ) → a ≤ℤ b → b ≤ℤ c → a ≤ℤ c
-    le_both a b c h k = omega (arith, ints)
+    tight_within sets places slack (le_trans (pos 0) ends.widest slack are.not_below covers) (λ k d below. le_trans _ ends.widest slack (are.none_wider k d below) covers)
 
 pub exceeded : (trail : Levels) (places : List Place) (slack : ℤ) (clause : List Lit) → slack <ℤ pos 0 → IsExplanation trail places (length places) (length places) clause → IsRefutation trail AtMost places (least_sum trail.sets places +ℤ slack) clause
 exceeded trail places slack clause none explanation =
@@ -57,7 +55,7 @@ forcing_within trail places slack room clause j d lit is in_places fits forced e
 
 -- ---- in the words of the calls
 
-none_then : {A : Type 0} (o : Option A) (P Q : Type 0) → (P → Q) → IfNone o P → IfNone o Q
+pub none_then : {A : Type 0} (o : Option A) (P Q : Type 0) → (P → Q) → IfNone o P → IfNone o Q
 none_then None P Q f h = f h
 none_then (Some x) P Q f h = tt
 

@@ -1,15 +1,15 @@
 -- When a clause leaves places their one number, and the literal that bars a value of the last open place.
-use Rattle.std.specs.Prelude.{◌≡◌, ◌≢◌, ℕ, ◌<◌, ◌≤◌, true, false, ℤ, ◌+ℤ◌, ◌-ℤ◌, ◌*ℤ◌, List, [], length, slice_index_or}
-use Rattle.std.specs.List.{All, AllWithin}
+use Rattle.std.specs.Prelude.{◌≡◌, ◌≢◌, ℕ, ◌<◌, ◌≤◌, true, false, ℤ, ◌+ℤ◌, ◌-ℤ◌, ◌*ℤ◌, List, length, slice_index_or}
+use Rattle.std.specs.List.{AllWithin}
 use Rattle.fzn_domain.specs.declared.literal.Lit.{Lit}
 use Rattle.fzn_domain.specs.declared.literal.Op.TheVariants as op
 use Rattle.fzn_domain.specs.Literal.{is_true_at}
 use Rattle.fzn_domain.specs.IntSet.{IntSet, contains, is_possible}
 use Rattle.fzn_domain.specs.Limits.{IsInLimits}
 use Rattle.fzn_domain.specs.Narrow.{set_of}
-use Rattle.fzn_meaning.specs.declared.term.Term.{Term}
-use Rattle.fzn_meaning.specs.declared.term.Term.TheVariants.{Constant, Variable}
+use Rattle.fzn_meaning.specs.declared.term.Term.TheVariants.{Variable}
 use Rattle.fzn_meaning.specs.declared.term.Place.{Place}
+use Rattle.fzn_sets.specs.Terms.{MayBe}
 use Rattle.fzn_builtin_rules.specs.Linear.{low_product, least_sum}
 use Rattle.fzn_trail.specs.Levels.{Levels}
 use Rattle.fzn_propagator.specs.Clause.{IsWritable, IsFalseClause}
@@ -49,11 +49,6 @@ pub record ArePinned (trail : Levels) (places : List Place) (before except : ℕ
 abbrev pub sum_with : List IntSet → List Place → Place → ℤ → ℤ
 sum_with sets places place value = (least_sum sets places -ℤ low_product sets place) +ℤ place.coefficient *ℤ value
 
--- a value of the term
-abbrev pub IsValueOf : List IntSet → Term → ℤ → Type 0
-IsValueOf sets (Constant k) value = value ≡ k
-IsValueOf sets (Variable var) value = contains (set_of sets var) value ≡ true
-
 -- the literal that the open place has not the value with which the sum is the number, where that is one of its values
 pub record IsBarring (trail : Levels) (places : List Place) (place : Place) (number : ℤ) (lit : Lit) : Type 0 where
   pub of_place : place.term ≡ Variable lit.var
@@ -64,4 +59,4 @@ pub record IsBarring (trail : Levels) (places : List Place) (place : Place) (num
 
 -- no value of the open place makes the sum the number
 abbrev pub NoneIsBarred : List IntSet → List Place → Place → ℤ → Type 0
-NoneIsBarred sets places place number = (value : ℤ) → IsValueOf sets place.term value → sum_with sets places place value ≢ number
+NoneIsBarred sets places place number = (value : ℤ) → MayBe sets place.term value → sum_with sets places place value ≢ number

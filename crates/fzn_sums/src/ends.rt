@@ -1,36 +1,16 @@
-// The ends of terms, places and sums on a trail.
+// The ends of places and sums on a trail.
 ghost use Rattle.std.specs.Prelude.{◌≡◌, ◌↔◌, ◌*◌, ◌≤◌, ◌≤ℤ◌, ◌-ℤ◌, ℤ, IsTrue, length, unsigned_abs};
 ghost use Rattle.std.specs.List.{All};
 ghost use Rattle.fzn_domain.specs.Limits.{IsInLimits};
 ghost use Rattle.fzn_domain.specs.Narrow.{NoneEmpty};
 ghost use Rattle.fzn_meaning.specs.Term.{IsTerm, IsPlace};
-ghost use Rattle.fzn_sets.specs.Terms.{least_value, greatest_value};
 ghost use Rattle.fzn_builtin_rules.specs.Linear.{low_end, low_product, least_sum};
 ghost use Rattle.fzn_sums.specs.Ends.{AreEnds};
 
 use fzn_builtin_rules::{Ends, products_of};
-use fzn_meaning::{Place, Term};
+use fzn_meaning::Place;
+use fzn_terms::{greatest_of, least_of};
 use fzn_trail::Trail;
-
-/// The least value that the term may take. Each present set has a value.
-pub fn least_value(trail: &Trail, term: Term) -> i64
-    requires term { IsTerm (length trail.now.declared) term }
-    requires filled { NoneEmpty trail.now.sets }
-    ensures value { result ≡ least_value trail.now.sets term }
-    ensures in_limits { IsInLimits result }
-{
-    fzn_sets::least_value(trail.sets(), term)
-}
-
-/// The greatest value that the term may take. Each present set has a value.
-pub fn greatest_value(trail: &Trail, term: Term) -> i64
-    requires term { IsTerm (length trail.now.declared) term }
-    requires filled { NoneEmpty trail.now.sets }
-    ensures value { result ≡ greatest_value trail.now.sets term }
-    ensures in_limits { IsInLimits result }
-{
-    fzn_sets::greatest_value(trail.sets(), term)
-}
 
 /// The value at which the place gives least.
 pub fn low_end(trail: &Trail, place: Place) -> i64
@@ -40,9 +20,9 @@ pub fn low_end(trail: &Trail, place: Place) -> i64
     ensures in_limits { IsInLimits result }
 {
     if place.coefficient < 0 {
-        greatest_value(trail, place.term)
+        greatest_of(trail, place.term)
     } else {
-        least_value(trail, place.term)
+        least_of(trail, place.term)
     }
 }
 

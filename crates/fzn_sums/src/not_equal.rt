@@ -11,10 +11,11 @@ ghost use Rattle.fzn_propagator.specs.Barred.{GivesOne, AreSettledBut};
 ghost use Rattle.fzn_sums.specs.Pinned.{IsOpenFrom, IsOnlyOpen, IsPin, IsPinned, ArePinned, IsBarring, NoneIsBarred};
 ghost use Rattle.fzn_sums.specs.Refuted.{IsConflict, IsRefutation, LeavesSome, LeavesEach};
 
-use crate::ends::{greatest_value, least_sum, least_value, low_product};
+use crate::ends::{least_sum, low_product};
 use fzn_domain::{Lit, Memory, Op};
 use fzn_list::Items;
 use fzn_meaning::{Place, Term};
+use fzn_terms::is_fixed;
 use fzn_trail::Trail;
 use std::alloc::Global;
 
@@ -27,7 +28,7 @@ fn gives_one(trail: &Trail, place: Place) -> bool
     if place.coefficient == 0 {
         return true;
     }
-    least_value(trail, place.term) == greatest_value(trail, place.term)
+    is_fixed(trail, place.term)
 }
 
 /// The first place from an index on that may give several numbers.

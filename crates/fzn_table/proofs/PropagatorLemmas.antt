@@ -1,5 +1,5 @@
 -- What justifies the clauses of a table, and where there is none.
-use Rattle.std.proofs.Common.{◌≡◌, ℕ, ◌+◌, ◌*◌, ◌<◌, ◌≤◌, List, [], ◌∷◌, ◌++◌, length, drop, get_or, refl, sym, ap, subst, ◌∙◌, inr, arith, ℤ, pos, All}
+use Rattle.std.proofs.Common.{◌≡◌, ℕ, ◌+◌, ◌*◌, ◌<◌, ◌≤◌, List, length, drop, get_or, refl, sym, ap, subst, ◌∙◌, inr, arith, ℤ, pos, All}
 use Rattle.std.proofs.lemmas.List.{ext_get_or, get_or-drop, get_or-take, length-drop, length-take-le}
 use Rattle.fzn_domain.specs.declared.literal.Lit.{Lit}
 use Rattle.fzn_domain.specs.IntSet.{IntSet}
@@ -9,7 +9,7 @@ use Rattle.fzn_meaning.specs.declared.term.Term.TheVariants.{Constant}
 use Rattle.fzn_meaning.specs.declared.constraint.Constraint.{Constraint}
 use Rattle.fzn_meaning.specs.declared.constraint.Constraint.TheVariants.{Table}
 use Rattle.fzn_meaning.specs.Table.{row_at}
-use Rattle.fzn_meaning.specs.Term.{IsTerm, term_value, values_of}
+use Rattle.fzn_meaning.specs.Term.{IsTerm, values_of}
 use Rattle.fzn_meaning.specs.Meaning.{Meets}
 use Rattle.fzn_meaning.proofs.CallerLemmas.{length-values_of, get_or-values_of}
 use Rattle.fzn_global_rules.specs.GlobalRows.{IsGlobalRowsMet}
@@ -33,8 +33,7 @@ module _ (sets : List IntSet) (values : List ℤ) (within : IsWithin sets values
   table_holds : (places : List Term) (rows : List ℤ) → All (IsTerm (length sets)) places → 0 < length places → AreSupported sets places rows (length places) → (r : ℕ) × (r * length (values_of values places) + length (values_of values places) ≤ length rows) × (row_at (length (values_of values places)) rows r ≡ values_of values places)
   table_holds places rows fit some supported =
       let e : Term = Constant (pos 0) in
-      let first = fixed_only sets values within fixed (get_or places 0 e) (fit 0 e some) in
-      let support = supported 0 some (term_value values (get_or places 0 e)) first.member in
+      let support = (supported 0 some).least in
       let r = support.0 in
       let count : length (values_of values places) ≡ length places = length-values_of values places in (
         r,

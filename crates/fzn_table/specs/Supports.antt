@@ -1,12 +1,19 @@
 -- Rows of a table, on the sets of a trail.
-use Rattle.std.specs.Prelude.{◌≡◌, Bool, true, false, ℕ, ◌+◌, ◌*◌, ◌<◌, ◌≤◌, ℤ, pos, List, length, slice_index_or}
+use Rattle.std.specs.Prelude.{◌≡◌, ◌⊎◌, Bool, true, false, ℕ, ◌+◌, ◌*◌, ◌/◌, ◌<◌, ◌≤◌, min, ℤ, pos, ◌-ℤ◌, ◌≤ℤ◌, List, length, slice_index_or}
+use Rattle.std.specs.List.{Contains}
+use Rattle.fzn_domain.specs.declared.literal.VarId.{VarId}
+use Rattle.fzn_domain.specs.declared.literal.Op.{Op}
 use Rattle.fzn_domain.specs.declared.literal.Lit.{Lit}
-use Rattle.fzn_domain.specs.IntSet.{IntSet}
+use Rattle.fzn_domain.specs.Literal.{compares, is_true_at}
+use Rattle.fzn_domain.specs.IntSet.{IntSet, size}
+use Rattle.fzn_domain.specs.Narrow.{set_of}
 use Rattle.fzn_meaning.specs.declared.term.Term.{Term}
-use Rattle.fzn_sets.specs.Terms.{MayBe}
+use Rattle.fzn_meaning.specs.declared.term.Term.TheVariants.{Constant, Variable}
+use Rattle.fzn_sets.specs.Terms.{MayBe, least_value, greatest_value}
 use Rattle.fzn_global_rules.specs.GlobalRows.{AreRowsOut}
 use Rattle.fzn_propagator.specs.Left.{IsLeft}
 use Rattle.fzn_terms.specs.Claims.{place_at}
+use Rattle.fzn_table.specs.declared.narrow.TheConstants.{FEW_VALUES, SPAN_OF_A_ROW, LONGEST_SPAN}
 
 -- the rule `rows` of these places and rows
 abbrev pub AreRowsOutOn : List Term → List ℤ → List IntSet → Type 0
@@ -41,14 +48,49 @@ pub record IsSupport (sets : List IntSet) (places : List Term) (rows : List ℤ)
 abbrev pub IsSupported : List IntSet → List Term → List ℤ → ℕ → ℤ → Type 0
 IsSupported sets places rows p value = (r : ℕ) × IsSupport sets places rows p value r
 
--- each value of each of the first places is supported
+-- some supported value of the place does not stand so to the bound
+abbrev pub HasSupportAgainst : List IntSet → List Term → List ℤ → ℕ → Op → ℤ → Type 0
+HasSupportAgainst sets places rows p op bound = (v : ℤ) × (compares op v bound ≡ false) × IsSupported sets places rows p v
+
+-- ---- narrow places
+
+-- how many values a term has; a constant has its own one value
+abbrev pub value_count : List IntSet → Term → ℕ
+value_count sets (Constant k) = 1
+value_count sets (Variable var) = size (set_of sets var)
+
+-- these are few
+abbrev pub HasFewValues : List IntSet → Term → Type 0
+HasFewValues sets term = value_count sets term ≤ FEW_VALUES
+
+-- the span, which is the greatest value less the least, is no more than a few times this many rows
+abbrev pub IsShort : List IntSet → Term → ℕ → Type 0
+IsShort sets term count = (greatest_value sets term -ℤ least_value sets term) ≤ℤ pos (min (count * SPAN_OF_A_ROW) LONGEST_SPAN)
+
+-- the place has few values, or a short span beside the number of rows
+abbrev pub IsNarrow : List IntSet → List Term → List ℤ → ℕ → Type 0
+IsNarrow sets places rows p = IsShort sets (place_at places p) (length rows / length places) ⊎ HasFewValues sets (place_at places p)
+
+-- the ends of a place are supported, and each value of a narrow one
+pub record HasSupports (sets : List IntSet) (places : List Term) (rows : List ℤ) (p : ℕ) : Type 0 where
+  pub least : IsSupported sets places rows p (least_value sets (place_at places p))
+  pub greatest : IsSupported sets places rows p (greatest_value sets (place_at places p))
+  pub each_where_narrow : IsNarrow sets places rows p → (v : ℤ) → MayBe sets (place_at places p) v → IsSupported sets places rows p v
+
+-- so it is of each of the first places
 abbrev pub AreSupported : List IntSet → List Term → List ℤ → ℕ → Type 0
-AreSupported sets places rows count = (p : ℕ) → p < count → (v : ℤ) → MayBe sets (place_at places p) v → IsSupported sets places rows p v
+AreSupported sets places rows count = (p : ℕ) → p < count → HasSupports sets places rows p
+
+-- ---- clauses
+
+-- some literal of the clause is true where the variable has this value
+abbrev pub IsBarred : List Lit → VarId → ℤ → Type 0
+IsBarred clause var value = (lit : Lit) × Contains clause lit × (lit.var ≡ var) × (is_true_at lit value ≡ true)
 
 -- some value of the row is not left its place
 abbrev pub IsRowRefuted : List IntSet → List Lit → List Term → List ℤ → ℕ → Type 0
 IsRowRefuted declared clause places rows r = (k : ℕ) × (k < length places) × (IsLeft declared clause (place_at places k) (number_at places rows r k) → ⊥)
 
--- so of each of the first rows that has the value at the place
-abbrev pub AreRowsRefuted : List IntSet → List Lit → List Term → List ℤ → ℕ → ℤ → ℕ → Type 0
-AreRowsRefuted declared clause places rows p value count = (r : ℕ) → r < count → number_at places rows r p ≡ value → IsRowRefuted declared clause places rows r
+-- so of each of the first rows whose value at the place does not stand so to the bound
+abbrev pub AreRowsRefuted : List IntSet → List Lit → List Term → List ℤ → ℕ → Op → ℤ → ℕ → Type 0
+AreRowsRefuted declared clause places rows p op bound count = (r : ℕ) → r < count → compares op (number_at places rows r p) bound ≡ false → IsRowRefuted declared clause places rows r

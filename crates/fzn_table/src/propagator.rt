@@ -83,8 +83,9 @@ impl Propagator for TablePropagator {
         Cost::Middling
     }
 
-    /// One pass, by the law of the trait. Where it finds nothing, each value of each place stands there in a row whose values are all
-    /// in their places' sets.
+    /// One pass, by the law of the trait. Where it finds nothing, the least and the greatest value of each place stand there in a row whose
+    /// values are all in their places' sets, and so does each value of a place that has at most 64, or whose greatest value less its least
+    /// is at most four times the number of rows and at most 4,095.
     #[tactic(auto, unfolding(fzn_meaning::specs::Meaning::IsWellFormed))]
     fn propagate(&self, alloc: Global, trail: &Trail, found: &mut Findings) -> Result<(), Memory>
         requires fits { TableFits self.now trail.now.declared }

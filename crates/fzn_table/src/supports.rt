@@ -106,26 +106,21 @@ impl Supports {
         self.width.saturating_mul(64)
     }
 
+    /// How many entries come before that of the value at the place.
+    fn before(&self, place: usize, value: i64) -> usize {
+        self.entries
+            .as_slice()
+            .partition_point(|entry| (entry.place, entry.value) < (place, value))
+    }
+
     /// The entry of a value at a place.
     fn entry_of(&self, place: usize, value: i64) -> Option<Entry> {
-        let mut low = 0;
-        let mut high = self.entries.len();
-        for _ in 0..64 {
-            if low >= high {
-                return None;
-            }
-            let middle = low + (high - low) / 2;
-            let entry = *self.entries.get(middle)?;
-            if entry.place == place && entry.value == value {
-                return Some(entry);
-            }
-            if (entry.place, entry.value) < (place, value) {
-                low = middle + 1;
-            } else {
-                high = middle;
-            }
+        let entry = *self.entries.get(self.before(place, value))?;
+        if entry.place == place && entry.value == value {
+            Some(entry)
+        } else {
+            None
         }
-        None
     }
 
     /// A set of bits.
@@ -196,10 +191,47 @@ impl Supports {
 
     /// A row among these that has the value at the place.
     pub fn row_of(&self, possible: &[u64], place: usize, value: i64) -> Option<usize> {
-        match self.entry_of(place, value)?.rows {
+        self.first_among(self.entry_of(place, value)?.rows, possible)
+    }
+
+    /// The first of these rows that is among the possible.
+    fn first_among(&self, rows: RowSet, possible: &[u64]) -> Option<usize> {
+        match rows {
             RowSet::Bits { start } => first_common(self.bits_from(start)?, possible),
-            RowSet::Listed { start, end } => first_among(possible, self.listed.get(start..end)?),
+            RowSet::Listed { start, end } => {
+                first_listed(possible, self.listed.get(start..end)?)
+            }
         }
+    }
+
+    /// The least value of the place from its least on that a row among these has there, or any row behind its greatest.
+    pub fn next_from(&self, possible: &[u64], place: usize, least: i64, greatest: i64) -> i64 {
+        for k in self.before(place, least)..self.entries.len() {
+            let entry = self.entries[k];
+            if entry.place != place {
+                break;
+            }
+            if greatest < entry.value || self.first_among(entry.rows, possible).is_some() {
+                return entry.value;
+            }
+        }
+        greatest.saturating_add(1)
+    }
+
+    /// The greatest value of the place up to its greatest that a row among these has there, or any row before its least.
+    pub fn last_up_to(&self, possible: &[u64], place: usize, least: i64, greatest: i64) -> i64 {
+        for k in (0..self.before(place, greatest.saturating_add(1))).rev() {
+            let Some(entry) = self.entries.get(k) else {
+                break;
+            };
+            if entry.place != place {
+                break;
+            }
+            if entry.value < least || self.first_among(entry.rows, possible).is_some() {
+                return entry.value;
+            }
+        }
+        least.saturating_sub(1)
     }
 }
 
@@ -219,7 +251,7 @@ fn numbers_of(alloc: Global, places: usize, rows: &[Term]) -> Result<Vec<Number>
 }
 
 /// The first of the listed rows that is among these.
-fn first_among(words: &[u64], listed: &[usize]) -> Option<usize> {
+fn first_listed(words: &[u64], listed: &[usize]) -> Option<usize> {
     for row in listed {
         if has_bit(words, *row) {
             return Some(*row);

@@ -1,85 +1,149 @@
 // What follows from the rows of a table: by the rule `rows`.
-ghost use Rattle.std.specs.Prelude.{◌≡◌, ◌↔◌, ◌+◌, ◌*◌, ◌<◌, ◌≤◌, false, true, ℕ, ℤ, pos, [], IsTrue, IfOk, IfSome, IfNone, OnOk, length};
-ghost use Rattle.std.specs.List.{All, Contains};
+ghost use Rattle.std.specs.Prelude.{◌≡◌, ◌≢◌, ◌↔◌, ◌+◌, ◌*◌, ◌<◌, ◌≤◌, false, true, ℕ, ℤ, pos, [], IsTrue, IfOk, IfSome, IfNone, OnOk, length};
+ghost use Rattle.std.specs.List.{All};
 ghost use Rattle.fzn_domain.specs.Limits.{IsInLimits, IsNearLimits};
+ghost use Rattle.fzn_domain.specs.Literal.{compares};
 ghost use Rattle.fzn_domain.specs.Narrow.{NoneEmpty};
 ghost use Rattle.fzn_meaning.specs.declared.constraint.Constraint.TheVariants as constraint;
 ghost use Rattle.fzn_meaning.specs.Term.{IsTerm, numbers_in};
 ghost use Rattle.fzn_sets.specs.Terms.{MayBe};
 ghost use Rattle.fzn_propagator.specs.Left.{IsLeft};
 ghost use Rattle.fzn_propagator.specs.Clause.{IsJustifiedBy, IsFalseClause};
-ghost use Rattle.fzn_terms.specs.Claims.{LeavesNoMore, place_at};
-ghost use Rattle.fzn_table.specs.Supports.{AreRowsOutOn, number_at, IsWhole, IsOutAt, IsOpenUpTo, AreOpen, IsSupported, AreSupported, IsRowRefuted, AreRowsRefuted};
+ghost use Rattle.fzn_terms.specs.Claims.{CanFail, LeavesNoMore, place_at};
+ghost use Rattle.fzn_terms.specs.Denied.{that, IsDenied};
+ghost use Rattle.fzn_table.specs.Supports.{AreRowsOutOn, number_at, IsWhole, IsOutAt, IsOpenUpTo, AreOpen, IsSupported, HasSupportAgainst, HasSupports, AreSupported, IsBarred, IsRowRefuted, AreRowsRefuted};
 ghost use Rattle.fzn_propagator.specs.Inference.{AreFoundOf};
 
+use crate::narrow::is_narrow;
 use crate::supports::Supports;
-use fzn_domain::{Lit, Memory, Op};
+use fzn_domain::{GREATEST_BOUND, LEAST_BOUND, Lit, Memory, Op, VarId};
 use fzn_list::Items;
 use fzn_meaning::Term;
 use fzn_propagator::Findings;
 use fzn_rules::Rule;
-use fzn_terms::{least_of, may_be, next_value, push_claim};
+use fzn_terms::{greatest_of, least_of, may_be, next_value, push_claim};
 use fzn_trail::Trail;
 use std::alloc::Global;
 
-/// Whether the literal stands in the clause.
-fn is_in(clause: &Items<Lit>, lit: Lit) -> bool
-    ensures { IsTrue result → Contains clause.now lit }
+/// Whether the value stands so to the bound.
+fn stands(value: i64, op: Op, bound: i64) -> bool
+    ensures { result ≡ compares op value bound }
 {
-    for other in clause.as_slice() {
-        if *other == lit {
+    let claim = Lit {
+        var: VarId(1),
+        op,
+        value: bound,
+    };
+    claim.is_true_at(value)
+}
+
+/// The number of the row at the place, both counted from 0.
+fn number_of(places: &[Term], rows: &[Term], r: usize, k: usize) -> i64
+    requires whole { IsWhole places.now (numbers_in rows.now) r }
+    requires in_range { k < length places.now }
+    ensures { result ≡ number_at places.now (numbers_in rows.now) r k }
+{
+    rows[r * places.len() + k].number()
+}
+
+/// Whether some literal of the clause is true where the variable has this value.
+fn is_barred(clause: &Items<Lit>, var: VarId, value: &i64) -> bool
+    ensures { IsTrue result → IsBarred clause.now var value.now }
+{
+    for lit in clause.as_slice() {
+        if lit.var == var && lit.is_true_at(*value) {
             return true;
         }
     }
     false
 }
 
-/// Adds the claim that the term has this value, where neither its declared set nor the clause says that it has not.
-fn push_equal(trail: &Trail, term: Term, value: &i64, clause: &mut Items<Lit>) -> Result<(), Memory>
-    requires term { IsTerm (length trail.now.declared) term }
-    requires number { IsNearLimits value.now }
-    requires out { MayBe trail.now.sets term value.now → ⊥ }
-    requires refuted { IsFalseClause trail.now clause.old }
-    ensures refuted { OnOk result (IsFalseClause trail.now clause.new) }
-    ensures fewer { OnOk result (LeavesNoMore trail.now.declared clause.new clause.old) }
-    ensures out { OnOk result (IsLeft trail.now.declared clause.new term value.now → ⊥) }
-{
-    let Term::Variable(var) = term else {
-        return Ok(());
-    };
-    if !trail.declared(var).contains(*value) {
-        return Ok(());
-    }
-    let lit = Lit {
-        var,
-        op: Op::Equal,
-        value: *value,
-    };
-    if is_in(clause, lit) {
-        return Ok(());
-    }
-    push_claim(clause, term, Op::Equal, value)?;
-    Ok(())
-}
-
 /// Whether the clause need not be longer to say that the term has not this value.
 fn is_said(trail: &Trail, term: Term, value: &i64, clause: &Items<Lit>) -> bool
     requires { IsTerm (length trail.now.declared) term }
+    ensures { IsTrue result → (MayBe trail.now.sets term value.now → ⊥) → IsLeft trail.now.declared clause.now term value.now → ⊥ }
 {
-    let Term::Variable(var) = term else {
-        return true;
-    };
-    if !trail.declared(var).contains(*value) {
-        return true;
+    match term {
+        Term::Constant(_) => true,
+        Term::Variable(var) => {
+            !trail.declared(var).contains(*value) || is_barred(clause, var, value)
+        }
     }
-    is_in(
-        clause,
-        Lit {
-            var,
-            op: Op::Equal,
-            value: *value,
-        },
-    )
+}
+
+/// The number at the place, of those of all rows, that is the nearest to an end of the place beyond which this one lies.
+fn nearest(places: &[Term], rows: &[Term], k: usize, op: Op, value: &i64, end: &i64) -> i64
+    requires in_range { k < length places.now }
+    requires itself { compares op value.now value.now ≡ true }
+    requires beyond { compares op end.now value.now ≡ false }
+    ensures holds { compares op value.now result ≡ true }
+    ensures fails { compares op end.now result ≡ false }
+{
+    let mut nearest = *value;
+    for r in 0..rows.len() / places.len() {
+        let number = number_of(places, rows, r, k);
+        if stands(*value, op, number) && !stands(*end, op, number) && !stands(number, op, nearest) {
+            nearest = number;
+        }
+    }
+    nearest
+}
+
+/// A claim that holds of the value and of none that the place has: of a wide place a bound, where the value lies beyond its ends.
+fn claim_out(trail: &Trail, places: &[Term], rows: &[Term], k: usize, value: &i64) -> (Op, i64)
+    requires places { All (IsTerm (length trail.now.declared)) places.now }
+    requires filled { NoneEmpty trail.now.sets }
+    requires in_range { k < length places.now }
+    requires number { IsInLimits value.now }
+    requires out { MayBe trail.now.sets (place_at places.now k) value.now → ⊥ }
+    ensures holds { compares result.0 value.now result.1 ≡ true }
+    ensures none { IsDenied trail.now.sets (that (place_at places.now k) result.0 result.1) }
+    ensures near { IsNearLimits result.1 }
+{
+    if !is_narrow(trail, places, rows, k) {
+        let least = least_of(trail, places[k]);
+        if *value < least {
+            return (
+                Op::AtMost,
+                nearest(places, rows, k, Op::AtMost, value, &least),
+            );
+        }
+        let greatest = greatest_of(trail, places[k]);
+        if greatest < *value {
+            return (
+                Op::AtLeast,
+                nearest(places, rows, k, Op::AtLeast, value, &greatest),
+            );
+        }
+    }
+    (Op::Equal, *value)
+}
+
+/// Adds a claim that bars the value from the place, where neither its declared set nor the clause does.
+fn push_out(
+    trail: &Trail,
+    places: &[Term],
+    rows: &[Term],
+    k: usize,
+    value: &i64,
+    clause: &mut Items<Lit>,
+) -> Result<(), Memory>
+    requires places { All (IsTerm (length trail.now.declared)) places.now }
+    requires filled { NoneEmpty trail.now.sets }
+    requires in_range { k < length places.now }
+    requires number { IsInLimits value.now }
+    requires out { MayBe trail.now.sets (place_at places.now k) value.now → ⊥ }
+    requires refuted { IsFalseClause trail.now clause.old }
+    ensures refuted { OnOk result (IsFalseClause trail.now clause.new) }
+    ensures fewer { OnOk result (LeavesNoMore trail.now.declared clause.new clause.old) }
+    ensures out { OnOk result (IsLeft trail.now.declared clause.new (place_at places.now k) value.now → ⊥) }
+{
+    if is_said(trail, places[k], value, clause) {
+        return Ok(());
+    }
+    let (op, bound) = claim_out(trail, places, rows, k, value);
+    push_claim(clause, places[k], op, &bound)?;
+    Ok(())
 }
 
 /// A place that the row's value there is out of: one of which the clause says so, where there is one, else the first.
@@ -110,29 +174,62 @@ fn place_out(
     found
 }
 
-/// Adds a literal that refutes the row, or says that each of its values is in its place's set.
+/// The same, but this place before all others.
+fn first_place_out(
+    trail: &Trail,
+    places: &[Term],
+    rows: &[Term],
+    r: usize,
+    p: usize,
+    clause: &Items<Lit>,
+) -> Option<usize>
+    requires places { All (IsTerm (length trail.now.declared)) places.now }
+    requires whole { IsWhole places.now (numbers_in rows.now) r }
+    requires in_range { p < length places.now }
+    ensures found { IfSome result (IsOutAt trail.now.sets places.now (numbers_in rows.now) r) }
+    ensures none { IfNone result (IsOpenUpTo trail.now.sets places.now (numbers_in rows.now) r (length places.now)) }
+{
+    if !may_be(trail, places[p], &rows[r * places.len() + p].number()) {
+        return Some(p);
+    }
+    place_out(trail, places, rows, r, clause)
+}
+
+/// Adds a literal that refutes the row, at this place where it can be, or says that each of its values is in its place's set.
 fn refute_row(
     trail: &Trail,
     places: &[Term],
     rows: &[Term],
     r: usize,
+    p: usize,
     clause: &mut Items<Lit>,
 ) -> Result<bool, Memory>
     requires places { All (IsTerm (length trail.now.declared)) places.now }
     requires numbers { All IsInLimits (numbers_in rows.now) }
+    requires filled { NoneEmpty trail.now.sets }
     requires whole { IsWhole places.now (numbers_in rows.now) r }
+    requires in_range { p < length places.now }
     requires refuted { IsFalseClause trail.now clause.old }
     ensures refuted { IfOk result (λ out. IsTrue out → IsFalseClause trail.now clause.new) }
     ensures fewer { IfOk result (λ out. IsTrue out → LeavesNoMore trail.now.declared clause.new clause.old) }
     ensures out { IfOk result (λ out. IsTrue out → IsRowRefuted trail.now.declared clause.new places.now (numbers_in rows.now) r) }
     ensures stands { IfOk result (λ out. out ≡ false → IsOpenUpTo trail.now.sets places.now (numbers_in rows.now) r (length places.now)) }
 {
-    let Some(k) = place_out(trail, places, rows, r, clause) else {
+    let Some(k) = first_place_out(trail, places, rows, r, p, clause) else {
         return Ok(false);
     };
     let value = rows[r * places.len() + k].number();
-    push_equal(trail, places[k], &value, clause)?;
+    push_out(trail, places, rows, k, &value, clause)?;
     Ok(true)
+}
+
+/// Whether the row's value at the place stands so to the bound.
+fn row_stands(places: &[Term], rows: &[Term], r: usize, p: usize, op: Op, bound: &i64) -> bool
+    requires whole { IsWhole places.now (numbers_in rows.now) r }
+    requires in_range { p < length places.now }
+    ensures { result ≡ compares op (number_at places.now (numbers_in rows.now) r p) bound.now }
+{
+    stands(number_of(places, rows, r, p), op, *bound)
 }
 
 /// Whether the row has the value at the place.
@@ -141,23 +238,7 @@ fn has_value(places: &[Term], rows: &[Term], r: usize, p: usize, value: &i64) ->
     requires in_range { p < length places.now }
     ensures { IsTrue result ↔ (number_at places.now (numbers_in rows.now) r p ≡ value.now) }
 {
-    rows[r * places.len() + p].number() == *value
-}
-
-/// Whether some row has the value at the place, and each of its values in its place's set.
-fn is_supported(trail: &Trail, places: &[Term], rows: &[Term], p: usize, value: &i64) -> bool
-    requires places { All (IsTerm (length trail.now.declared)) places.now }
-    requires in_range { p < length places.now }
-    ensures { IsTrue result → IsSupported trail.now.sets places.now (numbers_in rows.now) p value.now }
-{
-    for r in 0..rows.len() / places.len() {
-        if has_value(places, rows, r, p, value) {
-            if is_open(trail, places, rows, r) {
-                return true;
-            }
-        }
-    }
-    false
+    number_of(places, rows, r, p) == *value
 }
 
 /// Whether each value of the row is in its place's set.
@@ -174,37 +255,37 @@ fn is_open(trail: &Trail, places: &[Term], rows: &[Term], r: usize) -> bool
     true
 }
 
-/// The clause that the place, counted from 0, has not this value, or some row that has it there stands: an inference by the rule `rows`
-/// where this answers `true`; else some row with the value stands. The rows stand one after another, each as long as the places. It answers
-/// `Err` where memory runs out, and nothing is said of the clause then.
-pub fn explain_value(
+/// The clause that each value of the place, counted from 0, stands so to the bound, or some row whose value there does not stands: an
+/// inference by the rule `rows` where this answers `true`; else some such row stands. The claim has to be open or false. The rows stand one
+/// after another, each as long as the places, and each present set has a value. It answers `Err` where memory runs out, and nothing is said
+/// of the clause then.
+pub fn explain_claim(
     trail: &Trail,
     places: &[Term],
     rows: &[Term],
     p: usize,
-    value: &i64,
+    op: Op,
+    bound: &i64,
     clause: &mut Items<Lit>,
 ) -> Result<bool, Memory>
     requires places { All (IsTerm (length trail.now.declared)) places.now }
     requires numbers { All IsInLimits (numbers_in rows.now) }
+    requires filled { NoneEmpty trail.now.sets }
     requires in_range { p < length places.now }
-    requires limits { IsInLimits value.now }
-    requires may { MayBe trail.now.sets (place_at places.now p) value.now }
+    requires near { IsNearLimits bound.now }
+    requires can_fail { CanFail trail.now.sets (place_at places.now p) op bound.now }
     ensures found { IfOk result (λ found. IsTrue found → IsJustifiedBy trail.now (AreRowsOutOn places.now (numbers_in rows.now)) clause.new) }
-    ensures none { IfOk result (λ found. found ≡ false → IsSupported trail.now.sets places.now (numbers_in rows.now) p value.now) }
+    ensures none { IfOk result (λ found. found ≡ false → HasSupportAgainst trail.now.sets places.now (numbers_in rows.now) p op bound.now) }
 {
-    if is_supported(trail, places, rows, p, value) {
-        return Ok(false);
-    }
     clause.clear();
     for r in 0..rows.len() / places.len() {
-        if has_value(places, rows, r, p, value) {
-            if !refute_row(trail, places, rows, r, clause)? {
+        if !row_stands(places, rows, r, p, op, bound) {
+            if !refute_row(trail, places, rows, r, p, clause)? {
                 return Ok(false);
             }
         }
     }
-    push_claim(clause, places[p], Op::NotEqual, value)?;
+    push_claim(clause, places[p], op, bound)?;
     Ok(true)
 }
 
@@ -234,14 +315,14 @@ fn is_open_row(
     true
 }
 
-/// Whether this row has the value at the place, and each of its values in its place's set.
+/// Whether this row, where there is one, has the value at the place, and each of its values in its place's set.
 fn is_support(
     trail: &Trail,
     places: &[Term],
     rows: &[Term],
     p: usize,
     value: &i64,
-    r: usize,
+    row: Option<usize>,
     marks: &mut Vec<bool>,
 ) -> bool
     requires places { All (IsTerm (length trail.now.declared)) places.now }
@@ -250,6 +331,9 @@ fn is_support(
     ensures support { IsTrue result → IsSupported trail.now.sets places.now (numbers_in rows.now) p value.now }
     ensures marks { AreOpen trail.now.sets places.now (numbers_in rows.now) marks.new.items }
 {
+    let Some(r) = row else {
+        return false;
+    };
     if r < rows.len() / places.len() {
         if has_value(places, rows, r, p, value) {
             return is_open_row(trail, places, rows, r, marks);
@@ -258,9 +342,76 @@ fn is_support(
     false
 }
 
-/// The inference that the place has not this value goes behind what was found, where no row that stands has it there. It first looks at
-/// one row among the possible that has the value.
+/// The inference that the place stands so to the bound goes behind what was found. `false` where a row stands whose value there does not.
+fn bar_claim(
+    alloc: Global,
+    trail: &Trail,
+    places: &[Term],
+    rows: &[Term],
+    number: u64,
+    p: usize,
+    op: Op,
+    bound: &i64,
+    found: &mut Findings,
+) -> Result<bool, Memory>
+    requires places { All (IsTerm (length trail.now.declared)) places.now }
+    requires numbers { All IsInLimits (numbers_in rows.now) }
+    requires filled { NoneEmpty trail.now.sets }
+    requires in_range { p < length places.now }
+    requires near { IsNearLimits bound.now }
+    requires can_fail { CanFail trail.now.sets (place_at places.now p) op bound.now }
+    requires before { AreFoundOf number (constraint.Table places.now (numbers_in rows.now)) trail.now found.old }
+    ensures found { AreFoundOf number (constraint.Table places.now (numbers_in rows.now)) trail.now found.new }
+    ensures kept { found.new ≡ [] → found.old ≡ [] }
+    ensures some { IfOk result (λ barred. IsTrue barred → found.new ≢ []) }
+    ensures none { IfOk result (λ barred. barred ≡ false → HasSupportAgainst trail.now.sets places.now (numbers_in rows.now) p op bound.now) }
+{
+    let mut clause = Items::new(alloc);
+    if !explain_claim(trail, places, rows, p, op, bound, &mut clause)? {
+        return Ok(false);
+    }
+    found.hand_over(number, Rule::Rows, Some(clause))?;
+    Ok(true)
+}
+
+/// The inference that the place has not this value goes behind what was found, where no row that stands has it there.
 fn bar_value(
+    alloc: Global,
+    trail: &Trail,
+    places: &[Term],
+    rows: &[Term],
+    number: u64,
+    p: usize,
+    value: &i64,
+    found: &mut Findings,
+) -> Result<(), Memory>
+    requires places { All (IsTerm (length trail.now.declared)) places.now }
+    requires numbers { All IsInLimits (numbers_in rows.now) }
+    requires filled { NoneEmpty trail.now.sets }
+    requires in_range { p < length places.now }
+    requires limits { IsInLimits value.now }
+    requires may { MayBe trail.now.sets (place_at places.now p) value.now }
+    requires before { AreFoundOf number (constraint.Table places.now (numbers_in rows.now)) trail.now found.old }
+    ensures found { AreFoundOf number (constraint.Table places.now (numbers_in rows.now)) trail.now found.new }
+    ensures kept { found.new ≡ [] → found.old ≡ [] }
+    ensures none { OnOk result (found.new ≡ [] → IsSupported trail.now.sets places.now (numbers_in rows.now) p value.now) }
+{
+    bar_claim(
+        alloc,
+        trail,
+        places,
+        rows,
+        number,
+        p,
+        Op::NotEqual,
+        value,
+        found,
+    )?;
+    Ok(())
+}
+
+/// The same, where the row that is looked at first does not show that the place may have the value.
+fn test_value(
     alloc: Global,
     trail: &Trail,
     places: &[Term],
@@ -274,6 +425,7 @@ fn bar_value(
 ) -> Result<(), Memory>
     requires places { All (IsTerm (length trail.now.declared)) places.now }
     requires numbers { All IsInLimits (numbers_in rows.now) }
+    requires filled { NoneEmpty trail.now.sets }
     requires in_range { p < length places.now }
     requires limits { IsInLimits value.now }
     requires may { MayBe trail.now.sets (place_at places.now p) value.now }
@@ -284,17 +436,10 @@ fn bar_value(
     ensures none { OnOk result (found.new ≡ [] → IsSupported trail.now.sets places.now (numbers_in rows.now) p value.now) }
     ensures marks { AreOpen trail.now.sets places.now (numbers_in rows.now) marks.new.items }
 {
-    if let Some(r) = row {
-        if is_support(trail, places, rows, p, value, r, marks) {
-            return Ok(());
-        }
-    }
-    let mut clause = Items::new(alloc);
-    if !explain_value(trail, places, rows, p, value, &mut clause)? {
+    if is_support(trail, places, rows, p, value, row, marks) {
         return Ok(());
     }
-    found.hand_over(number, Rule::Rows, Some(clause))?;
-    Ok(())
+    bar_value(alloc, trail, places, rows, number, p, value, found)
 }
 
 /// An inference for each value of the place that no row supports.
@@ -324,7 +469,7 @@ fn bar_values(
     let mut value = least_of(trail, places[p]);
     loop {
         let row = supports.row_of(possible, p, value);
-        bar_value(
+        test_value(
             alloc, trail, places, rows, number, p, &value, row, marks, found,
         )?;
         match next_value(trail, places[p], &value) {
@@ -334,7 +479,171 @@ fn bar_values(
     }
 }
 
-/// An inference for each value of each place that no row supports.
+/// The inference that the place stands so to the bound, where its end does not: `false` where the end does, or some row's value there that
+/// stands does not either.
+fn bar_beyond(
+    alloc: Global,
+    trail: &Trail,
+    places: &[Term],
+    rows: &[Term],
+    number: u64,
+    p: usize,
+    op: Op,
+    bound: i64,
+    end: &i64,
+    found: &mut Findings,
+) -> Result<bool, Memory>
+    requires places { All (IsTerm (length trail.now.declared)) places.now }
+    requires numbers { All IsInLimits (numbers_in rows.now) }
+    requires filled { NoneEmpty trail.now.sets }
+    requires in_range { p < length places.now }
+    requires may { MayBe trail.now.sets (place_at places.now p) end.now }
+    requires before { AreFoundOf number (constraint.Table places.now (numbers_in rows.now)) trail.now found.old }
+    ensures found { AreFoundOf number (constraint.Table places.now (numbers_in rows.now)) trail.now found.new }
+    ensures kept { found.new ≡ [] → found.old ≡ [] }
+    ensures some { IfOk result (λ barred. IsTrue barred → found.new ≢ []) }
+{
+    if bound < LEAST_BOUND || GREATEST_BOUND < bound || stands(*end, op, bound) {
+        return Ok(false);
+    }
+    bar_claim(alloc, trail, places, rows, number, p, op, &bound, found)
+}
+
+/// The inference that the place goes no further than the next value that the rows may support, where none supports its end. Where the
+/// bound that is proposed does not do, it is that the place has not the end.
+fn bar_end(
+    alloc: Global,
+    trail: &Trail,
+    places: &[Term],
+    rows: &[Term],
+    number: u64,
+    p: usize,
+    op: Op,
+    bound: i64,
+    end: &i64,
+    row: Option<usize>,
+    marks: &mut Vec<bool>,
+    found: &mut Findings,
+) -> Result<(), Memory>
+    requires places { All (IsTerm (length trail.now.declared)) places.now }
+    requires numbers { All IsInLimits (numbers_in rows.now) }
+    requires filled { NoneEmpty trail.now.sets }
+    requires in_range { p < length places.now }
+    requires limits { IsInLimits end.now }
+    requires may { MayBe trail.now.sets (place_at places.now p) end.now }
+    requires marks { AreOpen trail.now.sets places.now (numbers_in rows.now) marks.old.items }
+    requires before { AreFoundOf number (constraint.Table places.now (numbers_in rows.now)) trail.now found.old }
+    ensures found { AreFoundOf number (constraint.Table places.now (numbers_in rows.now)) trail.now found.new }
+    ensures kept { found.new ≡ [] → found.old ≡ [] }
+    ensures none { OnOk result (found.new ≡ [] → IsSupported trail.now.sets places.now (numbers_in rows.now) p end.now) }
+    ensures marks { AreOpen trail.now.sets places.now (numbers_in rows.now) marks.new.items }
+{
+    if is_support(trail, places, rows, p, end, row, marks) {
+        return Ok(());
+    }
+    if bar_beyond(alloc, trail, places, rows, number, p, op, bound, end, found)? {
+        return Ok(());
+    }
+    bar_value(alloc, trail, places, rows, number, p, end, found)
+}
+
+/// An inference for each end of the place that no row supports.
+fn bar_ends(
+    alloc: Global,
+    trail: &Trail,
+    places: &[Term],
+    rows: &[Term],
+    supports: &Supports,
+    possible: &[u64],
+    number: u64,
+    p: usize,
+    least: &i64,
+    greatest: &i64,
+    marks: &mut Vec<bool>,
+    found: &mut Findings,
+) -> Result<(), Memory>
+    requires places { All (IsTerm (length trail.now.declared)) places.now }
+    requires numbers { All IsInLimits (numbers_in rows.now) }
+    requires filled { NoneEmpty trail.now.sets }
+    requires in_range { p < length places.now }
+    requires least_in_limits { IsInLimits least.now }
+    requires greatest_in_limits { IsInLimits greatest.now }
+    requires may_be_least { MayBe trail.now.sets (place_at places.now p) least.now }
+    requires may_be_greatest { MayBe trail.now.sets (place_at places.now p) greatest.now }
+    requires marks { AreOpen trail.now.sets places.now (numbers_in rows.now) marks.old.items }
+    requires before { AreFoundOf number (constraint.Table places.now (numbers_in rows.now)) trail.now found.old }
+    ensures found { AreFoundOf number (constraint.Table places.now (numbers_in rows.now)) trail.now found.new }
+    ensures kept { found.new ≡ [] → found.old ≡ [] }
+    ensures none { OnOk result (found.new ≡ [] → IsSupported trail.now.sets places.now (numbers_in rows.now) p least.now × IsSupported trail.now.sets places.now (numbers_in rows.now) p greatest.now) }
+    ensures marks { AreOpen trail.now.sets places.now (numbers_in rows.now) marks.new.items }
+{
+    bar_end(
+        alloc,
+        trail,
+        places,
+        rows,
+        number,
+        p,
+        Op::AtLeast,
+        supports.next_from(possible, p, *least, *greatest),
+        least,
+        supports.row_of(possible, p, *least),
+        marks,
+        found,
+    )?;
+    bar_end(
+        alloc,
+        trail,
+        places,
+        rows,
+        number,
+        p,
+        Op::AtMost,
+        supports.last_up_to(possible, p, *least, *greatest),
+        greatest,
+        supports.row_of(possible, p, *greatest),
+        marks,
+        found,
+    )
+}
+
+/// An inference for each value of a narrow place, and for each end of a wide one, that no row supports.
+fn bar_place(
+    alloc: Global,
+    trail: &Trail,
+    places: &[Term],
+    rows: &[Term],
+    supports: &Supports,
+    possible: &[u64],
+    number: u64,
+    p: usize,
+    marks: &mut Vec<bool>,
+    found: &mut Findings,
+) -> Result<(), Memory>
+    requires places { All (IsTerm (length trail.now.declared)) places.now }
+    requires numbers { All IsInLimits (numbers_in rows.now) }
+    requires filled { NoneEmpty trail.now.sets }
+    requires in_range { p < length places.now }
+    requires marks { AreOpen trail.now.sets places.now (numbers_in rows.now) marks.old.items }
+    requires before { AreFoundOf number (constraint.Table places.now (numbers_in rows.now)) trail.now found.old }
+    ensures found { AreFoundOf number (constraint.Table places.now (numbers_in rows.now)) trail.now found.new }
+    ensures kept { found.new ≡ [] → found.old ≡ [] }
+    ensures none { OnOk result (found.new ≡ [] → HasSupports trail.now.sets places.now (numbers_in rows.now) p) }
+    ensures marks { AreOpen trail.now.sets places.now (numbers_in rows.now) marks.new.items }
+{
+    let least = least_of(trail, places[p]);
+    let greatest = greatest_of(trail, places[p]);
+    if is_narrow(trail, places, rows, p) {
+        return bar_values(
+            alloc, trail, places, rows, supports, possible, number, p, marks, found,
+        );
+    }
+    bar_ends(
+        alloc, trail, places, rows, supports, possible, number, p, &least, &greatest, marks, found,
+    )
+}
+
+/// An inference for each value of a narrow place, and for each end of a wide one, that no row supports.
 pub(crate) fn bar_unsupported(
     alloc: Global,
     trail: &Trail,
@@ -354,7 +663,7 @@ pub(crate) fn bar_unsupported(
     let possible = supports.possible(alloc, trail, places)?;
     let mut marks = Vec::from_elem(alloc, false, supports.rows())?;
     for p in 0..places.len() {
-        bar_values(
+        bar_place(
             alloc,
             trail,
             places,

@@ -1,7 +1,5 @@
 -- Clauses that are made of claims: how they stand on the trail, and what they leave.
-use Rattle.std.proofs.Common.{◌≡◌, ℕ, Bool, false, not, cond, List, [], ◌∷◌, ◌++◌, length, refl, sym, ap, ap₂, subst, ◌∙◌, inl, inr, arith, ℤ, All}
-use Rattle.std.specs.Ordering.{int_eq}
-use Rattle.std.proofs.lemmas.Int.{ints}
+use Rattle.std.proofs.Common.{◌≡◌, ℕ, Bool, false, not, cond, List, [], ◌∷◌, ◌++◌, length, refl, sym, ap, ap₂, subst, ◌∙◌, inl, inr, ℤ, All}
 use Rattle.std.proofs.lemmas.Bool.{cases_Bool}
 use Rattle.std.proofs.lemmas.List.Elements.{All-nil, All-cons, All-append, All-head, filter-append}
 use Rattle.fzn_domain.specs.declared.literal.Lit.{Lit}
@@ -23,7 +21,8 @@ use Rattle.fzn_trail.specs.Unit.{IsFalseOrUnit}
 use Rattle.fzn_propagator.specs.Clause.{IsWritable, IsFalseClause}
 use Rattle.fzn_propagator.proofs.CallerLemmas.{same_value, left_of_may, left_of_more, left_of_later}
 use Rattle.fzn_terms.specs.Claims.{claim, CanFail, FailsWhereLeft}
-use Rattle.fzn_terms.specs.Denied.{NoneIs}
+use Rattle.fzn_terms.specs.Denied.{that, IsDenied}
+use Rattle.fzn_terms.proofs.OrderLemmas.{equal_self}
 
 -- ---- one claim
 
@@ -43,10 +42,10 @@ module _ (term : Term) (op : Op) (bound : ℤ) where
       by (Variable var) = All-cons IsWritable (record { var = var; op = op; value = bound }) [] number (All-nil IsWritable)
 
   -- it is false on the sets
-  pub claim_none : (sets : List IntSet) → NoneIs op bound term sets → possible_in sets (claim term op bound) ≡ []
+  pub claim_none : (sets : List IntSet) → IsDenied sets (that term op bound) → possible_in sets (claim term op bound) ≡ []
   claim_none sets fails = by term fails
     where
-      by : (t : Term) → NoneIs op bound t sets → possible_in sets (claim t op bound) ≡ []
+      by : (t : Term) → IsDenied sets (that t op bound) → possible_in sets (claim t op bound) ≡ []
       by (Constant k) fails = refl
       by (Variable var) fails =
           let lit : Lit = record { var = var; op = op; value = bound } in
@@ -112,14 +111,11 @@ module _ (declared : List IntSet) (clause : List Lit) (term : Term) (over : IsCl
 
   -- the value is denied
   pub not_where : (k : ℤ) → FailsWhereLeft declared clause term Equal k → MayBe (denied declared clause) term k → ⊥
-  not_where k fails may = unequal k (fails k (left_of_may clause declared term k over may))
-    where
-      unequal : (k : ℤ) → int_eq k k ≡ false → ⊥
-      unequal k h = grind (arith, ints)
+  not_where k fails may = equal_self k (fails k (left_of_may clause declared term k over may))
 
 -- ---- false clauses, claim by claim
 
-pub refuted_push : (trail : Levels) (clause : List Lit) (term : Term) (op : Op) (bound : ℤ) → IsTerm (length trail.declared) term → IsNearLimits bound → IsFalseClause trail clause → NoneIs op bound term trail.sets → IsFalseClause trail (clause ++ claim term op bound)
+pub refuted_push : (trail : Levels) (clause : List Lit) (term : Term) (op : Op) (bound : ℤ) → IsTerm (length trail.declared) term → IsNearLimits bound → IsFalseClause trail clause → IsDenied trail.sets (that term op bound) → IsFalseClause trail (clause ++ claim term op bound)
 refuted_push trail clause term op bound fits number refuted fails = record {
   over = All-append (λ (l : Lit). IsVariable (length trail.declared) l.var) clause (claim term op bound) refuted.over (claim_over term op bound (length trail.declared) fits);
   writable = All-append IsWritable clause (claim term op bound) refuted.writable (claim_writable term op bound number);

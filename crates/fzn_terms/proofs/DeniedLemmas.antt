@@ -17,7 +17,9 @@ use Rattle.fzn_sets.specs.Terms.{MayBe}
 use Rattle.fzn_trail.specs.Levels.{Levels, IsNarrower}
 use Rattle.fzn_propagator.specs.Clause.{IsWritable, IsFalseClause, AreLeft}
 use Rattle.fzn_propagator.proofs.CallerLemmas.{last_fails, some_value, forcing_of_false, false_push, forcing_push, left-more}
-use Rattle.fzn_terms.specs.Denied.{AllAre, NoneIs, IsExplained, IsForced}
+use Rattle.fzn_terms.specs.Denied.{IsEntailed, IsDenied, IsExplained, IsForced}
+use Rattle.fzn_terms.specs.declared.claim.Claim.{Claim}
+use Rattle.fzn_terms.proofs.ExplanationLemmas.{literal_of}
 
 writable_of : (op : Op) (var : VarId) (number v w : ℤ) → IsInLimits v → IsInLimits w → compares op v number ≡ true → compares op w number ≡ false → IsWritable (negated (record { var = var; op = op; value = number }))
 writable_of AtMost var number v w a b h k = (grind (arith, ints, a.0, a.1, b.0, b.1), grind (arith, ints, a.0, a.1, b.0, b.1))
@@ -25,9 +27,9 @@ writable_of AtLeast var number v w a b h k = (grind (arith, ints, a.0, a.1, b.0,
 writable_of Equal var number v w a b h k = (grind (arith, ints, a.0, a.1, b.0, b.1), grind (arith, ints, a.0, a.1, b.0, b.1))
 writable_of NotEqual var number v w a b h k = (grind (arith, ints, a.0, a.1, b.0, b.1), grind (arith, ints, a.0, a.1, b.0, b.1))
 
-module _ (trail : Levels) (op : Op) (number : ℤ) (term : Term) (old : List Lit) (still : IsFalseClause trail old) where
+module _ (trail : Levels) (claim : Claim) (old : List Lit) (still : IsFalseClause trail old) where
   -- nothing is to be added for a constant
-  pub explained_constant : (k : ℤ) → term ≡ Constant k → AllAre op number term trail.sets → IsExplained trail op number term old old
+  pub explained_constant : (k : ℤ) → claim.term ≡ Constant k → IsEntailed trail.sets claim → IsExplained trail claim old old
   explained_constant k of present = record {
     still = still;
     keeps = λ sets left. left;
@@ -35,71 +37,71 @@ module _ (trail : Levels) (op : Op) (number : ℤ) (term : Term) (old : List Lit
         present v (subst (λ (t : Term). MayBe trail.sets t v) (sym of) (subst (λ (t : Term). MayBe sets t v) of may));
   }
 
-  pub forced_constant : (k : ℤ) (r : Bool) → term ≡ Constant k → r ≡ compares op k number → r ≡ true → IsForced trail op number term old old
+  pub forced_constant : (k : ℤ) (r : Bool) → claim.term ≡ Constant k → r ≡ compares claim.op k claim.number → r ≡ true → IsForced trail claim old old
   forced_constant k r of is told = record {
     forcing = forcing_of_false trail old still;
     keeps = λ sets left. left;
     says = λ sets left v may.
         let same : k ≡ v = subst (λ (t : Term). MayBe sets t v) of may in
-        subst (λ (x : ℤ). compares op x number ≡ true) same (sym is ∙ told);
+        subst (λ (x : ℤ). compares claim.op x claim.number ≡ true) same (sym is ∙ told);
   }
 
-  pub none_constant : (k : ℤ) (r : Bool) → term ≡ Constant k → r ≡ compares op k number → r ≡ false → NoneIs op number term trail.sets
+  pub none_constant : (k : ℤ) (r : Bool) → claim.term ≡ Constant k → r ≡ compares claim.op k claim.number → r ≡ false → IsDenied trail.sets claim
   none_constant k r of is told v may =
       let same : k ≡ v = subst (λ (t : Term). MayBe trail.sets t v) of may in
-      subst (λ (x : ℤ). compares op x number ≡ false) same (sym is ∙ told)
+      subst (λ (x : ℤ). compares claim.op x claim.number ≡ false) same (sym is ∙ told)
 
-  module _ (var : VarId) (of : term ≡ Variable var) (variable : IsVariable (length trail.declared) var) where
+  module _ (var : VarId) (of : claim.term ≡ Variable var) (variable : IsVariable (length trail.declared) var) where
     -- a value at which the opposite literal is not true
-    holds_where_false : (v : ℤ) → is_true_at (negated (record { var = var; op = op; value = number })) v ≡ false → compares op v number ≡ true
-    holds_where_false v h = not-false (compares op v number) (sym (is_true_at-negated (record { var = var; op = op; value = number }) v) ∙ h)
+    holds_where_false : (v : ℤ) → is_true_at (negated (literal_of claim var)) v ≡ false → compares claim.op v claim.number ≡ true
+    holds_where_false v h = not-false (compares claim.op v claim.number) (sym (is_true_at-negated (literal_of claim var) v) ∙ h)
 
-    fails_where_true : (v : ℤ) → is_true_at (negated (record { var = var; op = op; value = number })) v ≡ true → compares op v number ≡ false
-    fails_where_true v h = not-true (compares op v number) (sym (is_true_at-negated (record { var = var; op = op; value = number }) v) ∙ h)
+    fails_where_true : (v : ℤ) → is_true_at (negated (literal_of claim var)) v ≡ true → compares claim.op v claim.number ≡ false
+    fails_where_true v h = not-true (compares claim.op v claim.number) (sym (is_true_at-negated (literal_of claim var) v) ∙ h)
 
-    false_where_holds : (v : ℤ) → compares op v number ≡ true → is_true_at (negated (record { var = var; op = op; value = number })) v ≡ false
-    false_where_holds v h = is_true_at-negated (record { var = var; op = op; value = number }) v ∙ ap not h
+    false_where_holds : (v : ℤ) → compares claim.op v claim.number ≡ true → is_true_at (negated (literal_of claim var)) v ≡ false
+    false_where_holds v h = is_true_at-negated (literal_of claim var) v ∙ ap not h
 
     -- the declared set says it
-    says_declared : is_possible (set_of trail.declared var) (negated (record { var = var; op = op; value = number })) ≡ false → (sets : List IntSet) → AreLeft trail.declared old sets → AllAre op number term sets
+    says_declared : is_possible (set_of trail.declared var) (negated (literal_of claim var)) ≡ false → (sets : List IntSet) → AreLeft trail.declared old sets → IsEntailed sets claim
     says_declared impossible sets left v may =
         let there = (left.left (Variable var) v variable (subst (λ (t : Term). MayBe sets t v) of may)).0 in
-        elim (cases_Bool (is_true_at (negated (record { var = var; op = op; value = number })) v)) [
-          | inl holds ↦ absurd (true≢false (sym (possible_when (set_of trail.declared var) (negated (record { var = var; op = op; value = number })) v there holds) ∙ impossible))
+        elim (cases_Bool (is_true_at (negated (literal_of claim var)) v)) [
+          | inl holds ↦ absurd (true≢false (sym (possible_when (set_of trail.declared var) (negated (literal_of claim var)) v there holds) ∙ impossible))
           | inr fails ↦ holds_where_false v fails
         ]
 
-    says_pushed : (sets : List IntSet) → AreLeft trail.declared (old ++ negated (record { var = var; op = op; value = number }) ∷ []) sets → AllAre op number term sets
+    says_pushed : (sets : List IntSet) → AreLeft trail.declared (old ++ negated (literal_of claim var) ∷ []) sets → IsEntailed sets claim
     says_pushed sets left v may =
-        holds_where_false v (last_fails trail.declared old (negated (record { var = var; op = op; value = number })) v (left.left (Variable var) v variable (subst (λ (t : Term). MayBe sets t v) of may)))
+        holds_where_false v (last_fails trail.declared old (negated (literal_of claim var)) v (left.left (Variable var) v variable (subst (λ (t : Term). MayBe sets t v) of may)))
 
     module _ (narrower : IsNarrower trail.sets trail.declared) (limited : IsLimited (set_of trail.declared var)) where
       declared_of : (v : ℤ) → contains (set_of trail.sets var) v ≡ true → contains (set_of trail.declared var) v ≡ true
       declared_of v h = narrower.within (var.0 - 1) v h
 
       -- some value makes it so, and some not
-      pushed_writable : (v : ℤ) → contains (set_of trail.sets var) v ≡ true → compares op v number ≡ true → is_possible (set_of trail.declared var) (negated (record { var = var; op = op; value = number })) ≡ true → IsWritable (negated (record { var = var; op = op; value = number }))
+      pushed_writable : (v : ℤ) → contains (set_of trail.sets var) v ≡ true → compares claim.op v claim.number ≡ true → is_possible (set_of trail.declared var) (negated (literal_of claim var)) ≡ true → IsWritable (negated (literal_of claim var))
       pushed_writable v here holds possible =
-          let w = witness (set_of trail.declared var) (negated (record { var = var; op = op; value = number })) possible in
-          writable_of op var number v w.0 (limited v (declared_of v here)) (limited w.0 w.1) holds (fails_where_true w.0 w.2)
+          let w = witness (set_of trail.declared var) (negated (literal_of claim var)) possible in
+          writable_of claim.op var claim.number v w.0 (limited v (declared_of v here)) (limited w.0 w.1) holds (fails_where_true w.0 w.2)
 
       -- the present set says it: the opposite literal is not possible
-      pub explained_push : NoneEmpty trail.sets → AllAre op number term trail.sets → is_possible (set_of trail.declared var) (negated (record { var = var; op = op; value = number })) ≡ true → IsExplained trail op number term old (old ++ negated (record { var = var; op = op; value = number }) ∷ [])
+      pub explained_push : NoneEmpty trail.sets → IsEntailed trail.sets claim → is_possible (set_of trail.declared var) (negated (literal_of claim var)) ≡ true → IsExplained trail claim old (old ++ negated (literal_of claim var) ∷ [])
       explained_push filled present possible =
-          let all : (v : ℤ) → contains (set_of trail.sets var) v ≡ true → compares op v number ≡ true = λ v h. present v (subst (λ (t : Term). MayBe trail.sets t v) (sym of) h) in
+          let all : (v : ℤ) → contains (set_of trail.sets var) v ≡ true → compares claim.op v claim.number ≡ true = λ v h. present v (subst (λ (t : Term). MayBe trail.sets t v) (sym of) h) in
           let some = member_of_size (set_of trail.sets var) (some_value trail.sets trail.declared var variable narrower filled) in
           record {
-            still = false_push trail old (negated (record { var = var; op = op; value = number })) still variable (pushed_writable some.0 some.1 (all some.0 some.1) possible)
-                (impossible_when (set_of trail.sets var) (negated (record { var = var; op = op; value = number })) (λ v h. false_where_holds v (all v h)));
-            keeps = λ sets left. left-more trail.declared old (negated (record { var = var; op = op; value = number }) ∷ []) sets left;
+            still = false_push trail old (negated (literal_of claim var)) still variable (pushed_writable some.0 some.1 (all some.0 some.1) possible)
+                (impossible_when (set_of trail.sets var) (negated (literal_of claim var)) (λ v h. false_where_holds v (all v h)));
+            keeps = λ sets left. left-more trail.declared old (negated (literal_of claim var) ∷ []) sets left;
             says = says_pushed;
           }
 
       -- some present value makes it so
-      pub forced_push : is_possible (set_of trail.sets var) (record { var = var; op = op; value = number }) ≡ true → is_possible (set_of trail.declared var) (negated (record { var = var; op = op; value = number })) ≡ true → IsForced trail op number term old (old ++ negated (record { var = var; op = op; value = number }) ∷ [])
+      pub forced_push : is_possible (set_of trail.sets var) (literal_of claim var) ≡ true → is_possible (set_of trail.declared var) (negated (literal_of claim var)) ≡ true → IsForced trail claim old (old ++ negated (literal_of claim var) ∷ [])
       forced_push able possible =
-          let lit : Lit = negated (record { var = var; op = op; value = number }) in
-          let some = witness (set_of trail.sets var) (record { var = var; op = op; value = number }) able in
+          let lit : Lit = negated (literal_of claim var) in
+          let some = witness (set_of trail.sets var) (literal_of claim var) able in
           record {
             forcing = forcing_push trail old lit still variable (pushed_writable some.0 some.1 some.2 possible)
                 (possible_when (set_of trail.sets var) (negated lit) some.0 some.1 (is_true_at-negated lit some.0 ∙ ap not (false_where_holds some.0 some.2)));
@@ -107,18 +109,12 @@ module _ (trail : Levels) (op : Op) (number : ℤ) (term : Term) (old : List Lit
             says = says_pushed;
           }
 
-    pub explained_declared : is_possible (set_of trail.declared var) (negated (record { var = var; op = op; value = number })) ≡ false → IsExplained trail op number term old old
+    pub explained_declared : is_possible (set_of trail.declared var) (negated (literal_of claim var)) ≡ false → IsExplained trail claim old old
     explained_declared impossible = record { still = still; keeps = λ sets left. left; says = says_declared impossible }
 
-    pub forced_declared : is_possible (set_of trail.declared var) (negated (record { var = var; op = op; value = number })) ≡ false → IsForced trail op number term old old
+    pub forced_declared : is_possible (set_of trail.declared var) (negated (literal_of claim var)) ≡ false → IsForced trail claim old old
     forced_declared impossible = record {
       forcing = forcing_of_false trail old still;
       keeps = λ sets left. left;
       says = says_declared impossible;
     }
-
-    pub none_is : is_possible (set_of trail.sets var) (record { var = var; op = op; value = number }) ≡ false → NoneIs op number term trail.sets
-    none_is impossible v may = elim (cases_Bool (compares op v number)) [
-      | inl holds ↦ absurd (true≢false (sym (possible_when (set_of trail.sets var) (record { var = var; op = op; value = number }) v (subst (λ (t : Term). MayBe trail.sets t v) of may) holds) ∙ impossible))
-      | inr fails ↦ fails
-    ]

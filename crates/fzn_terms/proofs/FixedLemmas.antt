@@ -10,7 +10,7 @@ use Rattle.fzn_sets.specs.Terms.{IsFixedTo}
 use Rattle.fzn_sets.proofs.CallerLemmas.{MayBe-term_value}
 use Rattle.fzn_trail.specs.Levels.{Levels}
 use Rattle.fzn_propagator.specs.Inference.{AllFixed}
-use Rattle.fzn_terms.specs.Claims.{IsOnly}
+use Rattle.fzn_terms.specs.Claims.{IsOnly, IsFixed}
 
 module _ (sets : List IntSet) (values : List ℤ) (within : IsWithin sets values) (fixed : AllFixed sets) where
   pub fixed_only : (term : Term) → IsTerm (length sets) term → IsOnly sets term (term_value values term)
@@ -28,6 +28,10 @@ module _ (sets : List IntSet) (values : List ℤ) (within : IsWithin sets values
         only_member s (least s) (value_of values var) (fixed (var.0 - 1) no_values (omega arith)) (contains-least s (value_of values var) here) here,
         only_member s (greatest s) (value_of values var) (fixed (var.0 - 1) no_values (omega arith)) (contains-greatest s (value_of values var) here) here,
       )
+
+  -- so its least value is its greatest
+  pub fixed_ends : (term : Term) → IsTerm (length sets) term → IsFixed sets term
+  fixed_ends term fits = let to = fixed_to term fits in to.0 ∙ sym to.1
 
 module _ (trail : Levels) where
   same_count : (values : List ℤ) → IsWithin trail.declared values → IsWithin trail.sets values → length trail.declared ≡ length trail.sets

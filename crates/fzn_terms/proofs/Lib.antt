@@ -2,6 +2,8 @@ pub mod CaseLemmas
 pub mod ClaimLemmas
 pub mod DeniedLemmas
 mod EndLemmas
+pub mod ExplanationLemmas
 pub mod FixedLemmas
 pub mod NextLemmas
 pub mod OrderLemmas
+pub mod ProductLemmas

@@ -1,5 +1,5 @@
 -- From one value of a term to the next.
-use Rattle.std.proofs.Common.{◌≡◌, ◌⊎◌, subst, inl, inr, arith, ℤ, ◌≤ℤ◌, ◌<ℤ◌, true, false, List}
+use Rattle.std.proofs.Common.{◌≡◌, ◌⊎◌, sym, subst, inl, inr, arith, ℤ, ◌≤ℤ◌, ◌<ℤ◌, false, List}
 use Rattle.std.proofs.lemmas.Int.{ints}
 use Rattle.std.specs.Ordering.{int_eq}
 use Rattle.std.proofs.lemmas.Bool.{cases_Bool}
@@ -7,9 +7,7 @@ use Rattle.fzn_domain.specs.IntSet.{IntSet}
 use Rattle.fzn_meaning.specs.declared.term.Term.{Term}
 use Rattle.fzn_sets.specs.Terms.{MayBe}
 use Rattle.fzn_terms.specs.Claims.{IsNextValue}
-
-same_of : (v k : ℤ) → int_eq v k ≡ true → k ≡ v
-same_of v k h = grind (arith, ints)
+use Rattle.fzn_terms.proofs.OrderLemmas.{equal_of}
 
 less_of : (v k : ℤ) → v ≤ℤ k → int_eq v k ≡ false → v <ℤ k
 less_of v k le h = grind (arith, ints)
@@ -21,7 +19,7 @@ module _ (P : ℤ → Type 0) (sets : List IntSet) (term : Term) (value : ℤ) (
   -- so far as the value itself
   up_to : (v : ℤ) → MayBe sets term v → v ≤ℤ value → P v
   up_to v may le = elim (cases_Bool (int_eq v value)) [
-    | inl same ↦ subst P (same_of v value same) here
+    | inl same ↦ subst P (sym (equal_of v value same)) here
     | inr apart ↦ done v may (less_of v value le apart)
   ]
 

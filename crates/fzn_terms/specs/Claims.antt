@@ -6,7 +6,7 @@ use Rattle.fzn_domain.specs.Literal.{compares}
 use Rattle.fzn_domain.specs.IntSet.{IntSet}
 use Rattle.fzn_meaning.specs.declared.term.Term.{Term}
 use Rattle.fzn_meaning.specs.declared.term.Term.TheVariants.{Constant, Variable}
-use Rattle.fzn_sets.specs.Terms.{MayBe}
+use Rattle.fzn_sets.specs.Terms.{MayBe, least_value, greatest_value}
 use Rattle.fzn_propagator.specs.Left.{IsLeft}
 
 -- ---- values of terms
@@ -14,6 +14,10 @@ use Rattle.fzn_propagator.specs.Left.{IsLeft}
 -- the term at an index
 abbrev pub place_at : List Term → ℕ → Term
 place_at places k = slice_index_or places k (Constant (pos 0))
+
+-- the term has one value
+abbrev pub IsFixed : List IntSet → Term → Type 0
+IsFixed sets term = least_value sets term ≡ greatest_value sets term
 
 -- the least value of the term above another
 pub record IsNextValue (sets : List IntSet) (term : Term) (value next : ℤ) : Type 0 where

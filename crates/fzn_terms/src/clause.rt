@@ -4,7 +4,7 @@ ghost use Rattle.fzn_domain.specs.Narrow.{NoneEmpty};
 ghost use Rattle.fzn_meaning.specs.Term.{IsTerm};
 ghost use Rattle.fzn_terms.specs.Claims.{claim};
 ghost use Rattle.fzn_propagator.specs.Clause.{IsFalseClause};
-ghost use Rattle.fzn_terms.specs.Denied.{AllAre, NoneIs, IsExplained, IsForced};
+ghost use Rattle.fzn_terms.specs.Denied.{that, IsEntailed, IsDenied, IsExplained, IsForced};
 
 use fzn_domain::{Lit, Memory, Op, VarId};
 use fzn_list::Items;
@@ -39,9 +39,9 @@ pub fn explain(
     requires filled { NoneEmpty trail.now.sets }
     requires above { negsuc 3999999999 ≤ℤ number }
     requires below { number ≤ℤ pos 4000000000 }
-    requires present { AllAre op number term trail.now.sets }
+    requires present { IsEntailed trail.now.sets (that term op number) }
     requires still { IsFalseClause trail.now clause.old }
-    ensures { OnOk result (IsExplained trail.now op number term clause.old clause.new) }
+    ensures { OnOk result (IsExplained trail.now (that term op number) clause.old clause.new) }
 {
     let Term::Variable(var) = term else {
         return Ok(());
@@ -76,7 +76,7 @@ pub fn force(
     requires above { negsuc 3999999999 ≤ℤ number }
     requires below { number ≤ℤ pos 4000000000 }
     requires still { IsFalseClause trail.now clause.old }
-    ensures { IfOk result (λ forces. MatchBool forces (IsForced trail.now op number term clause.old clause.new) (NoneIs op number term trail.now.sets)) }
+    ensures { IfOk result (λ forces. MatchBool forces (IsForced trail.now (that term op number) clause.old clause.new) (IsDenied trail.now.sets (that term op number))) }
 {
     let var = match term {
         Term::Constant(k) => return Ok(Lit {

@@ -1,12 +1,16 @@
-//! Terms over a trail: their values, and the clauses that say how these stand to numbers.
+//! Terms over a trail: their values, and the clauses that claim how these stand to numbers.
 //!
-//! In: a trail and a term; a clause, and a claim that a term stands so to a number. Out: the values that the term may take; the same
-//! clause with the claim, where it takes one to say so. Proved against `specs/Denied.antt`: what holds of the sets on which a clause is
-//! denied, and `specs/Claims.antt`: which values a clause leaves.
+//! In: a trail and a term; claims that terms stand so to numbers. Out: the values that the term may take; the clause of the claims, where it
+//! is false or forces one literal, and a false clause with one claim more. Proved against `specs/Claims.antt`: which values a clause leaves,
+//! and `specs/Denied.antt`: what holds of the sets on which it is denied, so that whatever refutes a constraint there is accepted by its rule.
 #![tactic(auto)]
 
+pub use claim::Claim;
 pub use clause::{explain, force, push_claim};
-pub use values::{greatest_of, has_other, least_of, may_be, next_value};
+pub use explanation::{explanation_of, is_never};
+pub use values::{are_fixed, greatest_of, has_other, is_fixed, least_of, may_be, next_value};
 
+mod claim;
 mod clause;
+mod explanation;
 mod values;

@@ -1,13 +1,13 @@
 // The values of terms on a trail.
 ghost use Rattle.std.specs.Prelude.{◌≡◌, ◌↔◌, ◌≤ℤ◌, ℤ, false, IsTrue, IfSome, IfNone, length};
+ghost use Rattle.std.specs.List.{All};
 ghost use Rattle.fzn_domain.specs.Limits.{IsInLimits};
 ghost use Rattle.fzn_domain.specs.Narrow.{NoneEmpty};
 ghost use Rattle.fzn_meaning.specs.Term.{IsTerm};
 ghost use Rattle.fzn_sets.specs.Terms.{MayBe, least_value, greatest_value};
-ghost use Rattle.fzn_terms.specs.Claims.{IsNextValue, HasOther, IsOnly};
+ghost use Rattle.fzn_terms.specs.Claims.{IsNextValue, HasOther, IsOnly, IsFixed};
 
 use fzn_meaning::Term;
-use fzn_sums::{greatest_value, least_value};
 use fzn_trail::Trail;
 
 /// Whether the value is in the present set of the term.
@@ -27,8 +27,7 @@ pub fn least_of(trail: &Trail, term: Term) -> i64
     ensures first { (v : ℤ) → MayBe trail.now.sets term v → result ≤ℤ v }
     ensures in_limits { IsInLimits result }
 {
-    let _entries = trail.len(); // Each present set lies within its declared one.
-    least_value(trail, term)
+    fzn_sets::least_value(trail.sets(), term)
 }
 
 /// The greatest value of the term. Each present set has a value.
@@ -40,8 +39,30 @@ pub fn greatest_of(trail: &Trail, term: Term) -> i64
     ensures last { (v : ℤ) → MayBe trail.now.sets term v → v ≤ℤ result }
     ensures in_limits { IsInLimits result }
 {
-    let _entries = trail.len(); // Each present set lies within its declared one.
-    greatest_value(trail, term)
+    fzn_sets::greatest_value(trail.sets(), term)
+}
+
+/// Whether the term has one value. Each present set has a value.
+pub fn is_fixed(trail: &Trail, term: Term) -> bool
+    requires term { IsTerm (length trail.now.declared) term }
+    requires filled { NoneEmpty trail.now.sets }
+    ensures { IsTrue result ↔ IsFixed trail.now.sets term }
+{
+    least_of(trail, term) == greatest_of(trail, term)
+}
+
+/// Whether each of the terms has one value. Each present set has a value.
+pub fn are_fixed(trail: &Trail, terms: &[Term]) -> bool
+    requires terms { All (IsTerm (length trail.now.declared)) terms.now }
+    requires filled { NoneEmpty trail.now.sets }
+    ensures { IsTrue result ↔ All (IsFixed trail.now.sets) terms.now }
+{
+    for term in terms {
+        if !is_fixed(trail, *term) {
+            return false;
+        }
+    }
+    true
 }
 
 /// Whether the term has another value than this one. Each present set has a value.

@@ -8,9 +8,10 @@ use fzn_domain::{Lit, Memory, Op, VarId};
 use fzn_list::Items;
 use fzn_meaning::{Place, Term};
 use fzn_sums::{
-    conflict_at_most, conflict_not_equal, ends_of, floors_of, greatest_value, least_value,
-    next_forced, refute_at_most, refute_equal, refute_not_equal, refute_place, slack_within,
+    conflict_at_most, conflict_not_equal, ends_of, floors_of, next_forced, refute_at_most,
+    refute_equal, refute_not_equal, refute_place, slack_within,
 };
+use fzn_terms::{greatest_of, least_of};
 use fzn_trail::Trail;
 use std::alloc::Global;
 use std::test::*;
@@ -81,10 +82,10 @@ fn are_ends(trail: &Trail) -> bool
 {
     let seven = Term::Constant(7);
     let ends = ends_of(trail, &[place(2, X), place(3, Y)]);
-    least_value(trail, Y) == 0
-        && greatest_value(trail, Y) == 5
-        && least_value(trail, seven) == 7
-        && greatest_value(trail, seven) == 7
+    least_of(trail, Y) == 0
+        && greatest_of(trail, Y) == 5
+        && least_of(trail, seven) == 7
+        && greatest_of(trail, seven) == 7
         && ends.least == 4
         && ends.greatest == 19
         && ends.widest == 15

@@ -8,9 +8,9 @@ use crate::recent::Recent;
 use fzn_clauses::Clauses;
 use fzn_conflict::Marks;
 use fzn_domain::Memory;
-use fzn_learned::{Ranks, Source};
+use fzn_learned::Ranks;
 use fzn_strategy::Learn;
-use fzn_trail::ClauseId;
+use fzn_trail::{ClauseId, Reason};
 use std::alloc::Global;
 
 /// With more learned clauses than these some are forgotten, at first.
@@ -131,10 +131,10 @@ impl Notes {
         self.conflicts
     }
 
-    /// A clause rests on these sources.
-    pub fn cite(&mut self, sources: &[Source]) -> Result<(), Memory> {
-        for source in sources {
-            if let Source::Stacked(place) = *source {
+    /// A clause rests on these antecedents.
+    pub fn cite(&mut self, antecedents: &[Reason]) -> Result<(), Memory> {
+        for antecedent in antecedents {
+            if let Reason::Inference(place) = *antecedent {
                 self.cited.push(place)?;
             }
         }

@@ -1,13 +1,13 @@
 // The words of `fzncheck`.
-ghost use Rattle.std.specs.Prelude.{◌≡◌, IfOk, map};
-ghost use Rattle.clap.specs.Words.{app_of, found_of, matches_of, rows_of};
+ghost use Rattle.std.specs.Prelude.{◌≡◌, ◌≢◌, IfOk, IfSome, codes, map, option_map, string_bytes};
+ghost use Rattle.clap.specs.Words.{app_of, first_of, found_of, matches_of, rows_of};
 ghost use Rattle.fzn_words.specs.CommandLines.{check_line};
-ghost use Rattle.fzn_words.specs.Said.{AreTwoPaths, IsSaid};
+ghost use Rattle.fzn_words.specs.Said.{AreOtherPaths, IsSaid};
 
 use crate::fault::{OptionsFault, fault_of};
 use crate::parts;
-use crate::parts::{all, bare, help, named_flag, version, with};
-use crate::said::{is_set, path};
+use crate::parts::{all, bare, help, named_flag, named_option, version, with};
+use crate::said::{is_set, path, said};
 use clap::{ArgMatches, Command};
 use std::alloc::{AllocError, Global};
 use std::convert::AsStr;
@@ -15,6 +15,9 @@ use std::convert::AsStr;
 const ABOUT: &str = "Check the certificate of a FlatZinc file's answer, and print the answer";
 
 const TO2: &str = "Write OLD, a certificate of version 1, as one of version 2 to NEW";
+
+const TRIM: &str =
+    "Check CERT, and write to NEW one of version 2 with all its solutions and of its other steps only those that its end rests on";
 
 const MODEL: &str = "The FlatZinc file; OLD with --to2";
 
@@ -51,13 +54,22 @@ pub enum CheckOptions {
         /// The path of the new one.
         new: String,
     },
+    /// Check a certificate, and write a trimmed one.
+    Trim {
+        /// The path of the file.
+        model: String,
+        /// The path of its certificate.
+        cert: String,
+        /// The path of the trimmed one.
+        new: String,
+    },
 }
 
-/// The options that the words after the program's name give. It answers `CommandLine` where they are not as the help says or name one path
-/// twice, `Help` where they ask for help or the version, and `Memory` where memory runs out.
+/// The options that the words after the program's name give. It answers `CommandLine` where they are not as the help says, ask for two new
+/// certificates or name one path twice, `Help` where they ask for help or the version, and `Memory` where memory runs out.
 pub fn check_options_of<S: AsStr>(alloc: Global, words: &[S]) -> Result<CheckOptions, OptionsFault>
     ensures said { IfOk result (IsSaid (matches_of check_line (map S.text words.now))) }
-    ensures paths { IfOk result AreTwoPaths }
+    ensures paths { IfOk result AreOtherPaths }
 {
     let command = command(alloc)?;
     match command.try_get_matches_from(words) {
@@ -72,6 +84,7 @@ fn command<'a>(alloc: Global) -> Result<Command<'a>, AllocError>
     let command = bare(alloc, "fzncheck", ABOUT, STATUSES);
     let command = with(command, all(alloc))?;
     let command = with(command, named_flag(alloc, "to2", TO2))?;
+    let command = with(command, named_option(alloc, "trim", "NEW", TRIM))?;
     let command = with(command, parts::path(alloc, "model", "MODEL", MODEL))?;
     let command = with(command, parts::path(alloc, "cert", "CERT", CERT))?;
     let command = with(command, help(alloc))?;
@@ -81,22 +94,46 @@ fn command<'a>(alloc: Global) -> Result<Command<'a>, AllocError>
 
 fn options_in(alloc: Global, matches: &ArgMatches<'_>) -> Result<CheckOptions, OptionsFault>
     ensures said { IfOk result (IsSaid (rows_of (found_of matches.now))) }
-    ensures paths { IfOk result AreTwoPaths }
+    ensures paths { IfOk result AreOtherPaths }
 {
     let first = path(alloc, matches, "model")?;
     let second = path(alloc, matches, "cert")?;
     if second.as_str() == first.as_str() {
         return Err(OptionsFault::CommandLine);
     }
-    if is_set(matches, "to2") {
-        return Ok(CheckOptions::ToVersion2 {
+    match trimmed(alloc, matches, first.as_str(), second.as_str())? {
+        Some(_) if is_set(matches, "to2") => Err(OptionsFault::CommandLine),
+        Some(new) => Ok(CheckOptions::Trim {
+            model: first,
+            cert: second,
+            new,
+        }),
+        None if is_set(matches, "to2") => Ok(CheckOptions::ToVersion2 {
             old: first,
             new: second,
-        });
+        }),
+        None => Ok(CheckOptions::Check {
+            all: is_set(matches, "all"),
+            model: first,
+            cert: second,
+        }),
     }
-    Ok(CheckOptions::Check {
-        all: is_set(matches, "all"),
-        model: first,
-        cert: second,
-    })
+}
+
+/// The path of the trimmed certificate, if one is asked for: none of these two.
+fn trimmed(
+    alloc: Global,
+    matches: &ArgMatches<'_>,
+    model: &str,
+    cert: &str,
+) -> Result<Option<String>, OptionsFault>
+    ensures said { IfOk result (λ new. first_of (codes "trim") (rows_of (found_of matches.now)) ≡ option_map string_bytes new) }
+    ensures other { IfOk result (λ new. IfSome new (λ path. (string_bytes path ≢ model.now) × (string_bytes path ≢ cert.now))) }
+{
+    match said(matches, "trim") {
+        None => Ok(None),
+        Some(path) if path == model => Err(OptionsFault::CommandLine),
+        Some(path) if path == cert => Err(OptionsFault::CommandLine),
+        Some(path) => Ok(Some(String::from_str(alloc, path)?)),
+    }
 }

@@ -1,10 +1,12 @@
 //! `fzncheck`: reads a FlatZinc file and a certificate of its answer, and prints the answer that the certificate shows, or what is wrong.
+//! It also writes certificates anew: as version 2, or trimmed.
 //!
 //! In: the command line. Out: the answer on standard output, or one line on standard error, and the status that goes with it. What is
-//! printed and when is proved on `check` of `fzn_checker`; here the paths are opened.
+//! printed and when is proved on `check` and `to2` of `fzn_checker` and on `trim` of `fzn_trim`; here the paths are opened.
 #![tactic(auto)]
 
 use fzn_checker::{CheckFault, check, to2};
+use fzn_trim::trim;
 use fzn_words::{CheckOptions, OptionsFault, check_options_of};
 use std::env;
 use std::fs::File;
@@ -49,6 +51,9 @@ fn act(rt: &HostRuntime, options: &CheckOptions) -> Result<(), CheckFault> {
             check_files(rt, *all, model.as_str(), cert.as_str())
         }
         CheckOptions::ToVersion2 { old, new } => convert_file(rt, old.as_str(), new.as_str()),
+        CheckOptions::Trim { model, cert, new } => {
+            trim_file(rt, model.as_str(), cert.as_str(), new.as_str())
+        }
     }
 }
 
@@ -81,5 +86,24 @@ fn convert_file(rt: &HostRuntime, old: &str, new: &str) -> Result<(), CheckFault
         return Err(CheckFault::Memory);
     };
     to2(alloc, old, &mut new)?;
+    Ok(())
+}
+
+/// Opens the file and its certificate, then makes the new one's file, checks and writes it.
+fn trim_file(rt: &HostRuntime, model: &str, cert: &str, new: &str) -> Result<(), CheckFault> {
+    let alloc = rt.alloc();
+    let Ok(model) = File::open(rt, model) else {
+        return Err(CheckFault::Read);
+    };
+    let Ok(cert) = File::open(rt, cert) else {
+        return Err(CheckFault::Read);
+    };
+    let Ok(file) = File::create(rt, new) else {
+        return Err(CheckFault::WriteCert);
+    };
+    let Ok(mut new) = BufWriter::new(alloc, file) else {
+        return Err(CheckFault::Memory);
+    };
+    trim(alloc, model, cert, &mut new)?;
     Ok(())
 }

@@ -1,7 +1,7 @@
 use Rattle.std.proofs.Common.{◌≡◌, ℤ, pos, ◌≤ℤ◌, List, ◌∷◌, ◌++◌, [], arith, sym, ap, subst, ◌∙◌, w64, to_z, of_z}
 use Rattle.std.proofs.lemmas.Int.{ints}
 use Rattle.fzn_domain.specs.declared.domain.TheConstants.{LEAST_VALUE}
-use Rattle.fzn_explain.specs.declared.claim.Claim.{Claim}
+use Rattle.fzn_terms.specs.declared.claim.Claim.{Claim}
 use Rattle.fzn_builtin.proofs.MemberLemmas.{AreAskedBelow, asked_none, asked_push, asked_beyond}
 use Rattle.fzn_builtin.proofs.member.asked_values.Goals as goal
 

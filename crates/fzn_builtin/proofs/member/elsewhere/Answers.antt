@@ -3,15 +3,15 @@ use Rattle.std.proofs.lemmas.List.Elements.{All-push}
 use Rattle.fzn_meaning.specs.declared.constraint.Constraint.TheVariants as constraint
 use Rattle.fzn_meaning.specs.Term.{IsTerm}
 use Rattle.fzn_rules.specs.declared.rule.Rule.TheVariants as rule
-use Rattle.fzn_explain.specs.declared.claim.Claim.{Claim}
-use Rattle.fzn_explain.specs.Claims.{IsExplanation}
-use Rattle.fzn_explain.proofs.CallerLemmas.{justified_found}
+use Rattle.fzn_terms.specs.declared.claim.Claim.{Claim}
+use Rattle.fzn_terms.specs.Denied.{IsExplanation}
+use Rattle.fzn_terms.proofs.ExplanationLemmas.{justified_found}
 use Rattle.fzn_builtin.specs.Members.{AreAsked}
 use Rattle.fzn_builtin.proofs.MemberLemmas.{refuted_elsewhere}
 use Rattle.fzn_builtin.proofs.member.elsewhere.Goals as goal
 
-pub explain-requires : goal.explain-requires
-explain-requires c =
+pub explanation_of-requires : goal.explanation_of-requires
+explanation_of-requires c =
     let count = length c.args.trail.now.declared in
     let asked = subst (λ (o : Option (List Claim)). IfSome o (AreAsked c.args.term c.args.set.now c.args.within)) c.in-Some-2.is c.in_ok-claims.ensures in
     subst (λ (xs : List Claim). All (λ (claim : Claim). IsTerm count claim.term) xs) (sym (c.as_slice.ensures ∙ c.in_ok-push.ensures.ok))
@@ -21,6 +21,6 @@ pub returns : goal.returns
 returns c =
     let count = length c.args.trail.now.declared in
     let asked = subst (λ (o : Option (List Claim)). IfSome o (AreAsked c.args.term c.args.set.now c.args.within)) c.in-Some-2.is c.in_ok-claims.ensures in
-    justified_found c.explain.result c.args.trail.now (c.in-Some-2.claims ++ c.in-Some.otherwise ∷ []) (constraint.SetIn c.args.term c.args.set.now c.args.switch) rule.Rows
+    justified_found c.explanation_of.result c.args.trail.now (c.in-Some-2.claims ++ c.in-Some.otherwise ∷ []) (constraint.SetIn c.args.term c.args.set.now c.args.switch) rule.Rows
     (refuted_elsewhere count c.args.term c.args.set.now c.args.switch c.args.within c.in-Some-2.claims c.in-Some.otherwise c.requires.switch asked c.in-Some.ensures.denied)
-    (subst (λ (xs : List Claim). IfOk c.explain.result (λ o. IfSome o (IsExplanation c.args.trail.now xs))) (c.as_slice.ensures ∙ c.in_ok-push.ensures.ok) c.explain.ensures)
+    (subst (λ (xs : List Claim). IfOk c.explanation_of.result (λ o. IfSome o (IsExplanation c.args.trail.now xs))) (c.as_slice.ensures ∙ c.in_ok-push.ensures.ok) c.explanation_of.ensures)

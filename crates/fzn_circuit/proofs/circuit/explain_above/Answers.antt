@@ -4,7 +4,7 @@ use Rattle.std.proofs.lemmas.Result.{IfOk-weaker}
 use Rattle.fzn_domain.specs.declared.literal.Op.TheVariants.{AtLeast}
 use Rattle.fzn_meaning.specs.declared.term.Term.{Term}
 use Rattle.fzn_meaning.specs.declared.term.Term.TheVariants.{Constant}
-use Rattle.fzn_terms.specs.Denied.{NoneIs, IsForced}
+use Rattle.fzn_terms.specs.Denied.{that, IsDenied, IsForced}
 use Rattle.fzn_terms.proofs.CaseLemmas.{either}
 use Rattle.fzn_circuit.proofs.CircuitLemmas.{at_default, above_met}
 use Rattle.fzn_propagator.proofs.CallerLemmas.{justified_where}
@@ -23,6 +23,6 @@ returns c =
     let trail = c.args.trail.now in
     either found
     (λ forced. justified_where c.args.trail.now (Circuit xs) Rows c.force.new.clause forced.forcing (λ sets left. above_met sets xs c.args.k (Constant (pos 0)) c.requires.place (forced.says sets left)))
-    (λ none d. at_default xs c.args.k (Constant (pos 0)) d (λ (t : Term). NoneIs AtLeast (pos (length xs + 1)) t trail.sets) c.requires.place none)
-    (subst (λ (x : ℤ). MatchBool found (IsForced trail AtLeast x (get_or xs c.args.k (Constant (pos 0))) c.clear.new.self c.force.new.clause) (NoneIs AtLeast x (get_or xs c.args.k (Constant (pos 0))) trail.sets)) (number_is (length xs) c.requires.terms.1) told))
+    (λ none d. at_default xs c.args.k (Constant (pos 0)) d (λ (t : Term). IsDenied trail.sets (that t AtLeast (pos (length xs + 1)))) c.requires.place none)
+    (subst (λ (x : ℤ). MatchBool found (IsForced trail (that (get_or xs c.args.k (Constant (pos 0))) AtLeast x) c.clear.new.self c.force.new.clause) (IsDenied trail.sets (that (get_or xs c.args.k (Constant (pos 0))) AtLeast x))) (number_is (length xs) c.requires.terms.1) told))
     c.force.ensures

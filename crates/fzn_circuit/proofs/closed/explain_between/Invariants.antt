@@ -1,5 +1,5 @@
 use Rattle.fzn_domain.specs.Limits.{IsInLimits}
-use Rattle.fzn_circuit.specs.Closed.{IsGrown}
+use Rattle.fzn_terms.specs.Denied.{IsGrown}
 use Rattle.fzn_circuit.proofs.ClosedLemmas.{LeadsIntoBelow}
 use Rattle.fzn_circuit.proofs.closed.explain_between.Given as goal
 

@@ -4,19 +4,21 @@ use Rattle.fzn_domain.proofs.DomainLemmas.{real}
 use Rattle.fzn_meaning.specs.declared.term.Term.{Term}
 use Rattle.fzn_meaning.specs.declared.term.Term.TheVariants.{Variable}
 use Rattle.fzn_global_rules.specs.Cut.{LeadsInto}
-use Rattle.fzn_circuit.specs.Closed.{IsGrown, IsFromTo, LeadsIntoBetween}
-use Rattle.fzn_circuit.proofs.ClosedLemmas.{test_of, leads_into}
+use Rattle.fzn_terms.specs.Denied.{IsGrown}
+use Rattle.fzn_circuit.specs.Closed.{IsFromTo, LeadsIntoBetween}
+use Rattle.fzn_circuit.proofs.ClosedLemmas.{leads_into}
+use Rattle.fzn_terms.proofs.OrderLemmas.{le_test}
 use Rattle.fzn_circuit.proofs.closed.explain_within.Goals as goal
 
 pub explain_ends-requires-clause-from : goal.explain_ends-requires-clause-from
 explain_ends-requires-clause-from c =
     let order : c.low_end-low.result ≤ℤ c.least_of.result = search rules in
-    rw (real _ c.low_end-low.ensures.limits) (λ v may. test_of c.low_end-low.result c.least_of.result v order (c.least_of.ensures.first v may))
+    rw (real _ c.low_end-low.ensures.limits) (λ v may. le_test c.low_end-low.result c.least_of.result v order (c.least_of.ensures.first v may))
 
 pub explain_ends-requires-clause-to : goal.explain_ends-requires-clause-to
 explain_ends-requires-clause-to c =
     let order : c.greatest_of.result ≤ℤ c.high_end-high.result = search rules in
-    rw (real _ c.high_end-high.ensures.limits) (λ v may. test_of v c.greatest_of.result c.high_end-high.result (c.greatest_of.ensures.last v may) order)
+    rw (real _ c.high_end-high.ensures.limits) (λ v may. le_test v c.greatest_of.result c.high_end-high.result (c.greatest_of.ensures.last v may) order)
 
 pub returns : goal.returns
 returns c =

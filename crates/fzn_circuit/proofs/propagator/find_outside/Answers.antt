@@ -1,7 +1,7 @@
 use Rattle.std.proofs.Common.{◌≡◌, ℕ, ◌+◌, length, get_or, inl, inr, arith, subst, pos}
 use Rattle.std.proofs.lemmas.Bool.{cases_lt}
 use Rattle.fzn_domain.specs.declared.literal.Op.TheVariants.{AtMost, AtLeast}
-use Rattle.fzn_terms.specs.Denied.{NoneIs}
+use Rattle.fzn_terms.specs.Denied.{that, IsDenied}
 use Rattle.fzn_circuit.proofs.propagator.find_outside.Goals as goal
 
 pub loop-k-preserved : goal.loop-k-preserved
@@ -13,7 +13,7 @@ loop-k-preserved c = record {
         | inl before ↦ c.loop-k.invariant.none (c.in_ok-find_below.ensures.kept below_none) k d before
         | inr past ↦
             let here : c.loop-k.k ≡ k = omega arith in
-            subst (λ (n : ℕ). NoneIs AtMost (pos 0) (get_or c.args.successors.now n d) c.args.trail.now.sets × NoneIs AtLeast (pos (length c.args.successors.now + 1)) (get_or c.args.successors.now n d) c.args.trail.now.sets) here
+            subst (λ (n : ℕ). IsDenied c.args.trail.now.sets (that (get_or c.args.successors.now n d) AtMost (pos 0)) × IsDenied c.args.trail.now.sets (that (get_or c.args.successors.now n d) AtLeast (pos (length c.args.successors.now + 1)))) here
             (c.in_ok-find_below.ensures.none below_none d, c.in_ok-find_above.ensures.none empty d)
       ];
 }

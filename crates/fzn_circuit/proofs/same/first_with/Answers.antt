@@ -1,12 +1,11 @@
 use Rattle.std.proofs.Common.{◌≡◌, ℕ, get_or, inl, inr, arith, sym, subst, ◌∙◌, w64, to_z, of_z}
-use Rattle.std.proofs.lemmas.Bool.{cases_lt}
+use Rattle.std.proofs.lemmas.Bool.{cases_lt, MatchBool-at_false}
 use Rattle.fzn_domain.specs.declared.literal.Op.TheVariants.{Equal}
 use Rattle.fzn_meaning.specs.declared.term.Term.{Term}
 use Rattle.fzn_meaning.specs.declared.constraint.Constraint.TheVariants.{Circuit}
 use Rattle.fzn_rules.specs.declared.rule.Rule.TheVariants.{Hall}
-use Rattle.fzn_terms.specs.Denied.{NoneIs}
+use Rattle.fzn_terms.specs.Denied.{that, IsDenied}
 use Rattle.fzn_propagator.specs.Clause.{IsJustified}
-use Rattle.fzn_terms.proofs.CaseLemmas.{if_false}
 use Rattle.fzn_circuit.proofs.same.first_with.Goals as goal
 use Rattle.fzn_circuit.proofs.same.first_with.Goals.{then-j-i+in_ok-explain_same+else-branch, else-j-i}
 
@@ -18,9 +17,8 @@ loop-j-preserved c =
           let here : c.loop-j.j ≡ j = omega arith in
           elim c.if-j-i.branch [
             | then-j-i+in_ok-explain_same+else-branch w ↦
-                subst (λ (n : ℕ). NoneIs Equal (to_z w64 (of_z w64 c.args.value)) (get_or c.args.successors.now n d) c.args.trail.now.sets) here
-                (if_false (IsJustified c.args.trail.now (Circuit c.args.successors.now) (Hall (to_z w64 (of_z w64 c.args.value)) (to_z w64 (of_z w64 c.args.value))) w.explain_same.new.clause)
-                ((d : Term) → NoneIs Equal (to_z w64 (of_z w64 c.args.value)) (get_or c.args.successors.now c.loop-j.j d) c.args.trail.now.sets) w.in_ok-explain_same.field-0 w.if-branch.false w.in_ok-explain_same.ensures d)
+                subst (λ (n : ℕ). IsDenied c.args.trail.now.sets (that (get_or c.args.successors.now n d) Equal (to_z w64 (of_z w64 c.args.value)))) here
+                (MatchBool-at_false (IsJustified c.args.trail.now (Circuit c.args.successors.now) (Hall (to_z w64 (of_z w64 c.args.value)) (to_z w64 (of_z w64 c.args.value))) w.explain_same.new.clause) ((d : Term) → IsDenied c.args.trail.now.sets (that (get_or c.args.successors.now c.loop-j.j d) Equal (to_z w64 (of_z w64 c.args.value)))) w.if-branch.false w.in_ok-explain_same.ensures d)
             | else-j-i w ↦ absurd (apart (sym w.if-j-i.false ∙ here))
           ]
     ]

@@ -2,9 +2,9 @@ use Rattle.std.proofs.Common.{◌≡◌, ◌+◌, ℕ, length, List, ◌∷◌, 
 use Rattle.fzn_meaning.specs.declared.constraint.Constraint.TheVariants as constraint
 use Rattle.fzn_meaning.specs.Term.{IsTerm}
 use Rattle.fzn_rules.specs.declared.rule.Rule.TheVariants as rule
-use Rattle.fzn_explain.specs.declared.claim.Claim.{Claim}
-use Rattle.fzn_explain.specs.Claims.{IsExplanation}
-use Rattle.fzn_explain.proofs.CallerLemmas.{justified_found}
+use Rattle.fzn_terms.specs.declared.claim.Claim.{Claim}
+use Rattle.fzn_terms.specs.Denied.{IsExplanation}
+use Rattle.fzn_terms.proofs.ExplanationLemmas.{justified_found}
 use Rattle.fzn_equality.proofs.ExtremumLemmas.{IsAgainstEach, each_none, each_push, refuted_each}
 use Rattle.fzn_equality.proofs.extremum.extremum_or_entries.Goals as goal
 
@@ -25,6 +25,6 @@ pub returns : goal.returns
 returns c =
     let count = length c.args.trail.now.declared in
     let end : c.loop-k.k ≡ length c.args.entries.now = omega arith in
-    justified_found c.explain.result c.args.trail.now c.loop-k.claims (constraint.Extremum c.args.extreme c.args.entries.now c.args.of) rule.Rows
+    justified_found c.explanation_of.result c.args.trail.now c.loop-k.claims (constraint.Extremum c.args.extreme c.args.entries.now c.args.of) rule.Rows
     (refuted_each count c.args.extreme c.args.entries.now c.args.of c.args.claim c.loop-k.claims (subst (λ (n : ℕ). IsAgainstEach count c.args.entries.now c.args.of c.args.claim c.loop-k.claims n) end c.loop-k.invariant))
-    (subst (λ (xs : List Claim). IfOk c.explain.result (λ o. IfSome o (IsExplanation c.args.trail.now xs))) c.as_slice.ensures c.explain.ensures)
+    (subst (λ (xs : List Claim). IfOk c.explanation_of.result (λ o. IfSome o (IsExplanation c.args.trail.now xs))) c.as_slice.ensures c.explanation_of.ensures)

@@ -1,7 +1,7 @@
 use Rattle.std.proofs.Common.{◌≡◌, ℤ, pos, ◌+ℤ◌, ◌≤ℤ◌, List, ◌∷◌, ◌++◌, [], arith, sym, ap, subst, ◌∙◌, length, w64, to_z, of_z}
 use Rattle.std.proofs.lemmas.Int.{ints}
 use Rattle.fzn_domain.specs.declared.domain.TheConstants.{LEAST_VALUE}
-use Rattle.fzn_explain.specs.declared.claim.Claim.{Claim}
+use Rattle.fzn_terms.specs.declared.claim.Claim.{Claim}
 use Rattle.fzn_equality.proofs.SharedLemmas.{ShareFrom, share_first, share_push, share_end}
 use Rattle.fzn_equality.proofs.shared.values_from.Goals as goal
 

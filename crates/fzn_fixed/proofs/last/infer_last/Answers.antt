@@ -18,14 +18,14 @@ pub values_with-requires-clause-terms : goal.values_with-requires-clause-terms
 values_with-requires-clause-terms c =
     subst (λ (ts : List Term). All (IsTerm (length c.args.trail.now.declared)) ts) (sym c.as_slice-inputs.ensures) (inputs_fit (length c.args.trail.now.declared) c.args.parts.now c.requires.ready)
 
-pub least_value-low-requires-clause-term : goal.least_value-low-requires-clause-term
-least_value-low-requires-clause-term c =
+pub least_of-low-requires-clause-term : goal.least_of-low-requires-clause-term
+least_of-low-requires-clause-term c =
     subst (λ (ts : List Term). All (IsTerm (length c.args.trail.now.declared)) ts) (sym c.as_slice-inputs.ensures) (inputs_fit (length c.args.trail.now.declared) c.args.parts.now c.requires.ready) _ _ c.in-Some.ensures
 
-pub greatest_value-high-requires-clause-term : goal.greatest_value-high-requires-clause-term
-greatest_value-high-requires-clause-term c =
+pub greatest_of-high-requires-clause-term : goal.greatest_of-high-requires-clause-term
+greatest_of-high-requires-clause-term c =
     subst (λ (ts : List Term). All (IsTerm (length c.args.trail.now.declared)) ts) (sym c.as_slice-inputs.ensures) (inputs_fit (length c.args.trail.now.declared) c.args.parts.now c.requires.ready) _ _ c.in-Some.ensures
 
 pub may_be-requires : goal.may_be-requires
 may_be-requires c =
-    subst (λ (ts : List Term). All (IsTerm (length c.args.trail.now.declared)) ts) (sym c.as_slice-inputs.ensures) (inputs_fit (length c.args.trail.now.declared) c.args.parts.now c.requires.ready) _ _ c.in-Some.ensures
+    record { term = subst (λ (ts : List Term). All (IsTerm (length c.args.trail.now.declared)) ts) (sym c.as_slice-inputs.ensures) (inputs_fit (length c.args.trail.now.declared) c.args.parts.now c.requires.ready) _ _ c.in-Some.ensures }

@@ -4,9 +4,9 @@ use Rattle.std.proofs.lemmas.List.Elements.{All-push}
 use Rattle.fzn_meaning.specs.declared.term.Term.{Term}
 use Rattle.fzn_meaning.specs.Term.{IsTerm}
 use Rattle.fzn_rules.specs.declared.rule.Rule.TheVariants as rule
-use Rattle.fzn_explain.specs.declared.claim.Claim.{Claim}
-use Rattle.fzn_explain.specs.Claims.{IsExplanation}
-use Rattle.fzn_explain.proofs.CallerLemmas.{justified_found}
+use Rattle.fzn_terms.specs.declared.claim.Claim.{Claim}
+use Rattle.fzn_terms.specs.Denied.{IsExplanation}
+use Rattle.fzn_terms.proofs.ExplanationLemmas.{justified_found}
 use Rattle.fzn_fixed.proofs.LastLemmas.{AreOthers, others_none, others_push, refuted_others}
 use Rattle.fzn_fixed.proofs.MeaningLemmas.{inputs_fit, result_fits}
 use Rattle.fzn_fixed.proofs.last.other_values.Goals as goal
@@ -27,8 +27,8 @@ loop-k-preserved c =
     subst (λ (xs : List Claim). AreOthers count inputs c.args.values.now xs (c.loop-k.k + 1)) (sym c.in_ok-push.ensures.ok)
     (others_push count inputs c.args.values.now c.loop-k.claims c.loop-k.k _ _ c.other_than.result c.loop-k.invariant c.loop-k-test.true fit (omega (arith, ints, limits.0, limits.1)) c.other_than.ensures.term c.other_than.ensures.denied)
 
-pub explain-requires : goal.explain-requires
-explain-requires c =
+pub explanation_of-requires : goal.explanation_of-requires
+explanation_of-requires c =
     let count = length c.args.trail.now.declared in
     let all = c.as_slice.ensures ∙ c.in_ok-push-2.ensures.ok in
     subst (λ (xs : List Claim). All (λ (claim : Claim). IsTerm count claim.term) xs) (sym all)
@@ -44,6 +44,6 @@ returns c =
     let others : AreOthers count parts.inputs c.args.values.now c.loop-k.claims (length parts.inputs) =
     subst (λ (n : ℕ). AreOthers count parts.inputs c.args.values.now c.loop-k.claims n) end
     (subst (λ (ts : List Term). AreOthers count ts c.args.values.now c.loop-k.claims c.loop-k.k) c.as_slice-inputs.ensures c.loop-k.invariant) in
-    justified_found c.explain.result c.args.trail.now (c.loop-k.claims ++ c.in-Some.claim ∷ []) parts.constraint rule.Fixed
+    justified_found c.explanation_of.result c.args.trail.now (c.loop-k.claims ++ c.in-Some.claim ∷ []) parts.constraint rule.Fixed
     (refuted_others count parts c.args.values.now c.outcome_of-outcome.result c.loop-k.claims c.in-Some.claim c.requires.ready c.requires.one_each c.outcome_of-outcome.ensures others c.in-Some.ensures.none)
-    (subst (λ (xs : List Claim). IfOk c.explain.result (λ o. IfSome o (IsExplanation c.args.trail.now xs))) all c.explain.ensures)
+    (subst (λ (xs : List Claim). IfOk c.explanation_of.result (λ o. IfSome o (IsExplanation c.args.trail.now xs))) all c.explanation_of.ensures)

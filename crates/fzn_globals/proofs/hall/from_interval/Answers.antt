@@ -9,14 +9,14 @@ use Rattle.fzn_globals.proofs.hall.from_interval.Goals as goal
 pub hand_over-requires : goal.hand_over-requires
 hand_over-requires c =
     let told = c.if-not-is_interval.false in
-    record { hints = hall_hints (to_z w64 (of_z w64 c.args.span.low)) (to_z w64 (of_z w64 c.args.span.high)) (c.is_interval.ensures.low told) (c.is_interval.ensures.high told) }
+    record { hints = hall_hints (to_z w64 (of_z w64 c.args.interval.low)) (to_z w64 (of_z w64 c.args.interval.high)) (c.is_interval.ensures.low told) (c.is_interval.ensures.high told) }
 
 pub loop-clause-preserved : goal.loop-clause-preserved
 loop-clause-preserved c =
     let trail = c.args.trail.now in
     let places = c.args.places.now in
-    let low = to_z w64 (of_z w64 c.args.span.low) in
-    let high = to_z w64 (of_z w64 c.args.span.high) in
+    let low = to_z w64 (of_z w64 c.args.interval.low) in
+    let high = to_z w64 (of_z w64 c.args.interval.high) in
     let popped = All-pop (IsJustifiedBy trail (HasExcessOn places low high)) c.loop-clause.clauses.items c.pop.new.self.items (Some c.in-Some.clause) c.in-Some.ensures.items c.loop-clause.invariant.left in
     record {
       found = c.hand_over.ensures.found trail (AllDifferent places) (hall_justified trail places low high c.in-Some.clause popped.1) c.loop-clause.invariant.found;
@@ -27,7 +27,7 @@ pub returns-in_err-hand_over : goal.returns-in_err-hand_over
 returns-in_err-hand_over c =
     let trail = c.args.trail.now in
     let places = c.args.places.now in
-    let low = to_z w64 (of_z w64 c.args.span.low) in
-    let high = to_z w64 (of_z w64 c.args.span.high) in
+    let low = to_z w64 (of_z w64 c.args.interval.low) in
+    let high = to_z w64 (of_z w64 c.args.interval.high) in
     let popped = All-pop (IsJustifiedBy trail (HasExcessOn places low high)) c.loop-clause.clauses.items c.pop.new.self.items (Some c.in-Some.clause) c.in-Some.ensures.items c.loop-clause.invariant.left in
     c.hand_over.ensures.found trail (AllDifferent places) (hall_justified trail places low high c.in-Some.clause popped.1) c.loop-clause.invariant.found

@@ -5,10 +5,10 @@ use Rattle.std.proofs.lemmas.List.Elements.{All-more}
 use Rattle.fzn_learned.specs.Reasoned.{known_of, IsKnown}
 use Rattle.fzn_learned.proofs.trial.are_known.Goals as goal
 
-pub loop-source-preserved : goal.loop-source-preserved
-loop-source-preserved c =
-    All-more (IsKnown (known_of c.args.clauses.now c.args.inferences.now)) c.args.sources.now c.loop-source.source-index _ c.loop-source-test.true c.loop-source.invariant (c.if-not-is_known.ensures refl)
+pub loop-antecedent-preserved : goal.loop-antecedent-preserved
+loop-antecedent-preserved c =
+    All-more (IsKnown (known_of c.args.clauses.now c.args.inferences.now)) c.args.antecedents.now c.loop-antecedent.antecedent-index _ c.loop-antecedent-test.true c.loop-antecedent.invariant (c.if-not-is_known.ensures refl)
 
 pub returns : goal.returns
 returns c h =
-    subst (All (IsKnown (known_of c.args.clauses.now c.args.inferences.now))) (take_all c.loop-source.source-index c.args.sources.now c.loop-source-test.false) c.loop-source.invariant
+    subst (All (IsKnown (known_of c.args.clauses.now c.args.inferences.now))) (take_all c.loop-antecedent.antecedent-index c.args.antecedents.now c.loop-antecedent-test.false) c.loop-antecedent.invariant

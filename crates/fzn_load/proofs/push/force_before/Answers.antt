@@ -1,34 +1,28 @@
-use Rattle.std.proofs.Common.{rules, ◌≡◌, MatchBool, arith, sym, subst, ◌∙◌, ℤ, pos, ◌+ℤ◌, ◌-ℤ◌, w64, to_z, of_z, FitsSigned}
-use Rattle.std.proofs.lemmas.Int.{ints, to_z-of_z}
+use Rattle.std.proofs.Common.{rules, MatchBool, sym, subst, ◌∙◌, ℤ, w64, to_z, of_z, FitsSigned}
+use Rattle.std.proofs.lemmas.Int.{to_z-of_z}
 use Rattle.std.proofs.lemmas.Result.{IfOk-weaker}
-use Rattle.fzn_domain.specs.Limits.{IsInLimits}
 use Rattle.fzn_domain.specs.declared.literal.Op.TheVariants.{AtMost, AtLeast}
 use Rattle.fzn_sets.specs.Terms.{least_value}
-use Rattle.fzn_terms.specs.Denied.{AllAre, NoneIs, IsExplained, IsForced}
+use Rattle.fzn_terms.specs.Denied.{that, IsEntailed, IsDenied, IsExplained, IsForced}
 use Rattle.fzn_terms.proofs.CaseLemmas.{either}
-use Rattle.fzn_load.specs.Loads.{IsTime}
-use Rattle.fzn_load.proofs.LoadLemmas.{all_least, all_most}
+use Rattle.fzn_load.proofs.LoadLemmas.{all_least, all_most, earliest_is}
 use Rattle.fzn_load.proofs.PushLemmas.{forced_before}
 use Rattle.fzn_terms.proofs.OrderLemmas.{le_same}
+use Rattle.fzn_domain.proofs.DomainLemmas.{real}
 use Rattle.fzn_load.proofs.push.force_before.Goals as goal
-
-earliest_is : (t s d : ℤ) → IsTime t → IsInLimits s → s ≡ d → to_z w64 (of_z w64 (to_z w64 (of_z w64 (to_z w64 (of_z w64 t) -ℤ to_z w64 (of_z w64 s))) +ℤ pos 1)) ≡ (t -ℤ d) +ℤ pos 1
-earliest_is t s d time limits e = omega (arith, ints, time.0, time.1, limits.0, limits.1)
 
 pub explain-requires-clause-present : goal.explain-requires-clause-present
 explain-requires-clause-present c =
     let fits : FitsSigned w64 c.args.time.now = search rules in
-    subst (λ (x : ℤ). AllAre AtMost x c.args.start c.args.trail.now.sets) (sym (to_z-of_z w64 c.args.time.now fits)) (all_most c.args.trail.now.sets c.args.start c.args.time.now c.requires.begins)
+    subst (λ (x : ℤ). IsEntailed c.args.trail.now.sets (that c.args.start AtMost x)) (sym (to_z-of_z w64 c.args.time.now fits)) (all_most c.args.trail.now.sets c.args.start c.args.time.now c.requires.begins)
 
 pub explain-requires-2-clause-present : goal.explain-requires-2-clause-present
 explain-requires-2-clause-present c =
-    let fits : FitsSigned w64 c.least_value-shortest.result = search rules in
-    all_least c.args.trail.now.sets c.args.duration (to_z w64 (of_z w64 c.least_value-shortest.result)) (le_same _ _ (to_z-of_z w64 c.least_value-shortest.result fits ∙ c.least_value-shortest.ensures.value))
+    all_least c.args.trail.now.sets c.args.duration (to_z w64 (of_z w64 c.least_of-shortest.result)) (le_same _ _ (real _ c.least_of-shortest.ensures.in_limits ∙ c.least_of-shortest.ensures.value))
 
 pub explain-requires-3-clause-present : goal.explain-requires-3-clause-present
 explain-requires-3-clause-present c =
-    let fits : FitsSigned w64 c.least_value-least.result = search rules in
-    all_least c.args.trail.now.sets c.args.uses (to_z w64 (of_z w64 c.least_value-least.result)) (le_same _ _ (to_z-of_z w64 c.least_value-least.result fits ∙ c.least_value-least.ensures.value))
+    all_least c.args.trail.now.sets c.args.uses (to_z w64 (of_z w64 c.least_of-least.result)) (le_same _ _ (real _ c.least_of-least.ensures.in_limits ∙ c.least_of-least.ensures.value))
 
 pub returns : goal.returns
 returns c =
@@ -37,14 +31,12 @@ returns c =
     let trail = c.args.trail.now in
     let sets = c.args.trail.now.sets in
     let fits : FitsSigned w64 c.args.time.now = search rules in
-    let fits_shortest : FitsSigned w64 c.least_value-shortest.result = search rules in
-    let fits_least : FitsSigned w64 c.least_value-least.result = search rules in
-    let one = subst (λ (x : ℤ). IsExplained trail AtMost x c.args.start c.args.clause.now c.explain.new.clause) (to_z-of_z w64 c.args.time.now fits) c.in_ok-explain.ensures in
-    let two = subst (λ (x : ℤ). IsExplained trail AtLeast x c.args.duration c.explain.new.clause c.explain-2.new.clause) (to_z-of_z w64 c.least_value-shortest.result fits_shortest ∙ c.least_value-shortest.ensures.value) c.in_ok-explain-2.ensures in
-    let three = subst (λ (x : ℤ). IsExplained trail AtLeast x c.args.uses c.explain-2.new.clause c.explain-3.new.clause) (to_z-of_z w64 c.least_value-least.result fits_least ∙ c.least_value-least.ensures.value) c.in_ok-explain-3.ensures in
+    let one = subst (λ (x : ℤ). IsExplained trail (that c.args.start AtMost x) c.args.clause.now c.explain.new.clause) (to_z-of_z w64 c.args.time.now fits) c.in_ok-explain.ensures in
+    let two = subst (λ (x : ℤ). IsExplained trail (that c.args.duration AtLeast x) c.explain.new.clause c.explain-2.new.clause) (real _ c.least_of-shortest.ensures.in_limits ∙ c.least_of-shortest.ensures.value) c.in_ok-explain-2.ensures in
+    let three = subst (λ (x : ℤ). IsExplained trail (that c.args.uses AtLeast x) c.explain-2.new.clause c.explain-3.new.clause) (real _ c.least_of-least.ensures.in_limits ∙ c.least_of-least.ensures.value) c.in_ok-explain-3.ensures in
     either found
     (λ forced. forced_before trail c.args.time.now (least_value sets c.args.duration) (least_value sets c.args.uses) c.args.start c.args.duration c.args.uses c.requires.start c.requires.duration c.requires.uses c.args.clause.now c.explain.new.clause c.explain-2.new.clause c.explain-3.new.clause c.force.new.clause one two three forced)
     (λ none. none)
-    (subst (λ (x : ℤ). MatchBool found (IsForced trail AtLeast x c.args.start c.explain-3.new.clause c.force.new.clause) (NoneIs AtLeast x c.args.start trail.sets))
-    (earliest_is c.args.time.now c.least_value-shortest.result (least_value sets c.args.duration) c.requires.time c.least_value-shortest.ensures.in_limits c.least_value-shortest.ensures.value) told))
+    (subst (λ (x : ℤ). MatchBool found (IsForced trail (that c.args.start AtLeast x) c.explain-3.new.clause c.force.new.clause) (IsDenied trail.sets (that c.args.start AtLeast x)))
+    (earliest_is c.args.time.now c.least_of-shortest.result (least_value sets c.args.duration) c.requires.time c.least_of-shortest.ensures.in_limits c.least_of-shortest.ensures.value) told))
     c.force.ensures

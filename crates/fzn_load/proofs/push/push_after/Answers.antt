@@ -2,9 +2,9 @@ use Rattle.std.proofs.Common.{rules, ◌∙◌, inl, inr, arith, pos, get_or, w6
 use Rattle.std.proofs.lemmas.Int.{ints, to_z-of_z}
 use Rattle.std.proofs.lemmas.Result.{IfOk-weaker}
 use Rattle.fzn_meaning.specs.declared.term.Term.TheVariants.{Constant}
-use Rattle.fzn_terms.proofs.CaseLemmas.{if_false}
 use Rattle.fzn_load.specs.Loads.{least_amount, AreOver, HasRoom}
 use Rattle.fzn_load.proofs.PushLemmas.{pushed, room_for, ends_by, starts_not_by}
+use Rattle.std.proofs.lemmas.Bool.{MatchBool-at_false}
 use Rattle.fzn_load.proofs.push.push_after.Goals as goal
 
 pub returns-then-least_end-time : goal.returns-then-least_end-time
@@ -22,7 +22,7 @@ returns-then-not-branch c =
     let tasks = c.args.tasks.now in
     let held = to_z w64 (of_z w64 c.least_use-amount.result) in
     inr (inl (room_for sets tasks c.args.time.now (to_z w64 (of_z w64 c.least_use-amount.result)) c.args.k (Constant (pos 0)) c.as_slice-3.result.now c.as_slice-3.ensures (to_z-of_z w64 c.least_use-amount.result fits ∙ c.least_use-amount.ensures.value)
-    (if_false (AreOver c.args.trail.now c.args.time.now c.args.k (to_z w64 (of_z w64 c.least_use-amount.result)) tasks c.explain_over.new.clause) (HasRoom sets c.args.time.now c.args.k held tasks) c.in_ok-explain_over.field-0 c.if-not-branch.true c.in_ok-explain_over.ensures)))
+    (MatchBool-at_false (AreOver c.args.trail.now c.args.time.now c.args.k (to_z w64 (of_z w64 c.least_use-amount.result)) tasks c.explain_over.new.clause) (HasRoom sets c.args.time.now c.args.k held tasks) c.if-not-branch.true c.in_ok-explain_over.ensures)))
 
 pub returns : goal.returns
 returns c =

@@ -2,18 +2,18 @@ use Rattle.std.proofs.Common.{rules, ◌∙◌, inl, inr, arith, pos, get_or, w6
 use Rattle.std.proofs.lemmas.Int.{ints, to_z-of_z}
 use Rattle.std.proofs.lemmas.Result.{IfOk-weaker}
 use Rattle.fzn_meaning.specs.declared.term.Term.TheVariants.{Constant}
-use Rattle.fzn_terms.proofs.CaseLemmas.{if_false}
 use Rattle.fzn_load.specs.Loads.{least_amount, AreOver, HasRoom}
 use Rattle.fzn_load.proofs.PushLemmas.{pushed, room_for, starts_past, is_not_from}
+use Rattle.fzn_domain.proofs.DomainLemmas.{real}
+use Rattle.std.proofs.lemmas.Bool.{MatchBool-at_false}
 use Rattle.fzn_load.proofs.push_amount.push_shorter.Goals as goal
 
-pub returns-then-time-greatest_value : goal.returns-then-time-greatest_value
-returns-then-time-greatest_value c =
-    let fits : FitsSigned w64 c.greatest_value.result = search rules in
+pub returns-then-time-greatest_of : goal.returns-then-time-greatest_of
+returns-then-time-greatest_of c =
     let fits_time : FitsSigned w64 c.args.time.now = search rules in
-    let latest = to_z-of_z w64 c.greatest_value.result fits in
+    let latest = real _ c.greatest_of.ensures.in_limits in
     let time = to_z-of_z w64 c.args.time.now fits_time in
-    inl (starts_past c.args.trail.now.sets c.args.time.now c.greatest_value.result c.args.k (Constant (pos 0)) c.as_slice.result.now c.args.tasks.now.starts c.as_slice.ensures c.greatest_value.ensures.value (omega (arith, ints)))
+    inl (starts_past c.args.trail.now.sets c.args.time.now c.greatest_of.result c.args.k (Constant (pos 0)) c.as_slice.result.now c.args.tasks.now.starts c.as_slice.ensures c.greatest_of.ensures.value (omega (arith, ints)))
 
 pub returns-then-not-branch : goal.returns-then-not-branch
 returns-then-not-branch c =
@@ -22,7 +22,7 @@ returns-then-not-branch c =
     let tasks = c.args.tasks.now in
     let held = to_z w64 (of_z w64 c.least_use-amount.result) in
     inr (inl (room_for sets tasks c.args.time.now (to_z w64 (of_z w64 c.least_use-amount.result)) c.args.k (Constant (pos 0)) c.as_slice-3.result.now c.as_slice-3.ensures (to_z-of_z w64 c.least_use-amount.result fits ∙ c.least_use-amount.ensures.value)
-    (if_false (AreOver c.args.trail.now c.args.time.now c.args.k (to_z w64 (of_z w64 c.least_use-amount.result)) tasks c.explain_over.new.clause) (HasRoom sets c.args.time.now c.args.k held tasks) c.in_ok-explain_over.field-0 c.if-not-branch.true c.in_ok-explain_over.ensures)))
+    (MatchBool-at_false (AreOver c.args.trail.now c.args.time.now c.args.k (to_z w64 (of_z w64 c.least_use-amount.result)) tasks c.explain_over.new.clause) (HasRoom sets c.args.time.now c.args.k held tasks) c.if-not-branch.true c.in_ok-explain_over.ensures)))
 
 pub returns : goal.returns
 returns c =

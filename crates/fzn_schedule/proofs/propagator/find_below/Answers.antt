@@ -1,9 +1,8 @@
 use Rattle.std.proofs.Common.{◌≡◌, ℕ, get_or, inl, inr, arith, sym, subst, ◌∙◌, negsuc}
-use Rattle.std.proofs.lemmas.Bool.{cases_lt}
+use Rattle.std.proofs.lemmas.Bool.{cases_lt, MatchBool-at_true, MatchBool-at_false}
 use Rattle.fzn_domain.specs.declared.literal.Op.TheVariants.{AtMost}
 use Rattle.fzn_meaning.specs.declared.term.Term.{Term}
-use Rattle.fzn_terms.specs.Denied.{NoneIs}
-use Rattle.fzn_terms.proofs.CaseLemmas.{if_true, if_false}
+use Rattle.fzn_terms.specs.Denied.{that, IsDenied}
 use Rattle.fzn_schedule.specs.Kept.{IsSomeBelow}
 use Rattle.fzn_propagator.specs.Inference.{AreFoundOf}
 use Rattle.fzn_load.specs.Loads.{cumulative_of}
@@ -15,14 +14,14 @@ loop-k-preserved c =
     elim c.if-branch.branch [
       | then-branch+in_ok-hand_over w ↦ record {
         found =
-            let some = if_true (IsSomeBelow c.args.trail.now c.args.terms.now c.is_not_below.new.clause) ((d : Term) → NoneIs AtMost (negsuc 0) (get_or c.args.terms.now c.loop-k.k d) c.args.trail.now.sets) c.in_ok-is_not_below.field-0 w.if-branch.true c.in_ok-is_not_below.ensures in
+            let some = MatchBool-at_true (IsSomeBelow c.args.trail.now c.args.terms.now c.is_not_below.new.clause) ((d : Term) → IsDenied c.args.trail.now.sets (that (get_or c.args.terms.now c.loop-k.k d) AtMost (negsuc 0))) w.if-branch.true c.in_ok-is_not_below.ensures in
             subst (AreFoundOf c.args.number (cumulative_of c.args.tasks.now) c.args.trail.now) (sym w.found-is)
             (w.in_ok-hand_over.ensures.found c.args.trail.now (cumulative_of c.args.tasks.now) (c.requires.inferred c.is_not_below.new.clause some) c.loop-k.invariant.found);
         kept = λ empty. absurd (w.in_ok-hand_over.ensures.some (sym w.found-is ∙ empty));
         none = λ empty. absurd (w.in_ok-hand_over.ensures.some (sym w.found-is ∙ empty));
       }
       | else-branch w ↦
-          let here_none = if_false (IsSomeBelow c.args.trail.now c.args.terms.now c.is_not_below.new.clause) ((d : Term) → NoneIs AtMost (negsuc 0) (get_or c.args.terms.now c.loop-k.k d) c.args.trail.now.sets) c.in_ok-is_not_below.field-0 w.if-branch.false c.in_ok-is_not_below.ensures in
+          let here_none = MatchBool-at_false (IsSomeBelow c.args.trail.now c.args.terms.now c.is_not_below.new.clause) ((d : Term) → IsDenied c.args.trail.now.sets (that (get_or c.args.terms.now c.loop-k.k d) AtMost (negsuc 0))) w.if-branch.false c.in_ok-is_not_below.ensures in
           record {
             found = subst (AreFoundOf c.args.number (cumulative_of c.args.tasks.now) c.args.trail.now) (sym w.found-is) c.loop-k.invariant.found;
             kept = λ empty. c.loop-k.invariant.kept (sym w.found-is ∙ empty);
@@ -30,7 +29,7 @@ loop-k-preserved c =
               | inl before ↦ c.loop-k.invariant.none (sym w.found-is ∙ empty) k d before
               | inr past ↦
                   let here : c.loop-k.k ≡ k = omega arith in
-                  subst (λ (n : ℕ). NoneIs AtMost (negsuc 0) (get_or c.args.terms.now n d) c.args.trail.now.sets) here (here_none d)
+                  subst (λ (n : ℕ). IsDenied c.args.trail.now.sets (that (get_or c.args.terms.now n d) AtMost (negsuc 0))) here (here_none d)
             ];
           }
     ]

@@ -1,11 +1,11 @@
 use Rattle.std.proofs.Common.{ℕ, sym, subst, negsuc}
 use Rattle.fzn_domain.specs.declared.literal.Op.TheVariants.{AtMost}
 use Rattle.fzn_meaning.specs.Term.{IsTerm}
-use Rattle.fzn_terms.specs.Denied.{NoneIs}
-use Rattle.fzn_terms.proofs.CaseLemmas.{if_true}
+use Rattle.fzn_terms.specs.Denied.{that, IsDenied}
 use Rattle.fzn_propagator.specs.Inference.{AreFoundOf}
 use Rattle.fzn_load.specs.Loads.{cumulative_of}
 use Rattle.fzn_schedule.proofs.PropagatorLemmas.{is_below, capacity_inferred}
+use Rattle.std.proofs.lemmas.Bool.{MatchBool-at_true}
 use Rattle.fzn_schedule.proofs.propagator.find_negative_capacity.Goals as goal
 use Rattle.fzn_schedule.proofs.propagator.find_negative_capacity.Goals.{After-hand_over}
 
@@ -14,7 +14,7 @@ found : (c : After-hand_over) → AreFoundOf c.args.number (cumulative_of c.args
 found c =
     let trail = c.args.trail.now in
     let tasks = c.args.tasks.now in
-    let forced = if_true _ (NoneIs AtMost (negsuc 0) c.args.tasks.now.capacity trail.sets) c.in_ok-force.field-0 c.if-branch.true c.in_ok-force.ensures in
+    let forced = MatchBool-at_true _ (IsDenied trail.sets (that c.args.tasks.now.capacity AtMost (negsuc 0))) c.if-branch.true c.in_ok-force.ensures in
     c.hand_over.ensures.found trail (cumulative_of tasks)
     (capacity_inferred trail tasks c.force.new.clause forced.forcing
     (λ sets left. is_below sets tasks.capacity left.filled (subst (λ (n : ℕ). IsTerm n c.args.tasks.now.capacity) (sym left.one_each) c.requires.tasks.capacity) (forced.says sets left)))

@@ -5,12 +5,9 @@ use Rattle.fzn_engine.specs.declared.limits.Limits.{Limits}
 use Rattle.fzn_engine.specs.Outcome.{HasRoom}
 use Rattle.fzn_printer.specs.Printer.{contents_of as out_contents, has_failed_in as out_failed}
 use Rattle.fzn_printer.specs.Shown.{is_closed}
-use Rattle.fzn_printer.specs.declared.printer.Ending.{Ending}
-use Rattle.fzn_solver.specs.Answer.{IsAnswer}
 use Rattle.fzn_solver.specs.Causes.{HasCause, IsCause}
 use Rattle.fzn_solver.specs.FaultsFrom.{fault_of_engine}
 use Rattle.fzn_solver.specs.Left.{IsLeft}
-use Rattle.fzn_solver.specs.Writers.{taken, IsClosed, IsUnclosed}
 use Rattle.fzn_solver.proofs.LeftLemmas.{error-is, left-unbegun, left-on_way, left-at_end, lines-kept, lines-unclosed}
 use Rattle.fzn_solver.proofs.CauseLemmas.{run-cause, fault-cause}
 use Rattle.fzn_solver.proofs.AnswerLemmas.{answer-of, room-at_first}
@@ -23,11 +20,9 @@ solve_watched-requires-clause-room g c =
 
 pub returns-clause-answer : goal.returns-clause-answer
 returns-clause-answer g c =
-    let E : Ending → Type 0 = λ e. IsClosed g.W.Write.contents g.C.Write.contents c.args.model.now (is_closed e) c.solve_watched.new.sink c.close.new.self in
     let limits : Limits = record { nodes = c.args.options.now.nodes; solutions = c.wanted.result } in
-    let R : Ending → Type 0 = λ e. IsAnswer c.args.model.now c.args.options.now (out_contents g.W.Write.contents c.args.writers.now.out) (out_contents g.W.Write.contents c.close.new.self.out) (cert_contents g.C.Write.contents c.args.writers.now.cert) (cert_contents g.C.Write.contents c.close.new.self.cert) (record { solutions = c.in-Ok.outcome.solutions; nodes = c.in-Ok.outcome.nodes; ending = e }) in
-    subst R (sym c.ending_for-ending.ensures) (answer-of g.W.Write.contents g.C.Write.contents c.args.model.now c.args.options.now c.requires.model c.args.writers.now c.solve_watched.new.sink c.close.new.self limits c.in-Ok.outcome.nodes c.in-Ok.outcome.solutions c.in-Ok.outcome.ending
-    c.requires.fresh c.requires.alone (c.solve_watched.ensures.kept.1 ∙ c.begin.ensures.same) refl c.wanted.ensures c.solve_watched.ensures.accepted c.in-Ok.ensures.outcome c.in-Ok.ensures.solutions (subst E c.ending_for-ending.ensures c.in_ok-close.ensures.closed))
+    answer-of g.W.Write.contents g.C.Write.contents c.args.model.now c.args.options.now c.requires.model c.args.writers.now c.solve_watched.new.sink c.close.new.self limits c.in-Ok.report.nodes c.in-Ok.report.solutions c.in-Ok.report.ending
+    c.requires.fresh c.requires.alone (c.solve_watched.ensures.kept.1 ∙ c.begin.ensures.same) refl c.wanted.ensures c.solve_watched.ensures.accepted c.in-Ok.ensures.outcome c.in-Ok.ensures.solutions c.in_ok-close.ensures.closed
 
 pub returns-in_err-begin-clause-left : goal.returns-in_err-begin-clause-left
 returns-in_err-begin-clause-left g c =
@@ -36,10 +31,9 @@ returns-in_err-begin-clause-left g c =
 
 pub returns-in_err-close-clause-left : goal.returns-in_err-close-clause-left
 returns-in_err-close-clause-left g c =
-    let U : Ending → Type 0 = λ e. IsUnclosed g.W.Write.contents g.C.Write.contents c.args.model.now (is_closed e) c.solve_watched.new.sink c.close.new.self c.in_err-close.field-0.0 in
     error-is c.from_residual-in_err-close.result (fault_of_engine c.in_err-close.field-0.0) (IsLeft c.args.model.now c.args.options.now.all (out_contents g.W.Write.contents c.args.writers.now.out) (out_contents g.W.Write.contents c.close.new.self.out) (cert_contents g.C.Write.contents c.args.writers.now.cert) (cert_contents g.C.Write.contents c.close.new.self.cert)) c.from_residual-in_err-close.ensures.1
-    (left-at_end g.W.Write.contents g.C.Write.contents c.args.model.now c.args.options.now.all c.args.writers.now c.solve_watched.new.sink c.close.new.self c.in_err-close.field-0.0 _ _ c.in-Ok.outcome.nodes c.in-Ok.outcome.solutions c.in-Ok.outcome.ending
-    c.requires.model c.requires.fresh c.requires.alone (c.solve_watched.ensures.kept.1 ∙ c.begin.ensures.same) c.solve_watched.ensures.accepted c.in-Ok.ensures.outcome c.solve_watched.ensures.kept.0.0 (subst U c.ending_for-ending.ensures c.in_err-close.ensures.err))
+    (left-at_end g.W.Write.contents g.C.Write.contents c.args.model.now c.args.options.now.all c.args.writers.now c.solve_watched.new.sink c.close.new.self c.in_err-close.field-0.0 _ _ c.in-Ok.report.nodes c.in-Ok.report.ending
+    c.requires.model c.requires.fresh c.requires.alone (c.solve_watched.ensures.kept.1 ∙ c.begin.ensures.same) c.solve_watched.ensures.accepted c.in-Ok.ensures.outcome c.solve_watched.ensures.kept.0.0 c.in_err-close.ensures.err)
 
 pub returns-in_err-begin-clause-cause : goal.returns-in_err-begin-clause-cause
 returns-in_err-begin-clause-cause g c =
@@ -67,5 +61,5 @@ returns-in_err-close-clause-cause g c =
     let after = c.close.new.self in
     error-is c.from_residual-in_err-close.result (fault_of_engine c.in_err-close.field-0.0) (HasCause (out_failed g.W.TrackedWrite.has_failed after.out) (cert_failed g.C.TrackedWrite.has_failed after.cert) c.args.model.now (cert_contents g.C.Write.contents c.args.writers.now.cert) (cert_contents g.C.Write.contents after.cert)) c.from_residual-in_err-close.ensures.1
     (run-cause g.W.TrackedWrite.has_failed g.C.TrackedWrite.has_failed c.args.model.now after c.in_err-close.field-0.0 (cert_contents g.C.Write.contents c.args.writers.now.cert) (cert_contents g.C.Write.contents after.cert)
-    (lines-unclosed g.W.Write.contents g.C.Write.contents c.args.model.now c.args.options.now.all c.args.writers.now now after (is_closed c.ending_for-ending.result) c.in_err-close.field-0.0 c.requires.fresh (c.solve_watched.ensures.kept.1 ∙ c.begin.ensures.same) c.solve_watched.ensures.kept.0.0 c.close.ensures.same_taken c.in_err-close.ensures.err)
+    (lines-unclosed g.W.Write.contents g.C.Write.contents c.args.model.now c.args.options.now.all c.args.writers.now now after (is_closed c.in-Ok.report.ending) c.in_err-close.field-0.0 c.requires.fresh (c.solve_watched.ensures.kept.1 ∙ c.begin.ensures.same) c.solve_watched.ensures.kept.0.0 c.close.ensures.same_taken c.in_err-close.ensures.err)
     c.in_err-close.ensures.cause)

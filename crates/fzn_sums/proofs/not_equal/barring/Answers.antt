@@ -4,8 +4,8 @@ use Rattle.std.proofs.lemmas.Bool.{true≢false}
 use Rattle.std.proofs.lemmas.Int.{ints, to_z-of_z, fits_signed_from_abs}
 use Rattle.fzn_domain.specs.IntSet.{IntSet, contains}
 use Rattle.fzn_meaning.specs.declared.term.Term.{Term}
+use Rattle.fzn_sets.specs.Terms.{MayBe}
 use Rattle.fzn_builtin_rules.specs.Linear.{low_product, least_sum}
-use Rattle.fzn_sums.specs.Pinned.{IsValueOf}
 use Rattle.fzn_sums.proofs.ProductLemmas.{quotient_is}
 use Rattle.fzn_sums.proofs.PinLemmas.{one_of_constant, one_of_zero}
 use Rattle.fzn_sums.proofs.not_equal.barring.Goals as goal
@@ -41,7 +41,7 @@ returns-in_default-value_giving-clause-none c = λ v is sum.
     let small : FitsSigned w64 c.args.place.coefficient = search rules in
     let fits = fits_signed_from_abs w128 c.missing-missing.result (below c.missing-missing.result c.missing-missing.ensures.bounded) in
     let inside : contains c.domain-domain.result.now v ≡ true =
-    ap (λ (s : IntSet). contains s v) c.domain-domain.ensures.value ∙ subst (λ (t : Term). IsValueOf c.args.trail.now.sets t v) c.in-Variable.is is in
+    ap (λ (s : IntSet). contains s v) c.domain-domain.ensures.value ∙ subst (λ (t : Term). MayBe c.args.trail.now.sets t v) c.in-Variable.is is in
     let low = c.min.ensures.first v inside in
     let high = c.max.ensures.last v inside in
     let low_limits = c.min.ensures.in_limits in
@@ -54,7 +54,7 @@ returns-then-not-contains-clause-none c = λ v is sum.
     let small : FitsSigned w64 c.args.place.coefficient = search rules in
     let fits = fits_signed_from_abs w128 c.missing-missing.result (below c.missing-missing.result c.missing-missing.ensures.bounded) in
     let inside : contains c.domain-domain.result.now v ≡ true =
-    ap (λ (s : IntSet). contains s v) c.domain-domain.ensures.value ∙ subst (λ (t : Term). IsValueOf c.args.trail.now.sets t v) c.in-Variable.is is in
+    ap (λ (s : IntSet). contains s v) c.domain-domain.ensures.value ∙ subst (λ (t : Term). MayBe c.args.trail.now.sets t v) c.in-Variable.is is in
     let low_limits = c.min.ensures.in_limits in
     let high_limits = c.max.ensures.in_limits in
     let within = c.in-Some.ensures.within in

@@ -1,4 +1,4 @@
-use Rattle.std.proofs.Common.{ℕ, List, Option, length, get_or, sym, subst, ℤ, pos, w64, of_z, to_z, All, Some, None, IfNone}
+use Rattle.std.proofs.Common.{ℕ, List, Option, length, get_or, sym, subst, ℤ, pos, w64, of_z, to_z, All, IfNone}
 use Rattle.std.proofs.lemmas.Int.{to_z-of_z}
 use Rattle.std.proofs.lemmas.List.Elements.{All-get_or}
 use Rattle.std.proofs.lemmas.Result.{IfOk-weaker}
@@ -11,11 +11,8 @@ use Rattle.fzn_sums.specs.Pinned.{IsBarring, NoneIsBarred}
 use Rattle.fzn_sums.specs.Refuted.{IsRefutation, LeavesSome, LeavesEach}
 use Rattle.fzn_sums.proofs.PinLemmas.{barring_refutes}
 use Rattle.fzn_sums.proofs.BarredLemmas.{only_open, leaves_open, none_barred_two, none_barred_settled, none_barred_open}
+use Rattle.fzn_sums.proofs.WithinLemmas.{none_then}
 use Rattle.fzn_sums.proofs.not_equal.refute_not_equal.Goals as goal
-
-none_then : {A : Type 0} (o : Option A) (P Q : Type 0) → (P → Q) → IfNone o P → IfNone o Q
-none_then None P Q f h = f h
-none_then (Some x) P Q f h = tt
 
 pub returns-in_default-clause-none : goal.returns-in_default-clause-none
 returns-in_default-clause-none c =

@@ -15,10 +15,10 @@ loop-value-preserved c =
     rw (real _ c.in-Some.ensures.in_limits) (record {
       member = c.in-Some.ensures.found.member;
       in_limits = c.in-Some.ensures.in_limits;
-      done = λ nothing. next_done (IsSupported trail.sets places rows c.args.p) trail.sets (place_at places c.args.p) value (c.in_ok-bar_value.ensures.none nothing) (c.loop-value.invariant.done (c.bar_value.ensures.kept nothing)) c.in-Some.next c.in-Some.ensures.found;
-      marks = c.bar_value.ensures.marks;
-      found = c.bar_value.ensures.found;
-      kept = λ nothing. c.loop-value.invariant.kept (c.bar_value.ensures.kept nothing);
+      done = λ nothing. next_done (IsSupported trail.sets places rows c.args.p) trail.sets (place_at places c.args.p) value (c.in_ok-test_value.ensures.none nothing) (c.loop-value.invariant.done (c.test_value.ensures.kept nothing)) c.in-Some.next c.in-Some.ensures.found;
+      marks = c.test_value.ensures.marks;
+      found = c.test_value.ensures.found;
+      kept = λ nothing. c.loop-value.invariant.kept (c.test_value.ensures.kept nothing);
     })
 
 pub returns-in-None-clause-none : goal.returns-in-None-clause-none
@@ -27,4 +27,4 @@ returns-in-None-clause-none c = λ nothing.
     let places = c.args.places.now in
     let rows = numbers_in c.args.rows.now in
     let value = to_z w64 c.loop-value.value-bits in
-    all_done (IsSupported trail.sets places rows c.args.p) trail.sets (place_at places c.args.p) value (c.in_ok-bar_value.ensures.none nothing) (c.loop-value.invariant.done (c.bar_value.ensures.kept nothing)) c.in-None.ensures.none
+    all_done (IsSupported trail.sets places rows c.args.p) trail.sets (place_at places c.args.p) value (c.in_ok-test_value.ensures.none nothing) (c.loop-value.invariant.done (c.test_value.ensures.kept nothing)) c.in-None.ensures.none

@@ -6,7 +6,7 @@ use Rattle.fzn_terms.proofs.values.greatest_of.Goals as goal
 pub returns-clause-member : goal.returns-clause-member
 returns-clause-member c =
     let trail = c.args.trail.now in
-    rw (real _ c.greatest_value.ensures.in_limits, c.greatest_value.ensures.value) (ends_may trail.sets trail.declared c.args.term c.requires.term c.len-entries.ensures.narrower c.requires.filled).1
+    rw (real _ c.greatest_value.ensures.in_limits, c.greatest_value.ensures.value, c.sets.ensures.present) (ends_may trail.sets trail.declared c.args.term c.requires.term c.sets.ensures.narrower c.requires.filled).1
 
 pub returns-clause-last : goal.returns-clause-last
-returns-clause-last c v may = rw (real _ c.greatest_value.ensures.in_limits, c.greatest_value.ensures.value) (MayBe-between c.args.trail.now.sets c.args.term v may).1
+returns-clause-last c v may = rw (real _ c.greatest_value.ensures.in_limits, c.greatest_value.ensures.value, c.sets.ensures.present) (MayBe-between c.args.trail.now.sets c.args.term v may).1

@@ -1,6 +1,6 @@
 -- Tending keeps what the change made.
 use Rattle.std.proofs.Common.{Option, subst}
-use Rattle.fzn_engine.specs.declared.limits.Ending.{Ending}
+use Rattle.fzn_printer.specs.declared.printer.Ending.{Ending}
 use Rattle.fzn_engine.specs.Changes.{Continues}
 use Rattle.fzn_engine.proofs.UnitLemmas.{tended-ongoing}
 use Rattle.fzn_engine.proofs.solver.Solver.change.Goals as goal

@@ -1,12 +1,12 @@
--- The clause follows in the search as it is once the sources are written.
+-- The clause follows in the search as it is once the antecedents are written.
 use Rattle.std.proofs.Common.{◌≡◌, List, Option, IfSome, subst, rules}
 use Rattle.fzn_cert.specs.Accepted.{past_of}
+use Rattle.fzn_trail.specs.declared.trail.Reason.{Reason}
 use Rattle.fzn_learned.specs.declared.learned.Learned.{Learned}
-use Rattle.fzn_learned.specs.declared.source.Source.{Source}
 use Rattle.fzn_learned.specs.Learned.{IsDerived}
 use Rattle.fzn_engine.specs.State.{known_in}
 use Rattle.fzn_engine.specs.Search.{stock_of}
-use Rattle.fzn_engine.specs.Sources.{GiveSources}
+use Rattle.fzn_engine.specs.Antecedents.{GiveAntecedents}
 use Rattle.fzn_engine.proofs.LessonLemmas.{derives, written-beside}
 use Rattle.fzn_engine.proofs.SolverLemmas.{known-over}
 use Rattle.fzn_engine.proofs.solver.Solver.derive_unit.Goals as goal
@@ -21,6 +21,6 @@ pub returns-clause-derives : goal.returns-clause-derives
 returns-clause-derives g c =
     let D : Option Learned → Type 0 = λ found. IfSome found (IsDerived (known_in (stock_of c.args.self.now)) c.args.self.now.trail.declared) in
     let is : IsDerived (known_in (stock_of c.args.self.now)) c.args.self.now.trail.declared c.in-Some.unit = subst D c.in-Some.is c.in_ok-found.ensures.derived in
-    let sources : c.as_slice.result.now ≡ c.in-Some.unit.sources = search rules in
-    let G : List Source → Type 0 = λ s. GiveSources (past_of c.args.model.now (g.S.Sink.written c.write_sources.new.sink)) (known_in (stock_of c.args.self.now)) c.in_ok-ids.ids s in
-    derives c.in_ok-ids.ensures.written is c.in_ok-ids.ids (subst G sources c.in_ok-ids.ensures.numbers)
+    let antecedents : c.as_slice.result.now ≡ c.in-Some.unit.antecedents = search rules in
+    let G : List Reason → Type 0 = λ s. GiveAntecedents (past_of c.args.model.now (g.S.Sink.written c.write_antecedents.new.sink)) (known_in (stock_of c.args.self.now)) c.in_ok-ids.ids s in
+    derives c.in_ok-ids.ensures.written is c.in_ok-ids.ids (subst G antecedents c.in_ok-ids.ensures.numbers)

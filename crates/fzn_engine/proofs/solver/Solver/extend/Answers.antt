@@ -2,7 +2,7 @@
 use Rattle.std.proofs.Common.{◌≡◌, length, sym, ap, ◌∙◌, subst}
 use Rattle.fzn_domain.specs.Narrow.{NoneEmpty}
 use Rattle.fzn_search.specs.Fixed.{HasMany}
-use Rattle.fzn_engine.specs.declared.limits.Ending.TheVariants.{NodeLimit}
+use Rattle.fzn_printer.specs.declared.printer.Ending.TheVariants.{NodeLimit}
 use Rattle.fzn_engine.specs.declared.solver.Solver.{Solver}
 use Rattle.fzn_engine.specs.Changes.{IsOver}
 use Rattle.fzn_engine.specs.Moves.{IsDecided}

@@ -5,7 +5,7 @@ use Rattle.fzn_strategy.specs.declared.learn.Learn.{Learn}
 use Rattle.fzn_strategy.specs.declared.learn.Learn.TheVariants.{Plain, First}
 use Rattle.fzn_learned.specs.declared.learned.Learned.{Learned}
 use Rattle.fzn_engine.specs.Moves.{Holds}
-use Rattle.fzn_engine.specs.Sources.{Derives}
+use Rattle.fzn_engine.specs.Antecedents.{Derives}
 use Rattle.fzn_engine.proofs.LessonLemmas.{derives-spelled, derives-logged}
 use Rattle.fzn_engine.proofs.UnitLemmas.{unit-tended}
 use Rattle.fzn_engine.proofs.solver.Solver.prove_unit.Goals as goal

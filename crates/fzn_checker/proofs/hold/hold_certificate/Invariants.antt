@@ -1,0 +1,21 @@
+use Rattle.std.proofs.Common.{◌≡◌, ◌+◌, ◌-◌}
+use Rattle.fzn_cert.specs.declared.limits.TheConstants.{LAST_STEP}
+use Rattle.fzn_cert.specs.Verdict.{Outcome, VerdictOn}
+use Rattle.fzn_cert_reader.specs.Reader.{progress, HasRead}
+use Rattle.fzn_checker.specs.Checked.{Standing, IsMidway}
+use Rattle.fzn_checker.specs.Held.{HasTaken}
+use Rattle.fzn_checker.proofs.HoldLemmas.{AreSpelled}
+use Rattle.fzn_checker.proofs.hold.hold_certificate.Given as goal
+
+abbrev pub invariant-loop-taken : goal.invariant-loop-taken
+invariant-loop-taken g l = record {
+  midway : IsMidway l.model l.taken.history (progress g.C.Read.remaining l.cert);
+  line : l.line ≡ (progress g.C.Read.remaining l.cert).steps + 3;
+  goes_on : (outcome : Outcome) → Standing l.model l.taken.history (progress g.C.Read.remaining l.cert) outcome → VerdictOn l.model (progress g.C.Read.remaining l.fn.cert).left outcome;
+  taken : HasTaken l.model l.taken;
+  read : HasRead (progress g.C.Read.remaining l.fn.cert).left (progress g.C.Read.remaining l.cert) l.taken.steps.items;
+  spelled : AreSpelled (progress g.C.Read.remaining l.cert) l.taken.steps.items;
+}
+
+abbrev pub decreases-loop-taken : goal.decreases-loop-taken
+decreases-loop-taken g l = LAST_STEP - (progress g.C.Read.remaining l.cert).steps

@@ -1,0 +1,147 @@
+// A certificate checked from its bytes, with its steps held.
+ghost use Rattle.std.specs.Prelude.{◌≡◌, [], ◌∷◌, ◌++◌, None, IfOk, IfErr};
+ghost use Rattle.fzn_meaning.specs.WellFormed.{IsWellFormed};
+ghost use Rattle.fzn_cert.specs.Accepted.{IsJudged, after};
+ghost use Rattle.fzn_cert.specs.Verdict.{VerdictOn};
+ghost use Rattle.fzn_cert_reader.specs.Reader.{progress, input_of};
+ghost use Rattle.fzn_checker.specs.Checked.{IsUnread, IsFaultWhere, IsReadDue};
+ghost use Rattle.fzn_checker.specs.Judged.{HasBounds};
+ghost use Rattle.fzn_checker.specs.Held.{past_in, HasTaken, IsHeld};
+
+use crate::certificate::first_sets;
+use crate::copy::copied_step;
+use crate::fault::CheckFault;
+use crate::given::Given;
+use crate::history::History;
+use crate::next::next_step;
+use crate::steps::take_step;
+use fzn_cert::{Refusal, Step};
+use fzn_cert_reader::StepReader;
+use fzn_domain::Memory;
+use fzn_list::Items;
+use fzn_meaning::Model;
+use fzn_sets::Sets;
+use fzn_streams::TrackedRead;
+use std::alloc::Global;
+
+/// The steps of an accepted certificate, and what it shows.
+#[derive(Drop)]
+pub struct Held {
+    /// Its steps, in order.
+    pub steps: Vec<Step>,
+    /// The values of its solutions, in order.
+    pub solutions: Vec<Items<i64>>,
+    /// Whether there are no others to be found.
+    pub closed: bool,
+}
+
+/// Steps that were accepted one after the other, and what they leave for later ones.
+#[derive(Drop)]
+pub struct Taken {
+    /// The steps, in order.
+    pub steps: Vec<Step>,
+    history: History,
+    given: Given,
+    sets: Sets,
+    has_empty: bool,
+}
+
+impl Taken {
+    /// No step yet. It answers `Err` where memory runs out.
+    pub fn new(alloc: Global, model: &Model) -> Result<Taken, Memory>
+        requires { IsWellFormed model.now }
+        ensures taken { IfOk result (HasTaken model.now) }
+        ensures none { IfOk result (λ taken. taken.steps.items ≡ []) }
+    {
+        let sets = first_sets(alloc, model)?;
+        let has_empty = sets.has_empty();
+        Ok(Taken {
+            steps: Vec::new(alloc),
+            history: History::new(alloc),
+            given: Given::new(alloc),
+            sets,
+            has_empty,
+        })
+    }
+
+    /// Takes the next step where it is accepted, and else answers what is wrong with it and takes none. It answers `Err` where memory runs
+    /// out, and nothing is known of the steps then.
+    pub fn take(
+        &mut self,
+        alloc: Global,
+        model: &Model,
+        step: Step,
+    ) -> Result<Option<Refusal>, Memory>
+        requires taken { HasTaken model.now self.old }
+        requires bounds { HasBounds step }
+        ensures judged { IfOk result (IsJudged model.now (past_in self.old) step) }
+        ensures taken { IfOk result (λ fault. fault ≡ None → HasTaken model.now self.new) }
+        ensures more { IfOk result (λ fault. fault ≡ None → self.new.steps.items ≡ self.old.steps.items ++ step ∷ []) }
+        ensures after { IfOk result (λ fault. fault ≡ None → past_in self.new ≡ after model.now (past_in self.old) step) }
+    {
+        let copy = copied_step(alloc, &step)?;
+        if let Some(refusal) = take_step(
+            alloc,
+            model,
+            &mut self.history,
+            &mut self.given,
+            &mut self.sets,
+            self.has_empty,
+            step,
+        )? {
+            return Ok(Some(refusal));
+        }
+        self.steps.push(copy)?;
+        Ok(None)
+    }
+
+    /// The solutions among the steps.
+    pub fn solutions(&self) -> &[Items<i64>]
+        ensures { result.now ≡ (past_in self.now).solutions }
+    {
+        self.history.solutions()
+    }
+
+    /// Whether one of the steps gave the empty clause.
+    pub fn is_refuted(&self) -> bool
+        ensures { result ≡ (past_in self.now).refuted }
+    {
+        self.history.is_refuted()
+    }
+
+    /// The steps with their solutions, and this ending.
+    pub fn into_held(self, closed: bool) -> Held
+        ensures steps { result.steps.items ≡ self.steps.items }
+        ensures solutions { result.solutions.items ≡ (past_in self).solutions }
+        ensures closed { result.closed ≡ closed }
+    {
+        Held {
+            steps: self.steps,
+            solutions: self.history.into_solutions(),
+            closed,
+        }
+    }
+}
+
+/// Checks a certificate as `check_certificate` does, with the same faults, and answers its steps too. All of them are held until the end.
+pub fn hold_certificate<C: TrackedRead + Drop>(
+    alloc: Global,
+    model: &Model,
+    cert: &mut StepReader<C>,
+) -> Result<Held, CheckFault>
+    requires model { IsWellFormed model.now }
+    requires unread { IsUnread (progress C.remaining cert.old) }
+    ensures ok { IfOk result (IsHeld model.now (progress C.remaining cert.old).left) }
+    ensures err { IfErr result (IsFaultWhere (VerdictOn model.now (progress C.remaining cert.old).left)) }
+    ensures due { IfErr result (IsReadDue (C.has_failed (input_of cert.new))) }
+{
+    let mut taken = Taken::new(alloc, model)?;
+    let mut line = 3;
+    while let Some(step) = next_step(alloc, model, &taken.history, line, cert)? {
+        if let Some(refusal) = taken.take(alloc, model, step)? {
+            return Err(CheckFault::Refused { line, refusal });
+        }
+        line += 1;
+    }
+    Ok(taken.into_held(cert.closed().unwrap_or(false)))
+}

@@ -1,2 +1,0 @@
-pub mod CallerLemmas
-mod ClaimLemmas

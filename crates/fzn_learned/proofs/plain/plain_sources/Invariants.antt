@@ -1,6 +1,0 @@
-use Rattle.std.proofs.Common.{◌≡◌, take}
-use Rattle.fzn_learned.specs.Learned.{reasons}
-use Rattle.fzn_learned.proofs.plain.plain_sources.Given as goal
-
-abbrev pub invariant-loop-place : goal.invariant-loop-place
-invariant-loop-place l = l.sources ≡ reasons (take l.place l.trail.entries)

@@ -1,0 +1,59 @@
+use Rattle.std.proofs.Common.{length, refl, ◌∙◌}
+use Rattle.fzn_cert.specs.declared.step.Version.TheVariants.{Two}
+use Rattle.fzn_cert_reader.specs.Reader.{progress}
+use Rattle.fzn_checker.specs.FileFaults.{fault_from}
+use Rattle.fzn_checker.specs.Held.{certificate_of}
+use Rattle.fzn_checker.proofs.CallerLemmas.{error-is}
+use Rattle.fzn_trim.specs.declared.trimming.Trimmed.{Trimmed}
+use Rattle.fzn_trim.specs.Trimmed.{IsTrimFault}
+use Rattle.fzn_trim.proofs.TrialLemmas.{lines-two}
+use Rattle.fzn_trim.proofs.TrimLemmas.{trims-of, certificate-fault, write-fault, model-fault}
+use Rattle.fzn_trim.proofs.trimming.trim_tracked.Goals as goal
+
+pub returns-in_err-model-clause-err : goal.returns-in_err-model-clause-err
+returns-in_err-model-clause-err g c =
+    let file = g.R.Read.remaining c.args.file.now in
+    let cert = (progress g.C.Read.remaining c.args.cert.now).left in
+    let before = g.W.Write.contents c.args.new.now in
+    error-is c.from_residual.result (fault_from c.in_err-model.field-0.0) (IsTrimFault file cert before before) c.from_residual.ensures.1
+    (model-fault file cert before c.in_err-model.field-0.0 c.in_err-model.ensures.right)
+
+pub returns-in_err-held-clause-err : goal.returns-in_err-held-clause-err
+returns-in_err-held-clause-err g c =
+    let file = g.R.Read.remaining c.args.file.now in
+    let cert = (progress g.C.Read.remaining c.args.cert.now).left in
+    let before = g.W.Write.contents c.args.new.now in
+    error-is c.from_residual-in_err-held.result c.in_err-held.field-0.0 (IsTrimFault file cert before before) c.from_residual-in_err-held.ensures.1
+    (certificate-fault file cert c.in_ok-model.model c.in_ok-model.ensures.right before c.in_err-held.field-0.0 c.in_err-held.ensures.err)
+
+pub trimmed_steps-requires-clause-lines : goal.trimmed_steps-requires-clause-lines
+trimmed_steps-requires-clause-lines g c =
+    let held = c.in_ok-held.ensures.ok in
+    lines-two held.version 0 c.in_ok-held.held.steps.items held.certificate.spelled
+
+pub returns-in_err-write_certificate-clause-err : goal.returns-in_err-write_certificate-clause-err
+returns-in_err-write_certificate-clause-err g c =
+    let file = g.R.Read.remaining c.args.file.now in
+    let cert = (progress g.C.Read.remaining c.args.cert.now).left in
+    let before = g.W.Write.contents c.args.new.now in
+    let after = g.W.Write.contents c.write_certificate.new.new in
+    let held = c.in_ok-held.held in
+    let kept = c.in_ok-kept.kept in
+    let trimmed : Trimmed = record { steps = length held.steps.items; kept = length kept.steps.items } in
+    error-is c.from_residual-in_err-write_certificate.result c.in_err-write_certificate.field-0.0 (IsTrimFault file cert before after) c.from_residual-in_err-write_certificate.ensures.1
+    (write-fault file cert before after (certificate_of c.in_ok-model.model Two kept.steps.items kept.closed) trimmed c.in_err-write_certificate.field-0.0
+    (trims-of file cert c.in_ok-model.model c.in_ok-model.ensures.right held kept trimmed c.in_ok-model.ensures.well_formed c.in_ok-held.ensures.ok c.in_ok-kept.ensures refl refl)
+    c.in_err-write_certificate.ensures.fault c.in_err-write_certificate.ensures.text)
+
+pub returns-clause-ok : goal.returns-clause-ok
+returns-clause-ok g c =
+    let file = g.R.Read.remaining c.args.file.now in
+    let cert = (progress g.C.Read.remaining c.args.cert.now).left in
+    let held = c.in_ok-held.held in
+    let kept = c.in_ok-kept.kept in
+    let trimmed : Trimmed = record { steps = c.len-steps.result; kept = c.len.result } in (
+      certificate_of c.in_ok-model.model Two kept.steps.items kept.closed,
+      trims-of file cert c.in_ok-model.model c.in_ok-model.ensures.right held kept trimmed c.in_ok-model.ensures.well_formed c.in_ok-held.ensures.ok c.in_ok-kept.ensures
+          (c.len-steps.ensures ∙ held.steps.ok.0) (c.len.ensures ∙ kept.steps.ok.0),
+      c.in_ok-write_certificate.ensures.text,
+    )

@@ -1,0 +1,70 @@
+// A certificate checked from its bytes, and a trimmed one written.
+ghost use Rattle.std.specs.Prelude.{◌≡◌, IfOk, IfErr};
+ghost use Rattle.fzn_cert_reader.specs.Reader.{progress, input_of};
+ghost use Rattle.fzn_checker.specs.Checked.{IsUnread};
+ghost use Rattle.fzn_trim.specs.Trimmed.{IsTrimmed, IsTrimFault, IsTrimDue};
+
+use crate::trial::trimmed_steps;
+use crate::write::write_certificate;
+use fzn_cert_reader::StepReader;
+use fzn_checker::{CheckFault, hold_certificate};
+use fzn_reading::read_model;
+use fzn_streams::{TrackedRead, TrackedReader, TrackedWrite, TrackedWriter};
+use std::alloc::Global;
+use std::io::{Read, Write};
+
+/// How many steps a certificate has, and how many are left of them.
+#[derive(Clone, Copy, Debug, PartialEq, Eq)]
+pub struct Trimmed {
+    /// How many it has.
+    pub steps: usize,
+    /// How many the trimmed one has, which are no more.
+    pub kept: usize,
+}
+
+/// Checks the certificate of a file, and writes to `new` one of version 2 that shows the same: with all its solutions, those of its other
+/// steps that its first empty clause rests on, and deletions. It has no more steps. Of an open answer the solutions alone are left.
+///
+/// Nothing is written where it answers `File` with the first fault of the file, `Refused` with the first faulty line of the certificate, or
+/// `Read` where a read of either fails. It answers `Memory` where memory runs out, and `WriteCert` where a write or the flush of `new`
+/// fails; a beginning of the new certificate may stand then. All steps are held at once.
+pub fn trim<R: Read + Drop, C: Read + Drop, W: Write>(
+    alloc: Global,
+    file: R,
+    cert: C,
+    new: &mut W,
+) -> Result<Trimmed, CheckFault>
+    ensures ok { IfOk result (IsTrimmed (R.remaining file) (C.remaining cert) (W.contents new.old) (W.contents new.new)) }
+    ensures err { IfErr result (IsTrimFault (R.remaining file) (C.remaining cert) (W.contents new.old) (W.contents new.new)) }
+{
+    let mut file = TrackedReader::new(file);
+    let mut cert = StepReader::new(alloc, TrackedReader::new(cert));
+    let mut new = TrackedWriter::new(new);
+    trim_tracked(alloc, &mut file, &mut cert, &mut new)
+}
+
+/// Trims as `trim` does, on streams that remember whether a call on them failed. Of the certificate no line may have been read before.
+/// `Read` is answered only after a failed read of the file or of the certificate, and `WriteCert` only after a failed write or flush of
+/// `new`. Its faults are those of `trim`.
+pub fn trim_tracked<R: TrackedRead, C: TrackedRead + Drop, W: TrackedWrite>(
+    alloc: Global,
+    file: &mut R,
+    cert: &mut StepReader<C>,
+    new: &mut W,
+) -> Result<Trimmed, CheckFault>
+    requires unread { IsUnread (progress C.remaining cert.old) }
+    ensures ok { IfOk result (IsTrimmed (R.remaining file.old) (progress C.remaining cert.old).left (W.contents new.old) (W.contents new.new)) }
+    ensures err { IfErr result (IsTrimFault (R.remaining file.old) (progress C.remaining cert.old).left (W.contents new.old) (W.contents new.new)) }
+    ensures due { IfErr result (IsTrimDue (R.has_failed file.new) (C.has_failed (input_of cert.new)) (W.has_failed new.new)) }
+    ensures same_stream { W.stream new.new ≡ W.stream new.old }
+{
+    let model = read_model(alloc, file)?;
+    let held = hold_certificate(alloc, &model, cert)?;
+    let steps = held.steps.len();
+    let kept = trimmed_steps(alloc, &model, held)?;
+    write_certificate(alloc, &model, &kept, new)?;
+    Ok(Trimmed {
+        steps,
+        kept: kept.steps.len(),
+    })
+}
