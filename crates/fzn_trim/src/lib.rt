@@ -6,6 +6,7 @@
 //! one is refused the old steps are written in place of all. Proved against `specs/Trimmed.antt`, in the words of `fzn_cert`'s `Verdict`.
 #![tactic(auto)]
 
+pub use trial::trimmed_steps;
 pub use trimming::{Trimmed, trim, trim_tracked};
 
 mod plan;

@@ -48,7 +48,7 @@ solve_line =
     line_of (codes "fznsolve") (all_rule ∷ letter_option (codes "limit") 110 ∷ letter_flag (codes "free") 102 ∷ letter_option (codes "seed") 114
     ∷ named_option (codes "nodes") ∷ named_option (codes "learn") ∷ named_option (codes "cert") ∷ named_flag (codes "progress") ∷ path (codes "model") ∷ help_rule ∷ version_rule ∷ [])
 
--- -a, --to2, --trim NEW, and two paths, --help, --version
+-- -a, --to2, --trim NEW, --core, and two paths, --help, --version
 unfoldable pub check_line : App
 check_line =
-    line_of (codes "fzncheck") (all_rule ∷ named_flag (codes "to2") ∷ named_option (codes "trim") ∷ path (codes "model") ∷ path (codes "cert") ∷ help_rule ∷ version_rule ∷ [])
+    line_of (codes "fzncheck") (all_rule ∷ named_flag (codes "to2") ∷ named_option (codes "trim") ∷ named_flag (codes "core") ∷ path (codes "model") ∷ path (codes "cert") ∷ help_rule ∷ version_rule ∷ [])

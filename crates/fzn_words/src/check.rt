@@ -1,8 +1,8 @@
 // The words of `fzncheck`.
-ghost use Rattle.std.specs.Prelude.{◌≡◌, ◌≢◌, IfOk, IfSome, codes, map, option_map, string_bytes};
+ghost use Rattle.std.specs.Prelude.{◌≡◌, ◌≢◌, true, IfOk, IfSome, None, Some, codes, map, option_map, string_bytes};
 ghost use Rattle.clap.specs.Words.{app_of, first_of, found_of, matches_of, rows_of};
 ghost use Rattle.fzn_words.specs.CommandLines.{check_line};
-ghost use Rattle.fzn_words.specs.Said.{AreOtherPaths, IsSaid};
+ghost use Rattle.fzn_words.specs.Said.{AreOtherPaths, IsSaid, is_set};
 
 use crate::fault::{OptionsFault, fault_of};
 use crate::parts;
@@ -17,7 +17,10 @@ const ABOUT: &str = "Check the certificate of a FlatZinc file's answer, and prin
 const TO2: &str = "Write OLD, a certificate of version 1, as one of version 2 to NEW";
 
 const TRIM: &str =
-    "Check CERT, and write to NEW one of version 2 with all its solutions and of its other steps only those that its end rests on";
+    "Check CERT, and write to NEW one of version 2 with all its solutions and of its other steps only those that its end was found to rest on";
+
+const CORE: &str =
+    "Check CERT, and print the constraints that its closed answer was found to rest on: number, place, text";
 
 const MODEL: &str = "The FlatZinc file; OLD with --to2";
 
@@ -63,10 +66,17 @@ pub enum CheckOptions {
         /// The path of the trimmed one.
         new: String,
     },
+    /// Check a certificate, and print the core of its answer.
+    Core {
+        /// The path of the file.
+        model: String,
+        /// The path of its certificate.
+        cert: String,
+    },
 }
 
-/// The options that the words after the program's name give. It answers `CommandLine` where they are not as the help says, ask for two new
-/// certificates or name one path twice, `Help` where they ask for help or the version, and `Memory` where memory runs out.
+/// The options that the words after the program's name give. It answers `CommandLine` where they are not as the help says, ask for two of
+/// `--to2`, `--trim` and `--core` or name one path twice, `Help` where they ask for help or the version, and `Memory` where memory runs out.
 pub fn check_options_of<S: AsStr>(alloc: Global, words: &[S]) -> Result<CheckOptions, OptionsFault>
     ensures said { IfOk result (IsSaid (matches_of check_line (map S.text words.now))) }
     ensures paths { IfOk result AreOtherPaths }
@@ -85,6 +95,7 @@ fn command<'a>(alloc: Global) -> Result<Command<'a>, AllocError>
     let command = with(command, all(alloc))?;
     let command = with(command, named_flag(alloc, "to2", TO2))?;
     let command = with(command, named_option(alloc, "trim", "NEW", TRIM))?;
+    let command = with(command, named_flag(alloc, "core", CORE))?;
     let command = with(command, parts::path(alloc, "model", "MODEL", MODEL))?;
     let command = with(command, parts::path(alloc, "cert", "CERT", CERT))?;
     let command = with(command, help(alloc))?;
@@ -103,11 +114,13 @@ fn options_in(alloc: Global, matches: &ArgMatches<'_>) -> Result<CheckOptions, O
     }
     match trimmed(alloc, matches, first.as_str(), second.as_str())? {
         Some(_) if is_set(matches, "to2") => Err(OptionsFault::CommandLine),
+        Some(_) if is_set(matches, "core") => Err(OptionsFault::CommandLine),
         Some(new) => Ok(CheckOptions::Trim {
             model: first,
             cert: second,
             new,
         }),
+        None if is_set(matches, "core") => core_options(matches, first, second),
         None if is_set(matches, "to2") => Ok(CheckOptions::ToVersion2 {
             old: first,
             new: second,
@@ -118,6 +131,26 @@ fn options_in(alloc: Global, matches: &ArgMatches<'_>) -> Result<CheckOptions, O
             cert: second,
         }),
     }
+}
+
+/// The core of an answer is asked for, and no new certificate may be.
+fn core_options(
+    matches: &ArgMatches<'_>,
+    model: String,
+    cert: String,
+) -> Result<CheckOptions, OptionsFault>
+    requires core { is_set (first_of (codes "core") (rows_of (found_of matches.now))) ≡ true }
+    requires trim { first_of (codes "trim") (rows_of (found_of matches.now)) ≡ None }
+    requires model { first_of (codes "model") (rows_of (found_of matches.now)) ≡ Some (string_bytes model) }
+    requires cert { first_of (codes "cert") (rows_of (found_of matches.now)) ≡ Some (string_bytes cert) }
+    requires paths { string_bytes cert ≢ string_bytes model }
+    ensures said { IfOk result (IsSaid (rows_of (found_of matches.now))) }
+    ensures paths { IfOk result AreOtherPaths }
+{
+    if is_set(matches, "to2") {
+        return Err(OptionsFault::CommandLine);
+    }
+    Ok(CheckOptions::Core { model, cert })
 }
 
 /// The path of the trimmed certificate, if one is asked for: none of these two.

@@ -1,11 +1,12 @@
 //! `fzncheck`: reads a FlatZinc file and a certificate of its answer, and prints the answer that the certificate shows, or what is wrong.
-//! It also writes certificates anew: as version 2, or trimmed.
+//! It also writes certificates anew, as version 2 or trimmed, and prints the constraints that an answer rests on.
 //!
 //! In: the command line. Out: the answer on standard output, or one line on standard error, and the status that goes with it. What is
-//! printed and when is proved on `check` and `to2` of `fzn_checker` and on `trim` of `fzn_trim`; here the paths are opened.
+//! printed and when is proved on `check` and `to2` of `fzn_checker`, `trim` of `fzn_trim` and `core` of `fzn_core`; here the paths are opened.
 #![tactic(auto)]
 
 use fzn_checker::{CheckFault, check, to2};
+use fzn_core::core;
 use fzn_trim::trim;
 use fzn_words::{CheckOptions, OptionsFault, check_options_of};
 use std::env;
@@ -54,6 +55,7 @@ fn act(rt: &HostRuntime, options: &CheckOptions) -> Result<(), CheckFault> {
         CheckOptions::Trim { model, cert, new } => {
             trim_file(rt, model.as_str(), cert.as_str(), new.as_str())
         }
+        CheckOptions::Core { model, cert } => list_core(rt, model.as_str(), cert.as_str()),
     }
 }
 
@@ -105,5 +107,21 @@ fn trim_file(rt: &HostRuntime, model: &str, cert: &str, new: &str) -> Result<(),
         return Err(CheckFault::Memory);
     };
     trim(alloc, model, cert, &mut new)?;
+    Ok(())
+}
+
+/// Opens the file and its certificate, in this order, checks them and prints the core of the answer.
+fn list_core(rt: &HostRuntime, model: &str, cert: &str) -> Result<(), CheckFault> {
+    let alloc = rt.alloc();
+    let Ok(model) = File::open(rt, model) else {
+        return Err(CheckFault::Read);
+    };
+    let Ok(cert) = File::open(rt, cert) else {
+        return Err(CheckFault::Read);
+    };
+    let Ok(mut out) = BufWriter::new(alloc, rt.stdout()) else {
+        return Err(CheckFault::Memory);
+    };
+    core(alloc, model, cert, &mut out)?;
     Ok(())
 }

@@ -1,0 +1,3 @@
+mod CoreLemmas
+mod ListLemmas
+mod ListingLemmas

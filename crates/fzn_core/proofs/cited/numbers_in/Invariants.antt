@@ -1,0 +1,7 @@
+use Rattle.std.proofs.Common.{◌≡◌, take}
+use Rattle.std.specs.List.{filter_map}
+use Rattle.fzn_core.specs.Core.{constraint_of}
+use Rattle.fzn_core.proofs.cited.numbers_in.Given as goal
+
+abbrev pub invariant-loop-step : goal.invariant-loop-step
+invariant-loop-step l = l.numbers.items ≡ filter_map constraint_of (take l.step-index l.steps)

@@ -1,0 +1,4 @@
+mod FrontLemmas
+mod ItemLemmas
+mod NameLemmas
+mod SourceLemmas
