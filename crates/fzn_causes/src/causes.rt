@@ -1,13 +1,15 @@
 // Which entries of a trail made literals false.
-ghost use Rattle.std.specs.Prelude.{IsTrue};
-ghost use Rattle.fzn_causes.specs.Implied.{IsTrueOn};
 
 use crate::gaps::{Gap, Gaps};
 use crate::implications::Implications;
-use crate::implied::{canonical, implies, opposite};
+use crate::implied::{canonical, implies, is_true_on, opposite};
+use crate::orders::{NEAR, Orders};
 use fzn_domain::{Domain, Lit, Memory, Op};
 use fzn_trail::ClauseId;
 use std::alloc::Global;
+
+/// How many values that were taken out are looked for by halves, each by itself.
+const FEW: usize = 16;
 
 /// An entry, by its place, and the literal that is needed of it: its own, or one that is true since. A bound that is needed may say more
 /// than the entry's own literal, where it moved over values that were out before.
@@ -37,8 +39,12 @@ pub struct Causes {
     places: Vec<usize>,
     /// The crossings whose causes were found and are not marked yet.
     fresh: Vec<(usize, Crossing)>,
+    /// What is known of the entries on each variable.
+    orders: Orders,
     /// What is known of gaps of level 0.
     pub gaps: Gaps,
+    /// Entries that took out values, by places, each with its value.
+    taken_out: Vec<(usize, i64)>,
     /// The clauses of gaps that bounds moved over, with the place of the entry; those of what was found and is not marked yet.
     passed: Vec<(usize, ClauseId)>,
     /// Those of what is marked.
@@ -53,7 +59,9 @@ impl Causes {
             crossings: Vec::new(alloc),
             places: Vec::new(alloc),
             fresh: Vec::new(alloc),
+            orders: Orders::new(alloc),
             gaps: Gaps::new(alloc),
+            taken_out: Vec::new(alloc),
             passed: Vec::new(alloc),
             cited: Vec::new(alloc),
         }
@@ -121,7 +129,7 @@ impl Causes {
         let truth = canonical(opposite(lit), declared);
         let last = graph.last_of(truth.var);
         if truth.op != Op::Equal {
-            let place = first_true(graph, declared, truth, last);
+            let place = self.first_true(graph, declared, truth, last)?;
             return self.add_from(graph, declared, truth, place);
         }
         let least = Lit {
@@ -132,8 +140,8 @@ impl Causes {
             op: Op::AtMost,
             ..truth
         };
-        let lower = first_true(graph, declared, least, last);
-        let upper = first_true(graph, declared, greatest, last);
+        let lower = self.first_true(graph, declared, least, last)?;
+        let upper = self.first_true(graph, declared, greatest, last)?;
         if let Some(place) = lower
             && lower == upper
             && graph.is_at(place, truth)
@@ -143,6 +151,20 @@ impl Causes {
         }
         self.add_from(graph, declared, least, lower)?;
         self.add_from(graph, declared, greatest, upper)
+    }
+
+    /// The earliest of the entries on a variable, from this one down, after which the literal is true; none where it always was.
+    fn first_true(
+        &mut self,
+        graph: Implications,
+        declared: &Domain,
+        truth: Lit,
+        last: Option<usize>,
+    ) -> Result<Option<usize>, Memory> {
+        if is_true_on(declared, truth) {
+            return Ok(None);
+        }
+        self.orders.first_true(graph, truth, last)
     }
 
     /// Adds the entry after which a literal that is no equation is true, where there is one; at level 0 also what stands behind it.
@@ -171,7 +193,7 @@ impl Causes {
                 return Ok(());
             };
             truth = older;
-            first = first_true(graph, declared, truth, graph.before(place));
+            first = self.first_true(graph, declared, truth, graph.before(place))?;
         }
         Ok(())
     }
@@ -194,7 +216,7 @@ impl Causes {
         let Some(older) = self.add_crossed(graph, declared, place, lit, need)? else {
             return Ok(());
         };
-        let first = first_true(graph, declared, older, graph.before(place));
+        let first = self.first_true(graph, declared, older, graph.before(place))?;
         self.add_from(graph, declared, older, first)
     }
 
@@ -249,7 +271,7 @@ impl Causes {
         crossing: Crossing,
         op: Op,
     ) -> Result<bool, Memory> {
-        let Some(root) = graph.root_domain(place) else {
+        let Some(root) = self.orders.root_domain(graph, place)? else {
             return Ok(false);
         };
         let Some(entry) = graph.entry(place) else {
@@ -293,7 +315,7 @@ impl Causes {
     }
 
     /// Adds the entries before this one that took out the members of the declared set that were crossed; where a set is given, its
-    /// members alone.
+    /// members alone. The newest stand first.
     fn add_taken_out(
         &mut self,
         graph: Implications,
@@ -302,35 +324,109 @@ impl Causes {
         crossing: Crossing,
         root: Option<&Domain>,
     ) -> Result<(), Memory> {
-        let Crossing { from, until } = crossing;
         let members = match root {
             Some(root) => root,
             None => declared,
         };
-        let mut missing = count_between(members, from, until, graph.trail.len());
+        let missing = count_between(members, crossing.from, crossing.until, graph.trail.len());
+        let count = self.found.len();
+        if self.walk_taken_out(graph, members, place, crossing, missing, NEAR)? {
+            return Ok(());
+        }
+        self.found.truncate(count);
+        if missing > FEW {
+            self.walk_taken_out(graph, members, place, crossing, missing, graph.trail.len())?;
+            return Ok(());
+        }
+        self.find_taken_out(graph, members, place, crossing)
+    }
+
+    /// Goes back over so many entries before this one and adds those that took out a member that was crossed. Answers whether all that
+    /// are missing were found, or no entry is left.
+    fn walk_taken_out(
+        &mut self,
+        graph: Implications,
+        members: &Domain,
+        place: usize,
+        crossing: Crossing,
+        missing: usize,
+        most: usize,
+    ) -> Result<bool, Memory> {
+        let mut missing = missing;
         let mut at = place;
-        for _ in 0..graph.trail.len() {
-            if missing == 0 || at >= graph.trail.len() {
-                return Ok(());
+        for _ in 0..most {
+            if missing == 0 {
+                return Ok(true);
             }
-            let Some(older) = graph.trail.before(at) else {
-                return Ok(());
+            let Some(older) = graph.before(at) else {
+                return Ok(true);
             };
             at = older;
-            if at < graph.trail.len() {
-                let need = graph.trail.entry(at).lit;
-                if need.op == Op::NotEqual
-                    && from < need.value
-                    && need.value < until
-                    && members.contains(need.value)
-                {
-                    self.found.push(Cause { place: at, need })?;
-                    missing -= 1;
-                }
+            if let Some(entry) = graph.entry(at)
+                && takes_out(entry.lit, members, crossing)
+            {
+                self.found.push(Cause {
+                    place: at,
+                    need: entry.lit,
+                })?;
+                missing = missing.saturating_sub(1);
             }
+        }
+        Ok(missing == 0)
+    }
+
+    /// Adds the entries before this one that took out a member that was crossed, each found by halves.
+    fn find_taken_out(
+        &mut self,
+        graph: Implications,
+        members: &Domain,
+        place: usize,
+        crossing: Crossing,
+    ) -> Result<(), Memory> {
+        let (Some(entry), Some(last)) = (graph.entry(place), graph.before(place)) else {
+            return Ok(());
+        };
+        self.taken_out.clear();
+        let mut value = crossing.from;
+        for _ in 0..graph.trail.len() {
+            match members.above(value) {
+                Some(next) if next < crossing.until => value = next,
+                _ => break,
+            }
+            let need = Lit {
+                var: entry.lit.var,
+                op: Op::NotEqual,
+                value,
+            };
+            if let Some(found) = self.orders.first_by_halves(graph, need, last)?
+                && graph.is_at(found, need)
+            {
+                self.taken_out.push((found, value))?;
+            }
+        }
+        self.taken_out.sort_unstable();
+        self.taken_out.reverse();
+        for (place, value) in &self.taken_out {
+            let need = Lit {
+                var: entry.lit.var,
+                op: Op::NotEqual,
+                value: *value,
+            };
+            self.found.push(Cause {
+                place: *place,
+                need,
+            })?;
         }
         Ok(())
     }
+}
+
+/// Whether the literal takes out a member that was crossed.
+fn takes_out(lit: Lit, members: &Domain, crossing: Crossing) -> bool {
+    lit.op == Op::NotEqual
+        && crossing.from < lit.value
+        && lit.value < crossing.until
+        && members.contains(lit.value)
 }
 
 /// How many members lie between the numbers, at most so many.
@@ -343,41 +439,4 @@ fn count_between(declared: &Domain, from: i64, until: i64, most: usize) -> usize
         }
     }
     most
-}
-
-/// The earliest of the entries on a variable, from this one down, after which the literal is true; none where it always was.
-fn first_true(
-    graph: Implications,
-    declared: &Domain,
-    truth: Lit,
-    last: Option<usize>,
-) -> Option<usize> {
-    if is_true_on(declared, truth) {
-        return None;
-    }
-    let mut at = last?;
-    for _ in 0..graph.trail.len() {
-        if at >= graph.trail.len() || !is_true_on(graph.trail.domain_before(at), truth) {
-            return Some(at);
-        }
-        at = graph.trail.before(at)?;
-    }
-    None
-}
-
-/// Whether the literal is true at each value of the set.
-fn is_true_on(domain: &Domain, lit: Lit) -> bool
-    ensures { IsTrue result → IsTrueOn domain.now lit }
-{
-    if domain.is_empty() {
-        return true;
-    }
-    match lit.op {
-        Op::AtLeast => lit.value <= domain.min(),
-        Op::AtMost => domain.max() <= lit.value,
-        Op::Equal => lit.value == domain.min() && lit.value == domain.max(),
-        Op::NotEqual => {
-            lit.value < domain.min() || domain.max() < lit.value || !domain.contains(lit.value)
-        }
-    }
 }

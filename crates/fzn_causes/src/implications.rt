@@ -40,21 +40,18 @@ impl<'a> Implications<'a> {
         }
     }
 
-    /// The set at level 0 of the variable of an entry above it.
-    pub fn root_domain(self, place: usize) -> Option<&'a Domain> {
-        let mut found = None;
-        let mut at = place;
-        for _ in 0..self.trail.len() {
-            if at >= self.trail.len() || self.trail.entry(at).level == 0 {
-                return found;
-            }
-            found = Some(self.trail.domain_before(at));
-            match self.trail.before(at) {
-                Some(older) => at = older,
-                None => return found,
-            }
+    /// How many entries stand at level 0.
+    pub(crate) fn root_count(self) -> usize {
+        self.trail.count_at(0)
+    }
+
+    /// The set of the entry's variable just before it, where there is such an entry.
+    pub(crate) fn domain_before(self, place: usize) -> Option<&'a Domain> {
+        if place < self.trail.len() {
+            Some(self.trail.domain_before(place))
+        } else {
+            None
         }
-        found
     }
 
     /// The declared set of a variable.

@@ -2,7 +2,7 @@
 ghost use Rattle.std.specs.Prelude.{◌≡◌, ◌↔◌, ◌<ℤ◌, ℤ, true, IsTrue};
 ghost use Rattle.fzn_domain.specs.IntSet.{contains};
 ghost use Rattle.fzn_domain.specs.Literal.{is_true_at, negated};
-ghost use Rattle.fzn_causes.specs.Implied.{Implies, AreAlike};
+ghost use Rattle.fzn_causes.specs.Implied.{Implies, AreAlike, IsTrueOn};
 
 use fzn_domain::{Domain, Lit, Op};
 
@@ -83,5 +83,22 @@ pub fn implies(first: Lit, second: Lit) -> bool
         (Op::AtLeast, Op::NotEqual) => second.value < first.value,
         (Op::NotEqual, Op::NotEqual) => first.value == second.value,
         _ => false,
+    }
+}
+
+/// Whether the literal is true at each value of the set.
+pub fn is_true_on(domain: &Domain, lit: Lit) -> bool
+    ensures { IsTrue result → IsTrueOn domain.now lit }
+{
+    if domain.is_empty() {
+        return true;
+    }
+    match lit.op {
+        Op::AtLeast => lit.value <= domain.min(),
+        Op::AtMost => domain.max() <= lit.value,
+        Op::Equal => lit.value == domain.min() && lit.value == domain.max(),
+        Op::NotEqual => {
+            lit.value < domain.min() || domain.max() < lit.value || !domain.contains(lit.value)
+        }
     }
 }

@@ -14,3 +14,4 @@ mod causes;
 mod gaps;
 mod implications;
 mod implied;
+mod orders;

@@ -8,8 +8,9 @@ use Rattle.fzn_domain.specs.declared.literal.VarId.{VarId}
 use Rattle.fzn_domain.specs.IntSet.{IntSet}
 use Rattle.fzn_domain.specs.Narrow.{set_of}
 use Rattle.fzn_clauses.specs.declared.lists.Watcher.{Watcher}
-use Rattle.fzn_clauses.specs.Keys.{place_of, operator_at, key, IsStill}
-use Rattle.fzn_clauses.specs.Kept.{AreSpared}
+use Rattle.fzn_clauses.specs.declared.state.Fallen.{Fallen}
+use Rattle.fzn_clauses.specs.Keys.{place_of, operator_at, key, AreFallen, IsStill}
+use Rattle.fzn_clauses.specs.Kept.{AreOutside, AreSpared}
 use Rattle.fzn_clauses.specs.Lists.{no_watcher}
 use Rattle.fzn_clauses.proofs.PlaceLemmas.{operator_is, place_among_less}
 
@@ -51,3 +52,11 @@ AreSpared-more earlier entry sets var place list j from end in_range next own po
       ap (λ (n : ℕ). literal n lit.op lit.value) one.0 ∙ ap (λ (o : Op). literal var.0 o lit.value) (operator_is lit place one.1) ∙ ap (literal var.0 (operator_at place)) value in
       subst (λ (l : Lit). IsStill earlier entry (set_of sets l.var) l) (sym same) possible
 ]
+
+-- watchers with other numbers than those that may have fallen
+pub AreSpared-outside : (earlier : IntSet) (entry : Lit) (sets : List IntSet) (var : VarId) (place : ℕ) (list : List Watcher) (fallen : Fallen) (from end : ℕ) → place < 18 → key var.0 place < 2 ^ 64 - 1 → AreFallen earlier (set_of sets var) entry place fallen → AreOutside fallen list from end → AreSpared earlier entry sets (key var.0 place) list from end
+AreSpared-outside earlier entry sets var place list fallen from end in_range own fell outside i lit low high is at =
+    let one = one_key lit.var.0 var.0 (place_of lit) place (place_among_less lit.op lit.value) in_range is own in
+    let same : lit ≡ literal var.0 (operator_at place) (get_or list i no_watcher).value =
+    ap (λ (n : ℕ). literal n lit.op lit.value) one.0 ∙ ap (λ (o : Op). literal var.0 o lit.value) (operator_is lit place one.1) ∙ ap (literal var.0 (operator_at place)) at in
+    subst (λ (l : Lit). IsStill earlier entry (set_of sets l.var) l) (sym same) (fell.others var (get_or list i no_watcher).value (outside i low high))

@@ -7,7 +7,7 @@ ghost use Rattle.fzn_trail.specs.Levels.{NoneEmpty, fresh};
 ghost use Rattle.fzn_clauses.specs.Guard.{literal_at, IsPair, IsPossibleAt, IsSatisfied};
 ghost use Rattle.fzn_clauses.specs.Held.{IsHeld, clause_of, AllHeld, held_in};
 ghost use Rattle.fzn_clauses.specs.Rooted.{AreVisited, IsRooted};
-ghost use Rattle.fzn_clauses.specs.Kept.{AreBelow, AreSpared, IsLast, KeepsRewound, KeepsRuns, KeepsRunning, KeepsWatching, LooksAt, Sweeps, Visits, VisitsAll, VisitsEntry};
+ghost use Rattle.fzn_clauses.specs.Kept.{AreBelow, AreOutside, AreSpared, IsLast, KeepsRewound, KeepsRuns, KeepsRunning, KeepsWatching, LooksAt, Sweeps, Visits, VisitsAll, VisitsEntry};
 ghost use Rattle.fzn_clauses.specs.Propagation.{IsPropagated, IsConflict, AllSettled};
 ghost use Rattle.fzn_clauses.specs.Watched.{watched_at, removed, added};
 ghost use Rattle.fzn_clauses.specs.Watching.{held_by, IsAt, IsOn, IsTidy, IsEnlistedAt, Enlists, Lengthens, IsRewatched, IsReady, IsRewound, IsRising, IsWatching, AreVariables, Ran, Settles, set_at_mark, start_of};
@@ -20,7 +20,10 @@ ghost use Rattle.fzn_clauses.specs.Looks.{IsForced, LooksAs};
 use crate::arena::{Arena, Pair};
 use crate::keys::{PLACES, key_at, key_of, operator_at};
 use crate::lists::{Lists, Watcher};
-use crate::state::{ClauseState, can_fail, is_certain, may_have_fallen, next_place, state_of};
+use crate::state::{
+    ClauseState, Fallen, can_fail, fallen_numbers, is_certain, may_have_fallen, next_place,
+    state_of,
+};
 use fzn_domain::{Lit, Memory};
 use fzn_trail::{ClauseId, Reason, Trail};
 use std::alloc::Global;
@@ -347,12 +350,22 @@ impl Clauses {
         ensures mark { OnOk result (trail.new.mark ≡ trail.old.mark) }
         ensures all { IfOk result (λ found. IfNone found (VisitsEntry (set_at_mark trail.old) lit self.old self.new trail.old trail.new)) }
     {
-        let mut place = next_place(trail.domain(lit.var), lit, 0);
+        let mut place = next_place(
+            trail.domain_before(trail.seen()),
+            trail.domain(lit.var),
+            lit,
+            0,
+        );
         while place < PLACES {
             if let Some(k) = self.visit_all(lit, place, trail)? {
                 return Ok(Some(k));
             }
-            place = next_place(trail.domain(lit.var), lit, place + 1);
+            place = next_place(
+                trail.domain_before(trail.seen()),
+                trail.domain(lit.var),
+                lit,
+                place + 1,
+            );
         }
         Ok(None)
     }
@@ -399,11 +412,17 @@ impl Clauses {
         ensures found { IfSome result (λ j. (j < end) × AreSpared (set_at_mark trail.now) entry trail.now.sets (key_at entry.var place) (list_at self.now.lists (key_at entry.var place)) (j + 1) end) }
         ensures none { IfNone result (AreSpared (set_at_mark trail.now) entry trail.now.sets (key_at entry.var place) (list_at self.now.lists (key_at entry.var place)) 0 end) }
     {
+        if end == 0 {
+            return None;
+        }
         let key = key_at(entry.var, place);
         let op = operator_at(place);
         let domain = trail.domain(entry.var);
         let before = trail.domain_before(trail.seen());
         let list = self.lists.list(key);
+        if let Some(fallen) = fallen_numbers(before, domain, entry, place, key) {
+            return last_between(list, end, fallen);
+        }
         let mut j = end;
         while j > 0 {
             j -= 1;
@@ -567,6 +586,23 @@ impl Clauses {
         let listed = self.arena.is_live(k) && self.arena.is_listed(k);
         listed && (place == pair.first || place == pair.second)
     }
+}
+
+/// The last watcher before this one whose number is one of these.
+fn last_between(list: &[Watcher], end: usize, fallen: Fallen) -> Option<usize>
+    requires within { end ≤ length list.now }
+    ensures found { IfSome result (λ j. (j < end) × AreOutside fallen list.now (j + 1) end) }
+    ensures none { IfNone result (AreOutside fallen list.now 0 end) }
+{
+    let mut j = end;
+    while j > 0 {
+        j -= 1;
+        let value = list[j].value;
+        if fallen.from <= value && value < fallen.until {
+            return Some(j);
+        }
+    }
+    None
 }
 
 /// Whether a level was pushed before all entries below it were visited.

@@ -1,15 +1,20 @@
-use Rattle.std.proofs.Common.{arith, List, ◌≡◌, ◌<◌, ◌-◌, ◌^◌, ℕ, ℤ, FitsSigned, w64, rules, to_z-of_z, get_or, ap, ◌∙◌, subst}
+use Rattle.std.proofs.Common.{arith, List, ◌≡◌, ◌<◌, ◌+◌, ◌-◌, ◌^◌, ℕ, ℤ, FitsSigned, w64, rules, to_z-of_z, get_or, ap, ◌∙◌, subst, Option, Some, None, IfNone}
+use Rattle.std.proofs.lemmas.Option.{IfSome_then}
 use Rattle.fzn_domain.specs.declared.literal.Op.{Op}
 use Rattle.fzn_domain.specs.IntSet.{IntSet}
 use Rattle.fzn_domain.specs.Narrow.{set_of}
 use Rattle.fzn_trail.specs.Replay.{set_before}
 use Rattle.fzn_clauses.specs.declared.lists.Watcher.{Watcher}
-use Rattle.fzn_clauses.specs.Keys.{key_at, operator_at, IsStill}
-use Rattle.fzn_clauses.specs.Kept.{AreSpared}
+use Rattle.fzn_clauses.specs.Keys.{key_at, operator_at, AreFallen, IsStill}
+use Rattle.fzn_clauses.specs.Kept.{AreOutside, AreSpared}
 use Rattle.fzn_clauses.specs.Lists.{list_at, no_watcher}
 use Rattle.fzn_clauses.specs.Watching.{set_at_mark}
-use Rattle.fzn_clauses.proofs.SparedLemmas.{AreSpared-none, AreSpared-more}
+use Rattle.fzn_clauses.proofs.SparedLemmas.{AreSpared-none, AreSpared-more, AreSpared-outside}
 use Rattle.fzn_clauses.proofs.clauses.Clauses.last_fallen.Goals as goal
+
+IfNone_then : (r : Option ℕ) {P Q : Type 0} → IfNone r P → (P → Q) → IfNone r Q
+IfNone_then None p then = then p
+IfNone_then (Some j) p then = p
 
 pub loop-j-init : goal.loop-j-init
 loop-j-init c = record {
@@ -52,3 +57,38 @@ pub returns-clause-none : goal.returns-clause-none
 returns-clause-none c =
     subst (λ (n : ℕ). AreSpared (set_at_mark c.args.trail.now) c.args.entry c.args.trail.now.sets (key_at c.args.entry.var c.args.place) (list_at c.args.self.now.lists (key_at c.args.entry.var c.args.place)) n c.args.end)
     (omega (arith, c.loop-j-test.false)) c.loop-j.invariant.spared
+
+pub returns-in-Some-clause-found : goal.returns-in-Some-clause-found
+returns-in-Some-clause-found c =
+    let list : c.list-list.result.now ≡ list_at c.args.self.now.lists (key_at c.args.entry.var c.args.place) =
+    c.list-list.ensures ∙ ap (λ (n : ℕ). list_at c.args.self.now.lists n) c.key_at-key.ensures in
+    let earlier : c.domain_before-before.result.now ≡ set_at_mark c.args.trail.now =
+    c.domain_before-before.ensures.value ∙ ap (λ (n : ℕ). set_before c.args.trail.now.declared c.args.trail.now.entries n) c.seen.ensures.value in
+    let fell : AreFallen (set_at_mark c.args.trail.now) (set_of c.args.trail.now.sets c.args.entry.var) c.args.entry c.args.place c.in-Some.fallen =
+    subst (λ (s : IntSet). AreFallen s (set_of c.args.trail.now.sets c.args.entry.var) c.args.entry c.args.place c.in-Some.fallen) earlier
+    (subst (λ (s : IntSet). AreFallen c.domain_before-before.result.now s c.args.entry c.args.place c.in-Some.fallen) c.domain-domain.ensures.value c.in-Some.ensures.fallen) in
+    IfSome_then c.last_between.result c.last_between.ensures.found (λ j found. (
+      found.0,
+      AreSpared-outside (set_at_mark c.args.trail.now) c.args.entry c.args.trail.now.sets c.args.entry.var c.args.place (list_at c.args.self.now.lists (key_at c.args.entry.var c.args.place)) c.in-Some.fallen (j + 1) c.args.end
+          c.requires.in_range (subst (λ (n : ℕ). n < 2 ^ 64 - 1) c.key_at-key.ensures c.in-Some.ensures.own) fell
+          (subst (λ (l : List Watcher). AreOutside c.in-Some.fallen l (j + 1) c.args.end) list found.1),
+    ))
+
+pub returns-in-Some-clause-none : goal.returns-in-Some-clause-none
+returns-in-Some-clause-none c =
+    let list : c.list-list.result.now ≡ list_at c.args.self.now.lists (key_at c.args.entry.var c.args.place) =
+    c.list-list.ensures ∙ ap (λ (n : ℕ). list_at c.args.self.now.lists n) c.key_at-key.ensures in
+    let earlier : c.domain_before-before.result.now ≡ set_at_mark c.args.trail.now =
+    c.domain_before-before.ensures.value ∙ ap (λ (n : ℕ). set_before c.args.trail.now.declared c.args.trail.now.entries n) c.seen.ensures.value in
+    let fell : AreFallen (set_at_mark c.args.trail.now) (set_of c.args.trail.now.sets c.args.entry.var) c.args.entry c.args.place c.in-Some.fallen =
+    subst (λ (s : IntSet). AreFallen s (set_of c.args.trail.now.sets c.args.entry.var) c.args.entry c.args.place c.in-Some.fallen) earlier
+    (subst (λ (s : IntSet). AreFallen c.domain_before-before.result.now s c.args.entry c.args.place c.in-Some.fallen) c.domain-domain.ensures.value c.in-Some.ensures.fallen) in
+    IfNone_then c.last_between.result c.last_between.ensures.none (λ outside.
+    AreSpared-outside (set_at_mark c.args.trail.now) c.args.entry c.args.trail.now.sets c.args.entry.var c.args.place (list_at c.args.self.now.lists (key_at c.args.entry.var c.args.place)) c.in-Some.fallen 0 c.args.end
+    c.requires.in_range (subst (λ (n : ℕ). n < 2 ^ 64 - 1) c.key_at-key.ensures c.in-Some.ensures.own) fell
+    (subst (λ (l : List Watcher). AreOutside c.in-Some.fallen l 0 c.args.end) list outside))
+
+pub returns-then-end-eq0-clause-none : goal.returns-then-end-eq0-clause-none
+returns-then-end-eq0-clause-none c =
+    subst (λ (n : ℕ). AreSpared (set_at_mark c.args.trail.now) c.args.entry c.args.trail.now.sets (key_at c.args.entry.var c.args.place) (list_at c.args.self.now.lists (key_at c.args.entry.var c.args.place)) n c.args.end) c.if-end-eq0.true
+    (AreSpared-none (set_at_mark c.args.trail.now) c.args.entry c.args.trail.now.sets (key_at c.args.entry.var c.args.place) (list_at c.args.self.now.lists (key_at c.args.entry.var c.args.place)) c.args.end)
