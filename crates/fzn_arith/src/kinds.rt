@@ -6,9 +6,9 @@ ghost use Rattle.fzn_meaning.specs.Solutions.{declared_sets};
 ghost use Rattle.fzn_meaning.specs.Meaning.{IsWellFormed as IsFormed};
 ghost use Rattle.fzn_meaning.specs.WellFormed.{IsWellFormed};
 ghost use Rattle.fzn_builtin_rules.specs.Form.{form_of};
-ghost use Rattle.fzn_propagator.specs.declared.cost.Cost.TheVariants as cost;
 ghost use Rattle.fzn_propagator.specs.Subscriptions.{terms_of, AreHeard};
 ghost use Rattle.fzn_arith.specs.Kinds.{form_in, IsFormOf, IsReady};
+ghost use Rattle.fzn_arith.specs.Costs.{kind_cost};
 ghost use Rattle.fzn_arith.specs.AnyKind.{kind_number, KindIsFor, KindFits, sum_in};
 ghost use Rattle.fzn_arith.specs.Wakes.{wake_of, sum_subscriptions};
 
@@ -72,7 +72,7 @@ impl Propagator for ArithPropagator {
     }
 
     fn cost(&self) -> Cost
-        ensures { result ≡ cost.Small }
+        ensures { result ≡ kind_cost self.now }
     {
         match self {
             ArithPropagator::Sum(propagator) => propagator.cost(),

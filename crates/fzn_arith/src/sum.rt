@@ -9,9 +9,9 @@ ghost use Rattle.fzn_meaning.specs.Meaning.{IsSwitch};
 ghost use Rattle.fzn_meaning.specs.Term.{IsTerm, IsPlace};
 ghost use Rattle.fzn_rules.specs.declared.rule.Rule.TheVariants.{Lin};
 ghost use Rattle.fzn_sets.specs.Terms.{least_value, greatest_value};
-ghost use Rattle.fzn_propagator.specs.declared.cost.Cost.TheVariants as cost;
 ghost use Rattle.fzn_propagator.specs.Inference.{AreExhausted};
 ghost use Rattle.fzn_propagator.specs.Subscriptions.{terms_of, AreHeard};
+ghost use Rattle.fzn_arith.specs.Costs.{cost_of};
 ghost use Rattle.fzn_arith.specs.Kinds.{form_in, IsFormOf, IsReady};
 ghost use Rattle.fzn_arith.specs.Rest.{guard_of, IsAsked, AddsInferences};
 ghost use Rattle.fzn_arith.specs.Sum.{IsSum, IsFound, IsLeftAlone};
@@ -30,6 +30,9 @@ use fzn_sums::{ends_of, floors_of, next_forced, refute_place, slack_within};
 use fzn_terms::{greatest_of, is_fixed, least_of};
 use fzn_trail::Trail;
 use std::alloc::Global;
+
+/// A sum of more places is wide.
+const WIDE: usize = 64;
 
 /// The sum of a constraint's form compares so with its bound, and the opposite form does not.
 #[derive(Debug, Drop)]
@@ -233,10 +236,15 @@ impl Propagator for SumPropagator {
         subscriptions_of(alloc, self)
     }
 
+    /// A wide sum is asked after all that costs less, so that a bound which many places move is moved once.
     fn cost(&self) -> Cost
-        ensures { result ≡ cost.Small }
+        ensures { result ≡ cost_of (length self.now.form.places) }
     {
-        Cost::Small
+        if WIDE < self.form.places.len() {
+            Cost::Great
+        } else {
+            Cost::Small
+        }
     }
 
     fn propagate(&self, alloc: Global, trail: &Trail, found: &mut Findings) -> Result<(), Memory> {

@@ -10,12 +10,12 @@ ghost use Rattle.fzn_propagator.specs.Inference.{AreFoundOf};
 use crate::excluded::Shape;
 use crate::exclusion::infer_ends;
 use fzn_domain::{GREATEST_VALUE, LEAST_VALUE, Lit, Memory};
-use fzn_equality::SMALL;
+use fzn_equality::{SMALL, is_narrow, value_count};
 use fzn_list::Items;
 use fzn_meaning::Term;
 use fzn_propagator::Findings;
 use fzn_rules::Rule;
-use fzn_terms::{Claim, explanation_of, greatest_of, least_of, may_be};
+use fzn_terms::{Claim, explanation_of, may_be, next_value};
 use fzn_trail::Trail;
 use std::alloc::Global;
 
@@ -58,24 +58,6 @@ pub fn infer_amount(
 
 // ---- what is found
 
-/// Whether the first term may be this value, whose amount the other may not be.
-fn is_without_amount(trail: &Trail, of: Term, amount: Term, value: i64) -> bool
-    requires of { IsTerm (length trail.now.declared) of }
-    requires amount { IsTerm (length trail.now.declared) amount }
-{
-    may_be(trail, of, &value) && !may_be(trail, amount, &amount_of(value))
-}
-
-/// Whether the amount may be this value, which no value of the first term has.
-fn is_amount_of_none(trail: &Trail, of: Term, amount: Term, value: i64) -> bool
-    requires of { IsTerm (length trail.now.declared) of }
-    requires amount { IsTerm (length trail.now.declared) amount }
-{
-    may_be(trail, amount, &value)
-        && !may_be(trail, of, &value)
-        && !may_be(trail, of, &opposite(value))
-}
-
 fn opposite(value: i64) -> i64 {
     0i64.saturating_sub(value)
 }
@@ -86,7 +68,7 @@ fn amount_of(value: i64) -> i64 {
 
 // ---- what is handed over
 
-/// The clauses that the first term has not a value whose amount the other has not, where it has few values.
+/// The clauses that the first term has not a value whose amount the other has not, where it is narrow.
 fn part_values(
     alloc: Global,
     trail: &Trail,
@@ -101,20 +83,44 @@ fn part_values(
     requires before { AreFoundOf number (constraint.IntAbs of amount) trail.now found.old }
     ensures { AreFoundOf number (constraint.IntAbs of amount) trail.now found.new }
 {
-    let (low, high) = (least_of(trail, of), greatest_of(trail, of));
-    if high - low >= SMALL {
+    let kept = value_count(trail, amount).saturating_mul(2);
+    if !is_narrow(trail, of, kept) {
         return Ok(());
     }
-    for value in low..high + 1 {
-        if is_without_amount(trail, of, amount, value) {
-            let clause = other_value_or_amount(alloc, trail, of, amount, value)?;
-            found.hand_over(number, Rule::Rows, clause)?;
-        }
+    let mut passed = i64::MIN;
+    for _ in 0..SMALL {
+        let Some(value) = next_value(trail, of, &passed) else {
+            return Ok(());
+        };
+        part_value(alloc, trail, number, of, amount, value, found)?;
+        passed = value;
     }
     Ok(())
 }
 
-/// The clauses that the amount is not one that no value of the other term has, where it has few values.
+/// The clause that the first term has not this value, where the other has not its amount.
+fn part_value(
+    alloc: Global,
+    trail: &Trail,
+    number: u64,
+    of: Term,
+    amount: Term,
+    value: i64,
+    found: &mut Findings,
+) -> Result<(), Memory>
+    requires of { IsTerm (length trail.now.declared) of }
+    requires amount { IsTerm (length trail.now.declared) amount }
+    requires before { AreFoundOf number (constraint.IntAbs of amount) trail.now found.old }
+    ensures { AreFoundOf number (constraint.IntAbs of amount) trail.now found.new }
+{
+    if may_be(trail, amount, &amount_of(value)) {
+        return Ok(());
+    }
+    let clause = other_value_or_amount(alloc, trail, of, amount, value)?;
+    found.hand_over(number, Rule::Rows, clause)
+}
+
+/// The clauses that the amount is not one that no value of the other term has, where it is narrow.
 fn part_amounts(
     alloc: Global,
     trail: &Trail,
@@ -129,17 +135,40 @@ fn part_amounts(
     requires before { AreFoundOf number (constraint.IntAbs of amount) trail.now found.old }
     ensures { AreFoundOf number (constraint.IntAbs of amount) trail.now found.new }
 {
-    let (low, high) = (least_of(trail, amount), greatest_of(trail, amount));
-    if high - low >= SMALL {
+    if !is_narrow(trail, amount, value_count(trail, of)) {
         return Ok(());
     }
-    for value in low..high + 1 {
-        if is_amount_of_none(trail, of, amount, value) {
-            let clause = value_or_other_amount(alloc, trail, of, amount, value)?;
-            found.hand_over(number, Rule::Rows, clause)?;
-        }
+    let mut passed = i64::MIN;
+    for _ in 0..SMALL {
+        let Some(value) = next_value(trail, amount, &passed) else {
+            return Ok(());
+        };
+        part_amount(alloc, trail, number, of, amount, value, found)?;
+        passed = value;
     }
     Ok(())
+}
+
+/// The clause that the amount is not this value, where no value of the other term has it.
+fn part_amount(
+    alloc: Global,
+    trail: &Trail,
+    number: u64,
+    of: Term,
+    amount: Term,
+    value: i64,
+    found: &mut Findings,
+) -> Result<(), Memory>
+    requires of { IsTerm (length trail.now.declared) of }
+    requires amount { IsTerm (length trail.now.declared) amount }
+    requires before { AreFoundOf number (constraint.IntAbs of amount) trail.now found.old }
+    ensures { AreFoundOf number (constraint.IntAbs of amount) trail.now found.new }
+{
+    if may_be(trail, of, &value) || may_be(trail, of, &opposite(value)) {
+        return Ok(());
+    }
+    let clause = value_or_other_amount(alloc, trail, of, amount, value)?;
+    found.hand_over(number, Rule::Rows, clause)
 }
 
 // ---- what refutes

@@ -8,7 +8,7 @@ ghost use Rattle.fzn_builtin.specs.Intervals.{shaped, rule_of};
 
 use crate::excluded::{Shape, is_excluded};
 use crate::interval::{Interval, declared_interval_of, interval_of};
-use crate::seeming::seems_excluded;
+use crate::seeming::{seem_beyond, seems_excluded};
 use fzn_domain::{Lit, Memory};
 use fzn_list::Items;
 use fzn_meaning::Term;
@@ -17,6 +17,9 @@ use fzn_rules::Rule;
 use fzn_terms::explanation_of;
 use fzn_trail::Trail;
 use std::alloc::Global;
+
+/// How far an end of a quotient's or a remainder's places is moved at most, by steps of few pairs each.
+const FAR: i64 = 1_048_576;
 
 /// How often an interval can be halved.
 const HALVINGS: usize = 64;
@@ -133,14 +136,33 @@ fn add_excluded(
 ) -> Result<(), Memory> {
     let whole = now.at(place);
     let lowest = moved(now, place, End::High, whole.low);
-    if are_excluded(shape, lowest) {
+    if are_excluded(shape, lowest) && !is_far(shape, now, place, End::High, &whole.low) {
         all.push(widened(shape, lowest, place, End::High, whole.high))?;
     }
     let highest = moved(now, place, End::Low, whole.high);
-    if are_excluded(shape, highest) {
+    if are_excluded(shape, highest) && !is_far(shape, now, place, End::Low, &whole.high) {
         all.push(widened(shape, highest, place, End::Low, whole.low))?;
     }
     Ok(())
+}
+
+/// Whether the first place or the second has no number from its other end on that is nearer than FAR: it would take hundreds of steps to
+/// go there.
+fn is_far(shape: Shape, now: Intervals, place: Place, moving: End, other: &i64) -> bool {
+    let whole = now.at(place);
+    if whole.high.saturating_sub(whole.low) <= FAR {
+        return false;
+    }
+    let number = match moving {
+        End::High => other.saturating_add(FAR),
+        End::Low => other.saturating_sub(FAR),
+    };
+    let part = moved(now, place, moving, number);
+    match (shape, place) {
+        (_, Place::Result) => false,
+        (Shape::Remainder, Place::Right) => true, // No closed form tells which divisors leave a remainder.
+        _ => seem_beyond(shape, part.left, part.right, part.of),
+    }
 }
 
 /// The intervals, each end moved towards the declared one as far as they are excluded.

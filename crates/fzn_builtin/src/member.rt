@@ -17,12 +17,12 @@ ghost use Rattle.fzn_builtin.specs.Members.{AreAsked, IsNextAsked, NoneAsked, Is
 
 use crate::interval::{Interval, interval_of};
 use fzn_domain::{Domain, GREATEST_VALUE, LEAST_VALUE, Lit, Memory};
-use fzn_equality::SMALL;
+use fzn_equality::{SMALL, is_narrow};
 use fzn_list::Items;
 use fzn_meaning::Term;
 use fzn_propagator::Findings;
 use fzn_rules::Rule;
-use fzn_terms::{Claim, explanation_of, greatest_of, is_fixed, least_of, may_be};
+use fzn_terms::{Claim, explanation_of, greatest_of, is_fixed, least_of, may_be, next_value};
 use fzn_trail::Trail;
 use std::alloc::Global;
 
@@ -95,8 +95,8 @@ fn are_all(trail: &Trail, term: Term, set: &Domain, within: bool) -> bool
     true
 }
 
-/// The intervals around each end of the term's values, and around each between them where they are few, in which the set has not what is
-/// asked for.
+/// The intervals around each end of the term's values, and around each between them where the term is narrow, in which the set has not
+/// what is asked for.
 fn misfits(
     alloc: Global,
     trail: &Trail,
@@ -121,10 +121,15 @@ fn misfits(
         all.push(interval)?;
         until = interval.low.saturating_sub(1);
     }
-    if high - low < SMALL {
+    if is_narrow(trail, term, kept_count(set, within)) {
         add_misfits(trail, term, set, within, from, until, &mut all)?;
     }
     Ok(all)
+}
+
+/// How many values may stay, as far as it is known.
+fn kept_count(set: &Domain, within: bool) -> usize {
+    if within { set.len() } else { usize::MAX }
 }
 
 /// Adds each of the term's values from one number up to another at which the set has not what is asked for.
@@ -139,10 +144,18 @@ fn add_misfits(
 ) -> Result<(), Memory>
     requires term { IsTerm (length trail.now.declared) term }
 {
-    for value in from..until.saturating_add(1) {
-        if may_be(trail, term, &value) && set.contains(value) != within {
+    let mut passed = from.saturating_sub(1);
+    for _ in 0..SMALL {
+        let Some(value) = next_value(trail, term, &passed) else {
+            return Ok(());
+        };
+        if until < value {
+            return Ok(());
+        }
+        if set.contains(value) != within {
             all.push(Interval::only(value))?;
         }
+        passed = value;
     }
     Ok(())
 }

@@ -9,12 +9,11 @@ use crate::excluded::{Shape, are_few};
 use crate::exclusion::{hand_over_outside, infer_ends};
 use crate::interval::{Interval, interval_of};
 use fzn_domain::{Domain, GREATEST_VALUE, LEAST_VALUE, Lit, Memory, Op, VarId};
-use fzn_equality::SMALL;
+use fzn_equality::{SMALL, is_narrow};
 use fzn_fixed::{Outcome, of_operation};
 use fzn_list::Items;
 use fzn_meaning::{Operation, Term};
 use fzn_propagator::Findings;
-use fzn_terms::{greatest_of, least_of};
 use fzn_trail::Trail;
 use std::alloc::Global;
 
@@ -115,7 +114,7 @@ fn is_last_open(left: Interval, right: Interval, of: Interval) -> bool {
     }
 }
 
-/// The values of the result, where it and the pairs are few, that no pair gives: so many that the pairs which rule them out are about as few.
+/// The values of the result, where it is narrow and the pairs are few, that no pair gives: so many that the pairs which rule them out are about as few.
 fn values_of_none(
     alloc: Global,
     trail: &Trail,
@@ -131,8 +130,7 @@ fn values_of_none(
     let Term::Variable(var) = of else {
         return Ok(values);
     };
-    let (low, high) = (least_of(trail, of), greatest_of(trail, of));
-    if high - low >= SMALL || !left.is_limited() || !right.is_limited() || !are_few(left, right) {
+    if !is_result_narrow(trail, left, right, of) || !left.is_limited() || !right.is_limited() {
         return Ok(values);
     }
     let mut rest = trail.domain(var).copy()?;
@@ -151,6 +149,26 @@ fn values_of_none(
         passed = value;
     }
     Ok(values)
+}
+
+/// Whether the pairs are few, and the result is narrow beside them.
+fn is_result_narrow(trail: &Trail, left: Interval, right: Interval, of: Term) -> bool
+    requires of { IsTerm (length trail.now.declared) of }
+    requires filled { NoneEmpty trail.now.sets }
+{
+    if !left.is_limited() || !right.is_limited() || !are_few(left, right) {
+        return false;
+    }
+    is_narrow(trail, of, pair_count(left, right))
+}
+
+/// How many pairs of few there are.
+fn pair_count(left: Interval, right: Interval) -> usize
+    requires left { IsLimitedInterval left }
+    requires right { IsLimitedInterval right }
+{
+    let pairs = (left.high - left.low + 1).saturating_mul(right.high - right.low + 1);
+    if pairs < 1 { 0 } else { pairs as usize }
 }
 
 /// How many values are ruled out in one pass at most, by all pairs each.

@@ -33,6 +33,9 @@ fn is_given_by_no_divisor(shape: Shape, left: Interval, right: Interval, of: Int
     requires right { IsLimitedInterval right }
     requires of { IsLimitedInterval of }
 {
+    if are_all_beyond(shape, left, right, of) {
+        return true;
+    }
     for step in 0..STEPS {
         let divisor = right.low + step as i64;
         if right.high < divisor {
@@ -43,6 +46,67 @@ fn is_given_by_no_divisor(shape: Shape, left: Interval, right: Interval, of: Int
         }
     }
     false
+}
+
+/// Whether quotients or remainders of numbers of the intervals seem to lie on one side of the third, however many pairs there are.
+pub fn seem_beyond(shape: Shape, left: Interval, right: Interval, of: Interval) -> bool {
+    if !left.is_limited() || !right.is_limited() || !of.is_limited() {
+        return false;
+    }
+    match shape {
+        Shape::Product | Shape::Amount => false,
+        Shape::Quotient | Shape::Remainder => are_all_beyond(shape, left, right, of),
+    }
+}
+
+/// The same by the divisors below 0 and those above, whose ends alone are looked at.
+fn are_all_beyond(shape: Shape, left: Interval, right: Interval, of: Interval) -> bool
+    requires left { IsLimitedInterval left }
+    requires right { IsLimitedInterval right }
+    requires of { IsLimitedInterval of }
+{
+    !may_reach(shape, left, &right.low, &right.high.min(-1), of)
+        && !may_reach(shape, left, &right.low.max(1), &right.high, of)
+}
+
+/// Whether divisors from one up to another, all of one sign, may give a number of the second interval, by their ends.
+fn may_reach(shape: Shape, left: Interval, low: &i64, high: &i64, of: Interval) -> bool
+    requires left { IsLimitedInterval left }
+    requires of { IsLimitedInterval of }
+{
+    if *high < *low || *low == 0 || *high == 0 {
+        return false;
+    }
+    match shape {
+        Shape::Quotient => may_reach_quotient(left, low, high, of),
+        _ => may_reach_remainder(left, low, high, of),
+    }
+}
+
+/// The same of quotients, the least and the greatest of which are at ends of both.
+fn may_reach_quotient(left: Interval, low: &i64, high: &i64, of: Interval) -> bool
+    requires left { IsLimitedInterval left }
+    requires low { low.now ≢ pos 0 }
+    requires high { high.now ≢ pos 0 }
+{
+    let (a, b) = (left.low / *low, left.low / *high);
+    let (c, d) = (left.high / *low, left.high / *high);
+    a.min(b).min(c).min(d) <= of.high && of.low <= a.max(b).max(c).max(d)
+}
+
+/// The same of remainders: a dividend that is smaller than each divisor is its own, and others are smaller than a divisor.
+fn may_reach_remainder(left: Interval, low: &i64, high: &i64, of: Interval) -> bool {
+    let (one, other) = (low.unsigned_abs(), high.unsigned_abs());
+    let (below, above) = (
+        left.low.min(0).unsigned_abs(),
+        left.high.max(0).unsigned_abs(),
+    );
+    if below.max(above) < one.min(other) {
+        return left.low <= of.high && of.low <= left.high;
+    }
+    let most = one.max(other).saturating_sub(1);
+    of.low.max(0).unsigned_abs() <= above.min(most)
+        && of.high.min(0).unsigned_abs() <= below.min(most)
 }
 
 /// Whether the divisor and some number of the first interval give one of the second.

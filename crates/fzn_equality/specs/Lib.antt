@@ -1,3 +1,4 @@
 pub mod Equality
+pub mod Narrow
 pub mod Rows
 pub mod Shared

@@ -12,8 +12,9 @@ ghost use Rattle.fzn_propagator.specs.Clause.{IsJustified};
 ghost use Rattle.fzn_propagator.specs.Inference.{AreFoundOf};
 ghost use Rattle.fzn_equality.specs.Rows.{IsRuledOut, LeavesNoIndex};
 
+use crate::narrow::{is_narrow, value_count};
 use crate::shared::{share_none, shared_values};
-use crate::terms::{Bound, SMALL, apart, claim_of, narrowings, other_than_each, take_out};
+use crate::terms::{Bound, apart, claim_of, narrowings, other_than_each, take_out};
 use fzn_domain::{Lit, Memory, Op};
 use fzn_list::Items;
 use fzn_meaning::Term;
@@ -130,7 +131,7 @@ fn ends_of_all(
     Ok(ends)
 }
 
-/// That the result is another than each of its values, where it has few, that no entry has to which the index may lead.
+/// That the result is another than each of its values, where it is narrow, that no entry has to which the index may lead.
 fn values_of_none(
     alloc: Global,
     trail: &Trail,
@@ -147,20 +148,34 @@ fn values_of_none(
     let Term::Variable(var) = value else {
         return Ok(Items::new(alloc));
     };
-    let (low, high) = (least_of(trail, value), greatest_of(trail, value));
-    if high - low >= SMALL {
+    if !is_narrow(trail, value, values_of_some(trail, index, entries)) {
         return Ok(Items::new(alloc));
     }
     let mut left = trail.domain(var).copy()?;
     for k in 0..entries.len() {
         if may_be(trail, index, &(k as i64 + 1)) {
-            take_out(trail, entries[k], low, high, var, &mut left)?;
+            take_out(trail, entries[k], var, &mut left)?;
             if left.is_empty() {
                 return Ok(Items::new(alloc));
             }
         }
     }
     other_than_each(alloc, &left)
+}
+
+/// How many values the entries have at most to which the index may lead.
+fn values_of_some(trail: &Trail, index: Term, entries: &[Term]) -> usize
+    requires index { IsTerm (length trail.now.declared) index }
+    requires entries { All (IsTerm (length trail.now.declared)) entries.now }
+    requires short { length entries.now ≤ 100000 }
+{
+    let mut count = 0usize;
+    for k in 0..entries.len() {
+        if may_be(trail, index, &(k as i64 + 1)) {
+            count = count.saturating_add(value_count(trail, entries[k]));
+        }
+    }
+    count
 }
 
 // ---- what is handed over

@@ -11,7 +11,8 @@ ghost use Rattle.fzn_rules.specs.declared.rule.Rule.TheVariants as rule;
 ghost use Rattle.fzn_propagator.specs.Clause.{IsJustified};
 ghost use Rattle.fzn_propagator.specs.Inference.{AreFoundOf};
 
-use crate::terms::{Bound, SMALL, claim_of, other_than_each, take_out};
+use crate::narrow::{is_narrow, value_count};
+use crate::terms::{Bound, claim_of, other_than_each, take_out};
 use fzn_domain::{Lit, Memory, Op};
 use fzn_list::Items;
 use fzn_meaning::{Extreme, Term};
@@ -242,7 +243,7 @@ fn ends_of_least(
     Ok((ends, all < low))
 }
 
-/// That the result is another than each of its values, where it has few, that no entry has.
+/// That the result is another than each of its values, where it is narrow, that no entry has.
 fn values_of_none(
     alloc: Global,
     trail: &Trail,
@@ -256,18 +257,28 @@ fn values_of_none(
     let Term::Variable(var) = of else {
         return Ok(Items::new(alloc));
     };
-    let (low, high) = (least_of(trail, of), greatest_of(trail, of));
-    if high - low >= SMALL {
+    if !is_narrow(trail, of, values_of_all(trail, entries)) {
         return Ok(Items::new(alloc));
     }
     let mut left = trail.domain(var).copy()?;
     for entry in entries {
-        take_out(trail, *entry, low, high, var, &mut left)?;
+        take_out(trail, *entry, var, &mut left)?;
         if left.is_empty() {
             return Ok(Items::new(alloc));
         }
     }
     other_than_each(alloc, &left)
+}
+
+/// How many values the entries have at most.
+fn values_of_all(trail: &Trail, entries: &[Term]) -> usize
+    requires { All (IsTerm (length trail.now.declared)) entries.now }
+{
+    let mut count = 0usize;
+    for entry in entries {
+        count = count.saturating_add(value_count(trail, *entry));
+    }
+    count
 }
 
 // ---- what is handed over

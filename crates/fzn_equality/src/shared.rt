@@ -16,11 +16,15 @@ use fzn_terms::{Claim, greatest_of, least_of, may_be};
 use fzn_trail::Trail;
 use std::alloc::Global;
 
-/// Whether two variables share no value, as far as a few looks show.
+/// Whether two variables share no value, as far as a few looks show. Those of which `shared_values` would give too many claims share some.
 pub fn share_none(trail: &Trail, left: Term, right: Term) -> bool
     requires left { IsTerm (length trail.now.declared) left }
     requires right { IsTerm (length trail.now.declared) right }
+    requires filled { NoneEmpty trail.now.sets }
 {
+    if common_high(trail, left, right) - common_low(trail, left, right) >= SMALL {
+        return false;
+    }
     match (left, right) {
         (Term::Variable(one), Term::Variable(other)) => {
             are_apart(trail.domain(one), trail.domain(other))

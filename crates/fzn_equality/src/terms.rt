@@ -5,10 +5,11 @@ ghost use Rattle.fzn_domain.specs.Limits.{IsInLimits};
 ghost use Rattle.fzn_domain.specs.Narrow.{NoneEmpty};
 ghost use Rattle.fzn_meaning.specs.Term.{IsTerm};
 
+use crate::narrow::{is_narrow, value_count};
 use fzn_domain::{Domain, Lit, Memory, Op, VarId};
 use fzn_list::Items;
 use fzn_meaning::Term;
-use fzn_terms::{Claim, greatest_of, is_never, least_of, may_be};
+use fzn_terms::{Claim, greatest_of, is_never, least_of, may_be, next_value};
 use fzn_trail::Trail;
 use std::alloc::Global;
 
@@ -79,11 +80,55 @@ pub fn narrowing(trail: &Trail, one: Term, other: Term) -> Option<Bound>
             return *bound;
         }
     }
-    let value = difference(trail, one, other, least_of(trail, one))?;
-    Some(difference_at(trail, one, value))
+    least_difference(trail, one, other)
 }
 
-/// All of the same that the ends show; where they show nothing, all that the numbers do, where these are few.
+/// What the least number shows that one of two terms may be and the other may not, where they have the same ends. Of the two only what is
+/// narrow is looked at.
+fn least_difference(trail: &Trail, one: Term, other: Term) -> Option<Bound>
+    requires one { IsTerm (length trail.now.declared) one }
+    requires other { IsTerm (length trail.now.declared) other }
+    requires filled { NoneEmpty trail.now.sets }
+{
+    match are_narrow(trail, one, other) {
+        (true, true) => {
+            let value = difference(trail, one, other, least_of(trail, one))?;
+            Some(difference_at(trail, one, value))
+        }
+        (true, false) => Some((Op::NotEqual, next_lack(trail, one, other, i64::MIN)?)),
+        (false, true) => Some((Op::Equal, next_lack(trail, other, one, i64::MIN)?)),
+        (false, false) => None,
+    }
+}
+
+/// Whether each of two terms that are to be equal is narrow: what may stay of one of them is no more than the other has.
+fn are_narrow(trail: &Trail, one: Term, other: Term) -> (bool, bool)
+    requires one { IsTerm (length trail.now.declared) one }
+    requires other { IsTerm (length trail.now.declared) other }
+    requires filled { NoneEmpty trail.now.sets }
+{
+    (
+        is_narrow(trail, one, value_count(trail, other)),
+        is_narrow(trail, other, value_count(trail, one)),
+    )
+}
+
+/// The least value of the term above this number that the other may not be. It looks at few of them.
+fn next_lack(trail: &Trail, term: Term, other: Term, passed: i64) -> Option<i64>
+    requires term { IsTerm (length trail.now.declared) term }
+    requires other { IsTerm (length trail.now.declared) other }
+{
+    let mut value = passed;
+    for _ in 0..SMALL {
+        value = next_value(trail, term, &value)?;
+        if !may_be(trail, other, &value) {
+            return Some(value);
+        }
+    }
+    None
+}
+
+/// All of the same that the ends show; where they show nothing, all that the numbers do of what is narrow.
 pub fn narrowings(
     alloc: Global,
     trail: &Trail,
@@ -126,9 +171,50 @@ fn bound_where(holds: bool, op: Op, number: i64) -> Option<Bound> {
     if holds { Some((op, number)) } else { None }
 }
 
-/// Adds what each number shows that one of two terms may be and the other may not, where they have the same ends: from the least such
-/// number up, as far as few.
+/// Adds what each number shows that one of two terms may be and the other may not, where they have the same ends. Of the two only what is
+/// narrow is looked at.
 fn add_differences(
+    trail: &Trail,
+    one: Term,
+    other: Term,
+    bounds: &mut Items<Bound>,
+) -> Result<(), Memory>
+    requires one { IsTerm (length trail.now.declared) one }
+    requires other { IsTerm (length trail.now.declared) other }
+    requires filled { NoneEmpty trail.now.sets }
+{
+    match are_narrow(trail, one, other) {
+        (true, true) => add_all_differences(trail, one, other, bounds),
+        (true, false) => add_lacks(trail, one, other, Op::NotEqual, bounds),
+        (false, true) => add_lacks(trail, other, one, Op::Equal, bounds),
+        (false, false) => Ok(()),
+    }
+}
+
+/// Adds that the first of two equal terms stands so to each value of the term that the other may not be, as far as few.
+fn add_lacks(
+    trail: &Trail,
+    term: Term,
+    other: Term,
+    op: Op,
+    bounds: &mut Items<Bound>,
+) -> Result<(), Memory>
+    requires term { IsTerm (length trail.now.declared) term }
+    requires other { IsTerm (length trail.now.declared) other }
+{
+    let mut passed = i64::MIN;
+    for _ in 0..SMALL {
+        let Some(value) = next_lack(trail, term, other, passed) else {
+            return Ok(());
+        };
+        bounds.push((op, value))?;
+        passed = value;
+    }
+    Ok(())
+}
+
+/// The same of two terms that both are narrow: from the least such number up, as far as few.
+fn add_all_differences(
     trail: &Trail,
     one: Term,
     other: Term,
@@ -216,30 +302,28 @@ pub fn other_than_each(alloc: Global, values: &Domain) -> Result<Items<Bound>, M
     Ok(bounds)
 }
 
-/// Takes the term's values, which count from the lower number up to the upper one, out of the set.
-pub fn take_out(
-    trail: &Trail,
-    term: Term,
-    low: i64,
-    high: i64,
-    var: VarId,
-    left: &mut Domain,
-) -> Result<(), Memory>
+/// Takes the term's values out of the set, of whose members it looks at few.
+pub fn take_out(trail: &Trail, term: Term, var: VarId, left: &mut Domain) -> Result<(), Memory>
     requires term { IsTerm (length trail.now.declared) term }
     requires filled { NoneEmpty trail.now.sets }
-    requires low { IsInLimits low }
-    requires high { IsInLimits high }
 {
-    let from = low.max(least_of(trail, term));
-    let until = high.min(greatest_of(trail, term));
-    for value in from..until + 1 {
-        if left.contains(value) && may_be(trail, term, &value) {
+    let until = greatest_of(trail, term);
+    let mut passed = least_of(trail, term) - 1;
+    for _ in 0..SMALL {
+        let Some(value) = left.above(passed) else {
+            return Ok(());
+        };
+        if until < value {
+            return Ok(());
+        }
+        if may_be(trail, term, &value) {
             left.restrict(Lit {
                 var,
                 op: Op::NotEqual,
                 value,
             })?;
         }
+        passed = value;
     }
     Ok(())
 }

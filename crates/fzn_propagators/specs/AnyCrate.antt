@@ -3,6 +3,7 @@ use Rattle.std.specs.Prelude.{ℕ, List}
 use Rattle.fzn_domain.specs.IntSet.{IntSet}
 use Rattle.fzn_meaning.specs.declared.constraint.Constraint.{Constraint}
 use Rattle.fzn_arith.specs.AnyKind.{kind_number, KindIsFor, KindFits}
+use Rattle.fzn_arith.specs.Costs.{kind_cost}
 use Rattle.fzn_builtin.specs.Kinds.{builtin_number, BuiltinIsFor, BuiltinFits}
 use Rattle.fzn_globals.specs.Kinds.{global_number, GlobalIsFor, GlobalFits}
 use Rattle.fzn_table.specs.Propagator.{table_number, TableIsFor, TableFits}
@@ -38,7 +39,7 @@ AnyFits (Circuit p) declared = CircuitFits p declared
 AnyFits (Cumulative p) declared = CumulativeFits p declared
 
 abbrev pub any_cost : AnyPropagator → Cost
-any_cost (Arith p) = Small
+any_cost (Arith p) = kind_cost p
 any_cost (Builtin p) = Small
 any_cost (Global p) = Middling
 any_cost (Table p) = Middling

@@ -6,6 +6,7 @@ ghost use Rattle.fzn_domain.specs.Narrow.{AllFixed};
 ghost use Rattle.fzn_propagators.specs.AnyCrate.{AnyFits};
 
 use crate::kinds::AnyPropagator;
+use crate::order::leading_order;
 use crate::queue::Queue;
 use crate::watchers::Watchers;
 use fzn_domain::{Memory, VarId};
@@ -34,34 +35,36 @@ impl Agenda {
     ) -> Result<Agenda, Memory>
         requires { All (λ propagator. (declared : List IntSet) × AnyFits propagator declared) propagators.now }
     {
+        let watchers = Watchers::new(alloc, variables, propagators)?;
+        let order = leading_order(alloc, variables, propagators, &watchers)?;
+        let queue = Queue::new(alloc, propagators, order.as_slice())?;
         Ok(Agenda {
-            watchers: Watchers::new(alloc, variables, propagators)?,
-            queue: Queue::new(alloc, propagators)?,
+            watchers,
+            queue,
             seen: 0,
             opens: Vec::new(alloc),
         })
     }
 
     /// Queues what watches the variables of the entries that were not looked at yet.
-    pub fn look(&mut self, trail: &Trail, variables: usize) -> Result<(), Memory>
+    pub fn look(&mut self, trail: &Trail, variables: usize)
         requires { variables ≡ length trail.now.declared }
     {
         let len = trail.len();
         for place in self.seen..len {
-            self.wake(trail, variables, place)?;
+            self.wake(trail, variables, place);
         }
         self.seen = len;
-        Ok(())
     }
 
     /// Queues what watches the variable of the entry at this place.
-    fn wake(&mut self, trail: &Trail, variables: usize, place: usize) -> Result<(), Memory>
+    fn wake(&mut self, trail: &Trail, variables: usize, place: usize)
         requires variables { variables ≡ length trail.now.declared }
         requires place { place < length trail.now.entries }
     {
         let var = trail.entry(place).lit.var;
         if var.0 == 0 || variables < var.0 {
-            return Ok(());
+            return;
         }
         let change = Change::between(trail.domain_before(place), trail.domain(var));
         let (start, end) = self.watchers.span(var.0);
@@ -69,10 +72,9 @@ impl Agenda {
             if let Some(watch) = self.watchers.get(i)
                 && watch.event.is(change)
             {
-                self.queue.push(watch.propagator)?;
+                self.queue.push(watch.propagator);
             }
         }
-        Ok(())
     }
 
     /// How many propagators are queued.
@@ -81,13 +83,18 @@ impl Agenda {
     }
 
     /// The place of the propagator that is to be asked.
-    pub fn first(&self) -> Option<usize> {
+    pub fn first(&mut self) -> Option<usize> {
         self.queue.first()
     }
 
     /// It has nothing to say.
     pub fn leave(&mut self) {
         self.queue.pop();
+    }
+
+    /// It has found something, and is asked once more: in the next sweep, if it costs little.
+    pub fn put_off(&mut self) {
+        self.queue.put_off();
     }
 
     /// Only so many entries, the first, are sure to be those that were looked at. Whether there were more: then what is queued is

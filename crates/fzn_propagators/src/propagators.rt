@@ -49,7 +49,8 @@ impl Propagators {
         })
     }
 
-    /// What the first propagator finds that is to be asked and finds anything. It is the next again.
+    /// What the first propagator finds that is to be asked and finds anything. It is asked again, in the next sweep if it costs little, so that
+    /// one which finds a little at a time holds up no other.
     fn ask_queued(
         &mut self,
         alloc: Global,
@@ -76,6 +77,7 @@ impl Propagators {
                     &mut self.found,
                 )?
             {
+                self.agenda.put_off();
                 return Ok(Some(first));
             }
             self.agenda.leave();
@@ -97,7 +99,7 @@ impl Constraints for Propagators {
             return Ok(Some(next));
         }
         let variables = model.vars.len();
-        self.agenda.look(trail, variables)?;
+        self.agenda.look(trail, variables);
         if let Some(found) = self.ask_queued(alloc, model, trail)? {
             return Ok(Some(found));
         }

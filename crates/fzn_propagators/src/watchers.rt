@@ -46,6 +46,11 @@ impl Watchers {
         Ok(Watchers { watches, starts })
     }
 
+    /// How many watches there are.
+    pub fn len(&self) -> usize {
+        self.watches.len()
+    }
+
     /// Where the watches of the variable of this number begin and end.
     pub fn span(&self, variable: usize) -> (usize, usize) {
         match (

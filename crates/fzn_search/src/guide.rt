@@ -5,11 +5,11 @@ ghost use Rattle.std.specs.Prelude.{◌≡◌, length};
 use crate::choice::{Choice, Ties};
 use crate::comparisons::Comparisons;
 use crate::heap::Heap;
-use crate::open::{least_value, open_domain, value_left};
+use crate::open::{greatest_value, least_value, open_domain, value_left};
 use crate::order::Order;
 use crate::restarts::Restarts;
 use fzn_domain::{Domain, GREATEST_VALUE, LEAST_VALUE, Lit, Memory, Op};
-use fzn_meaning::Var;
+use fzn_meaning::{Goal, Var};
 use fzn_strategy::Annotation;
 use fzn_trail::Trail;
 use std::alloc::Global;
@@ -29,12 +29,15 @@ pub struct Guide {
     restarts: Option<Restarts>,
     /// Whether activity decides every variable, and not only those that stand in no annotation.
     free: bool,
+    /// The variable that is maximised, if one is, counted from 0: of its values the greatest are tried first, of all others the least.
+    maximised: Option<usize>,
 }
 
 impl Guide {
     pub fn new(
         alloc: Global,
         vars: &[Var],
+        goal: Goal,
         annotations: &[Annotation],
         choice: Choice,
     ) -> Result<Guide, Memory> {
@@ -50,6 +53,7 @@ impl Guide {
             ties,
             restarts: choice.restart_after.map(|first| Restarts::new(first)),
             free: choice.free,
+            maximised: maximised_by(goal),
         })
     }
 
@@ -73,7 +77,11 @@ impl Guide {
             return Some(self.as_last(comparison));
         }
         let number = self.most_active(trail, vars)?;
-        least_value(trail, vars, number)
+        if self.maximised == Some(number) {
+            greatest_value(trail, vars, number)
+        } else {
+            least_value(trail, vars, number)
+        }
     }
 
     /// The most active variable with more than one value, counted from 0.
@@ -90,16 +98,14 @@ impl Guide {
         None
     }
 
-    /// The comparison or its opposite, whichever the last value of its variable made true. Where there was none, a bound from above.
+    /// The comparison or its opposite, whichever the last value of its variable made true. Where there was none, a bound from above, or
+    /// from below where the variable is maximised.
     fn as_last(&self, comparison: Lit) -> Lit {
-        let last = self
-            .last_values
-            .get(comparison.var.0.saturating_sub(1))
-            .copied()
-            .flatten();
+        let number = comparison.var.0.saturating_sub(1);
+        let last = self.last_values.get(number).copied().flatten();
         let is_true = match last {
             Some(value) => comparison.is_true_at(value),
-            None => comparison.op == Op::AtMost,
+            None => comparison.op == Op::AtMost && self.maximised != Some(number),
         };
         if is_true || comparison.value < LEAST_VALUE || GREATEST_VALUE < comparison.value {
             comparison
@@ -159,6 +165,14 @@ impl Guide {
             Some(restarts) => restarts.count_conflict(),
             None => false,
         }
+    }
+}
+
+/// The variable that is maximised, counted from 0.
+fn maximised_by(goal: Goal) -> Option<usize> {
+    match goal {
+        Goal::Satisfy | Goal::Minimize(_) => None,
+        Goal::Maximize(var) => var.0.checked_sub(1),
     }
 }
 

@@ -49,6 +49,21 @@ pub fn least_value(trail: &Trail, vars: usize, number: usize) -> Option<Lit>
     })
 }
 
+/// The variable of this number, counted from 0, takes its greatest value, where it has more than one.
+pub fn greatest_value(trail: &Trail, vars: usize, number: usize) -> Option<Lit>
+    requires { vars ≡ length trail.now.declared }
+{
+    let domain = open_domain(trail, vars, number)?;
+    if domain.is_empty() {
+        return None;
+    }
+    Some(Lit {
+        var: VarId(number.saturating_add(1)),
+        op: Op::AtLeast,
+        value: domain.max(),
+    })
+}
+
 /// The value that is left after an assertion, of several there were before it, where just one is left.
 pub fn value_left(before: &Domain, lit: Lit) -> Option<i64> {
     if before.is_empty() {

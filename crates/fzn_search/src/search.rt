@@ -10,7 +10,7 @@ use crate::guide::Guide;
 use crate::open::splits;
 use fzn_domain::{Lit, Memory, Op, VarId};
 use fzn_list::Items;
-use fzn_meaning::Var;
+use fzn_meaning::{Goal, Var};
 use fzn_strategy::Annotation;
 use fzn_trail::Trail;
 use std::alloc::Global;
@@ -34,16 +34,18 @@ impl Model for Search {
 }
 
 impl Search {
-    /// No decision yet. It answers `Err` where memory runs out.
+    /// No decision yet. Of the values of the variable that is maximised the greatest are tried first. It answers `Err` where memory runs
+    /// out.
     pub fn new(
         alloc: Global,
         vars: &[Var],
+        goal: Goal,
         annotations: &[Annotation],
         choice: Choice,
     ) -> Result<Search, Memory>
         ensures { IfOk result (λ search. search ≡ record { vars = length vars.now; nodes = 0 }) }
     {
-        let guide = Guide::new(alloc, vars, annotations, choice)?;
+        let guide = Guide::new(alloc, vars, goal, annotations, choice)?;
         Ok(Search {
             vars: vars.len(),
             nodes: 0,

@@ -56,7 +56,8 @@ bool bool 0..0 1..1 | constraint bool_clause([x],[y]); | 1 y<=0 x>=1
 0..1 bool 0..1 0..1 | constraint int_lin_eq_reif([1],[x],0,y); |
 0..1 bool 0..1 1..1 | constraint int_lin_ne_reif([1],[x],0,y); | 1 x!=0 y!=1
 0..1 bool 0..1 0..1 | constraint int_lin_ne_reif([1],[x],0,y); |
-0..10 0..10 0..10 0..10 | constraint int_lin_le([1,1],[x,y],8); constraint int_lin_le([-2,0],[x,y],-7); | 1 x<=8
+0..10 0..10 0..10 0..10 | constraint int_lin_le([1,1],[x,y],8); constraint int_lin_le([2,0],[x,y],7); | 1 x<=8
+0..10 0..10 0..10 0..10 | constraint int_lin_le([1,1],[x,y],8); constraint int_lin_le([-2,0],[x,y],-7); | 2 x>=4
 0..10 0..10 0..8 0..8 | constraint int_lin_le([1,1],[x,y],8); constraint int_lin_le([-2,0],[x,y],-7); | 2 x>=4
 0..10 0..10 4..8 0..8 | constraint int_lin_le([1,1],[x,y],8); constraint int_lin_le([-2,0],[x,y],-7); | 1 x<=3 y<=4
 0..10 0..10 0..3 0..0 | constraint int_lin_le([1,1],[x,y],8); constraint int_lin_le([-2,0],[x,y],-7); | 2 x>=4

@@ -1,5 +1,6 @@
 // How many conflicts there are from one restart to the next.
 use fzn_domain::Memory;
+use fzn_meaning::Goal;
 use fzn_search::{Choice, Search, next_interval};
 use std::alloc::Global;
 use std::test::*;
@@ -12,7 +13,7 @@ fn search_of(alloc: Global, first: u64) -> Result<Search, Memory> {
         restart_after: Some(first),
         keep: 0,
     };
-    Search::new(alloc, &[], &[], choice)
+    Search::new(alloc, &[], Goal::Satisfy, &[], choice)
 }
 
 /// How many conflicts there are up to the next restart, where these are fewer than a thousand.

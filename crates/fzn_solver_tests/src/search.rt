@@ -30,7 +30,13 @@ fn search_of(
         restart_after: Some(2),
         keep: 0,
     };
-    Search::new(alloc, model.vars.as_slice(), annotations, choice)
+    Search::new(
+        alloc,
+        model.vars.as_slice(),
+        model.goal,
+        annotations,
+        choice,
+    )
 }
 
 /// Whether the first variable that is open is decided, by its least value.
@@ -175,7 +181,13 @@ fn is_followed_after_restarts(alloc: Global, model: &Model) -> Result<bool, Memo
         keep: 0,
     };
     let annotations = slice::from_ref(&annotation);
-    let mut search = Search::new(alloc, model.vars.as_slice(), annotations, choice)?;
+    let mut search = Search::new(
+        alloc,
+        model.vars.as_slice(),
+        model.goal,
+        annotations,
+        choice,
+    )?;
     Ok(
         is_greatest_decided(&mut search, &trail)
             && is_restarted_by_conflict(&mut search, &mut trail)?

@@ -15,12 +15,12 @@ one none 0 | var 5..3: x; solve satisfy; | 0 Unsatisfiable | 0
 all none 0 | var bool: a :: output_var; solve satisfy; | 0 NodeLimit | 0
 all none 3 | var bool: a :: output_var; var bool: b; solve satisfy; | 2 Complete | 3
 one none 10 | var 0..10: x :: output_var; constraint int_lin_le([-2],[x],-7); solve minimize x; | 1 Complete | 10
-one none 3 | var 0..3: x :: output_var; solve maximize x; | 4 Complete | 3
-one none 1 | var 0..3: x :: output_var; solve maximize x; | 1 NodeLimit | 1
+one none 3 | var 0..3: x :: output_var; solve :: int_search([x],input_order,indomain_min) maximize x; | 4 Complete | 3
+one none 1 | var 0..3: x :: output_var; solve :: int_search([x],input_order,indomain_min) maximize x; | 1 NodeLimit | 1
 all 2 3 | var bool: a :: output_var; var bool: b :: output_var; solve satisfy; | 2 SolutionLimit | 3
 one 4 3 | var bool: a :: output_var; var bool: b :: output_var; solve satisfy; | 4 SolutionLimit | 3
 one 5 3 | var bool: a :: output_var; var bool: b :: output_var; solve satisfy; | 4 Complete | 3
-one 1 3 | var 0..3: x :: output_var; solve maximize x; | 4 Complete | 3
+one 1 3 | var 0..3: x :: output_var; solve :: int_search([x],input_order,indomain_min) maximize x; | 4 Complete | 3
 ";
 
 fn options_in(alloc: Global, words: &str) -> Option<Options> {

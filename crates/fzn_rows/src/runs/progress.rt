@@ -91,7 +91,8 @@ fn is_told(
     last.solutions == solutions && last.best == best && is_same(alloc, options, file, &out, &cert)
 }
 
-const MOST: &str = "var 0..3: y; var 0..3: x :: output_var; solve maximize x;";
+const MOST: &str =
+    "var 0..3: y; var 0..3: x :: output_var; solve :: int_search([y,x],input_order,indomain_min) maximize x;";
 
 #[test]
 fn progress(rt: HostRuntime) -> Result<(), Fail> {
