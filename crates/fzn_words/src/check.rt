@@ -17,7 +17,7 @@ const ABOUT: &str = "Check the certificate of a FlatZinc file's answer, and prin
 const TO2: &str = "Write OLD, a certificate of version 1, as one of version 2 to NEW";
 
 const TRIM: &str =
-    "Check CERT, and write to NEW one of version 2 with all its solutions and of its other steps only those that its end was found to rest on";
+    "Check CERT, and write to NEW one of version 2 with all its solutions and of its other steps those that its end was found to rest on";
 
 const CORE: &str =
     "Check CERT, and print the constraints that its closed answer was found to rest on: number, place, text";
