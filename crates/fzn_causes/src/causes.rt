@@ -79,6 +79,11 @@ impl Causes {
         self.clear();
     }
 
+    /// Another trail is to come: nothing is known of its entries, and of the gaps what was known before.
+    pub fn leave(&mut self) {
+        self.orders.clear();
+    }
+
     /// None is found.
     pub fn clear(&mut self) {
         self.found.clear();

@@ -37,6 +37,11 @@ impl Orders {
         }
     }
 
+    /// No place is known any more.
+    pub fn clear(&mut self) {
+        self.orders.clear();
+    }
+
     /// The earliest of the entries on the literal's variable, from this one down, after which the literal is true, as it is after this
     /// one; none where it always was. It answers `Err` where memory runs out, and what is known stays fit for use.
     pub fn first_true(

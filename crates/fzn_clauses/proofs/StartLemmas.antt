@@ -1,5 +1,5 @@
 -- From which entry on a call visits, and what it begins with.
-use Rattle.std.proofs.Common.{◌≡◌, ◌⊎◌, ℕ, ◌+◌, ◌<◌, ◌≤◌, true, false, cond, List, length, min, get_or, nat_lt, refl, sym, ap, subst, ◌∙◌, inl, inr, arith, All}
+use Rattle.std.proofs.Common.{◌≡◌, ◌⊎◌, ℕ, ◌<◌, ◌≤◌, true, false, cond, List, length, min, get_or, nat_lt, refl, sym, ap, subst, inl, inr, arith, All}
 use Rattle.std.proofs.lemmas.Bool.{cases_lt, lt-ltb}
 use Rattle.fzn_domain.specs.IntSet.{IntSet}
 use Rattle.fzn_domain.specs.Narrow.{IsVariable}
@@ -11,7 +11,7 @@ use Rattle.fzn_clauses.specs.declared.clauses.Early.{Early}
 use Rattle.fzn_clauses.specs.Guard.{possible_on}
 use Rattle.fzn_clauses.specs.Rooted.{AreVisited, sets_at}
 use Rattle.fzn_clauses.specs.Watched.{Watched, watched_at, first_of, second_of}
-use Rattle.fzn_clauses.specs.Watching.{IsAmong, GuardsBy, Guards, IsAgain, IsRising, IsTidy, IsWatchingAt, IsWatchingFrom, IsWatching, IsSavedAt, IsRewound, start_of}
+use Rattle.fzn_clauses.specs.Watching.{IsAmong, Guards, IsAgain, IsRising, IsTidy, IsWatchingAt, IsWatchingFrom, IsWatching, IsSavedAt, IsRewound, start_of}
 use Rattle.fzn_clauses.proofs.GuardLemmas.{IsGuarded-step, possible_before}
 use Rattle.fzn_clauses.proofs.TrailLemmas.{IsNarrower-sets_at, IsRooted-moved, variables_saved}
 

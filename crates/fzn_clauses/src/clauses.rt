@@ -3,7 +3,7 @@ ghost use Rattle.std.specs.Prelude.{◌≡◌, ◌≢◌, ◌↔◌, ◌<◌, �
 ghost use Rattle.std.specs.Bool.{OnTrue, OnFalse};
 ghost use Rattle.fzn_domain.specs.IntSet.{IntSet};
 ghost use Rattle.fzn_domain.specs.Narrow.{IsVariable, IsClauseOver};
-ghost use Rattle.fzn_trail.specs.Levels.{NoneEmpty, fresh};
+ghost use Rattle.fzn_trail.specs.Levels.{Levels, NoneEmpty, fresh};
 ghost use Rattle.fzn_clauses.specs.Guard.{literal_at, IsPair, IsPossibleAt, IsSatisfied};
 ghost use Rattle.fzn_clauses.specs.Held.{IsHeld, clause_of, AllHeld, held_in};
 ghost use Rattle.fzn_clauses.specs.Rooted.{AreVisited, IsRooted};
@@ -138,6 +138,43 @@ impl Clauses {
     {
         for key in 0..self.lists.count() {
             self.sweep_list(key);
+        }
+    }
+
+    /// All clauses are to be looked at, whatever the trail of the next call is, which may be another one. It answers `Err` where memory runs
+    /// out, and the clauses are watched on the trail of the last call as before.
+    pub fn look_at_all(&mut self) -> Result<(), Memory>
+        ensures held { held_by self.new ≡ held_by self.old }
+        ensures watching { KeepsWatching self.old self.new }
+        ensures anew { OnOk result ((trail other : Levels) → IsWatching self.old trail → IsRooted other → IsWatching self.new other) }
+    {
+        for k in 0..self.arena.len() {
+            self.pending.push(k)?;
+        }
+        self.again.clear();
+        self.early = NONE_EARLY;
+        Ok(())
+    }
+
+    /// Asserts what the clause of this number alone forces, if it forces a literal. It answers `Err` where memory runs out, and the trail is
+    /// as before.
+    pub fn apply(&self, id: ClauseId, trail: &mut Trail) -> Result<(), Memory>
+        requires held { IsHeld (held_by self.now) id }
+        requires over { AllHeld (IsClauseOver (length trail.old.declared)) (held_by self.now) }
+        requires not_empty { NoneEmpty trail.old.sets }
+        requires watching { IsWatching self.now trail.old }
+        ensures propagated { IsPropagated (held_by self.now) trail.old trail.new }
+        ensures left { NoneEmpty trail.new.sets }
+        ensures watching { IsWatching self.now trail.new }
+    {
+        let k = id.0 as usize;
+        match state_of(self.arena.clause(k), self.arena.pair(k), trail) {
+            ClauseState::One(place) => {
+                let lit = self.arena.clause(k)[place];
+                force(lit, id, trail)?;
+                Ok(())
+            }
+            _ => Ok(()),
         }
     }
 

@@ -222,6 +222,22 @@ impl Marks {
         Ok(None)
     }
 
+    /// The clause that stands for the entry of level 0 at this place, where there is one.
+    pub fn unit(&self, place: usize) -> Option<ClauseId> {
+        self.roots.unit(place)
+    }
+
+    /// Notes that a clause is wanted for the entry of level 0 at this place, if it is the first time.
+    pub fn want(&mut self, place: usize) -> Result<(), Memory> {
+        self.roots.want(place)
+    }
+
+    /// Another trail is to come: nothing is known of its entries. Adds the clauses that stand for entries of the one so far to the others.
+    pub fn leave(&mut self, units: &mut Vec<ClauseId>) -> Result<(), Memory> {
+        self.causes.leave();
+        self.roots.leave(units)
+    }
+
     /// What a clause is wanted for, which is no longer noted: an entry of level 0, those first on which others rest, and then a gap.
     pub fn next_wanted(&mut self) -> Option<Wanted> {
         match self.roots.next_wanted() {

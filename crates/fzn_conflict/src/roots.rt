@@ -66,6 +66,18 @@ impl Roots {
         self.wanted.pop()
     }
 
+    /// Adds the clauses that stand for entries to the others. Nothing is known of the entries any more.
+    pub fn leave(&mut self, units: &mut Vec<ClauseId>) -> Result<(), Memory> {
+        for root in &self.roots {
+            if let Root::Unit(id) = *root {
+                units.push(id)?;
+            }
+        }
+        self.roots.clear();
+        self.wanted.clear();
+        Ok(())
+    }
+
     /// The clause stands for the entry.
     pub fn stand_for(&mut self, place: usize, id: ClauseId) {
         if place < self.roots.len() {

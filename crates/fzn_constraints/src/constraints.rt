@@ -31,6 +31,11 @@ pub trait Constraints {
         ensures none { IfOk result (λ found. IfNone found (IsQuiet model.now trail.now)) }
         ensures same { is_for self.new model.now };
 
+    /// Tells that the trail was made anew: its sets are the same, and its entries are others.
+    fn renew(&mut self, model: &Model)
+        requires is_for { is_for self.old model.now }
+        ensures same { is_for self.new model.now };
+
     /// Tells that of the trail's entries that it was shown only so many, the first, are sure to stand.
     fn rewind(&mut self, model: &Model, entries: usize)
         requires is_for { is_for self.old model.now }

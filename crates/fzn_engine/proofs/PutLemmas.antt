@@ -56,13 +56,13 @@ module _ (held : Held) (id : ClauseId) (clause : List Lit) (free : IsHeld held i
         ap (λ (n : ℕ). unwrap_or (get_or now n None) []) same
         ∙ ap (λ (o : Option (List Lit)). unwrap_or o []) (get_or-set_same held id.0 (Some clause) None within)
 
-    AllHeld-put : (P : List Lit → Type 0) → AllHeld P held → P clause → AllHeld P now
+    pub AllHeld-put : (P : List Lit → Type 0) → AllHeld P held → P clause → AllHeld P now
     AllHeld-put P all one other is = elim (cases_eq other.0 id.0) [
       | inl same ↦ subst P (sym (clause_here other same)) one
       | inr apart ↦ subst P (sym (clause_still other apart)) (all other (subst IsSome (at_other other apart) is))
     ]
 
-    AreNumbered-put : (past : Past) (numbers : List ℕ) (number : ℕ) → AreNumbered past numbers held → clause_held past number ≡ Some clause → AreNumbered past (set numbers id.0 number) now
+    pub AreNumbered-put : (past : Past) (numbers : List ℕ) (number : ℕ) → AreNumbered past numbers held → clause_held past number ≡ Some clause → AreNumbered past (set numbers id.0 number) now
     AreNumbered-put past numbers number h one = record {
       one_each = length-set numbers id.0 number ∙ h.one_each ∙ sym (length-set held id.0 (Some clause));
       gives = λ other is. elim (cases_eq other.0 id.0) [
@@ -96,7 +96,7 @@ module _ (held : Held) (id : ClauseId) (clause : List Lit) (free : IsHeld held i
     Leads-put (entry ∷ later) from to leads =
         (leads.0, IsReason-put from entry.lit entry.reason leads.1, Leads-put later (narrowed from entry.lit) to leads.2)
 
-    IsReasoned-put : (trail : Levels) → IsReasoned before trail → IsReasoned after trail
+    pub IsReasoned-put : (trail : Levels) → IsReasoned before trail → IsReasoned after trail
     IsReasoned-put trail reasoned = record {
       leads = Leads-put trail.entries trail.declared trail.sets reasoned.leads;
       one_each = reasoned.one_each;

@@ -1,13 +1,16 @@
 -- What each change makes of a search.
 use Rattle.std.specs.Prelude.{◌≡◌, ◌≢◌, ℕ, ◌==◌, if◌then◌else◌, ◌+◌, ◌^◌, ◌<◌, ◌≤◌, Bool, true, false, List, [], ◌∷◌, ◌++◌, length, Option, Some, None}
+use Rattle.fzn_domain.specs.declared.literal.Lit.{Lit}
 use Rattle.fzn_meaning.specs.declared.model.Model.{Model}
 use Rattle.fzn_cert.specs.declared.step.Step.{Step}
 use Rattle.fzn_cert.specs.declared.step.Step.TheVariants.{Resolve}
+use Rattle.fzn_cert.specs.Accepted.{IsAccepted, past_of}
 use Rattle.fzn_trail.specs.declared.trail.Reason.{Reason}
 use Rattle.fzn_trail.specs.declared.trail.Reason.TheVariants.{Clause}
 use Rattle.fzn_trail.specs.declared.trail.ClauseId.{ClauseId}
 use Rattle.fzn_clauses.specs.Watching.{held_by}
 use Rattle.fzn_strategy.specs.declared.learn.Learn.{Learn}
+use Rattle.fzn_strategy.specs.declared.learn.Learn.TheVariants.{First}
 use Rattle.fzn_learned.specs.declared.learned.Learned.{Learned}
 use Rattle.fzn_learned.specs.Learned.{IsConflicting}
 use Rattle.fzn_engine.specs.State.{known_in}
@@ -65,7 +68,7 @@ pub record IsRecorded (model : Model) (old new : Solver) (steps : List Step) (id
   pub trail : new.trail ≡ old.trail
   pub tally : tally_of new ≡ record (tally_of old) { found = old.found + 1 }
 
--- no literal was decided, no step written, and no more work is left
+-- no literal was decided, and no more work is left
 pub record IsKeptBy (model : Model) (steps : List Step) (old new : Solver) : Type 0 where
   pub state : IsAfter model new steps
   pub less : (limit : ℕ) → work_of limit new ≤ work_of limit old
@@ -76,6 +79,12 @@ pub record IsTended (model : Model) (old new : Solver) (steps : List Step) : Typ
   pub state : IsAfter model new steps
   pub trail : new.trail ≡ old.trail
   pub tally : tally_of new ≡ tally_of old
+
+-- once the step is written that gives this clause, nothing else was changed
+abbrev pub HoldsNext : Model → List Lit → List Step → Solver → Solver → Type 0
+HoldsNext model clause steps old new =
+    (ids : List ℕ) → old.learn ≡ First → IsAfter model old steps → IsAccepted model (past_of model steps) (Resolve clause ids)
+    → length steps + 1 < 10 ^ 18 → IsTended model old new (steps ++ Resolve clause ids ∷ [])
 
 -- how a search ends that leaves nothing, with so many solutions
 abbrev pub closed_after : ℕ → Ending

@@ -163,8 +163,12 @@ impl Solver {
             if let Some(ending) = ending {
                 return Ok(ending);
             }
-            // The last entry may stand where one that was shown was dropped; those before it were not changed.
-            constraints.rewind(model, self.trail.len().saturating_sub(1));
+            if self.notes.take_settled() {
+                constraints.renew(model);
+            } else {
+                // The last entry may stand where one that was shown was dropped; those before it were not changed.
+                constraints.rewind(model, self.trail.len().saturating_sub(1));
+            }
         }
     }
 }

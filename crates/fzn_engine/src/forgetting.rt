@@ -64,6 +64,27 @@ impl Solver {
         ensures unflagged { IsTrue result → (id.0 < length are_reasons.now) × (slice_index_or are_reasons.now id.0 false ≡ false) }
         ensures no_cut { IsTrue result → is_cut self.now.cuts id ≡ false }
     {
+        self.is_unused(id, are_reasons) && self.clauses.clause(id).len() > 1
+    }
+
+    /// Forgets a clause that stood for an entry, if it may be forgotten.
+    pub fn drop_unit(&mut self, id: ClauseId, are_reasons: &[bool])
+        requires { All (λ entry. IsFlagged are_reasons.now entry.reason) self.old.trail.entries }
+        ensures tended { (model : Model) (steps : List Step) → IsAfter model self.old steps → IsTended model self.old self.new steps }
+        ensures trail { self.new.trail ≡ self.old.trail }
+    {
+        if !self.is_unused(id, are_reasons) {
+            return;
+        }
+        self.clauses.remove(id);
+    }
+
+    /// Whether the clause is held, no reason, and not the cut of a solution.
+    fn is_unused(&self, id: ClauseId, are_reasons: &[bool]) -> bool
+        ensures held { IsTrue result → IsHeld (held_by self.now.clauses) id }
+        ensures unflagged { IsTrue result → (id.0 < length are_reasons.now) × (slice_index_or are_reasons.now id.0 false ≡ false) }
+        ensures no_cut { IsTrue result → is_cut self.now.cuts id ≡ false }
+    {
         if !self.clauses.is_held(id) {
             return false;
         }
@@ -71,9 +92,6 @@ impl Solver {
         if k >= are_reasons.len() || are_reasons[k] {
             return false;
         }
-        if self.cuts.has(id) {
-            return false;
-        }
-        self.clauses.clause(id).len() > 1
+        !self.cuts.has(id)
     }
 }

@@ -110,7 +110,7 @@ fn first_possible(clause: &[Lit], trail: &Trail) -> Option<Lit>
 
 /// How many inferences are kept, all on which entries rest among them. It goes over the trail only where enough were stacked since the
 /// last time, and at level 0, whose entries are never undone: each keeps all that was stacked before what it rests on.
-fn kept_len(trail: &Trail, count: usize, notes: &mut Notes) -> usize
+pub fn kept_len(trail: &Trail, count: usize, notes: &mut Notes) -> usize
     requires { All (λ entry. IsBelow count entry.reason) trail.now.entries }
     ensures { All (λ entry. IsBelow result entry.reason) trail.now.entries }
 {

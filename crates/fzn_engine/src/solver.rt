@@ -78,7 +78,7 @@ impl Solver {
 }
 
 /// The declared sets.
-fn declared(alloc: Global, vars: &[Var]) -> Result<Vec<Domain>, Memory>
+pub fn declared(alloc: Global, vars: &[Var]) -> Result<Vec<Domain>, Memory>
     ensures { IfOk result (λ declared. declared.items ≡ declared_sets vars.now) }
 {
     let mut declared = Vec::new(alloc);

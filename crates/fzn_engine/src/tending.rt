@@ -1,9 +1,9 @@
 // What serves the next conflicts.
-ghost use Rattle.std.specs.Prelude.{◌≡◌, ◌<◌, [], IfOk, IfSome, OnOk, Some};
+ghost use Rattle.std.specs.Prelude.{◌≡◌, ◌<◌, ◌^◌, [], List, IfOk, IfSome, OnOk, Some};
 ghost use Rattle.fzn_meaning.specs.declared.model.Model.{Model};
 ghost use Rattle.fzn_cert.specs.declared.step.Step.{Step};
 ghost use Rattle.fzn_strategy.specs.declared.learn.Learn.TheVariants.{First};
-ghost use Rattle.fzn_engine.specs.Changes.{IsTended};
+ghost use Rattle.fzn_engine.specs.Changes.{HoldsNext, IsKeptBy, IsTended};
 ghost use Rattle.fzn_engine.specs.Search.{IsReady, IsLeft};
 ghost use Rattle.fzn_engine.specs.Antecedents.{IsWritten, Derives};
 
@@ -12,23 +12,26 @@ use crate::sink::Sink;
 use crate::solver::Solver;
 use fzn_cert::Step;
 use fzn_conflict::{Wanted, unit_of};
+use fzn_domain::{Lit, Memory};
 use fzn_learned::Learned;
 use fzn_list::Items;
 use fzn_meaning::Model;
 use fzn_strategy::Learn;
+use fzn_trail::ClauseId;
 use std::alloc::Global;
 
 impl Solver {
     /// Serves the next conflicts: clauses stand for entries of level 0 on which conflicts rested, what is of little use is forgotten, and
-    /// where the first unique implication point is learned the steps on which nothing rests are deleted.
+    /// where the first unique implication point is learned the entries of level 0 are settled and the steps on which nothing rests deleted.
     pub fn tend<S: Sink>(&mut self, alloc: Global, model: &Model, sink: &mut S) -> Result<(), Fault>
         requires ready { IsReady model.now self.old (S.written sink.old) (S.keeps model.now sink.old) }
-        ensures tended { OnOk result (IsTended model.now self.old self.new (S.written sink.new)) }
+        ensures kept { OnOk result (IsKeptBy model.now (S.written sink.new) self.old self.new) }
         ensures left { IsLeft model.now (S.written sink.new) (S.keeps model.now sink.new) (S.origin sink.new ≡ S.origin sink.old) }
     {
         self.prove_units(alloc, model, sink)?;
         self.hold_cited()?;
         self.forget(alloc, model)?;
+        self.settle(alloc, model, sink)?;
         self.delete(alloc, model, sink)?;
         Ok(())
     }
@@ -54,7 +57,7 @@ impl Solver {
     }
 
     /// Learns them where learning is by the first unique implication point.
-    fn prove_wanted<S: Sink>(
+    pub fn prove_wanted<S: Sink>(
         &mut self,
         alloc: Global,
         model: &Model,
@@ -103,6 +106,22 @@ impl Solver {
         Ok(Some((unit, ids)))
     }
 
+    /// Holds the clause of the next step, under a number that is free where there is one at hand, and gives its number.
+    fn hold_unit(&mut self, clause: &[Lit]) -> Result<ClauseId, Memory>
+        requires room { self.old.steps < 10 ^ 18 }
+        ensures tended { OnOk result ((model : Model) (steps : List Step) → HoldsNext model clause.now steps self.old self.new) }
+    {
+        let Some(free) = self.notes.next_free(&self.clauses, &self.numbers) else {
+            let id = self.hold(clause, [].as_slice(), [].as_slice(), None)?;
+            return Ok(id);
+        };
+        self.clauses.put(free, clause)?;
+        self.steps += 1;
+        self.numbers.set(free.0 as usize, self.steps);
+        self.alive.push(self.steps)?;
+        Ok(free)
+    }
+
     /// Learns it: the clause is held, its step is written, and it stands for the entry from now on.
     fn prove_unit<S: Sink>(
         &mut self,
@@ -122,7 +141,7 @@ impl Solver {
         };
         let (unit, ids) = derived;
         let clause = unit.clause;
-        let id = self.hold(clause.as_slice(), [].as_slice(), [].as_slice(), None)?;
+        let id = self.hold_unit(clause.as_slice())?;
         let step = Step::Resolve { clause, ids };
         sink.step(alloc, model, &step)?;
         self.notes.marks.stand_for(wanted, id);

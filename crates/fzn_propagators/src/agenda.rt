@@ -109,6 +109,12 @@ impl Agenda {
         true
     }
 
+    /// The trail was made anew, with the same sets: all its entries are to be looked at. What is queued stays so.
+    pub fn renew(&mut self) {
+        self.opens.clear();
+        self.seen = 0;
+    }
+
     fn rewind_opens(&mut self, entries: usize) {
         for _ in 0..self.opens.len() {
             match self.opens.last() {

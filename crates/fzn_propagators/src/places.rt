@@ -10,7 +10,7 @@ const WORD: usize = 64;
 pub struct Places {
     /// A bit for each place.
     words: Vec<u64>,
-    /// A bit for each word that is not 0.
+    /// A bit for each word, set if that is not 0. It is cleared only once a search finds the word to be 0.
     blocks: Vec<u64>,
     count: usize,
 }
@@ -31,70 +31,92 @@ impl Places {
         self.count
     }
 
-    /// Whether this place is in.
-    pub fn has(&self, place: usize) -> bool {
-        match self.words.get(place / WORD) {
-            Some(word) => (word >> (place % WORD)) & 1 == 1,
-            None => false,
-        }
-    }
-
     /// This place is in, where it is below the number of all.
     pub fn insert(&mut self, place: usize) {
-        if !self.has(place) {
-            self.count = self.count.saturating_add(1);
+        let at = place / WORD;
+        if at >= self.words.len() {
+            return;
         }
-        set_bit(&mut self.words, place);
-        set_bit(&mut self.blocks, place / WORD);
+        let word = self.words[at];
+        let more = word | 1 << (place % WORD);
+        if more != word {
+            self.words[at] = more;
+            self.count = self.count.wrapping_add(1);
+            if word == 0 && at / WORD < self.blocks.len() {
+                self.blocks[at / WORD] |= 1 << (at % WORD);
+            }
+        }
     }
 
     /// This place is not in.
     pub fn remove(&mut self, place: usize) {
-        if self.has(place) {
-            self.count = self.count.saturating_sub(1);
-        }
         let at = place / WORD;
-        clear_bit(&mut self.words, place);
-        if self.words.get(at).copied() == Some(0) {
-            clear_bit(&mut self.blocks, at);
+        if at >= self.words.len() {
+            return;
+        }
+        let word = self.words[at];
+        let less = word & !(1 << (place % WORD));
+        if less != word {
+            self.words[at] = less;
+            self.count = self.count.wrapping_sub(1);
         }
     }
 
     /// The first that is in from this place on.
-    pub fn from(&self, place: usize) -> Option<usize> {
+    pub fn from(&mut self, place: usize) -> Option<usize> {
         let at = place / WORD;
         let word = self.words.get(at).copied()?;
         let rest = word >> (place % WORD);
         if rest != 0 {
-            return Some(place.saturating_add(rest.trailing_zeros() as usize));
+            return Some(place.wrapping_add(rest.trailing_zeros() as usize));
         }
-        let at = first_bit(&self.blocks, at.saturating_add(1))?;
-        let word = self.words.get(at).copied()?;
-        Some(
-            at.saturating_mul(WORD)
-                .saturating_add(word.trailing_zeros() as usize),
-        )
+        if self.words.len() <= at.saturating_add(1) {
+            return None;
+        }
+        self.behind(at)
+    }
+
+    /// The first that is in behind the word at this index.
+    fn behind(&mut self, at: usize) -> Option<usize> {
+        let mut next = at.saturating_add(1);
+        for _ in next..self.words.len() {
+            next = first_bit(&self.blocks, next)?;
+            let word = self.words.get(next).copied()?;
+            if word != 0 {
+                let start = next.saturating_mul(WORD);
+                return Some(start.saturating_add(word.trailing_zeros() as usize));
+            }
+            clear_bit(&mut self.blocks, next);
+        }
+        None
     }
 
     /// The last that is in up to this place.
-    pub fn up_to(&self, place: usize) -> Option<usize> {
+    pub fn up_to(&mut self, place: usize) -> Option<usize> {
         let at = place / WORD;
         let word = self.words.get(at).copied()?;
         let rest = word << (WORD - 1 - place % WORD);
         if rest != 0 {
-            return Some(place.saturating_sub(rest.leading_zeros() as usize));
+            return Some(place.wrapping_sub(rest.leading_zeros() as usize));
         }
-        let at = last_bit(&self.blocks, at)?;
-        let word = self.words.get(at).copied()?;
-        let end = at.saturating_mul(WORD).saturating_add(WORD - 1);
-        Some(end.saturating_sub(word.leading_zeros() as usize))
+        if at == 0 {
+            return None;
+        }
+        self.ahead_of(at)
     }
-}
 
-fn set_bit(words: &mut Vec<u64>, place: usize) {
-    let at = place / WORD;
-    if at < words.len() {
-        words[at] |= 1 << (place % WORD);
+    /// The last that is in ahead of the word at this index.
+    fn ahead_of(&mut self, at: usize) -> Option<usize> {
+        for _ in 0..at {
+            let last = last_bit(&self.blocks, at)?;
+            let word = self.words.get(last).copied()?;
+            if word != 0 {
+                let end = last.saturating_mul(WORD).saturating_add(WORD - 1);
+                return Some(end.saturating_sub(word.leading_zeros() as usize));
+            }
+            clear_bit(&mut self.blocks, last);
+        }
+        None
     }
 }
 

@@ -110,6 +110,10 @@ impl Constraints for Propagators {
         Ok(None)
     }
 
+    fn renew(&mut self, _model: &Model) {
+        self.agenda.renew();
+    }
+
     fn rewind(&mut self, _model: &Model, entries: usize) {
         if self.agenda.rewind(entries) {
             self.found.clear();

@@ -10,21 +10,30 @@ const PATIENCE: usize = 4_096;
 
 const PATIENCE_EACH: usize = 16;
 
+/// Where a propagator is queued.
+#[derive(Clone, Copy, Debug)]
+struct Slot {
+    cost: Cost,
+    rank: usize,
+}
+
 /// The propagators that are queued, for each cost by their ranks. Where those that cost little find one thing after the other, as a sum may
 /// that moves its bounds by one at a time, the others have their turn too.
 #[derive(Debug, Drop)]
 pub struct Queue {
     /// By place.
-    costs: Vec<Cost>,
-    /// By place.
-    ranks: Vec<usize>,
+    slots: Vec<Slot>,
     /// By rank.
     places: Vec<usize>,
     small: Sweep,
     middling: Sweep,
     great: Sweep,
+    /// How much the one costs that was the next.
+    turn: Cost,
     /// How often the next one was asked for since one had its turn that does not cost little.
     asked: usize,
+    /// How often that may be while such a one waits.
+    patience: usize,
 }
 
 impl Queue {
@@ -34,19 +43,16 @@ impl Queue {
         propagators: &[AnyPropagator],
         order: &[usize],
     ) -> Result<Queue, Memory> {
-        let mut costs = Vec::new(alloc);
-        for propagator in propagators {
-            costs.push(propagator.cost())?;
-        }
-        let count = costs.len();
+        let count = propagators.len();
         let mut queue = Queue {
-            costs,
-            ranks: ranks_in(alloc, count, order)?,
+            slots: slots_in(alloc, propagators, order)?,
             places: Vec::from_slice(alloc, order)?,
             small: Sweep::new(alloc, count)?,
             middling: Sweep::new(alloc, count)?,
             great: Sweep::new(alloc, count)?,
+            turn: Cost::Small,
             asked: 0,
+            patience: count.saturating_mul(PATIENCE_EACH).saturating_add(PATIENCE),
         };
         for place in 0..count {
             queue.push(place);
@@ -56,82 +62,89 @@ impl Queue {
 
     /// How many are queued.
     pub fn len(&self) -> usize {
-        let few = self.small.len().saturating_add(self.middling.len());
-        few.saturating_add(self.great.len())
+        let few = self.small.len().wrapping_add(self.middling.len());
+        few.wrapping_add(self.great.len())
     }
 
     /// Queues the propagator at this place, where it is not.
     pub fn push(&mut self, place: usize) {
-        let Some(cost) = self.costs.get(place).copied() else {
-            return;
-        };
-        if let Some(rank) = self.ranks.get(place).copied() {
-            match cost {
-                Cost::Small => self.small.push(rank),
-                Cost::Middling => self.middling.push(rank),
-                Cost::Great => self.great.push(rank),
-            }
+        if let Some(slot) = self.slots.get(place).copied() {
+            self.sweep_of(slot.cost).push(slot.rank);
         }
     }
 
-    /// The place of the next one, which stays queued.
+    fn sweep_of(&mut self, cost: Cost) -> &mut Sweep {
+        match cost {
+            Cost::Small => &mut self.small,
+            Cost::Middling => &mut self.middling,
+            Cost::Great => &mut self.great,
+        }
+    }
+
+    /// The place of the next one, which stays queued: of those that cost least of all that are queued, or where these went on for long of
+    /// the others.
     pub fn first(&mut self) -> Option<usize> {
-        self.asked = self.asked.saturating_add(1);
-        let rank = self.sweep().first()?;
-        self.places.get(rank).copied()
-    }
-
-    /// Takes out the next one.
-    pub fn pop(&mut self) {
-        let is_turn_of_others = self.is_turn_of_others();
-        self.sweep().pop();
-        if is_turn_of_others || self.small.len() == 0 {
-            self.asked = 0;
-        }
-    }
-
-    /// The next one waits for the next sweep, if it costs little: what costs more is asked again at once, while what it found is new.
-    pub fn put_off(&mut self) {
-        if self.small.len() > 0 && !self.is_turn_of_others() {
-            self.small.put_off();
-        }
-    }
-
-    /// Those that cost least of all that are queued, or where these went on for long the least of the others.
-    fn sweep(&mut self) -> &mut Sweep {
-        if self.small.len() > 0 && !self.is_turn_of_others() {
-            &mut self.small
+        self.asked = self.asked.wrapping_add(1);
+        self.turn = if self.small.len() > 0 && !self.is_turn_of_others() {
+            Cost::Small
         } else if self.middling.len() > 0 {
-            &mut self.middling
+            Cost::Middling
         } else {
-            &mut self.great
-        }
+            Cost::Great
+        };
+        let rank = self.sweep_of(self.turn).first()?;
+        self.places.get(rank).copied()
     }
 
     /// Whether those that do not cost little have waited long.
     fn is_turn_of_others(&self) -> bool {
-        let most = self.costs.len().saturating_mul(PATIENCE_EACH);
-        most.saturating_add(PATIENCE) < self.asked
-            && (self.middling.len() > 0 || self.great.len() > 0)
+        self.patience < self.asked && (self.middling.len() > 0 || self.great.len() > 0)
+    }
+
+    /// Takes out the one that was the next.
+    pub fn pop(&mut self) {
+        self.sweep_of(self.turn).pop();
+        if self.small.len() == 0 || !matches!(&self.turn, Cost::Small) {
+            self.asked = 0;
+        }
+    }
+
+    /// The one that was the next waits for the next sweep, if it costs little: what costs more is asked again at once, while what it found
+    /// is new.
+    pub fn put_off(&mut self) {
+        if matches!(&self.turn, Cost::Small) {
+            self.small.put_off();
+        }
     }
 
     /// Takes all out.
     pub fn clear(&mut self) {
-        self.asked = 0;
         for _ in 0..self.len() {
-            self.sweep().pop();
+            let _ = self.first();
+            self.pop();
         }
+        self.asked = 0;
     }
 }
 
-/// The rank of each of so many propagators, by its place, in this order.
-fn ranks_in(alloc: Global, count: usize, order: &[usize]) -> Result<Vec<usize>, Memory> {
-    let mut ranks = vec![in alloc; 0; count]?;
+/// Where each of these propagators is queued, by its place, in this order of their ranks.
+fn slots_in(
+    alloc: Global,
+    propagators: &[AnyPropagator],
+    order: &[usize],
+) -> Result<Vec<Slot>, Memory> {
+    let mut slots = Vec::new(alloc);
+    for propagator in propagators {
+        slots.push(Slot {
+            cost: propagator.cost(),
+            rank: 0,
+        })?;
+    }
     for rank in 0..order.len() {
         let place = order[rank];
-        if place < ranks.len() {
-            ranks[place] = rank;
+        if place < slots.len() {
+            slots[place].rank = rank;
         }
     }
-    Ok(ranks)
+    Ok(slots)
 }

@@ -33,20 +33,20 @@ impl Sweep {
         self.waiting.insert(rank);
     }
 
-    /// The rank of the one that is to be asked next. It is the next again until it is taken out or put off.
+    /// The rank of the one that is to be asked next, where the sweep is then: it turns where none is ahead.
     pub fn first(&mut self) -> Option<usize> {
-        if self.waiting.len() == 0 {
-            return None;
-        }
-        if self.ahead().is_none() {
+        for _ in 0..2 {
+            if let Some(rank) = self.ahead() {
+                self.at = rank;
+                return Some(rank);
+            }
             self.is_downward = !self.is_downward;
         }
-        self.at = self.ahead()?;
-        Some(self.at)
+        None
     }
 
     /// The first in the direction of the sweep.
-    fn ahead(&self) -> Option<usize> {
+    fn ahead(&mut self) -> Option<usize> {
         if self.is_downward {
             self.waiting.up_to(self.at)
         } else {
@@ -54,25 +54,20 @@ impl Sweep {
         }
     }
 
-    /// The one that is to be asked next waits for the next sweep.
+    /// The one at which the sweep is waits for the next sweep.
     pub fn put_off(&mut self) {
-        let Some(rank) = self.first() else {
-            return;
-        };
         if !self.is_downward {
-            self.at = rank.saturating_add(1);
-        } else if rank > 0 {
-            self.at = rank - 1;
+            self.at = self.at.saturating_add(1);
+        } else if self.at > 0 {
+            self.at -= 1;
         } else {
             self.is_downward = false;
             self.at = 1;
         }
     }
 
-    /// Takes out the one that is to be asked next.
+    /// Takes out the one at which the sweep is.
     pub fn pop(&mut self) {
-        if let Some(rank) = self.first() {
-            self.waiting.remove(rank);
-        }
+        self.waiting.remove(self.at);
     }
 }

@@ -22,6 +22,11 @@ const IDLE: usize = 10_000;
 
 const MOST_IDLE: usize = 100_000;
 
+/// How many entries of level 0 stand at least when they are settled: so many, and so many for each variable.
+const ENTRIES: usize = 16_384;
+
+const ENTRIES_EACH: usize = 8;
+
 /// What serves the next conflicts. Each call that answers `Err` does so where memory runs out, and nothing is said then of what is noted.
 #[derive(Drop)]
 pub struct Notes {
@@ -50,6 +55,12 @@ pub struct Notes {
     last_step: u64,
     /// How many conflicts there were.
     conflicts: u64,
+    /// The clauses that stand for entries of level 0 since these were settled.
+    units: Vec<ClauseId>,
+    /// How many entries of level 0 stand when they are settled next.
+    next_settling: usize,
+    /// Whether they were since it was asked.
+    settled: bool,
 }
 
 impl Notes {
@@ -74,6 +85,9 @@ impl Notes {
             cited: Vec::new(alloc),
             last_step: 0,
             conflicts: 0,
+            units: Vec::new(alloc),
+            next_settling: 0,
+            settled: false,
         }
     }
 
@@ -129,6 +143,50 @@ impl Notes {
     /// How many conflicts there were.
     pub fn conflicts(&self) -> u64 {
         self.conflicts
+    }
+
+    /// Whether so many entries of level 0 are many beside so many variables, and beside those that the last settling left.
+    pub fn has_many_entries(&self, entries: usize, variables: usize) -> bool {
+        let most = variables
+            .saturating_mul(ENTRIES_EACH)
+            .saturating_add(ENTRIES);
+        entries >= most.max(self.next_settling)
+    }
+
+    /// Where settling leaves so many entries, the next one comes with twice as many.
+    pub fn expect_entries(&mut self, left: usize) {
+        self.next_settling = left.saturating_mul(2);
+    }
+
+    /// The entries were settled: so many stand on another trail, and these clauses are their reasons. Gives the clauses that stood for entries before and
+    /// for none now, which may be forgotten.
+    pub fn settle(
+        &mut self,
+        alloc: Global,
+        entries: usize,
+        are_reasons: &[bool],
+    ) -> Result<Vec<ClauseId>, Memory> {
+        self.settled = true;
+        self.expect_entries(entries);
+        self.marks.leave(&mut self.units)?;
+        let mut kept = Vec::new(alloc);
+        let mut idle = Vec::new(alloc);
+        for id in &self.units {
+            if are_reasons.get(id.0 as usize).copied() == Some(true) {
+                kept.push(*id)?;
+            } else {
+                idle.push(*id)?;
+            }
+        }
+        self.units = kept;
+        Ok(idle)
+    }
+
+    /// Whether the entries were settled since this was last asked.
+    pub fn take_settled(&mut self) -> bool {
+        let settled = self.settled;
+        self.settled = false;
+        settled
     }
 
     /// A clause rests on these antecedents.

@@ -1,4 +1,4 @@
-use Rattle.std.proofs.Common.{◌≡◌, ℕ, min, refl, ap, ◌∙◌}
+use Rattle.std.proofs.Common.{ℕ, min, refl, ap, ◌∙◌}
 use Rattle.std.proofs.lemmas.Bool.{OnFalse_at}
 use Rattle.fzn_clauses.specs.Rooted.{AreVisited}
 use Rattle.fzn_clauses.proofs.StartLemmas.{IsRewound-noted, IsRewound-visited}

@@ -1,17 +1,14 @@
 -- The clause is an accepted step, and nothing else changes.
-use Rattle.std.proofs.Common.{◌≡◌, ℕ, inr, List, Option, IfSome, refl, ◌∙◌, subst, rules}
+use Rattle.std.proofs.Common.{◌≡◌, ℕ, inr, List, Option, IfSome, refl, ap, ◌∙◌, subst, rules}
 use Rattle.fzn_domain.specs.declared.literal.Lit.{Lit}
-use Rattle.fzn_strategy.specs.declared.learn.Learn.{Learn}
-use Rattle.fzn_strategy.specs.declared.learn.Learn.TheVariants.{Plain, First}
+use Rattle.fzn_strategy.specs.declared.learn.Learn.TheVariants.{First}
 use Rattle.fzn_learned.specs.declared.learned.Learned.{Learned}
-use Rattle.fzn_engine.specs.Moves.{Holds}
 use Rattle.fzn_engine.specs.Antecedents.{Derives}
-use Rattle.fzn_engine.proofs.LessonLemmas.{derives-spelled, derives-logged}
-use Rattle.fzn_engine.proofs.UnitLemmas.{unit-tended}
+use Rattle.fzn_engine.specs.Changes.{HoldsNext}
+use Rattle.fzn_engine.specs.Search.{Tally}
+use Rattle.fzn_engine.proofs.LessonLemmas.{derives-accepted, derives-spelled, derives-logged}
+use Rattle.fzn_engine.proofs.UnitLemmas.{room-before, unit-tended}
 use Rattle.fzn_engine.proofs.solver.Solver.prove_unit.Goals as goal
-
-not_plain : (learn : Learn) → learn ≡ First → learn ≡ Plain → ⊥
-not_plain learn first plain = cc
 
 pub step-requires-clause-spelled : goal.step-requires-clause-spelled
 step-requires-clause-spelled g c =
@@ -38,6 +35,11 @@ returns-clause-left g c =
 pub returns-clause-tended : goal.returns-clause-tended
 returns-clause-tended g c =
     let D : Option (Learned × List ℕ) → Type 0 = λ found. IfSome found (λ derived. Derives c.args.model.now c.derive_unit.new.self (g.S.Sink.written c.derive_unit.new.sink) derived.0 derived.1) in
+    let w = c.in_ok-found.ensures.written in
+    let d : Derives c.args.model.now c.derive_unit.new.self (g.S.Sink.written c.derive_unit.new.sink) c.in-Some.derived.0 c.in-Some.derived.1 = subst D c.in-Some.is c.in_ok-found.ensures.derives in
     let clause : c.as_slice.result.now ≡ c.in-Some.derived.0.clause = search rules in
-    let H : List Lit → Type 0 = λ cl. Holds cl c.derive_unit.new.self c.hold.new.self in
-    unit-tended c.in_ok-found.ensures.written (subst D c.in-Some.is c.in_ok-found.ensures.derives) (not_plain c.args.self.now.learn c.requires.first) c.in_ok-step.ensures.ok c.in_ok-step.ensures.few (subst H clause c.in_ok-id.ensures.held) _
+    let first : c.derive_unit.new.self.learn ≡ First = ap (λ (t : Tally). t.learn) w.tally ∙ c.requires.first in
+    let H : List Lit → Type 0 = λ cl. HoldsNext c.args.model.now cl (g.S.Sink.written c.derive_unit.new.sink) c.derive_unit.new.self c.hold_unit.new.self in
+    let holds = subst H clause (c.in_ok-id.ensures.tended c.args.model.now (g.S.Sink.written c.derive_unit.new.sink)) in
+    let room = room-before (g.S.Sink.written c.derive_unit.new.sink) (g.S.Sink.written c.step.new.self) _ c.in_ok-step.ensures.ok c.in_ok-step.ensures.few in
+    unit-tended c.in-Some.derived.0.clause c.in-Some.derived.1 w c.in_ok-step.ensures.ok (holds c.in-Some.derived.1 first d.state (derives-accepted d) room) _
