@@ -1,4 +1,2 @@
-mod AmountLemmas
 mod HeardLemmas
-mod IntervalLemmas
 mod MemberLemmas

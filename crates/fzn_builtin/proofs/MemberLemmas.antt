@@ -16,8 +16,8 @@ use Rattle.fzn_rules.specs.declared.rule.Rule.TheVariants as rule
 use Rattle.fzn_rules.specs.Rules.{IsMet}
 use Rattle.fzn_terms.specs.declared.claim.Claim.{Claim}
 use Rattle.fzn_terms.specs.Denied.{IsDenied, Refute}
-use Rattle.fzn_builtin.specs.declared.interval.Interval.{Interval}
-use Rattle.fzn_builtin.specs.Intervals.{LiesIn}
+use Rattle.fzn_terms.specs.declared.interval.Interval.{Interval}
+use Rattle.fzn_terms.specs.Intervals.{LiesIn}
 use Rattle.fzn_builtin.specs.Members.{AreAsked, IsNextAsked, NoneAsked, IsSwitchedTo}
 use Rattle.fzn_equality.proofs.CallerLemmas.{fixed_to, All-front, All-last}
 

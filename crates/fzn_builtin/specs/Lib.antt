@@ -1,3 +1,2 @@
-pub mod Intervals
 pub mod Kinds
 pub mod Members

@@ -12,17 +12,18 @@ ghost use Rattle.fzn_sets.specs.Terms.{MayBe};
 ghost use Rattle.fzn_terms.specs.Denied.{IsDenied};
 ghost use Rattle.fzn_propagator.specs.Clause.{IsJustified};
 ghost use Rattle.fzn_propagator.specs.Inference.{AreFoundOf};
-ghost use Rattle.fzn_builtin.specs.Intervals.{IsLimitedInterval};
+ghost use Rattle.fzn_terms.specs.Intervals.{IsLimitedInterval, ends_of};
 ghost use Rattle.fzn_builtin.specs.Members.{AreAsked, IsNextAsked, NoneAsked, IsSwitchedTo};
 
-use crate::interval::{Interval, interval_of};
 use fzn_domain::{Domain, GREATEST_VALUE, LEAST_VALUE, Lit, Memory};
-use fzn_equality::{SMALL, is_narrow};
 use fzn_list::Items;
 use fzn_meaning::Term;
 use fzn_propagator::Findings;
 use fzn_rules::Rule;
-use fzn_terms::{Claim, explanation_of, greatest_of, is_fixed, least_of, may_be, next_value};
+use fzn_terms::{
+    Claim, Interval, MOST_VALUES, explanation_of, interval_of, is_fixed, is_thinned, least_of,
+    next_value,
+};
 use fzn_trail::Trail;
 use std::alloc::Global;
 
@@ -78,21 +79,27 @@ fn asked(trail: &Trail, switch: Option<Term>) -> Option<bool>
     }
 }
 
-/// Whether all values of the term, if they are few, are members, or none is.
+/// Whether all values of the term are members, or none is: told by the numbers between them that are otherwise, of which few are looked at.
 fn are_all(trail: &Trail, term: Term, set: &Domain, within: bool) -> bool
     requires term { IsTerm (length trail.now.declared) term }
     requires filled { NoneEmpty trail.now.sets }
 {
-    let (low, high) = (least_of(trail, term), greatest_of(trail, term));
-    if high - low >= SMALL {
-        return false;
-    }
-    for value in low..high + 1 {
-        if may_be(trail, term, &value) && set.contains(value) != within {
-            return false;
+    let ends = interval_of(trail, term);
+    let mut from = ends.low;
+    for _ in 0..MOST_VALUES {
+        let Some(other) = next_asked(set, !within, from) else {
+            return true;
+        };
+        if ends.high < other {
+            return true;
+        }
+        match next_value(trail, term, &other.saturating_sub(1)) {
+            None => return true,
+            Some(value) if value == other => return false,
+            Some(value) => from = value,
         }
     }
-    true
+    false
 }
 
 /// The intervals around each end of the term's values, and around each between them where the term is narrow, in which the set has not
@@ -108,7 +115,8 @@ fn misfits(
     requires filled { NoneEmpty trail.now.sets }
 {
     let mut all = Items::new(alloc);
-    let (low, high) = (least_of(trail, term), greatest_of(trail, term));
+    let ends = interval_of(trail, term);
+    let (low, high) = (ends.low, ends.high);
     let mut from = low.saturating_add(1);
     let mut until = high.saturating_sub(1);
     if set.contains(low) != within {
@@ -121,15 +129,22 @@ fn misfits(
         all.push(interval)?;
         until = interval.low.saturating_sub(1);
     }
-    if is_narrow(trail, term, kept_count(set, within)) {
+    if from <= until && are_looked_at(trail, term, set, within, ends) {
         add_misfits(trail, term, set, within, from, until, &mut all)?;
     }
     Ok(all)
 }
 
-/// How many values may stay, as far as it is known.
-fn kept_count(set: &Domain, within: bool) -> usize {
-    if within { set.len() } else { usize::MAX }
+/// Whether the values of the term, which has these ends, are looked at one by one: those that may stay are counted only where that decides.
+fn are_looked_at(trail: &Trail, term: Term, set: &Domain, within: bool, ends: Interval) -> bool
+    requires term { IsTerm (length trail.now.declared) term }
+    requires ends { ends ≡ ends_of trail.now.sets term }
+    requires limited { IsLimitedInterval ends }
+{
+    if !within {
+        return is_thinned(trail, term, ends, usize::MAX);
+    }
+    is_thinned(trail, term, ends, 0) || is_thinned(trail, term, ends, set.len())
 }
 
 /// Adds each of the term's values from one number up to another at which the set has not what is asked for.
@@ -145,7 +160,7 @@ fn add_misfits(
     requires term { IsTerm (length trail.now.declared) term }
 {
     let mut passed = from.saturating_sub(1);
-    for _ in 0..SMALL {
+    for _ in 0..MOST_VALUES {
         let Some(value) = next_value(trail, term, &passed) else {
             return Ok(());
         };
@@ -191,7 +206,7 @@ fn stretch(set: &Domain, within: bool, value: i64) -> Interval
 fn run_start(set: &Domain, value: i64) -> i64
     requires { IsInLimits value }
 {
-    for step in 1..SMALL {
+    for step in 1..MOST_VALUES {
         let before = value.saturating_sub(step);
         if !set.contains(before) {
             return before.saturating_add(1);
@@ -292,7 +307,7 @@ fn asked_values(
     claims.push(below)?;
     claims.push(above)?;
     let mut from = interval.low;
-    for _ in 0..SMALL {
+    for _ in 0..MOST_VALUES {
         let Some(next) = next_asked(set, within, from) else {
             return Ok(Some(claims));
         };

@@ -7,15 +7,12 @@ ghost use Rattle.fzn_meaning.specs.Meaning.{IsWellFormed};
 ghost use Rattle.fzn_propagator.specs.Inference.{AreFoundOf};
 ghost use Rattle.fzn_fixed.specs.Parts.{IsReady};
 
-use crate::amount::infer_amount;
-use crate::excluded::Shape;
-use crate::exclusion::infer_ends;
 use crate::member::infer_member;
-use crate::quotient::infer_quotient;
 use fzn_domain::Memory;
 use fzn_equality::{infer_element, infer_extremum};
 use fzn_fixed::{Parts, infer_last};
-use fzn_meaning::{Constraint, Operation, Term};
+use fzn_meaning::Constraint;
+use fzn_operations::{infer_amount, infer_operation};
 use fzn_propagator::Findings;
 use fzn_rules::Rule;
 use fzn_trail::Trail;
@@ -63,7 +60,7 @@ fn narrow_rows(
             left,
             right,
             result,
-        } => narrow_arithmetic(
+        } => infer_operation(
             alloc, trail, number, *operation, *left, *right, *result, found,
         ),
         Constraint::Element {
@@ -99,55 +96,5 @@ fn narrow_rows(
             infer_member(alloc, trail, number, *term, set, *switch, found)
         }
         _ => Ok(()),
-    }
-}
-
-/// The same of an operation.
-fn narrow_arithmetic(
-    alloc: Global,
-    trail: &Trail,
-    number: u64,
-    operation: Operation,
-    left: Term,
-    right: Term,
-    of: Term,
-    found: &mut Findings,
-) -> Result<(), Memory>
-    requires left { IsTerm (length trail.now.declared) left }
-    requires right { IsTerm (length trail.now.declared) right }
-    requires of { IsTerm (length trail.now.declared) of }
-    requires filled { NoneEmpty trail.now.sets }
-    requires before { AreFoundOf number (constraint.Arithmetic operation left right of) trail.now found.old }
-    ensures { AreFoundOf number (constraint.Arithmetic operation left right of) trail.now found.new }
-{
-    match operation {
-        Operation::Times => {
-            infer_ends(alloc, trail, number, Shape::Product, left, right, of, found)
-        }
-        Operation::Quotient => {
-            infer_quotient(
-                alloc,
-                trail,
-                number,
-                Shape::Quotient,
-                left,
-                right,
-                of,
-                found,
-            )
-        }
-        Operation::Remainder => {
-            infer_quotient(
-                alloc,
-                trail,
-                number,
-                Shape::Remainder,
-                left,
-                right,
-                of,
-                found,
-            )
-        }
-        Operation::Plus => Ok(()),
     }
 }

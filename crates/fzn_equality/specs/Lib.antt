@@ -1,4 +1,3 @@
 pub mod Equality
-pub mod Narrow
 pub mod Rows
 pub mod Shared

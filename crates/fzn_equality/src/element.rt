@@ -8,11 +8,11 @@ ghost use Rattle.fzn_meaning.specs.Term.{IsTerm};
 ghost use Rattle.fzn_rules.specs.declared.rule.Rule.TheVariants as rule;
 ghost use Rattle.fzn_domain.specs.IntSet.{IntSet};
 ghost use Rattle.fzn_terms.specs.Denied.{IsDenied};
+ghost use Rattle.fzn_terms.specs.Intervals.{IsLimitedInterval, ends_of};
 ghost use Rattle.fzn_propagator.specs.Clause.{IsJustified};
 ghost use Rattle.fzn_propagator.specs.Inference.{AreFoundOf};
 ghost use Rattle.fzn_equality.specs.Rows.{IsRuledOut, LeavesNoIndex};
 
-use crate::narrow::{is_narrow, value_count};
 use crate::shared::{share_none, shared_values};
 use crate::terms::{Bound, apart, claim_of, narrowings, other_than_each, take_out};
 use fzn_domain::{Lit, Memory, Op};
@@ -20,7 +20,10 @@ use fzn_list::Items;
 use fzn_meaning::Term;
 use fzn_propagator::Findings;
 use fzn_rules::Rule;
-use fzn_terms::{Claim, explanation_of, greatest_of, is_fixed, is_never, least_of, may_be};
+use fzn_terms::{
+    Claim, Interval, explanation_of, greatest_of, interval_of, is_never, is_thinned_beside,
+    least_of, may_be,
+};
 use fzn_trail::Trail;
 use std::alloc::Global;
 
@@ -46,18 +49,22 @@ pub fn infer_element(
     ensures { AreFoundOf number (constraint.Element index entries.now value) trail.now found.new }
 {
     let before = found.len();
-    hold_index(alloc, trail, number, index, entries, value, found)?;
+    let leads = interval_of(trail, index);
+    hold_index(alloc, trail, number, index, entries, value, leads, found)?;
     if before < found.len() {
         return Ok(());
     }
-    if is_fixed(trail, index) {
+    if leads.is_single() {
         return equate_entry(alloc, trail, number, index, entries, value, found);
     }
-    part_entries(alloc, trail, number, index, entries, value, found)?;
+    let value_ends = interval_of(trail, value);
+    part_entries(
+        alloc, trail, number, index, entries, value, value_ends, found,
+    )?;
     if before < found.len() {
         return Ok(());
     }
-    let ends = ends_of_all(alloc, trail, index, entries, value)?;
+    let ends = ends_of_all(alloc, trail, index, entries, value_ends)?;
     bound_value(
         alloc,
         trail,
@@ -71,7 +78,7 @@ pub fn infer_element(
     if before < found.len() {
         return Ok(());
     }
-    let others = values_of_none(alloc, trail, index, entries, value)?;
+    let others = values_of_none(alloc, trail, index, entries, value, value_ends)?;
     bound_value(
         alloc,
         trail,
@@ -86,16 +93,14 @@ pub fn infer_element(
 
 // ---- what is found
 
-/// Whether the index may lie before the list, or behind it.
-fn is_outside(trail: &Trail, index: Term, count: usize, at_start: bool) -> bool
-    requires index { IsTerm (length trail.now.declared) index }
-    requires filled { NoneEmpty trail.now.sets }
+/// Whether the index, which has these ends, may lie before the list, or behind it.
+fn is_outside(leads: Interval, count: usize, at_start: bool) -> bool
     requires short { count ≤ 100000 }
 {
     if at_start {
-        least_of(trail, index) < 1
+        leads.low < 1
     } else {
-        greatest_of(trail, index) > count as i64
+        leads.high > count as i64
     }
 }
 
@@ -105,12 +110,11 @@ fn ends_of_all(
     trail: &Trail,
     index: Term,
     entries: &[Term],
-    value: Term,
+    value_ends: Interval,
 ) -> Result<Items<Bound>, Memory>
     requires index { IsTerm (length trail.now.declared) index }
     requires entries { All (IsTerm (length trail.now.declared)) entries.now }
     requires short { length entries.now ≤ 100000 }
-    requires value { IsTerm (length trail.now.declared) value }
     requires filled { NoneEmpty trail.now.sets }
 {
     let mut least = i64::MAX;
@@ -122,10 +126,10 @@ fn ends_of_all(
         }
     }
     let mut ends = Items::new(alloc);
-    if greatest < greatest_of(trail, value) {
+    if greatest < value_ends.high {
         ends.push((Op::AtMost, greatest))?;
     }
-    if least_of(trail, value) < least {
+    if value_ends.low < least {
         ends.push((Op::AtLeast, least))?;
     }
     Ok(ends)
@@ -138,17 +142,20 @@ fn values_of_none(
     index: Term,
     entries: &[Term],
     value: Term,
+    value_ends: Interval,
 ) -> Result<Items<Bound>, Memory>
     requires index { IsTerm (length trail.now.declared) index }
     requires entries { All (IsTerm (length trail.now.declared)) entries.now }
     requires short { length entries.now ≤ 100000 }
     requires value { IsTerm (length trail.now.declared) value }
+    requires value_ends { value_ends ≡ ends_of trail.now.sets value }
+    requires limited { IsLimitedInterval value_ends }
     requires filled { NoneEmpty trail.now.sets }
 {
     let Term::Variable(var) = value else {
         return Ok(Items::new(alloc));
     };
-    if !is_narrow(trail, value, values_of_some(trail, index, entries)) {
+    if !is_thinned_beside(trail, value, value_ends, entries) {
         return Ok(Items::new(alloc));
     }
     let mut left = trail.domain(var).copy()?;
@@ -163,21 +170,6 @@ fn values_of_none(
     other_than_each(alloc, &left)
 }
 
-/// How many values the entries have at most to which the index may lead.
-fn values_of_some(trail: &Trail, index: Term, entries: &[Term]) -> usize
-    requires index { IsTerm (length trail.now.declared) index }
-    requires entries { All (IsTerm (length trail.now.declared)) entries.now }
-    requires short { length entries.now ≤ 100000 }
-{
-    let mut count = 0usize;
-    for k in 0..entries.len() {
-        if may_be(trail, index, &(k as i64 + 1)) {
-            count = count.saturating_add(value_count(trail, entries[k]));
-        }
-    }
-    count
-}
-
 // ---- what is handed over
 
 /// The clauses that the index lies within the list, at its beginning and at its end, where it may lie outside.
@@ -188,18 +180,23 @@ fn hold_index(
     index: Term,
     entries: &[Term],
     value: Term,
+    leads: Interval,
     found: &mut Findings,
 ) -> Result<(), Memory>
     requires index { IsTerm (length trail.now.declared) index }
     requires short { length entries.now ≤ 100000 }
-    requires filled { NoneEmpty trail.now.sets }
     requires before { AreFoundOf number (constraint.Element index entries.now value) trail.now found.old }
     ensures { AreFoundOf number (constraint.Element index entries.now value) trail.now found.new }
 {
-    let from_start = index_within(alloc, trail, index, entries, value, true)?;
-    found.hand_over(number, Rule::Rows, from_start)?;
-    let up_to_end = index_within(alloc, trail, index, entries, value, false)?;
-    found.hand_over(number, Rule::Rows, up_to_end)
+    if is_outside(leads, entries.len(), true) {
+        let from_start = index_within(alloc, trail, index, entries, value, true)?;
+        found.hand_over(number, Rule::Rows, from_start)?;
+    }
+    if is_outside(leads, entries.len(), false) {
+        let up_to_end = index_within(alloc, trail, index, entries, value, false)?;
+        found.hand_over(number, Rule::Rows, up_to_end)?;
+    }
+    Ok(())
 }
 
 /// Where the index leads to one place: what the entry there and the result have to be, since the other is.
@@ -243,6 +240,7 @@ fn part_entries(
     index: Term,
     entries: &[Term],
     value: Term,
+    value_ends: Interval,
     found: &mut Findings,
 ) -> Result<(), Memory>
     requires index { IsTerm (length trail.now.declared) index }
@@ -250,12 +248,15 @@ fn part_entries(
     requires short { length entries.now ≤ 100000 }
     requires value { IsTerm (length trail.now.declared) value }
     requires filled { NoneEmpty trail.now.sets }
+    requires limited { IsLimitedInterval value_ends }
     requires before { AreFoundOf number (constraint.Element index entries.now value) trail.now found.old }
     ensures { AreFoundOf number (constraint.Element index entries.now value) trail.now found.new }
 {
     for k in 0..entries.len() {
         if may_be(trail, index, &(k as i64 + 1)) {
-            part_entry(alloc, trail, number, index, entries, value, k, found)?;
+            part_entry(
+                alloc, trail, number, index, entries, value, value_ends, k, found,
+            )?;
         }
     }
     Ok(())
@@ -269,6 +270,7 @@ fn part_entry(
     index: Term,
     entries: &[Term],
     value: Term,
+    value_ends: Interval,
     place: usize,
     found: &mut Findings,
 ) -> Result<(), Memory>
@@ -277,16 +279,18 @@ fn part_entry(
     requires short { length entries.now ≤ 100000 }
     requires value { IsTerm (length trail.now.declared) value }
     requires filled { NoneEmpty trail.now.sets }
+    requires limited { IsLimitedInterval value_ends }
     requires place { place < length entries.now }
     requires before { AreFoundOf number (constraint.Element index entries.now value) trail.now found.old }
     ensures { AreFoundOf number (constraint.Element index entries.now value) trail.now found.new }
 {
-    if let Some(bound) = apart(trail, value, entries[place]) {
+    let ends = interval_of(trail, entries[place]);
+    if let Some(bound) = apart(trail, value, entries[place], value_ends, ends) {
         let claim = claim_of(value, bound);
         let clause = index_or_apart(alloc, trail, index, entries, value, place, claim)?;
         return found.hand_over(number, Rule::Rows, clause);
     }
-    if share_none(trail, entries[place], value) {
+    if share_none(trail, value, entries[place], value_ends, ends) {
         let clause = index_or_shared(alloc, trail, index, entries, value, place, entries[place])?;
         return found.hand_over(number, Rule::Rows, clause);
     }
@@ -322,7 +326,7 @@ fn bound_value(
 
 // ---- what refutes
 
-/// The clause that the index lies within the list, at its beginning or at its end, where it may lie outside there.
+/// The clause that the index lies within the list, at its beginning or at its end.
 fn index_within(
     alloc: Global,
     trail: &Trail,
@@ -333,12 +337,8 @@ fn index_within(
 ) -> Result<Option<Items<Lit>>, Memory>
     requires index { IsTerm (length trail.now.declared) index }
     requires short { length entries.now ≤ 100000 }
-    requires filled { NoneEmpty trail.now.sets }
     ensures { IfOk result (λ found. IfSome found (IsJustified trail.now (constraint.Element index entries.now value) rule.Rows)) }
 {
-    if !is_outside(trail, index, entries.len(), at_start) {
-        return Ok(None);
-    }
     explanation_of(alloc, trail, &[within(index, entries.len(), at_start)])
 }
 

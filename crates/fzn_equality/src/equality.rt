@@ -11,11 +11,11 @@ ghost use Rattle.fzn_propagator.specs.Clause.{IsJustified};
 ghost use Rattle.fzn_equality.specs.Equality.{IsAskedEqual};
 
 use crate::shared::{share_none, shared_values};
-use crate::terms::{Bound, apart, claim_of, narrowing};
+use crate::terms::{apart, claim_of, narrowing};
 use fzn_domain::{Lit, Memory};
 use fzn_list::Items;
 use fzn_meaning::{Relation, Term};
-use fzn_terms::{Claim, explanation_of, is_fixed, may_be};
+use fzn_terms::{Claim, explanation_of, interval_of, is_fixed, may_be};
 use fzn_trail::Trail;
 use std::alloc::Global;
 
@@ -36,9 +36,13 @@ pub fn infer_equal(
     requires filled { NoneEmpty trail.now.sets }
     ensures { IfOk result (λ found. IfSome found (IsJustified trail.now (constraint.Compare relation left right switch) rule.Rows)) }
 {
-    match bound_of(trail, relation, left, right, switch) {
-        Some(bound) => {
-            unasked_or_apart(
+    match switch {
+        Some(term) if !is_fixed(trail, term) => {
+            infer_unequal(alloc, trail, relation, left, right, switch)
+        }
+        Some(term) if !may_be(trail, term, &asking_value(relation)) => Ok(None),
+        _ => match narrowing(trail, left, right) {
+            Some(bound) => unasked_or_apart(
                 alloc,
                 trail,
                 relation,
@@ -46,44 +50,36 @@ pub fn infer_equal(
                 right,
                 switch,
                 claim_of(left, bound),
-            )
-        }
-        None if is_open(trail, switch) && share_none(trail, left, right) => {
-            unasked_or_shared(alloc, trail, relation, left, right, switch)
-        }
-        None => Ok(None),
+            ),
+            None => Ok(None),
+        },
     }
 }
 
-/// Whether a switch has several values.
-fn is_open(trail: &Trail, switch: Option<Term>) -> bool
-    requires switch { IsSwitch (length trail.now.declared) switch }
-    requires filled { NoneEmpty trail.now.sets }
-{
-    match switch {
-        Some(term) => !is_fixed(trail, term),
-        None => false,
-    }
-}
-
-/// What keeps the terms apart, while the switch is open, and else what they have to be.
-fn bound_of(
+/// The clause that the switch does not ask for equality, where the two terms have no common value.
+fn infer_unequal(
+    alloc: Global,
     trail: &Trail,
     relation: Relation,
     left: Term,
     right: Term,
     switch: Option<Term>,
-) -> Option<Bound>
+) -> Result<Option<Items<Lit>>, Memory>
     requires left { IsTerm (length trail.now.declared) left }
     requires right { IsTerm (length trail.now.declared) right }
     requires switch { IsSwitch (length trail.now.declared) switch }
     requires filled { NoneEmpty trail.now.sets }
+    ensures { IfOk result (λ found. IfSome found (IsJustified trail.now (constraint.Compare relation left right switch) rule.Rows)) }
 {
-    match switch {
-        Some(term) if !is_fixed(trail, term) => apart(trail, left, right),
-        Some(term) if !may_be(trail, term, &asking_value(relation)) => None,
-        _ => narrowing(trail, left, right),
+    let (ends, other_ends) = (interval_of(trail, left), interval_of(trail, right));
+    if let Some(bound) = apart(trail, left, right, ends, other_ends) {
+        let claim = claim_of(left, bound);
+        return unasked_or_apart(alloc, trail, relation, left, right, switch, claim);
     }
+    if share_none(trail, left, right, ends, other_ends) {
+        return unasked_or_shared(alloc, trail, relation, left, right, switch);
+    }
+    Ok(None)
 }
 
 /// The switch's value where the terms have to be equal.

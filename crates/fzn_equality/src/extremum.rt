@@ -11,14 +11,13 @@ ghost use Rattle.fzn_rules.specs.declared.rule.Rule.TheVariants as rule;
 ghost use Rattle.fzn_propagator.specs.Clause.{IsJustified};
 ghost use Rattle.fzn_propagator.specs.Inference.{AreFoundOf};
 
-use crate::narrow::{is_narrow, value_count};
 use crate::terms::{Bound, claim_of, other_than_each, take_out};
 use fzn_domain::{Lit, Memory, Op};
 use fzn_list::Items;
 use fzn_meaning::{Extreme, Term};
 use fzn_propagator::Findings;
 use fzn_rules::Rule;
-use fzn_terms::{Claim, explanation_of, greatest_of, least_of};
+use fzn_terms::{Claim, explanation_of, greatest_of, interval_of, is_thinned_beside, least_of};
 use fzn_trail::Trail;
 use std::alloc::Global;
 
@@ -257,7 +256,7 @@ fn values_of_none(
     let Term::Variable(var) = of else {
         return Ok(Items::new(alloc));
     };
-    if !is_narrow(trail, of, values_of_all(trail, entries)) {
+    if !is_thinned_beside(trail, of, interval_of(trail, of), entries) {
         return Ok(Items::new(alloc));
     }
     let mut left = trail.domain(var).copy()?;
@@ -268,17 +267,6 @@ fn values_of_none(
         }
     }
     other_than_each(alloc, &left)
-}
-
-/// How many values the entries have at most.
-fn values_of_all(trail: &Trail, entries: &[Term]) -> usize
-    requires { All (IsTerm (length trail.now.declared)) entries.now }
-{
-    let mut count = 0usize;
-    for entry in entries {
-        count = count.saturating_add(value_count(trail, *entry));
-    }
-    count
 }
 
 // ---- what is handed over

@@ -8,35 +8,44 @@ ghost use Rattle.fzn_sets.specs.Terms.{MayBe};
 ghost use Rattle.fzn_terms.specs.Denied.{IsDenied};
 ghost use Rattle.fzn_equality.specs.Shared.{KeepApart};
 
-use crate::terms::SMALL;
 use fzn_domain::{Domain, Memory};
 use fzn_list::Items;
 use fzn_meaning::Term;
-use fzn_terms::{Claim, greatest_of, least_of, may_be};
+use fzn_terms::{Claim, Interval, MOST_VALUES, greatest_of, least_of, may_be};
 use fzn_trail::Trail;
 use std::alloc::Global;
 
-/// Whether two variables share no value, as far as a few looks show. Those of which `shared_values` would give too many claims share some.
-pub fn share_none(trail: &Trail, left: Term, right: Term) -> bool
+/// Whether two variables, which have these ends, share no value, as far as a few looks show. Those of which `shared_values` would give too
+/// many claims share some.
+pub fn share_none(
+    trail: &Trail,
+    left: Term,
+    right: Term,
+    ends: Interval,
+    other_ends: Interval,
+) -> bool
     requires left { IsTerm (length trail.now.declared) left }
     requires right { IsTerm (length trail.now.declared) right }
-    requires filled { NoneEmpty trail.now.sets }
 {
-    if common_high(trail, left, right) - common_low(trail, left, right) >= SMALL {
+    if ends.low == other_ends.low || ends.high == other_ends.high {
+        return false;
+    }
+    let low = ends.low.max(other_ends.low);
+    if ends.high.min(other_ends.high).saturating_sub(low) >= MOST_VALUES {
         return false;
     }
     match (left, right) {
         (Term::Variable(one), Term::Variable(other)) => {
-            are_apart(trail.domain(one), trail.domain(other))
+            are_apart(trail.domain(one), trail.domain(other), low)
         }
         _ => false,
     }
 }
 
-/// The same of two sets: from a value of the one to the next of the other.
-fn are_apart(set: &Domain, other: &Domain) -> bool {
-    let mut passed = i64::MIN;
-    for _ in 0..SMALL {
+/// The same of two sets, of which none has a value below this number that is the other's: from a value of the one to the next of the other.
+fn are_apart(set: &Domain, other: &Domain, low: i64) -> bool {
+    let mut passed = low.saturating_sub(1);
+    for _ in 0..MOST_VALUES {
         let Some(value) = set.above(passed) else {
             return true;
         };
@@ -117,7 +126,7 @@ fn values_from(
     claims.push(below)?;
     claims.push(above)?;
     let mut value = low;
-    for _ in 0..SMALL {
+    for _ in 0..MOST_VALUES {
         if high < value {
             return Ok(Some(claims));
         }

@@ -4,20 +4,19 @@ ghost use Rattle.fzn_domain.specs.IntSet.{contains};
 ghost use Rattle.fzn_domain.specs.Limits.{IsInLimits};
 ghost use Rattle.fzn_domain.specs.Narrow.{NoneEmpty};
 ghost use Rattle.fzn_meaning.specs.Term.{IsTerm};
+ghost use Rattle.fzn_terms.specs.Intervals.{IsLimitedInterval, ends_of};
 
-use crate::narrow::{is_narrow, value_count};
 use fzn_domain::{Domain, Lit, Memory, Op, VarId};
 use fzn_list::Items;
 use fzn_meaning::Term;
-use fzn_terms::{Claim, greatest_of, is_never, least_of, may_be, next_value};
+use fzn_terms::{
+    Claim, Interval, MOST_VALUES, interval_of, is_never, is_thinned_beside, may_be, next_value,
+};
 use fzn_trail::Trail;
 use std::alloc::Global;
 
 /// A number that a term is compared with.
 pub type Bound = (Op, i64);
-
-/// How many values are looked at one by one at the most.
-pub const SMALL: i64 = 4_096;
 
 /// That the value of the term stands so to the number.
 pub fn claim_of(term: Term, bound: Bound) -> Claim
@@ -30,26 +29,33 @@ pub fn claim_of(term: Term, bound: Bound) -> Claim
     }
 }
 
-/// Where two terms have no common value by their ends, or by the one value of one of them: what keeps them apart. It is false of the
-/// first, and its opposite of the second.
-pub fn apart(trail: &Trail, one: Term, other: Term) -> Option<Bound>
+/// Where two terms, which have these ends, have no common value by them, or by the one value of one of them: what keeps them apart. It is
+/// false of the first, and its opposite of the second.
+pub fn apart(
+    trail: &Trail,
+    one: Term,
+    other: Term,
+    ends: Interval,
+    other_ends: Interval,
+) -> Option<Bound>
     requires one { IsTerm (length trail.now.declared) one }
     requires other { IsTerm (length trail.now.declared) other }
-    requires filled { NoneEmpty trail.now.sets }
+    requires limited { IsLimitedInterval ends }
+    requires other_limited { IsLimitedInterval other_ends }
 {
-    let (low, high) = (least_of(trail, one), greatest_of(trail, one));
-    let (other_low, other_high) = (least_of(trail, other), greatest_of(trail, other));
-    if high < other_low {
-        return Some((Op::AtLeast, parting(trail, other, high, other_low)));
+    if ends.high < other_ends.low {
+        let number = parting(trail, other, ends.high, other_ends.low);
+        return Some((Op::AtLeast, number));
     }
-    if other_high < low {
-        return Some((Op::AtMost, parting(trail, one, other_high, low) - 1));
+    if other_ends.high < ends.low {
+        let number = parting(trail, one, other_ends.high, ends.low);
+        return Some((Op::AtMost, number - 1));
     }
-    if low == high && !may_be(trail, other, &low) {
-        return Some((Op::NotEqual, low));
+    if ends.low == ends.high && !may_be(trail, other, &ends.low) {
+        return Some((Op::NotEqual, ends.low));
     }
-    if other_low == other_high && !may_be(trail, one, &other_low) {
-        return Some((Op::Equal, other_low));
+    if other_ends.low == other_ends.high && !may_be(trail, one, &other_ends.low) {
+        return Some((Op::Equal, other_ends.low));
     }
     None
 }
@@ -75,24 +81,44 @@ pub fn narrowing(trail: &Trail, one: Term, other: Term) -> Option<Bound>
     requires other { IsTerm (length trail.now.declared) other }
     requires filled { NoneEmpty trail.now.sets }
 {
-    for bound in &narrowed_ends(trail, one, other) {
+    let (ends, other_ends) = (interval_of(trail, one), interval_of(trail, other));
+    if are_same(ends, other_ends) {
+        return least_difference(trail, one, other, ends, other_ends);
+    }
+    for bound in &narrowed_ends(ends, other_ends) {
         if bound.is_some() {
             return *bound;
         }
     }
-    least_difference(trail, one, other)
+    None
+}
+
+fn are_same(ends: Interval, other_ends: Interval) -> bool {
+    ends.low == other_ends.low && ends.high == other_ends.high
 }
 
 /// What the least number shows that one of two terms may be and the other may not, where they have the same ends. Of the two only what is
 /// narrow is looked at.
-fn least_difference(trail: &Trail, one: Term, other: Term) -> Option<Bound>
+fn least_difference(
+    trail: &Trail,
+    one: Term,
+    other: Term,
+    ends: Interval,
+    other_ends: Interval,
+) -> Option<Bound>
     requires one { IsTerm (length trail.now.declared) one }
     requires other { IsTerm (length trail.now.declared) other }
-    requires filled { NoneEmpty trail.now.sets }
+    requires ends { ends ≡ ends_of trail.now.sets one }
+    requires other_ends { other_ends ≡ ends_of trail.now.sets other }
+    requires limited { IsLimitedInterval ends }
+    requires other_limited { IsLimitedInterval other_ends }
 {
-    match are_narrow(trail, one, other) {
+    if ends.low == ends.high {
+        return None;
+    }
+    match are_narrow(trail, one, other, ends, other_ends) {
         (true, true) => {
-            let value = difference(trail, one, other, least_of(trail, one))?;
+            let value = difference(trail, one, other, ends.low)?;
             Some(difference_at(trail, one, value))
         }
         (true, false) => Some((Op::NotEqual, next_lack(trail, one, other, i64::MIN)?)),
@@ -102,14 +128,23 @@ fn least_difference(trail: &Trail, one: Term, other: Term) -> Option<Bound>
 }
 
 /// Whether each of two terms that are to be equal is narrow: what may stay of one of them is no more than the other has.
-fn are_narrow(trail: &Trail, one: Term, other: Term) -> (bool, bool)
+fn are_narrow(
+    trail: &Trail,
+    one: Term,
+    other: Term,
+    ends: Interval,
+    other_ends: Interval,
+) -> (bool, bool)
     requires one { IsTerm (length trail.now.declared) one }
     requires other { IsTerm (length trail.now.declared) other }
-    requires filled { NoneEmpty trail.now.sets }
+    requires ends { ends ≡ ends_of trail.now.sets one }
+    requires other_ends { other_ends ≡ ends_of trail.now.sets other }
+    requires limited { IsLimitedInterval ends }
+    requires other_limited { IsLimitedInterval other_ends }
 {
     (
-        is_narrow(trail, one, value_count(trail, other)),
-        is_narrow(trail, other, value_count(trail, one)),
+        is_thinned_beside(trail, one, ends, &[other]),
+        is_thinned_beside(trail, other, other_ends, &[one]),
     )
 }
 
@@ -119,7 +154,7 @@ fn next_lack(trail: &Trail, term: Term, other: Term, passed: i64) -> Option<i64>
     requires other { IsTerm (length trail.now.declared) other }
 {
     let mut value = passed;
-    for _ in 0..SMALL {
+    for _ in 0..MOST_VALUES {
         value = next_value(trail, term, &value)?;
         if !may_be(trail, other, &value) {
             return Some(value);
@@ -139,31 +174,35 @@ pub fn narrowings(
     requires other { IsTerm (length trail.now.declared) other }
     requires filled { NoneEmpty trail.now.sets }
 {
+    let (ends, other_ends) = (interval_of(trail, one), interval_of(trail, other));
     let mut bounds = Items::new(alloc);
-    for bound in &narrowed_ends(trail, one, other) {
+    if are_same(ends, other_ends) {
+        add_differences(trail, one, other, ends, other_ends, &mut bounds)?;
+        return Ok(bounds);
+    }
+    for bound in &narrowed_ends(ends, other_ends) {
         if let Some(bound) = bound {
             bounds.push(*bound)?;
         }
     }
-    if bounds.len() == 0 {
-        add_differences(trail, one, other, &mut bounds)?;
-    }
     Ok(bounds)
 }
 
-/// The same by each end: the second's greatest and least value, and the first's.
-fn narrowed_ends(trail: &Trail, one: Term, other: Term) -> [Option<Bound>; 4]
-    requires one { IsTerm (length trail.now.declared) one }
-    requires other { IsTerm (length trail.now.declared) other }
-    requires filled { NoneEmpty trail.now.sets }
-{
-    let (low, high) = (least_of(trail, one), greatest_of(trail, one));
-    let (other_low, other_high) = (least_of(trail, other), greatest_of(trail, other));
+/// The same by each end: the second's greatest and least value, and the first's. Nothing where the ends are the same.
+fn narrowed_ends(ends: Interval, other_ends: Interval) -> [Option<Bound>; 4] {
     [
-        bound_where(other_high < high, Op::AtMost, other_high),
-        bound_where(low < other_low, Op::AtLeast, other_low),
-        bound_where(high < other_high, Op::AtLeast, high + 1),
-        bound_where(other_low < low, Op::AtMost, low - 1),
+        bound_where(other_ends.high < ends.high, Op::AtMost, other_ends.high),
+        bound_where(ends.low < other_ends.low, Op::AtLeast, other_ends.low),
+        bound_where(
+            ends.high < other_ends.high,
+            Op::AtLeast,
+            ends.high.saturating_add(1),
+        ),
+        bound_where(
+            other_ends.low < ends.low,
+            Op::AtMost,
+            ends.low.saturating_sub(1),
+        ),
     ]
 }
 
@@ -177,14 +216,22 @@ fn add_differences(
     trail: &Trail,
     one: Term,
     other: Term,
+    ends: Interval,
+    other_ends: Interval,
     bounds: &mut Items<Bound>,
 ) -> Result<(), Memory>
     requires one { IsTerm (length trail.now.declared) one }
     requires other { IsTerm (length trail.now.declared) other }
-    requires filled { NoneEmpty trail.now.sets }
+    requires ends { ends ≡ ends_of trail.now.sets one }
+    requires other_ends { other_ends ≡ ends_of trail.now.sets other }
+    requires limited { IsLimitedInterval ends }
+    requires other_limited { IsLimitedInterval other_ends }
 {
-    match are_narrow(trail, one, other) {
-        (true, true) => add_all_differences(trail, one, other, bounds),
+    if ends.low == ends.high {
+        return Ok(());
+    }
+    match are_narrow(trail, one, other, ends, other_ends) {
+        (true, true) => add_all_differences(trail, one, other, ends, bounds),
         (true, false) => add_lacks(trail, one, other, Op::NotEqual, bounds),
         (false, true) => add_lacks(trail, other, one, Op::Equal, bounds),
         (false, false) => Ok(()),
@@ -203,7 +250,7 @@ fn add_lacks(
     requires other { IsTerm (length trail.now.declared) other }
 {
     let mut passed = i64::MIN;
-    for _ in 0..SMALL {
+    for _ in 0..MOST_VALUES {
         let Some(value) = next_lack(trail, term, other, passed) else {
             return Ok(());
         };
@@ -218,16 +265,17 @@ fn add_all_differences(
     trail: &Trail,
     one: Term,
     other: Term,
+    ends: Interval,
     bounds: &mut Items<Bound>,
 ) -> Result<(), Memory>
     requires one { IsTerm (length trail.now.declared) one }
     requires other { IsTerm (length trail.now.declared) other }
-    requires filled { NoneEmpty trail.now.sets }
+    requires limited { IsLimitedInterval ends }
 {
-    let Some(first) = difference(trail, one, other, least_of(trail, one)) else {
+    let Some(first) = difference(trail, one, other, ends.low) else {
         return Ok(());
     };
-    let last = greatest_of(trail, one).min(first.saturating_add(SMALL));
+    let last = ends.high.min(first.saturating_add(MOST_VALUES));
     for value in first..last + 1 {
         if may_be(trail, one, &value) != may_be(trail, other, &value) {
             bounds.push(difference_at(trail, one, value))?;
@@ -269,7 +317,7 @@ fn first_difference(set: &Domain, other: &Domain, common: i64) -> Option<i64>
     requires other { contains other.now common ≡ true }
 {
     let mut value = common;
-    for _ in 0..SMALL {
+    for _ in 0..MOST_VALUES {
         let (end, other_end) = (set.run_end(value), other.run_end(value));
         if end != other_end {
             return Some(end.min(other_end) + 1);
@@ -292,7 +340,7 @@ fn first_difference(set: &Domain, other: &Domain, common: i64) -> Option<i64>
 pub fn other_than_each(alloc: Global, values: &Domain) -> Result<Items<Bound>, Memory> {
     let mut bounds = Items::new(alloc);
     let mut passed = i64::MIN;
-    for _ in 0..SMALL {
+    for _ in 0..MOST_VALUES {
         let Some(value) = values.above(passed) else {
             return Ok(bounds);
         };
@@ -305,25 +353,64 @@ pub fn other_than_each(alloc: Global, values: &Domain) -> Result<Items<Bound>, M
 /// Takes the term's values out of the set, of whose members it looks at few.
 pub fn take_out(trail: &Trail, term: Term, var: VarId, left: &mut Domain) -> Result<(), Memory>
     requires term { IsTerm (length trail.now.declared) term }
-    requires filled { NoneEmpty trail.now.sets }
 {
-    let until = greatest_of(trail, term);
-    let mut passed = least_of(trail, term) - 1;
-    for _ in 0..SMALL {
+    match term {
+        Term::Constant(value) => {
+            take_out_value(var, value, left)?;
+            Ok(())
+        }
+        Term::Variable(other) => {
+            let values = trail.domain(other);
+            take_out_first(values, var, left)?;
+            take_out_each(values, var, left)
+        }
+    }
+}
+
+/// Takes the runs of these values out of the set with which it begins.
+fn take_out_first(values: &Domain, var: VarId, left: &mut Domain) -> Result<(), Memory> {
+    for _ in 0..MOST_VALUES {
+        let Some(first) = left.above(i64::MIN) else {
+            return Ok(());
+        };
+        if !values.contains(first) {
+            return Ok(());
+        }
+        left.restrict(Lit {
+            var,
+            op: Op::AtLeast,
+            value: values.run_end(first) + 1,
+        })?;
+    }
+    Ok(())
+}
+
+/// Takes these values out of the set one by one.
+fn take_out_each(values: &Domain, var: VarId, left: &mut Domain) -> Result<(), Memory> {
+    if values.is_empty() {
+        return Ok(());
+    }
+    let mut passed = values.min() - 1;
+    for _ in 0..MOST_VALUES {
         let Some(value) = left.above(passed) else {
             return Ok(());
         };
-        if until < value {
+        if values.max() < value {
             return Ok(());
         }
-        if may_be(trail, term, &value) {
-            left.restrict(Lit {
-                var,
-                op: Op::NotEqual,
-                value,
-            })?;
+        if values.contains(value) {
+            take_out_value(var, value, left)?;
         }
         passed = value;
     }
+    Ok(())
+}
+
+fn take_out_value(var: VarId, value: i64, left: &mut Domain) -> Result<(), Memory> {
+    left.restrict(Lit {
+        var,
+        op: Op::NotEqual,
+        value,
+    })?;
     Ok(())
 }

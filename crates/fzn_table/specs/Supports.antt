@@ -1,19 +1,17 @@
 -- Rows of a table, on the sets of a trail.
-use Rattle.std.specs.Prelude.{◌≡◌, ◌⊎◌, Bool, true, false, ℕ, ◌+◌, ◌*◌, ◌/◌, ◌<◌, ◌≤◌, min, ℤ, pos, ◌-ℤ◌, ◌≤ℤ◌, List, length, slice_index_or}
+use Rattle.std.specs.Prelude.{◌≡◌, Bool, true, false, ℕ, ◌+◌, ◌*◌, ◌/◌, ◌<◌, ◌≤◌, ℤ, pos, List, length, slice_index_or}
 use Rattle.std.specs.List.{Contains}
 use Rattle.fzn_domain.specs.declared.literal.VarId.{VarId}
 use Rattle.fzn_domain.specs.declared.literal.Op.{Op}
 use Rattle.fzn_domain.specs.declared.literal.Lit.{Lit}
 use Rattle.fzn_domain.specs.Literal.{compares, is_true_at}
-use Rattle.fzn_domain.specs.IntSet.{IntSet, size}
-use Rattle.fzn_domain.specs.Narrow.{set_of}
+use Rattle.fzn_domain.specs.IntSet.{IntSet}
 use Rattle.fzn_meaning.specs.declared.term.Term.{Term}
-use Rattle.fzn_meaning.specs.declared.term.Term.TheVariants.{Constant, Variable}
 use Rattle.fzn_sets.specs.Terms.{MayBe, least_value, greatest_value}
 use Rattle.fzn_global_rules.specs.GlobalRows.{AreRowsOut}
 use Rattle.fzn_propagator.specs.Left.{IsLeft}
 use Rattle.fzn_terms.specs.Claims.{place_at}
-use Rattle.fzn_table.specs.declared.narrow.TheConstants.{FEW_VALUES, SPAN_OF_A_ROW, LONGEST_SPAN}
+use Rattle.fzn_terms.specs.Narrow.{IsNarrow}
 
 -- the rule `rows` of these places and rows
 abbrev pub AreRowsOutOn : List Term → List ℤ → List IntSet → Type 0
@@ -54,28 +52,15 @@ HasSupportAgainst sets places rows p op bound = (v : ℤ) × (compares op v boun
 
 -- ---- narrow places
 
--- how many values a term has; a constant has its own one value
-abbrev pub value_count : List IntSet → Term → ℕ
-value_count sets (Constant k) = 1
-value_count sets (Variable var) = size (set_of sets var)
-
--- these are few
-abbrev pub HasFewValues : List IntSet → Term → Type 0
-HasFewValues sets term = value_count sets term ≤ FEW_VALUES
-
--- the span, which is the greatest value less the least, is no more than a few times this many rows
-abbrev pub IsShort : List IntSet → Term → ℕ → Type 0
-IsShort sets term count = (greatest_value sets term -ℤ least_value sets term) ≤ℤ pos (min (count * SPAN_OF_A_ROW) LONGEST_SPAN)
-
 -- the place has few values, or a short span beside the number of rows
-abbrev pub IsNarrow : List IntSet → List Term → List ℤ → ℕ → Type 0
-IsNarrow sets places rows p = IsShort sets (place_at places p) (length rows / length places) ⊎ HasFewValues sets (place_at places p)
+abbrev pub IsNarrowPlace : List IntSet → List Term → List ℤ → ℕ → Type 0
+IsNarrowPlace sets places rows p = IsNarrow sets (place_at places p) (length rows / length places)
 
 -- the ends of a place are supported, and each value of a narrow one
 pub record HasSupports (sets : List IntSet) (places : List Term) (rows : List ℤ) (p : ℕ) : Type 0 where
   pub least : IsSupported sets places rows p (least_value sets (place_at places p))
   pub greatest : IsSupported sets places rows p (greatest_value sets (place_at places p))
-  pub each_where_narrow : IsNarrow sets places rows p → (v : ℤ) → MayBe sets (place_at places p) v → IsSupported sets places rows p v
+  pub each_where_narrow : IsNarrowPlace sets places rows p → (v : ℤ) → MayBe sets (place_at places p) v → IsSupported sets places rows p v
 
 -- so it is of each of the first places
 abbrev pub AreSupported : List IntSet → List Term → List ℤ → ℕ → Type 0

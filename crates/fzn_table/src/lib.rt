@@ -12,7 +12,6 @@ pub use propagator::{TablePropagator, propagator_of};
 pub use table::explain_claim;
 pub use words::first_common;
 
-mod narrow;
 mod propagator;
 mod supports;
 mod table;

@@ -11,17 +11,17 @@ ghost use Rattle.fzn_propagator.specs.Left.{IsLeft};
 ghost use Rattle.fzn_propagator.specs.Clause.{IsJustifiedBy, IsFalseClause};
 ghost use Rattle.fzn_terms.specs.Claims.{CanFail, LeavesNoMore, place_at};
 ghost use Rattle.fzn_terms.specs.Denied.{that, IsDenied};
-ghost use Rattle.fzn_table.specs.Supports.{AreRowsOutOn, number_at, IsWhole, IsOutAt, IsOpenUpTo, AreOpen, IsSupported, HasSupportAgainst, HasSupports, AreSupported, IsBarred, IsRowRefuted, AreRowsRefuted};
+ghost use Rattle.fzn_terms.specs.Intervals.{IsLimitedInterval, ends_of};
+ghost use Rattle.fzn_table.specs.Supports.{AreRowsOutOn, number_at, IsWhole, IsOutAt, IsOpenUpTo, AreOpen, IsSupported, IsNarrowPlace, HasSupportAgainst, HasSupports, AreSupported, IsBarred, IsRowRefuted, AreRowsRefuted};
 ghost use Rattle.fzn_propagator.specs.Inference.{AreFoundOf};
 
-use crate::narrow::is_narrow;
 use crate::supports::Supports;
 use fzn_domain::{GREATEST_BOUND, LEAST_BOUND, Lit, Memory, Op, VarId};
 use fzn_list::Items;
 use fzn_meaning::Term;
 use fzn_propagator::Findings;
 use fzn_rules::Rule;
-use fzn_terms::{greatest_of, least_of, may_be, next_value, push_claim};
+use fzn_terms::{Interval, interval_of, is_narrow, least_of, may_be, next_value, push_claim};
 use fzn_trail::Trail;
 use std::alloc::Global;
 
@@ -89,6 +89,17 @@ fn nearest(places: &[Term], rows: &[Term], k: usize, op: Op, value: &i64, end: &
     nearest
 }
 
+/// Whether the place, which has these ends, has few values, or values that lie close together beside the number of rows.
+fn is_narrow_place(trail: &Trail, places: &[Term], rows: &[Term], p: usize, ends: Interval) -> bool
+    requires places { All (IsTerm (length trail.now.declared)) places.now }
+    requires in_range { p < length places.now }
+    requires ends { ends ≡ ends_of trail.now.sets (place_at places.now p) }
+    requires limited { IsLimitedInterval ends }
+    ensures { IsTrue result ↔ IsNarrowPlace trail.now.sets places.now (numbers_in rows.now) p }
+{
+    is_narrow(trail, places[p], ends, rows.len() / places.len())
+}
+
 /// A claim that holds of the value and of none that the place has: of a wide place a bound, where the value lies beyond its ends.
 fn claim_out(trail: &Trail, places: &[Term], rows: &[Term], k: usize, value: &i64) -> (Op, i64)
     requires places { All (IsTerm (length trail.now.declared)) places.now }
@@ -100,19 +111,18 @@ fn claim_out(trail: &Trail, places: &[Term], rows: &[Term], k: usize, value: &i6
     ensures none { IsDenied trail.now.sets (that (place_at places.now k) result.0 result.1) }
     ensures near { IsNearLimits result.1 }
 {
-    if !is_narrow(trail, places, rows, k) {
-        let least = least_of(trail, places[k]);
-        if *value < least {
+    let ends = interval_of(trail, places[k]);
+    if !is_narrow_place(trail, places, rows, k, ends) {
+        if *value < ends.low {
             return (
                 Op::AtMost,
-                nearest(places, rows, k, Op::AtMost, value, &least),
+                nearest(places, rows, k, Op::AtMost, value, &ends.low),
             );
         }
-        let greatest = greatest_of(trail, places[k]);
-        if greatest < *value {
+        if ends.high < *value {
             return (
                 Op::AtLeast,
-                nearest(places, rows, k, Op::AtLeast, value, &greatest),
+                nearest(places, rows, k, Op::AtLeast, value, &ends.high),
             );
         }
     }
@@ -631,15 +641,15 @@ fn bar_place(
     ensures none { OnOk result (found.new ≡ [] → HasSupports trail.now.sets places.now (numbers_in rows.now) p) }
     ensures marks { AreOpen trail.now.sets places.now (numbers_in rows.now) marks.new.items }
 {
-    let least = least_of(trail, places[p]);
-    let greatest = greatest_of(trail, places[p]);
-    if is_narrow(trail, places, rows, p) {
+    let ends = interval_of(trail, places[p]);
+    if is_narrow_place(trail, places, rows, p, ends) {
         return bar_values(
             alloc, trail, places, rows, supports, possible, number, p, marks, found,
         );
     }
     bar_ends(
-        alloc, trail, places, rows, supports, possible, number, p, &least, &greatest, marks, found,
+        alloc, trail, places, rows, supports, possible, number, p, &ends.low, &ends.high, marks,
+        found,
     )
 }
 

@@ -6,11 +6,17 @@ use Rattle.fzn_terms.specs.Claims.{place_at}
 use Rattle.fzn_table.proofs.TableLemmas.{unequal}
 use Rattle.fzn_table.proofs.table.claim_out.Goals as goal
 
-pub returns-then-greatest-value-clause-none : goal.returns-then-greatest-value-clause-none
-returns-then-greatest-value-clause-none c = λ v may.
-    let last = c.greatest_of-greatest.ensures.last v may in
-    let limits = c.greatest_of-greatest.ensures.in_limits in
-    grind (arith, ints, last, limits.0, limits.1, c.nearest-then-greatest-value.ensures.fails, c.nearest-then-greatest-value.type_inv)
+pub returns-then-ends-value-clause-none : goal.returns-then-ends-value-clause-none
+returns-then-ends-value-clause-none c = λ v may.
+    let inside = c.interval_of-ends.ensures.inside v may in
+    let limits = c.interval_of-ends.ensures.limited.1 in
+    grind (arith, ints, inside.1, limits.0, limits.1, c.nearest-then-ends-value.ensures.fails, c.nearest-then-ends-value.type_inv)
+
+pub returns-then-value-ends-clause-none : goal.returns-then-value-ends-clause-none
+returns-then-value-ends-clause-none c = λ v may.
+    let inside = c.interval_of-ends.ensures.inside v may in
+    let limits = c.interval_of-ends.ensures.limited.0 in
+    grind (arith, ints, inside.0, limits.0, limits.1, c.nearest.ensures.fails, c.nearest.type_inv)
 
 pub returns-clause-none : goal.returns-clause-none
 returns-clause-none c = λ v may.

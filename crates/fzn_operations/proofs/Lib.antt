@@ -1,0 +1,2 @@
+mod AmountLemmas
+mod ExcludedLemmas
