@@ -1,5 +1,5 @@
 -- A trivial clause is accepted from any constraint.
-use Rattle.std.proofs.Common.{◌≡◌, ℕ, ◌-◌, List, Option, Some, None, slice_get, IfSome, inl}
+use Rattle.std.proofs.Common.{ℕ, ◌-◌, List, Option, Some, None, slice_get, IfSome, inl}
 use Rattle.fzn_domain.specs.declared.literal.Lit.{Lit}
 use Rattle.fzn_meaning.specs.declared.constraint.Constraint.{Constraint}
 use Rattle.fzn_meaning.specs.declared.model.Model.{Model}

@@ -9,10 +9,10 @@ pub use fault::{CertFault, FaultKind};
 pub use header::Header;
 pub use law::{one_line, one_verdict};
 pub use limits::{LAST_STEP, LINE_LIMIT};
-pub use line::has_room;
+pub use line::push_step;
 pub use refusal::Refusal;
 pub use step::{Step, Version};
-pub use writer::{Stage, StepWriter};
+pub use writer::{Stage, StepWriter, header_of, put_end};
 
 mod fault;
 mod header;

@@ -1,27 +1,15 @@
 // The line of a step, word after word.
-ghost use Rattle.std.specs.Prelude.{◌≡◌, ◌↔◌, ◌∷◌, [], ◌++◌, List, ℕ, ℤ, map, codes, IsTrue, OnOk, IfOk, string_bytes};
+ghost use Rattle.std.specs.Prelude.{◌≡◌, ◌∷◌, [], ◌++◌, List, ℕ, ℤ, map, codes, OnOk, string_bytes};
 ghost use Rattle.std.specs.List.{flat_map};
 ghost use Rattle.std.specs.Fmt.{decimal, signed_decimal};
-ghost use Rattle.fzn_cert.specs.Spelling.{rule_name, hints, literal_text, step_words, step_text, HasRoom};
+ghost use Rattle.fzn_cert.specs.Spelling.{rule_name, hints, literal_text, step_words, step_text};
 ghost use Rattle.fzn_cert.specs.Parts.{after_space, after_spaces, step_parts};
 
-use crate::limits::{LAST_STEP, LINE_LIMIT};
 use crate::step::Step;
 use fzn_domain::{Lit, Memory, Op};
 use fzn_rules::Rule;
-use std::alloc::Global;
 
-/// Whether the step may be written after so many steps: its line has at most `LINE_LIMIT` bytes, and there are fewer than `LAST_STEP`
-/// steps. It answers `Err` where memory runs out.
-pub fn has_room(alloc: Global, step: &Step, steps: u64) -> Result<bool, Memory>
-    ensures { IfOk result (λ has. IsTrue has ↔ HasRoom steps step.now) }
-{
-    let mut text = String::new(alloc);
-    push_step(&mut text, step)?;
-    Ok(text.len() <= LINE_LIMIT && steps < LAST_STEP)
-}
-
-/// Appends the text of a step.
+/// Appends the text of a step, without a line feed. It answers `Err` where memory runs out, and nothing is known of the text then.
 #[tactic(auto, using(crate::proofs::SpaceLaws::step_text_is))]
 pub fn push_step(text: &mut String, step: &Step) -> Result<(), Memory>
     ensures { OnOk result (string_bytes text.new ≡ string_bytes text.old ++ step_text step.now) }

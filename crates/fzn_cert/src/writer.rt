@@ -218,7 +218,8 @@ impl<'w, W: TrackedWrite> StepWriter<'w, W> {
     }
 }
 
-fn header_of(
+/// The first two lines. It answers `Memory` where memory runs out.
+pub fn header_of(
     alloc: Global,
     version: Version,
     variables: u64,
@@ -231,9 +232,10 @@ fn header_of(
     Ok(format!(in alloc; "{first}\nvars {variables} cons {constraints}\n")?)
 }
 
-/// Writes the last line, and flushes the writer.
+/// Writes the last line, and flushes the writer. It answers `Err` only where a write or the flush failed, and then a beginning of the line
+/// stands.
 #[tactic(auto, using(crate::proofs::WriteLaws::AppendsFront_whole))]
-fn put_end<W: TrackedWrite>(out: &mut W, closed: bool) -> Result<(), WriteFailed>
+pub fn put_end<W: TrackedWrite>(out: &mut W, closed: bool) -> Result<(), WriteFailed>
     ensures text { Puts (W.contents out.old) (W.contents out.new) result (end_line closed) }
     ensures due { IsDue W.stream W.has_failed out.old out.new result }
 {

@@ -6,6 +6,7 @@ mod NumberLaws
 mod OptionLaws
 mod ReadLaws
 mod RiseLaws
+mod ScriptLaws
 mod SplitLaws
 mod StepLaws
 mod ToldLaws

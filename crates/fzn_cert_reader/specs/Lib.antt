@@ -1,4 +1,5 @@
 pub mod Input
 pub mod Lines
 pub mod Reader
+pub mod Script
 pub mod Told

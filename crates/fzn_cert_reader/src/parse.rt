@@ -44,7 +44,8 @@ fn step_of_line(alloc: Global, line: &[u8], version: Version) -> Result<Option<S
     read_line(alloc, line, version)
 }
 
-fn read_line(alloc: Global, line: &[u8], version: Version) -> Result<Option<Step>, Memory>
+/// The step that a line spells in this version, whatever its number.
+pub fn read_line(alloc: Global, line: &[u8], version: Version) -> Result<Option<Step>, Memory>
     ensures { IfOk result (λ found. found ≡ step_of version line.now) }
 {
     read_words(alloc, words_of(line), version)

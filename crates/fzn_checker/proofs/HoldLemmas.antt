@@ -1,11 +1,13 @@
 -- Steps that are held: what they leave, the lines that they have, and the certificate that they make.
-use Rattle.std.proofs.Common.{◌≡◌, ℕ, ◌+◌, Bool, true, false, List, [], ◌∷◌, ◌++◌, length, Option, Some, None, IsSome, IfSome, unwrap_or, refl, sym, ap, ap₂, subst, ◌∙◌, inr, arith, append_assoc, append-nil}
+use Rattle.std.proofs.Common.{◌≡◌, ℕ, ◌+◌, Bool, false, List, [], ◌∷◌, ◌++◌, length, Option, Some, None, IsSome, IfSome, unwrap_or, refl, sym, ap, ap₂, subst, ◌∙◌, inr, arith, append_assoc, append-nil}
 use Rattle.std.specs.List.{fold, flat_map}
 use Rattle.fzn_meaning.specs.declared.model.Model.{Model}
 use Rattle.fzn_cert.specs.declared.header.Header.{Header}
 use Rattle.fzn_cert.specs.declared.step.Step.{Step}
+use Rattle.fzn_cert.specs.declared.step.Step.TheVariants.{Infer, Resolve, Solution, Delete}
 use Rattle.fzn_cert.specs.declared.step.Version.{Version}
-use Rattle.fzn_cert.specs.Spelling.{step_line, end_line, IsSized, HasLine}
+use Rattle.fzn_cert.specs.declared.step.Version.TheVariants.{Two}
+use Rattle.fzn_cert.specs.Spelling.{step_line, end_line, IsSized, IsSpelled, HasLine}
 use Rattle.fzn_cert.specs.Past.{Past, start}
 use Rattle.fzn_cert.specs.Accepted.{IsAccepted, AllAcceptedAfter, AllAccepted, after, past_of}
 use Rattle.fzn_cert.specs.Verdict.{accepted, lines_of, AllHaveLines, MayEnd, VerdictOn}
@@ -17,10 +19,10 @@ use Rattle.fzn_checker.specs.declared.hold.Taken.{Taken}
 use Rattle.fzn_checker.specs.Checked.{HasCounts, Accepts}
 use Rattle.fzn_checker.specs.Given.{AreGiven}
 use Rattle.fzn_checker.specs.Judged.{IsReady}
-use Rattle.fzn_checker.specs.Held.{HasTaken, Stands, certificate_of, IsCertificate, IsHeld}
+use Rattle.fzn_checker.specs.Held.{HasTaken, certificate_of, IsCertificate, IsHeld}
 use Rattle.fzn_checker.proofs.FaultLaws.{found-refuted}
 use Rattle.fzn_checker.proofs.RewriteLemmas.{all_more}
-use Rattle.fzn_checker.proofs.StandingLaws.{header_is, none_is}
+use Rattle.fzn_checker.proofs.StandingLaws.{header_is}
 
 -- ---- one step more
 
@@ -32,16 +34,27 @@ accepted-more : (model : Model) (past : Past) (steps : List Step) (step : Step) 
 accepted-more model past [] step h k = (k, tt)
 accepted-more model past (head ∷ steps) step h k = (h.0, accepted-more model (after model past head) steps step h.1 k)
 
-pub taken-more : (model : Model) (old new : Taken) (step : Step) → HasTaken model old → IsAccepted model old.history step → new.steps.items ≡ old.steps.items ++ step ∷ [] → new.history ≡ after model old.history step
+pub taken-more : (model : Model) (old new : Taken) (step : Step) → HasTaken model old → IsAccepted model old.history step → new.steps ≡ old.steps ++ step ∷ [] → new.history ≡ after model old.history step
     → IsReady model new.history new.sets new.has_empty → AreGiven model new.history.solutions new.given → HasTaken model new
 taken-more model old new step taken is_accepted more history ready given = record {
   ready = ready;
   given = given;
-  past = history ∙ ap (λ (p : Past). after model p step) taken.past ∙ sym (past-more model start old.steps.items step) ∙ ap (past_of model) (sym more);
-  accepted = subst (AllAccepted model) (sym more) (accepted-more model start old.steps.items step taken.accepted (subst (λ (p : Past). IsAccepted model p step) taken.past is_accepted));
+  past = history ∙ ap (λ (p : Past). after model p step) taken.past ∙ sym (past-more model start old.steps step) ∙ ap (past_of model) (sym more);
+  accepted = subst (AllAccepted model) (sym more) (accepted-more model start old.steps step taken.accepted (subst (λ (p : Past). IsAccepted model p step) taken.past is_accepted));
 }
 
 -- ---- their lines
+
+-- what any version spells, version 2 spells
+pub spelled-two : (version : Version) (step : Step) → IsSpelled version step → IsSpelled Two step
+spelled-two version (Infer constraint rule clause) h = h
+spelled-two version (Resolve clause ids) h = h
+spelled-two version (Solution values) h = h
+spelled-two version (Delete ids) h = (refl, h.1, h.2, h.3)
+
+pub lines-two : (version : Version) (count : ℕ) (steps : List Step) → AllHaveLines version count steps → AllHaveLines Two count steps
+lines-two version count [] h = tt
+lines-two version count (step ∷ steps) h = ((spelled-two version step h.0.0, h.0.1), lines-two version (count + 1) steps h.1)
 
 -- once the first two lines were read, each step has a line in their version
 abbrev pub AreSpelled : Progress → List Step → Type 0
@@ -68,7 +81,7 @@ spelled-more bytes old new steps step read spelled gives same =
 
 -- ---- the certificate
 
-pub flat-lines : (steps : List Step) → flat_map step_line steps ≡ lines_of steps
+flat-lines : (steps : List Step) → flat_map step_line steps ≡ lines_of steps
 flat-lines [] = refl
 flat-lines (step ∷ steps) = ap (λ (t : List ℕ). step_line step ++ t) (flat-lines steps)
 
@@ -88,17 +101,17 @@ certificate-read model bytes old new steps read spelled ends counts same = recor
     by_bytes None so_far = tt
     by_bytes (Some text) so_far = HasRead-end text old new steps so_far ends same ∙ certificate-is model ends.header steps ends.closed counts
 
-pub held-end : (model : Model) (bytes : Option (List ℕ)) (taken : Taken) (old new : Progress) (held : Held) → HasTaken model taken → HasRead bytes old taken.steps.items → AreSpelled old taken.steps.items
+pub held-end : (model : Model) (bytes : Option (List ℕ)) (taken : Taken) (old new : Progress) (held : Held) → HasTaken model taken → HasRead bytes old taken.steps → AreSpelled old taken.steps
     → Accepts model taken.history old new → Ends old new → IfSome new.header (HasCounts model) → (IsSome old.header → new.header ≡ old.header)
-    → held.steps.items ≡ taken.steps.items → held.solutions.items ≡ taken.history.solutions → held.closed ≡ unwrap_or new.closing false → IsHeld model bytes held
+    → held.steps ≡ taken.steps → held.solutions.items ≡ taken.history.solutions → held.closed ≡ unwrap_or new.closing false → IsHeld model bytes held
 held-end model bytes taken old new held has_taken read spelled accepts ends counts same steps solutions closed =
     let fits : HasCounts model ends.header = subst (λ (o : Option Header). IfSome o (HasCounts model)) ends.told counts in
     let said : ends.closed ≡ held.closed = sym (closed ∙ ap (λ (o : Option Bool). unwrap_or o false) ends.closing) in
-    let past : taken.history ≡ past_of model held.steps.items = has_taken.past ∙ ap (past_of model) (sym steps) in
+    let past : taken.history ≡ past_of model held.steps = has_taken.past ∙ ap (past_of model) (sym steps) in
     record {
       version = ends.header.version;
-      certificate = subst (λ (b : Bool). IsCertificate model ends.header.version bytes held.steps.items b) said
-          (subst (λ (all : List Step). IsCertificate model ends.header.version bytes all ends.closed) (sym steps) (certificate-read model bytes old new taken.steps.items read spelled ends fits same));
+      certificate = subst (λ (b : Bool). IsCertificate model ends.header.version bytes held.steps b) said
+          (subst (λ (all : List Step). IsCertificate model ends.header.version bytes all ends.closed) (sym steps) (certificate-read model bytes old new taken.steps read spelled ends fits same));
       stands = record {
         accepted = subst (AllAccepted model) (sym steps) has_taken.accepted;
         found = solutions ∙ ap (λ (p : Past). p.solutions) past;

@@ -20,14 +20,14 @@ past_in taken = taken.history
 pub record HasTaken (model : Model) (taken : Taken) : Type 0 where
   pub ready : IsReady model taken.history taken.sets taken.has_empty
   pub given : AreGiven model taken.history.solutions taken.given
-  pub past : taken.history ≡ past_of model taken.steps.items
-  pub accepted : AllAccepted model taken.steps.items
+  pub past : taken.history ≡ past_of model taken.steps
+  pub accepted : AllAccepted model taken.steps
 
 -- the steps are accepted one after the other, these are their solutions, and they may end so
 pub record Stands (model : Model) (held : Held) : Type 0 where
-  pub accepted : AllAccepted model held.steps.items
-  pub found : held.solutions.items ≡ (past_of model held.steps.items).solutions
-  pub may_end : MayEnd (past_of model held.steps.items) held.closed
+  pub accepted : AllAccepted model held.steps
+  pub found : held.solutions.items ≡ (past_of model held.steps).solutions
+  pub may_end : MayEnd (past_of model held.steps) held.closed
 
 -- the bytes of a certificate with these steps and this ending
 abbrev pub certificate_of : Model → Version → List Step → Bool → List ℕ
@@ -42,5 +42,5 @@ pub record IsCertificate (model : Model) (version : Version) (left : Option (Lis
 -- these are the steps of what is left, and they are accepted
 pub record IsHeld (model : Model) (left : Option (List ℕ)) (held : Held) : Type 0 where
   pub version : Version
-  pub certificate : IsCertificate model version left held.steps.items held.closed
+  pub certificate : IsCertificate model version left held.steps held.closed
   pub stands : Stands model held

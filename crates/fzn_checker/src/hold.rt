@@ -1,22 +1,23 @@
 // A certificate checked from its bytes, with its steps held.
 ghost use Rattle.std.specs.Prelude.{◌≡◌, [], ◌∷◌, ◌++◌, None, IfOk, IfErr};
 ghost use Rattle.fzn_meaning.specs.WellFormed.{IsWellFormed};
+ghost use Rattle.fzn_cert.specs.declared.step.Version.TheVariants.{Two};
+ghost use Rattle.fzn_cert.specs.Spelling.{IsSpelled};
 ghost use Rattle.fzn_cert.specs.Accepted.{IsJudged, after};
 ghost use Rattle.fzn_cert.specs.Verdict.{VerdictOn};
 ghost use Rattle.fzn_cert_reader.specs.Reader.{progress, input_of};
 ghost use Rattle.fzn_checker.specs.Checked.{IsUnread, IsFaultWhere, IsReadDue};
-ghost use Rattle.fzn_checker.specs.Judged.{HasBounds};
 ghost use Rattle.fzn_checker.specs.Held.{past_in, HasTaken, IsHeld};
 
 use crate::certificate::first_sets;
-use crate::copy::copied_step;
 use crate::fault::CheckFault;
 use crate::given::Given;
 use crate::history::History;
+use crate::judge::fault_of;
 use crate::next::next_step;
-use crate::steps::take_step;
+use crate::steps::accept;
 use fzn_cert::{Refusal, Step};
-use fzn_cert_reader::StepReader;
+use fzn_cert_reader::{Script, StepReader};
 use fzn_domain::Memory;
 use fzn_list::Items;
 use fzn_meaning::Model;
@@ -28,7 +29,7 @@ use std::alloc::Global;
 #[derive(Drop)]
 pub struct Held {
     /// Its steps, in order.
-    pub steps: Vec<Step>,
+    pub steps: Script,
     /// The values of its solutions, in order.
     pub solutions: Vec<Items<i64>>,
     /// Whether there are no others to be found.
@@ -39,7 +40,7 @@ pub struct Held {
 #[derive(Drop)]
 pub struct Taken {
     /// The steps, in order.
-    pub steps: Vec<Step>,
+    pub steps: Script,
     history: History,
     given: Given,
     sets: Sets,
@@ -51,12 +52,12 @@ impl Taken {
     pub fn new(alloc: Global, model: &Model) -> Result<Taken, Memory>
         requires { IsWellFormed model.now }
         ensures taken { IfOk result (HasTaken model.now) }
-        ensures none { IfOk result (λ taken. taken.steps.items ≡ []) }
+        ensures none { IfOk result (λ taken. taken.steps ≡ []) }
     {
         let sets = first_sets(alloc, model)?;
         let has_empty = sets.has_empty();
         Ok(Taken {
-            steps: Vec::new(alloc),
+            steps: Script::new(alloc),
             history: History::new(alloc),
             given: Given::new(alloc),
             sets,
@@ -64,8 +65,8 @@ impl Taken {
         })
     }
 
-    /// Takes the next step where it is accepted, and else answers what is wrong with it and takes none. It answers `Err` where memory runs
-    /// out, and nothing is known of the steps then.
+    /// Takes the next step, one that version 2 spells, where it is accepted, and else answers what is wrong with it and takes none. It
+    /// answers `Err` where memory runs out, and nothing is known of the steps then.
     pub fn take(
         &mut self,
         alloc: Global,
@@ -73,25 +74,26 @@ impl Taken {
         step: Step,
     ) -> Result<Option<Refusal>, Memory>
         requires taken { HasTaken model.now self.old }
-        requires bounds { HasBounds step }
+        requires spelled { IsSpelled Two step }
         ensures judged { IfOk result (IsJudged model.now (past_in self.old) step) }
         ensures taken { IfOk result (λ fault. fault ≡ None → HasTaken model.now self.new) }
-        ensures more { IfOk result (λ fault. fault ≡ None → self.new.steps.items ≡ self.old.steps.items ++ step ∷ []) }
+        ensures more { IfOk result (λ fault. fault ≡ None → self.new.steps ≡ self.old.steps ++ step ∷ []) }
         ensures after { IfOk result (λ fault. fault ≡ None → past_in self.new ≡ after model.now (past_in self.old) step) }
     {
-        let copy = copied_step(alloc, &step)?;
-        if let Some(refusal) = take_step(
+        let fault = fault_of(
             alloc,
             model,
-            &mut self.history,
-            &mut self.given,
+            &self.history,
+            &self.given,
             &mut self.sets,
             self.has_empty,
-            step,
-        )? {
+            &step,
+        )?;
+        if let Some(refusal) = fault {
             return Ok(Some(refusal));
         }
-        self.steps.push(copy)?;
+        self.steps.push(alloc, &step)?;
+        accept(alloc, model, &mut self.history, &mut self.given, step)?;
         Ok(None)
     }
 
@@ -111,7 +113,7 @@ impl Taken {
 
     /// The steps with their solutions, and this ending.
     pub fn into_held(self, closed: bool) -> Held
-        ensures steps { result.steps.items ≡ self.steps.items }
+        ensures steps { result.steps ≡ self.steps }
         ensures solutions { result.solutions.items ≡ (past_in self).solutions }
         ensures closed { result.closed ≡ closed }
     {
@@ -123,7 +125,8 @@ impl Taken {
     }
 }
 
-/// Checks a certificate as `check_certificate` does, with the same faults, and answers its steps too. All of them are held until the end.
+/// Checks a certificate as `check_certificate` does, with the same faults, and answers its steps too. All of them are held until the end, as
+/// the text of their lines.
 pub fn hold_certificate<C: TrackedRead + Drop>(
     alloc: Global,
     model: &Model,

@@ -8,7 +8,6 @@
 
 pub use answer::{check, check_tracked};
 pub use certificate::{Accepted, Verdict, check_certificate};
-pub use copy::copied_step;
 pub use fault::CheckFault;
 pub use hold::{Held, Taken, hold_certificate};
 pub use rewrite::{to2, to2_tracked};
@@ -16,7 +15,6 @@ pub use rewrite::{to2, to2_tracked};
 mod answer;
 mod certificate;
 mod chain;
-mod copy;
 mod fault;
 mod given;
 mod history;

@@ -42,8 +42,8 @@ pub fn take_step(
     Ok(None)
 }
 
-/// Adds an accepted step to the history.
-fn accept(
+/// Adds an accepted step to the history. It answers `Err` where memory runs out, and nothing is known of the history then.
+pub fn accept(
     alloc: Global,
     model: &Model,
     history: &mut History,

@@ -1,5 +1,5 @@
 -- What a core makes of a whole certificate, and what a fault leaves.
-use Rattle.std.proofs.Common.{◌≡◌, ℕ, ◌+◌, Bool, List, [], ◌∷◌, ℤ, length, Option, Some, None, Err, IfSome, refl, sym, subst, ◌∙◌, append-nil}
+use Rattle.std.proofs.Common.{◌≡◌, ℕ, Bool, List, [], ℤ, length, Option, Some, None, Err, IfSome, refl, sym, subst, ◌∙◌, append-nil}
 use Rattle.std.specs.Io.KnownBytes.{Appends}
 use Rattle.std.proofs.KnownBytes.{Keeps-refl}
 use Rattle.fzn_lexer.specs.declared.token.Span.{Span}
@@ -9,12 +9,7 @@ use Rattle.fzn_meaning.specs.WellFormed.{IsWellFormed}
 use Rattle.fzn_reading.specs.declared.fault.ModelFault.{ModelFault}
 use Rattle.fzn_reading.specs.declared.fault.ModelFault.TheVariants as reading
 use Rattle.fzn_reading.specs.Reads.{Answers}
-use Rattle.fzn_cert.specs.declared.step.Step.{Step}
-use Rattle.fzn_cert.specs.declared.step.Step.TheVariants.{Infer, Resolve, Solution, Delete}
-use Rattle.fzn_cert.specs.declared.step.Version.{Version}
-use Rattle.fzn_cert.specs.declared.step.Version.TheVariants.{Two}
-use Rattle.fzn_cert.specs.Spelling.{IsSpelled}
-use Rattle.fzn_cert.specs.Verdict.{accepted, VerdictOn, AllHaveLines}
+use Rattle.fzn_cert.specs.Verdict.{accepted, VerdictOn}
 use Rattle.fzn_cert.proofs.SoundLaws.{accepted-proper, closed-exhausted}
 use Rattle.fzn_checker.specs.declared.fault.CheckFault.{CheckFault}
 use Rattle.fzn_checker.specs.declared.fault.CheckFault.TheVariants.{File, Refused, NotVersionOne, Memory, Read, WriteOutput, WriteCert}
@@ -28,19 +23,6 @@ use Rattle.fzn_items.specs.Items.{AreSources}
 use Rattle.fzn_core.specs.declared.listing.Listed.{Listed}
 use Rattle.fzn_core.specs.Core.{IsCore}
 use Rattle.fzn_core.specs.Listing.{core_text, Lists, IsListFault}
-
--- ---- the steps
-
--- what any version spells, version 2 spells
-spelled-two : (version : Version) (step : Step) → IsSpelled version step → IsSpelled Two step
-spelled-two version (Infer constraint rule clause) h = h
-spelled-two version (Resolve clause ids) h = h
-spelled-two version (Solution values) h = h
-spelled-two version (Delete ids) h = (refl, h.1, h.2, h.3)
-
-pub lines-two : (version : Version) (count : ℕ) (steps : List Step) → AllHaveLines version count steps → AllHaveLines Two count steps
-lines-two version count [] h = tt
-lines-two version count (step ∷ steps) h = ((spelled-two version step h.0.0, h.0.1), lines-two version (count + 1) steps h.1)
 
 -- ---- the text
 
@@ -63,9 +45,9 @@ module _ (file cert : Option (List ℕ)) (model : Model) (states : States file m
       states = states;
       verdict = subst (λ (b : Bool). VerdictOn model cert (accepted held.solutions.items b)) (sym closed)
           (subst (λ (found : List (List ℤ)). VerdictOn model cert (accepted found held.closed)) (sym is_held.stands.found)
-          (certificate-accepted model is_held.version cert held.steps.items held.closed is_held.certificate is_held.stands.accepted is_held.stands.may_end));
-      proper = subst (IsProper model) (sym is_held.stands.found) (accepted-proper model held.steps.items wf is_held.stands.accepted);
-      exhausted = λ is. subst (IsExhausted model) (sym is_held.stands.found) (closed-exhausted model held.steps.items wf is_held.stands.accepted (is_held.stands.may_end (sym closed ∙ is)));
+          (certificate-accepted model is_held.version cert held.steps held.closed is_held.certificate is_held.stands.accepted is_held.stands.may_end));
+      proper = subst (IsProper model) (sym is_held.stands.found) (accepted-proper model held.steps wf is_held.stands.accepted);
+      exhausted = λ is. subst (IsExhausted model) (sym is_held.stands.found) (closed-exhausted model held.steps wf is_held.stands.accepted (is_held.stands.may_end (sym closed ∙ is)));
     };
     sources = sources;
     stated = stated;

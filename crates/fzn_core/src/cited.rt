@@ -9,6 +9,7 @@ ghost use Rattle.fzn_checker.specs.Held.{Stands};
 ghost use Rattle.fzn_core.specs.Core.{IsCore, constraint_of};
 
 use fzn_cert::Step;
+use fzn_cert_reader::Script;
 use fzn_checker::Held;
 use fzn_domain::Memory;
 use fzn_meaning::Model;
@@ -20,19 +21,19 @@ use std::alloc::Global;
 pub fn core_numbers(alloc: Global, model: &Model, held: Held) -> Result<Vec<u64>, Memory>
     requires model { IsWellFormed model.now }
     requires stands { Stands model.now held }
-    requires lines { AllHaveLines Two 0 held.steps.items }
+    requires lines { AllHaveLines Two 0 held.steps }
     ensures { IfOk result (λ numbers. IsCore model.now held.solutions.items held.closed numbers.items) }
 {
     if !held.closed {
         return Ok(Vec::new(alloc));
     }
     let kept = trimmed_steps(alloc, model, held)?;
-    let numbers = cited_by(alloc, kept.steps.as_slice())?;
+    let numbers = cited_by(alloc, &kept.steps)?;
     Ok(numbers)
 }
 
 /// The numbers of the constraints that the steps infer from, each once, in rising order.
-fn cited_by(alloc: Global, steps: &[Step]) -> Result<Vec<u64>, Memory>
+fn cited_by(alloc: Global, steps: &Script) -> Result<Vec<u64>, Memory>
     ensures cited { IfOk result (λ numbers. (number : ℕ) → Contains numbers.items number ↔ Contains (filter_map constraint_of steps.now) number) }
     ensures rising { IfOk result (λ numbers. IsStrictlyIncreasing numbers.items) }
 {
@@ -43,12 +44,16 @@ fn cited_by(alloc: Global, steps: &[Step]) -> Result<Vec<u64>, Memory>
 }
 
 /// The number of the constraint of each step that infers from one.
-fn numbers_in(alloc: Global, steps: &[Step]) -> Result<Vec<u64>, Memory>
+fn numbers_in(alloc: Global, steps: &Script) -> Result<Vec<u64>, Memory>
     ensures { IfOk result (λ numbers. numbers.items ≡ filter_map constraint_of steps.now) }
 {
     let mut numbers = Vec::new(alloc);
-    for step in steps {
-        push_number(step, &mut numbers)?;
+    for place in 0..steps.len() {
+        // Not reached: there is a step at the place.
+        let Some(step) = steps.get(alloc, place)? else {
+            return Ok(numbers);
+        };
+        push_number(&step, &mut numbers)?;
     }
     Ok(numbers)
 }

@@ -31,7 +31,8 @@ pub struct Listed {
 ///
 /// Nothing is printed before the whole certificate is accepted, nor where it answers `File` with the first fault of the file, `Refused` with
 /// the first faulty line of the certificate, `Memory` where memory runs out, or `Read` where a read of either fails. It answers
-/// `WriteOutput` where a write or the flush of `out` fails, and a beginning of the list stands then. All steps are held at once.
+/// `WriteOutput` where a write or the flush of `out` fails, and a beginning of the list stands then. All steps are held at once, as the text
+/// of their lines.
 pub fn core<R: Read + Drop, C: Read + Drop, W: Write>(
     alloc: Global,
     file: R,

@@ -1,3 +1,2 @@
 mod TrialLemmas
 mod TrimLemmas
-mod WriteLemmas

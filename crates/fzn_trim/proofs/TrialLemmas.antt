@@ -1,11 +1,10 @@
 -- Steps that stand the test of a plan.
 use Rattle.std.proofs.Common.{◌≡◌, ℕ, ◌+◌, ◌<◌, ◌≤◌, List, [], ◌∷◌, ◌++◌, length, refl, sym, subst, ap, ◌∙◌, arith, ◌==◌, not, true, Bool}
-use Rattle.std.specs.List.{All, AllByRecursion}
-use Rattle.std.proofs.lemmas.List.Elements.{All-from_recursion, recursion_from_All}
+use Rattle.std.specs.List.{All}
+use Rattle.std.proofs.lemmas.List.Elements.{recursion_from_All}
 use Rattle.fzn_meaning.specs.declared.model.Model.{Model}
 use Rattle.fzn_cert.specs.declared.step.Step.{Step}
-use Rattle.fzn_cert.specs.declared.step.Step.TheVariants.{Infer, Resolve, Solution, Delete}
-use Rattle.fzn_cert.specs.declared.step.Version.{Version}
+use Rattle.fzn_cert.specs.declared.step.Step.TheVariants.{Delete}
 use Rattle.fzn_cert.specs.declared.step.Version.TheVariants.{Two}
 use Rattle.fzn_cert.specs.Spelling.{IsNumber, IsSpelled, HasRoom, HasLine}
 use Rattle.fzn_cert.specs.Reading.{is_deletion, ids_rise}
@@ -19,26 +18,6 @@ use Rattle.fzn_checker.specs.declared.hold.Taken.{Taken}
 use Rattle.fzn_checker.specs.Held.{HasTaken, Stands}
 use Rattle.fzn_checker.proofs.CallerLemmas.{all_more}
 use Rattle.fzn_trim.specs.Kept.{IsTrimOf}
-
--- ---- version 2
-
--- what any version spells, version 2 spells
-spelled-two : (version : Version) (step : Step) → IsSpelled version step → IsSpelled Two step
-spelled-two version (Infer constraint rule clause) h = h
-spelled-two version (Resolve clause ids) h = h
-spelled-two version (Solution values) h = h
-spelled-two version (Delete ids) h = (refl, h.1, h.2, h.3)
-
-pub lines-two : (version : Version) (count : ℕ) (steps : List Step) → AllHaveLines version count steps → AllHaveLines Two count steps
-lines-two version count [] h = tt
-lines-two version count (step ∷ steps) h = ((spelled-two version step h.0.0, h.0.1), lines-two version (count + 1) steps h.1)
-
-spelled-each : (count : ℕ) (steps : List Step) → AllHaveLines Two count steps → AllByRecursion (IsSpelled Two) steps
-spelled-each count [] h = tt
-spelled-each count (step ∷ steps) h = (h.0.0, spelled-each (count + 1) steps h.1)
-
-pub spelled-all : (steps : List Step) → AllHaveLines Two 0 steps → All (IsSpelled Two) steps
-spelled-all steps h = All-from_recursion (IsSpelled Two) steps (spelled-each 0 steps h)
 
 -- ---- a step with other citations
 
@@ -57,21 +36,21 @@ lines-more old new step lines spelled room more =
 
 -- ---- all of them
 
-pub trim-of_taken : (model : Model) (taken : Taken) (held kept : Held) → HasTaken model taken → AllHaveLines Two 0 taken.steps.items → taken.history.solutions ≡ held.solutions.items → MayEnd taken.history held.closed
-    → length taken.steps.items ≤ length held.steps.items → kept.steps.items ≡ taken.steps.items → kept.solutions.items ≡ taken.history.solutions → kept.closed ≡ held.closed → IsTrimOf model held kept
+pub trim-of_taken : (model : Model) (taken : Taken) (held kept : Held) → HasTaken model taken → AllHaveLines Two 0 taken.steps → taken.history.solutions ≡ held.solutions.items → MayEnd taken.history held.closed
+    → length taken.steps ≤ length held.steps → kept.steps ≡ taken.steps → kept.solutions.items ≡ taken.history.solutions → kept.closed ≡ held.closed → IsTrimOf model held kept
 trim-of_taken model taken held kept has_taken lines found may_end fewer steps solutions closed =
-    let past : taken.history ≡ past_of model kept.steps.items = has_taken.past ∙ ap (past_of model) (sym steps) in
+    let past : taken.history ≡ past_of model kept.steps = has_taken.past ∙ ap (past_of model) (sym steps) in
     record {
       stands = record {
         accepted = rw steps has_taken.accepted;
         found = solutions ∙ ap (λ (p : Past). p.solutions) past;
-        may_end = subst (λ (b : Bool). MayEnd (past_of model kept.steps.items) b) (sym closed) (subst (λ (p : Past). MayEnd p held.closed) past may_end);
+        may_end = subst (λ (b : Bool). MayEnd (past_of model kept.steps) b) (sym closed) (subst (λ (p : Past). MayEnd p held.closed) past may_end);
       };
       lines = subst (AllHaveLines Two 0) (sym steps) lines;
       found = solutions ∙ found;
       closed = closed;
-      fewer = subst (λ (all : List Step). length all ≤ length held.steps.items) (sym steps) fewer;
+      fewer = subst (λ (all : List Step). length all ≤ length held.steps) (sym steps) fewer;
     }
 
-pub trim-same : (model : Model) (held : Held) → Stands model held → AllHaveLines Two 0 held.steps.items → IsTrimOf model held held
+pub trim-same : (model : Model) (held : Held) → Stands model held → AllHaveLines Two 0 held.steps → IsTrimOf model held held
 trim-same model held stands lines = record { stands = stands; lines = lines; found = refl; closed = refl; fewer = omega arith }

@@ -27,16 +27,16 @@ use Rattle.fzn_trim.specs.Written.{IsWriteFault}
 
 module _ (file cert : Option (List ℕ)) (model : Model) (states : States file model) where
   -- the certificate of the steps that are left
-  pub trims-of : (held kept : Held) (trimmed : Trimmed) → IsWellFormed model → IsHeld model cert held → IsTrimOf model held kept → trimmed.steps ≡ length held.steps.items → trimmed.kept ≡ length kept.steps.items
-      → Trims file cert (certificate_of model Two kept.steps.items kept.closed) trimmed
+  pub trims-of : (held kept : Held) (trimmed : Trimmed) → IsWellFormed model → IsHeld model cert held → IsTrimOf model held kept → trimmed.steps ≡ length held.steps → trimmed.kept ≡ length kept.steps
+      → Trims file cert (certificate_of model Two kept.steps kept.closed) trimmed
   trims-of held kept trimmed wf is_held trim steps count =
-      let bytes = certificate_of model Two kept.steps.items kept.closed in
-      let new : IsCertificate model Two (Some bytes) kept.steps.items held.closed = record {
+      let bytes = certificate_of model Two kept.steps kept.closed in
+      let new : IsCertificate model Two (Some bytes) kept.steps held.closed = record {
         sized = is_held.certificate.sized;
         spelled = trim.lines;
-        text = ap (λ (b : Bool). certificate_of model Two kept.steps.items b) trim.closed;
+        text = ap (λ (b : Bool). certificate_of model Two kept.steps b) trim.closed;
       } in
-      let same : (past_of model kept.steps.items).solutions ≡ held.solutions.items = sym trim.stands.found ∙ trim.found in
+      let same : (past_of model kept.steps).solutions ≡ held.solutions.items = sym trim.stands.found ∙ trim.found in
       record {
         model = model;
         found = held.solutions.items;
@@ -44,16 +44,16 @@ module _ (file cert : Option (List ℕ)) (model : Model) (states : States file m
         shows = record {
           states = states;
           verdict = subst (λ (found : List (List ℤ)). VerdictOn model cert (accepted found held.closed)) (sym is_held.stands.found)
-              (certificate-accepted model is_held.version cert held.steps.items held.closed is_held.certificate is_held.stands.accepted is_held.stands.may_end);
-          proper = subst (IsProper model) (sym is_held.stands.found) (accepted-proper model held.steps.items wf is_held.stands.accepted);
-          exhausted = λ closed. subst (IsExhausted model) (sym is_held.stands.found) (closed-exhausted model held.steps.items wf is_held.stands.accepted (is_held.stands.may_end closed));
+              (certificate-accepted model is_held.version cert held.steps held.closed is_held.certificate is_held.stands.accepted is_held.stands.may_end);
+          proper = subst (IsProper model) (sym is_held.stands.found) (accepted-proper model held.steps wf is_held.stands.accepted);
+          exhausted = λ closed. subst (IsExhausted model) (sym is_held.stands.found) (closed-exhausted model held.steps wf is_held.stands.accepted (is_held.stands.may_end closed));
         };
         verdict = subst (λ (found : List (List ℤ)). VerdictOn model (Some bytes) (accepted found held.closed)) same
-            (certificate-accepted model Two (Some bytes) kept.steps.items held.closed new trim.stands.accepted (subst (λ (b : Bool). MayEnd (past_of model kept.steps.items) b) trim.closed trim.stands.may_end));
+            (certificate-accepted model Two (Some bytes) kept.steps held.closed new trim.stands.accepted (subst (λ (b : Bool). MayEnd (past_of model kept.steps) b) trim.closed trim.stands.may_end));
         version = is_held.version;
-        steps = held.steps.items;
+        steps = held.steps;
         old = is_held.certificate;
-        kept = kept.steps.items;
+        kept = kept.steps;
         new = new;
         fewer = trim.fewer;
         counts = (steps, count);

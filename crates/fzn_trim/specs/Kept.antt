@@ -8,7 +8,7 @@ use Rattle.fzn_checker.specs.Held.{Stands}
 
 pub record IsTrimOf (model : Model) (held kept : Held) : Type 0 where
   pub stands : Stands model kept
-  pub lines : AllHaveLines Two 0 kept.steps.items
+  pub lines : AllHaveLines Two 0 kept.steps
   pub found : kept.solutions.items ≡ held.solutions.items
   pub closed : kept.closed ≡ held.closed
-  pub fewer : length kept.steps.items ≤ length held.steps.items
+  pub fewer : length kept.steps ≤ length held.steps

@@ -1,5 +1,6 @@
 // Which steps of a certificate its answer rests on. Nothing is promised of what is found here: whoever takes it tests what it makes.
 use fzn_cert::Step;
+use fzn_cert_reader::Script;
 use fzn_checker::Held;
 use fzn_domain::Memory;
 use fzn_list::Items;
@@ -13,52 +14,120 @@ const MOST_DELETED: usize = 200_000;
 /// What a trimmed certificate has in its next line.
 #[derive(Drop)]
 pub enum Line {
-    /// The step at this place of the certificate, the clauses that it cites being those of these steps.
-    Keep { place: usize, ids: Items<u64> },
+    /// The step at this place of the certificate, with other numbers for the clauses that it cites.
+    Keep { place: usize },
     /// A deletion of the clauses of these steps.
     Delete { ids: Items<u64> },
 }
 
+/// A deletion of a trimmed certificate.
+#[derive(Drop)]
+pub struct Deletion {
+    /// It stands behind those of the first so many steps that stay.
+    pub after: usize,
+    /// The numbers of the lines whose clauses are deleted.
+    pub ids: Items<u64>,
+}
+
+/// The lines of a trimmed certificate: of each step that stays, and the deletions between them.
+#[derive(Drop)]
+pub struct Plan {
+    /// The number of each step's line, and 0 where it has none.
+    pub numbers: Vec<u64>,
+    /// In order.
+    pub deletions: Vec<Deletion>,
+}
+
 /// The lines of a certificate with all solutions of this one, and those of its other steps that its first empty clause rests on. It
 /// answers `Err` where memory runs out.
-pub fn planned_lines(alloc: Global, model: &Model, held: &Held) -> Result<Vec<Line>, Memory> {
-    let steps = held.steps.as_slice();
-    let needed = needed_steps(alloc, model, steps, held.closed)?;
-    let mut uses = last_uses(alloc, steps, &needed)?;
-    let mut writing = Writing::new(alloc, steps.len(), count_of(&needed));
-    for (place, step) in steps.iter().enumerate() {
+pub fn planned_lines(alloc: Global, model: &Model, held: &Held) -> Result<Plan, Memory> {
+    let citations = Citations::of(alloc, model, &held.steps)?;
+    let needed = needed_steps(alloc, &citations, held.closed)?;
+    let mut uses = last_uses(alloc, &citations, &needed)?;
+    let mut writing = Writing::new(alloc, needed.len(), count_of(&needed));
+    for place in 0..needed.len() {
         if is_marked(&needed, place) {
-            writing.keep(place, step)?;
-            writing.retire(place, step, &mut uses)?;
+            writing.keep()?;
+            writing.retire(place, citations.of_step(place), &mut uses)?;
         } else {
             writing.leave_out()?;
         }
     }
-    Ok(writing.lines)
+    Ok(Plan {
+        numbers: writing.numbers,
+        deletions: writing.deletions,
+    })
 }
 
-/// For each step whether it stays: each solution, and what the first empty clause of a closed answer rests on.
-fn needed_steps(
-    alloc: Global,
-    model: &Model,
-    steps: &[Step],
-    closed: bool,
-) -> Result<Vec<bool>, Memory> {
-    let mut needed = Vec::new(alloc);
-    for step in steps {
-        needed.push(is_solution(step))?;
+/// The number of the line in which the step with this number stands.
+pub fn new_number(numbers: &[u64], id: u64) -> u64 {
+    match numbers.get(place_of(id)) {
+        Some(number) => *number,
+        None => 0,
     }
-    if closed {
-        if let Some(place) = steps.iter().position(|step| gives_empty(model, step)) {
-            mark(&mut needed, place);
-        }
-        for place in (0..steps.len()).rev() {
-            if is_marked(&needed, place) {
-                mark_cited(&mut needed, &steps[place]);
+}
+
+/// What a plan asks of the steps of a certificate.
+#[derive(Drop)]
+struct Citations {
+    /// The ids that the steps cite, step after step.
+    ids: Vec<u64>,
+    /// Where those of each step end.
+    ends: Vec<usize>,
+    /// For each step whether it is a solution.
+    solutions: Vec<bool>,
+    /// The place of the first step that gives the empty clause.
+    first_empty: Option<usize>,
+}
+
+impl Citations {
+    /// Reads each step once.
+    fn of(alloc: Global, model: &Model, steps: &Script) -> Result<Citations, Memory> {
+        let mut citations = Citations {
+            ids: Vec::new(alloc),
+            ends: Vec::new(alloc),
+            solutions: Vec::new(alloc),
+            first_empty: None,
+        };
+        for place in 0..steps.len() {
+            if let Some(step) = steps.get(alloc, place)? {
+                citations.add(model, place, &step)?;
             }
         }
+        Ok(citations)
     }
-    Ok(needed)
+
+    /// Adds the step of the next place.
+    fn add(&mut self, model: &Model, place: usize, step: &Step) -> Result<(), Memory> {
+        if let Step::Resolve { ids, .. } = step {
+            self.ids.extend_from_slice(ids.as_slice())?;
+        }
+        self.ends.push(self.ids.len())?;
+        self.solutions.push(is_solution(step))?;
+        if self.first_empty.is_none() && gives_empty(model, step) {
+            self.first_empty = Some(place);
+        }
+        Ok(())
+    }
+
+    /// The ids that the step at this place cites.
+    fn of_step(&self, place: usize) -> &[u64] {
+        let start = match place.checked_sub(1) {
+            Some(before) => self.end_at(before),
+            None => 0,
+        };
+        match self.ids.get(start..self.end_at(place)) {
+            Some(ids) => ids,
+            None => &[],
+        }
+    }
+
+    fn end_at(&self, place: usize) -> usize {
+        match self.ends.get(place) {
+            Some(end) => *end,
+            None => 0,
+        }
+    }
 }
 
 fn is_solution(step: &Step) -> bool {
@@ -86,6 +155,22 @@ fn has_empty_cuts(model: &Model) -> bool {
     }
 }
 
+/// For each step whether it stays: each solution, and what the first empty clause of a closed answer rests on.
+fn needed_steps(alloc: Global, citations: &Citations, closed: bool) -> Result<Vec<bool>, Memory> {
+    let mut needed = Vec::from_slice(alloc, citations.solutions.as_slice())?;
+    if closed {
+        if let Some(place) = citations.first_empty {
+            mark(&mut needed, place);
+        }
+        for place in (0..needed.len()).rev() {
+            if is_marked(&needed, place) {
+                mark_cited(&mut needed, citations.of_step(place));
+            }
+        }
+    }
+    Ok(needed)
+}
+
 fn mark(needed: &mut [bool], place: usize) {
     if let Some(is_needed) = needed.get_mut(place) {
         *is_needed = true;
@@ -103,11 +188,9 @@ fn count_of(needed: &[bool]) -> usize {
     needed.iter().filter(|is_needed| **is_needed).count()
 }
 
-fn mark_cited(needed: &mut [bool], step: &Step) {
-    if let Step::Resolve { ids, .. } = step {
-        for id in ids.as_slice() {
-            mark(needed, place_of(*id));
-        }
+fn mark_cited(needed: &mut [bool], ids: &[u64]) {
+    for id in ids {
+        mark(needed, place_of(*id));
     }
 }
 
@@ -117,25 +200,23 @@ fn place_of(id: u64) -> usize {
 }
 
 /// For each step the place of the last one that stays and cites it, and its own place where none does.
-fn last_uses(alloc: Global, steps: &[Step], needed: &[bool]) -> Result<Vec<usize>, Memory> {
+fn last_uses(alloc: Global, citations: &Citations, needed: &[bool]) -> Result<Vec<usize>, Memory> {
     let mut uses = Vec::new(alloc);
-    for place in 0..steps.len() {
+    for place in 0..needed.len() {
         uses.push(place)?;
     }
-    for (place, step) in steps.iter().enumerate() {
+    for place in 0..needed.len() {
         if is_marked(needed, place) {
-            note_uses(&mut uses, place, step);
+            note_uses(&mut uses, place, citations.of_step(place));
         }
     }
     Ok(uses)
 }
 
-fn note_uses(uses: &mut [usize], place: usize, step: &Step) {
-    if let Step::Resolve { ids, .. } = step {
-        for id in ids.as_slice() {
-            if let Some(last) = uses.get_mut(place_of(*id)) {
-                *last = place;
-            }
+fn note_uses(uses: &mut [usize], place: usize, ids: &[u64]) {
+    for id in ids {
+        if let Some(last) = uses.get_mut(place_of(*id)) {
+            *last = place;
         }
     }
 }
@@ -144,7 +225,7 @@ fn note_uses(uses: &mut [usize], place: usize, step: &Step) {
 #[derive(Drop)]
 struct Writing {
     alloc: Global,
-    lines: Vec<Line>,
+    deletions: Vec<Deletion>,
     /// The number of each step's line so far, and 0 where it has none.
     numbers: Vec<u64>,
     /// How many lines there are.
@@ -163,7 +244,7 @@ impl Writing {
         let left = steps.saturating_sub(kept);
         Writing {
             alloc,
-            lines: Vec::new(alloc),
+            deletions: Vec::new(alloc),
             numbers: Vec::new(alloc),
             written: 0,
             waiting: Vec::new(alloc),
@@ -173,14 +254,8 @@ impl Writing {
     }
 
     /// Writes the step of the next place.
-    fn keep(&mut self, place: usize, step: &Step) -> Result<(), Memory> {
-        let mut ids = Items::new(self.alloc);
-        if let Step::Resolve { ids: old, .. } = step {
-            for id in old.as_slice() {
-                ids.push(number_at(&self.numbers, place_of(*id)))?;
-            }
-        }
-        self.push(Line::Keep { place, ids })?;
+    fn keep(&mut self) -> Result<(), Memory> {
+        self.written = self.written.saturating_add(1);
         self.numbers.push(self.written)?;
         Ok(())
     }
@@ -191,19 +266,11 @@ impl Writing {
         Ok(())
     }
 
-    fn push(&mut self, line: Line) -> Result<(), Memory> {
-        self.lines.push(line)?;
-        self.written = self.written.saturating_add(1);
-        Ok(())
-    }
-
     /// Has the clauses wait that the step at this place is the last to cite, and deletes those that wait where they are enough.
-    fn retire(&mut self, place: usize, step: &Step, uses: &mut [usize]) -> Result<(), Memory> {
-        if let Step::Resolve { ids, .. } = step {
-            for id in ids.as_slice() {
-                if takes_last_use(uses, place_of(*id), place) {
-                    self.waiting.push(number_at(&self.numbers, place_of(*id)))?;
-                }
+    fn retire(&mut self, place: usize, ids: &[u64], uses: &mut [usize]) -> Result<(), Memory> {
+        for id in ids {
+            if takes_last_use(uses, place_of(*id), place) {
+                self.waiting.push(new_number(&self.numbers, *id))?;
             }
         }
         if self.waiting.len() >= self.fewest {
@@ -219,8 +286,10 @@ impl Writing {
         for ids in waiting.chunks(MOST_DELETED) {
             if self.left > 0 {
                 self.left -= 1;
+                let after = self.numbers.len();
                 let ids = Items::from_slice(self.alloc, ids)?;
-                self.push(Line::Delete { ids })?;
+                self.deletions.push(Deletion { after, ids })?;
+                self.written = self.written.saturating_add(1);
             }
         }
         Ok(())
@@ -233,13 +302,6 @@ fn fewest_deleted(kept: usize, deletions: usize) -> usize {
         usize::MAX
     } else {
         (kept.saturating_sub(1) / deletions).saturating_add(1)
-    }
-}
-
-fn number_at(numbers: &[u64], place: usize) -> u64 {
-    match numbers.get(place) {
-        Some(number) => *number,
-        None => 0,
     }
 }
 

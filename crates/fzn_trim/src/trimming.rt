@@ -27,7 +27,7 @@ pub struct Trimmed {
 ///
 /// Nothing is written where it answers `File` with the first fault of the file, `Refused` with the first faulty line of the certificate, or
 /// `Read` where a read of either fails. It answers `Memory` where memory runs out, and `WriteCert` where a write or the flush of `new`
-/// fails; a beginning of the new certificate may stand then. All steps are held at once.
+/// fails; a beginning of the new certificate may stand then. All steps are held at once, as the text of their lines.
 pub fn trim<R: Read + Drop, C: Read + Drop, W: Write>(
     alloc: Global,
     file: R,

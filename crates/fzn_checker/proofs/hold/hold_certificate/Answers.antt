@@ -1,4 +1,4 @@
-use Rattle.std.proofs.Common.{◌≡◌, ◌+◌, List, Option, ap, sym, subst, ◌∙◌, IfSome, unwrap_or, false, arith}
+use Rattle.std.proofs.Common.{◌≡◌, ◌+◌, List, ap, sym, subst, ◌∙◌, IfSome, unwrap_or, false, arith}
 use Rattle.std.specs.Prelude.{IfNone}
 use Rattle.std.proofs.lemmas.Result.{err_from_is_err_and}
 use Rattle.fzn_cert.specs.declared.step.Step.{Step}
@@ -9,7 +9,7 @@ use Rattle.fzn_cert_reader.specs.Reader.{progress, Gives, Ends, HasRead}
 use Rattle.fzn_cert_reader.proofs.CallerLemmas.{HasRead-step}
 use Rattle.fzn_checker.specs.Checked.{Standing, IsMidway, Offers, Accepts}
 use Rattle.fzn_checker.proofs.FaultLaws.{fault-found}
-use Rattle.fzn_checker.proofs.HoldLemmas.{AreSpelled, spelled-more, held-end}
+use Rattle.fzn_checker.proofs.HoldLemmas.{AreSpelled, spelled-two, spelled-more, held-end}
 use Rattle.fzn_checker.proofs.hold.hold_certificate.Goals as goal
 
 pub returns-in_err-step-clause-err : goal.returns-in_err-step-clause-err
@@ -31,6 +31,13 @@ returns-in-Some-2-clause-err g c =
     subst (λ n. VerdictOn model (progress g.C.Read.remaining c.args.cert.now).left (refused n refusal)) (sym c.loop-taken.invariant.line)
     (c.loop-taken.invariant.goes_on (refused _ refusal) (offers.refuses refusal (subst (IsJudged model past c.in-Some.step) c.in-Some-2.is c.in_ok-refusal.ensures.judged)))
 
+pub take-requires-clause-spelled : goal.take-requires-clause-spelled
+take-requires-clause-spelled g c =
+    let old = progress g.C.Read.remaining c.loop-taken.cert in
+    let new = progress g.C.Read.remaining c.next_step.new.reader in
+    let gives : Gives old new c.in-Some.step = subst (λ o. IfSome o (Gives old new)) c.in-Some.is c.in_ok-step.ensures.gives in
+    spelled-two gives.header.version c.in-Some.step gives.has_line.0
+
 pub loop-taken-preserved : goal.loop-taken-preserved
 loop-taken-preserved g c =
     let model = c.args.model.now in
@@ -39,7 +46,7 @@ loop-taken-preserved g c =
     let old = progress g.C.Read.remaining c.loop-taken.cert in
     let new = progress g.C.Read.remaining c.next_step.new.reader in
     let step = c.in-Some.step in
-    let steps = c.loop-taken.taken.steps.items in
+    let steps = c.loop-taken.taken.steps in
     let none = c.in_default-2.is in
     let offers : Offers model past old new step = subst (λ o. IfSome o (Offers model past old new)) c.in-Some.is c.in_ok-step.ensures.step in
     let gives : Gives old new step = subst (λ o. IfSome o (Gives old new)) c.in-Some.is c.in_ok-step.ensures.gives in

@@ -13,8 +13,8 @@ invariant-loop-taken g l = record {
   line : l.line ≡ (progress g.C.Read.remaining l.cert).steps + 3;
   goes_on : (outcome : Outcome) → Standing l.model l.taken.history (progress g.C.Read.remaining l.cert) outcome → VerdictOn l.model (progress g.C.Read.remaining l.fn.cert).left outcome;
   taken : HasTaken l.model l.taken;
-  read : HasRead (progress g.C.Read.remaining l.fn.cert).left (progress g.C.Read.remaining l.cert) l.taken.steps.items;
-  spelled : AreSpelled (progress g.C.Read.remaining l.cert) l.taken.steps.items;
+  read : HasRead (progress g.C.Read.remaining l.fn.cert).left (progress g.C.Read.remaining l.cert) l.taken.steps;
+  spelled : AreSpelled (progress g.C.Read.remaining l.cert) l.taken.steps;
 }
 
 abbrev pub decreases-loop-taken : goal.decreases-loop-taken

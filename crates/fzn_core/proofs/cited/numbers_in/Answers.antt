@@ -1,8 +1,13 @@
-use Rattle.std.proofs.Common.{arith}
+use Rattle.std.proofs.Common.{arith, sym, ◌∙◌}
+use Rattle.std.proofs.lemmas.Option.{get_or_from_slice_get}
 use Rattle.fzn_core.specs.Core.{constraint_of}
 use Rattle.fzn_core.proofs.ListLemmas.{found-more}
 use Rattle.fzn_core.proofs.cited.numbers_in.Goals as goal
 
-pub loop-step-preserved : goal.loop-step-preserved
-loop-step-preserved c =
-    found-more constraint_of c.loop-step.numbers.items c.push_number.new.numbers.items c.args.steps.now c.loop-step.step-index c.step-item.result (omega arith) c.step-item.is c.loop-step.invariant c.in_ok-push_number.ensures
+pub loop-place-preserved : goal.loop-place-preserved
+loop-place-preserved c =
+    let steps = c.args.steps.now in
+    let place = c.loop-place.place in
+    let step = c.in-Some.step in
+    found-more constraint_of c.loop-place.numbers.items c.push_number.new.numbers.items steps place step (omega arith)
+    (sym (get_or_from_slice_get steps place step step (sym c.in_ok-step.ensures.value ∙ c.in-Some.is))) c.loop-place.invariant c.in_ok-push_number.ensures

@@ -3,5 +3,5 @@ use Rattle.std.specs.List.{filter_map}
 use Rattle.fzn_core.specs.Core.{constraint_of}
 use Rattle.fzn_core.proofs.cited.numbers_in.Given as goal
 
-abbrev pub invariant-loop-step : goal.invariant-loop-step
-invariant-loop-step l = l.numbers.items ≡ filter_map constraint_of (take l.step-index l.steps)
+abbrev pub invariant-loop-place : goal.invariant-loop-place
+invariant-loop-place l = l.numbers.items ≡ filter_map constraint_of (take l.place l.steps)

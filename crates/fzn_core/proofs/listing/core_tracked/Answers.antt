@@ -1,10 +1,10 @@
 use Rattle.std.proofs.Common.{length, refl, ◌∙◌}
 use Rattle.fzn_cert_reader.specs.Reader.{progress}
 use Rattle.fzn_checker.specs.FileFaults.{fault_from}
-use Rattle.fzn_checker.proofs.CallerLemmas.{error-is}
+use Rattle.fzn_checker.proofs.CallerLemmas.{error-is, lines-two}
 use Rattle.fzn_core.specs.declared.listing.Listed.{Listed}
 use Rattle.fzn_core.specs.Listing.{core_text, IsListFault}
-use Rattle.fzn_core.proofs.ListingLemmas.{lines-two, lists-seen, certificate-fault, model-fault}
+use Rattle.fzn_core.proofs.ListingLemmas.{lists-seen, certificate-fault, model-fault}
 use Rattle.fzn_core.proofs.listing.core_tracked.Goals as goal
 
 pub returns-in_err-located-clause-err : goal.returns-in_err-located-clause-err
@@ -26,7 +26,7 @@ returns-in_err-held-clause-err g c =
 pub core_numbers-requires-clause-lines : goal.core_numbers-requires-clause-lines
 core_numbers-requires-clause-lines g c =
     let held = c.in_ok-held.ensures.ok in
-    lines-two held.version 0 c.in_ok-held.held.steps.items held.certificate.spelled
+    lines-two held.version 0 c.in_ok-held.held.steps held.certificate.spelled
 
 pub returns-in-Ok-clause-ok : goal.returns-in-Ok-clause-ok
 returns-in-Ok-clause-ok g c =

@@ -1,12 +1,11 @@
-use Rattle.std.proofs.Common.{length, refl, ◌∙◌}
+use Rattle.std.proofs.Common.{length, refl}
 use Rattle.fzn_cert.specs.declared.step.Version.TheVariants.{Two}
 use Rattle.fzn_cert_reader.specs.Reader.{progress}
 use Rattle.fzn_checker.specs.FileFaults.{fault_from}
 use Rattle.fzn_checker.specs.Held.{certificate_of}
-use Rattle.fzn_checker.proofs.CallerLemmas.{error-is}
+use Rattle.fzn_checker.proofs.CallerLemmas.{error-is, lines-two}
 use Rattle.fzn_trim.specs.declared.trimming.Trimmed.{Trimmed}
 use Rattle.fzn_trim.specs.Trimmed.{IsTrimFault}
-use Rattle.fzn_trim.proofs.TrialLemmas.{lines-two}
 use Rattle.fzn_trim.proofs.TrimLemmas.{trims-of, certificate-fault, write-fault, model-fault}
 use Rattle.fzn_trim.proofs.trimming.trim_tracked.Goals as goal
 
@@ -29,7 +28,7 @@ returns-in_err-held-clause-err g c =
 pub trimmed_steps-requires-clause-lines : goal.trimmed_steps-requires-clause-lines
 trimmed_steps-requires-clause-lines g c =
     let held = c.in_ok-held.ensures.ok in
-    lines-two held.version 0 c.in_ok-held.held.steps.items held.certificate.spelled
+    lines-two held.version 0 c.in_ok-held.held.steps held.certificate.spelled
 
 pub returns-in_err-write_certificate-clause-err : goal.returns-in_err-write_certificate-clause-err
 returns-in_err-write_certificate-clause-err g c =
@@ -39,9 +38,9 @@ returns-in_err-write_certificate-clause-err g c =
     let after = g.W.Write.contents c.write_certificate.new.new in
     let held = c.in_ok-held.held in
     let kept = c.in_ok-kept.kept in
-    let trimmed : Trimmed = record { steps = length held.steps.items; kept = length kept.steps.items } in
+    let trimmed : Trimmed = record { steps = length held.steps; kept = length kept.steps } in
     error-is c.from_residual-in_err-write_certificate.result c.in_err-write_certificate.field-0.0 (IsTrimFault file cert before after) c.from_residual-in_err-write_certificate.ensures.1
-    (write-fault file cert before after (certificate_of c.in_ok-model.model Two kept.steps.items kept.closed) trimmed c.in_err-write_certificate.field-0.0
+    (write-fault file cert before after (certificate_of c.in_ok-model.model Two kept.steps kept.closed) trimmed c.in_err-write_certificate.field-0.0
     (trims-of file cert c.in_ok-model.model c.in_ok-model.ensures.right held kept trimmed c.in_ok-model.ensures.well_formed c.in_ok-held.ensures.ok c.in_ok-kept.ensures refl refl)
     c.in_err-write_certificate.ensures.fault c.in_err-write_certificate.ensures.text)
 
@@ -52,8 +51,8 @@ returns-clause-ok g c =
     let held = c.in_ok-held.held in
     let kept = c.in_ok-kept.kept in
     let trimmed : Trimmed = record { steps = c.len-steps.result; kept = c.len.result } in (
-      certificate_of c.in_ok-model.model Two kept.steps.items kept.closed,
+      certificate_of c.in_ok-model.model Two kept.steps kept.closed,
       trims-of file cert c.in_ok-model.model c.in_ok-model.ensures.right held kept trimmed c.in_ok-model.ensures.well_formed c.in_ok-held.ensures.ok c.in_ok-kept.ensures
-          (c.len-steps.ensures ∙ held.steps.ok.0) (c.len.ensures ∙ kept.steps.ok.0),
+          c.len-steps.ensures c.len.ensures,
       c.in_ok-write_certificate.ensures.text,
     )
