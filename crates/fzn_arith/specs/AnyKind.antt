@@ -1,9 +1,10 @@
 -- The ghost members of the propagator of any kind: those of its kind.
-use Rattle.std.specs.Prelude.{ℕ, List, length}
+use Rattle.std.specs.Prelude.{ℕ, List, length, Option, Some, None}
 use Rattle.fzn_domain.specs.IntSet.{IntSet}
 use Rattle.fzn_meaning.specs.declared.constraint.Constraint.{Constraint}
 use Rattle.fzn_arith.specs.declared.kinds.ArithPropagator.{ArithPropagator}
 use Rattle.fzn_arith.specs.declared.kinds.ArithPropagator.TheVariants.{Sum, Equality}
+use Rattle.fzn_arith.specs.declared.form.SumForm.{SumForm}
 use Rattle.fzn_arith.specs.declared.sum.SumPropagator.{SumPropagator}
 use Rattle.fzn_arith.specs.Kinds.{IsFormOf, IsReady}
 use Rattle.fzn_arith.specs.Equality.{equality_number, EqualityIsFor, EqualityFits}
@@ -11,6 +12,11 @@ use Rattle.fzn_arith.specs.Equality.{equality_number, EqualityIsFor, EqualityFit
 abbrev pub sum_in : ArithPropagator → SumPropagator
 sum_in (Sum p) = p
 sum_in (Equality p) = p.sum
+
+-- the form of a sum that is reasoned of as a sum alone
+abbrev pub form_alone : ArithPropagator → Option SumForm
+form_alone (Sum p) = Some p.form
+form_alone (Equality p) = None
 
 abbrev pub kind_number : ArithPropagator → ℕ
 kind_number (Sum p) = p.number

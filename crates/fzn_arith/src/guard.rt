@@ -1,6 +1,7 @@
 // What follows from a sum under a switch: the clause says in its last literal that the switch has another value.
-ghost use Rattle.std.specs.Prelude.{◌≡◌, ◌≢◌, ◌≤◌, length, unsigned_abs, IfOk, IfSome, IfNone};
-ghost use Rattle.fzn_domain.specs.IntSet.{least, greatest};
+ghost use Rattle.std.specs.Prelude.{◌≡◌, ◌≢◌, ◌<◌, ◌≤◌, true, length, unsigned_abs, IfOk, IfSome, IfNone};
+ghost use Rattle.std.specs.Bool.{OnTrue};
+ghost use Rattle.fzn_domain.specs.IntSet.{contains, size, least, greatest};
 ghost use Rattle.fzn_domain.specs.Narrow.{set_of, NoneEmpty};
 ghost use Rattle.fzn_meaning.specs.declared.term.Term.TheVariants.{Variable};
 ghost use Rattle.fzn_meaning.specs.Term.{IsTerm};
@@ -11,7 +12,7 @@ ghost use Rattle.fzn_arith.specs.Guard.{IsGuard, IsGuarded};
 
 use crate::form::SumForm;
 use crate::refute::{conflict, refute};
-use fzn_domain::{Lit, Memory, Op};
+use fzn_domain::{Domain, Lit, Memory, Op};
 use fzn_list::Items;
 use fzn_meaning::{Place, Term};
 use fzn_trail::Trail;
@@ -94,7 +95,7 @@ fn when_open(
     requires filled { NoneEmpty trail.now.sets }
     ensures found { IfOk result (λ found. IfSome found (IsGuarded trail.now (Variable lit.var) lit.value sum.now.comparison sum.now.places sum.now.bound)) }
 {
-    if !trail.domain(lit.var).contains(lit.value) {
+    if !is_end(trail.domain(lit.var), lit.value) {
         return Ok(None);
     }
     let Some(mut clause) = conflict(alloc, trail, sum, opposite)? else {
@@ -102,4 +103,12 @@ fn when_open(
     };
     clause.push(lit)?;
     Ok(Some(clause))
+}
+
+/// Whether the number is the least or the greatest value of the set. Of a Boolean each is.
+fn is_end(domain: &Domain, number: i64) -> bool
+    requires { 0 < size domain.now }
+    ensures { OnTrue result (contains domain.now number ≡ true) }
+{
+    domain.min() == number || domain.max() == number
 }

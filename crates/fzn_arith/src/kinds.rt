@@ -1,5 +1,6 @@
 // One type for all kinds of propagators of this crate, and which constraint gets which.
 ghost use Rattle.std.specs.Prelude.{◌≡◌, ℕ, ◌-◌, ◌≤◌, List, length, IfOk, IfSome, IfNone, IsSome, None, slice_index_or};
+ghost use Rattle.std.specs.Option.{option_copied};
 ghost use Rattle.fzn_meaning.specs.declared.constraint.Constraint.{Constraint};
 ghost use Rattle.fzn_domain.specs.IntSet.{IntSet};
 ghost use Rattle.fzn_meaning.specs.Solutions.{declared_sets};
@@ -9,7 +10,7 @@ ghost use Rattle.fzn_builtin_rules.specs.Form.{form_of};
 ghost use Rattle.fzn_propagator.specs.Subscriptions.{terms_of, AreHeard};
 ghost use Rattle.fzn_arith.specs.Kinds.{form_in, IsFormOf, IsReady};
 ghost use Rattle.fzn_arith.specs.Costs.{kind_cost};
-ghost use Rattle.fzn_arith.specs.AnyKind.{kind_number, KindIsFor, KindFits, sum_in};
+ghost use Rattle.fzn_arith.specs.AnyKind.{kind_number, KindIsFor, KindFits, sum_in, form_alone};
 ghost use Rattle.fzn_arith.specs.Wakes.{wake_of, sum_subscriptions};
 
 use crate::equality::EqualityPropagator;
@@ -49,6 +50,16 @@ impl ArithPropagator {
         match form_of(alloc, constraint)? {
             Some(form) => with_form(alloc, number, constraint, form),
             None => unreachable!(), // It has one.
+        }
+    }
+
+    /// The form of its constraint, where nothing but the ends of that sum is reasoned of: `None` of two terms that are compared.
+    pub fn form(&self) -> Option<&SumForm>
+        ensures { option_copied result ≡ form_alone self.now }
+    {
+        match self {
+            ArithPropagator::Sum(propagator) => Some(&propagator.form),
+            ArithPropagator::Equality(_) => None,
         }
     }
 }

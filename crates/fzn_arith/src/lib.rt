@@ -5,6 +5,7 @@
 //! `specs/Kinds.antt`: the constraint that a propagator is for, by its form.
 #![tactic(auto)]
 
+pub use form::SumForm;
 pub use fzn_propagator::{Findings, Inference, Propagator};
 pub use kinds::{ArithPropagator, propagator_of};
 

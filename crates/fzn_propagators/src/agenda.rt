@@ -5,11 +5,14 @@ ghost use Rattle.fzn_domain.specs.IntSet.{IntSet};
 ghost use Rattle.fzn_domain.specs.Narrow.{AllFixed};
 ghost use Rattle.fzn_propagators.specs.AnyCrate.{AnyFits};
 
+use crate::bounds::Shift;
+use crate::counters::Counters;
 use crate::kinds::AnyPropagator;
 use crate::order::leading_order;
 use crate::queue::Queue;
-use crate::watchers::Watchers;
+use crate::watchers::{Watch, Watchers};
 use fzn_domain::{Memory, VarId};
+use fzn_meaning::Model;
 use fzn_propagator::Change;
 use fzn_trail::Trail;
 use std::alloc::Global;
@@ -18,6 +21,7 @@ use std::alloc::Global;
 #[derive(Debug, Drop)]
 pub struct Agenda {
     watchers: Watchers,
+    counters: Counters,
     queue: Queue,
     /// How many entries of the trail were looked at.
     seen: usize,
@@ -27,54 +31,69 @@ pub struct Agenda {
 }
 
 impl Agenda {
-    /// All of these propagators, of so many variables, are to be asked.
+    /// All of these propagators of the model are to be asked.
     pub fn new(
         alloc: Global,
-        variables: usize,
+        model: &Model,
         propagators: &[AnyPropagator],
     ) -> Result<Agenda, Memory>
         requires { All (λ propagator. (declared : List IntSet) × AnyFits propagator declared) propagators.now }
     {
-        let watchers = Watchers::new(alloc, variables, propagators)?;
+        let variables = model.vars.len();
+        let counters = Counters::new(alloc, model, propagators)?;
+        let watchers = Watchers::new(alloc, variables, propagators, &counters)?;
         let order = leading_order(alloc, variables, propagators, &watchers)?;
         let queue = Queue::new(alloc, propagators, order.as_slice())?;
         Ok(Agenda {
             watchers,
+            counters,
             queue,
             seen: 0,
             opens: Vec::new(alloc),
         })
     }
 
-    /// Queues what watches the variables of the entries that were not looked at yet.
-    pub fn look(&mut self, trail: &Trail, variables: usize)
+    /// Queues what watches the variables of the entries that were not looked at yet, but for sums from which nothing follows. `Err` where
+    /// memory runs out.
+    pub fn look(&mut self, trail: &Trail, variables: usize) -> Result<(), Memory>
         requires { variables ≡ length trail.now.declared }
     {
         let len = trail.len();
         for place in self.seen..len {
-            self.wake(trail, variables, place);
+            self.wake(trail, variables, place)?;
         }
         self.seen = len;
+        Ok(())
     }
 
     /// Queues what watches the variable of the entry at this place.
-    fn wake(&mut self, trail: &Trail, variables: usize, place: usize)
+    fn wake(&mut self, trail: &Trail, variables: usize, place: usize) -> Result<(), Memory>
         requires variables { variables ≡ length trail.now.declared }
         requires place { place < length trail.now.entries }
     {
         let var = trail.entry(place).lit.var;
         if var.0 == 0 || variables < var.0 {
-            return;
+            return Ok(());
         }
-        let change = Change::between(trail.domain_before(place), trail.domain(var));
+        let before = trail.domain_before(place);
+        let present = trail.domain(var);
+        let change = Change::between(before, present);
+        let shift = self.counters.shift(var.0, place, before, present)?;
         let (start, end) = self.watchers.span(var.0);
         for i in start..end {
             if let Some(watch) = self.watchers.get(i)
                 && watch.event.is(change)
+                && !self.has_room(watch, shift)
             {
                 self.queue.push(watch.propagator);
             }
         }
+        Ok(())
+    }
+
+    /// Counts that the bounds of the watch's variable move so: whether it is of a sum from which nothing follows then.
+    fn has_room(&mut self, watch: Watch, shift: Shift) -> bool {
+        watch.is_counted && self.counters.count(watch, shift).unwrap_or(false)
     }
 
     /// How many propagators are queued.
@@ -105,6 +124,7 @@ impl Agenda {
             return false;
         }
         self.seen = entries;
+        self.counters.rewind(entries, &self.watchers);
         self.queue.clear();
         true
     }
@@ -112,6 +132,7 @@ impl Agenda {
     /// The trail was made anew, with the same sets: all its entries are to be looked at. What is queued stays so.
     pub fn renew(&mut self) {
         self.opens.clear();
+        self.counters.renew();
         self.seen = 0;
     }
 

@@ -7,7 +7,7 @@ ghost use Rattle.fzn_meaning.specs.Solutions.{declared_sets};
 ghost use Rattle.fzn_meaning.specs.WellFormed.{IsWellFormed};
 ghost use Rattle.fzn_propagators.specs.AnyCrate.{any_number, any_cost, AnyIsFor, AnyFits};
 
-use fzn_arith::ArithPropagator;
+use fzn_arith::{ArithPropagator, SumForm};
 use fzn_builtin::BuiltinPropagator;
 use fzn_circuit::CircuitPropagator;
 use fzn_domain::Memory;
@@ -34,6 +34,16 @@ pub enum AnyPropagator {
     Circuit(CircuitPropagator),
     /// A cumulative.
     Cumulative(CumulativePropagator),
+}
+
+impl AnyPropagator {
+    /// The form of its constraint, where nothing but the ends of that sum is reasoned of.
+    pub(crate) fn form(&self) -> Option<&SumForm> {
+        match self {
+            AnyPropagator::Arith(propagator) => propagator.form(),
+            _ => None,
+        }
+    }
 }
 
 impl Propagator for AnyPropagator {

@@ -41,7 +41,7 @@ impl Propagators {
             items.push(propagator)?;
         }
         let found = Findings::new(alloc);
-        let agenda = Agenda::new(alloc, model.vars.len(), items.as_slice())?;
+        let agenda = Agenda::new(alloc, model, items.as_slice())?;
         Ok(Propagators {
             items,
             found,
@@ -99,7 +99,7 @@ impl Constraints for Propagators {
             return Ok(Some(next));
         }
         let variables = model.vars.len();
-        self.agenda.look(trail, variables);
+        self.agenda.look(trail, variables)?;
         if let Some(found) = self.ask_queued(alloc, model, trail)? {
             return Ok(Some(found));
         }

@@ -35,14 +35,15 @@ impl Sweep {
 
     /// The rank of the one that is to be asked next, where the sweep is then: it turns where none is ahead.
     pub fn first(&mut self) -> Option<usize> {
-        for _ in 0..2 {
-            if let Some(rank) = self.ahead() {
-                self.at = rank;
-                return Some(rank);
+        let rank = match self.ahead() {
+            Some(rank) => rank,
+            None => {
+                self.is_downward = !self.is_downward;
+                self.ahead()?
             }
-            self.is_downward = !self.is_downward;
-        }
-        None
+        };
+        self.at = rank;
+        Some(rank)
     }
 
     /// The first in the direction of the sweep.
