@@ -4,14 +4,14 @@ ghost use Rattle.std.specs.Bool.{OnTrue, OnFalse};
 ghost use Rattle.fzn_domain.specs.IntSet.{IntSet};
 ghost use Rattle.fzn_domain.specs.Narrow.{IsVariable, IsClauseOver};
 ghost use Rattle.fzn_trail.specs.Levels.{Levels, NoneEmpty, fresh};
-ghost use Rattle.fzn_clauses.specs.Guard.{literal_at, IsPair, IsPossibleAt, IsSatisfied};
+ghost use Rattle.fzn_clauses.specs.Guard.{literal_at, IsPair, IsPossibleAt};
 ghost use Rattle.fzn_clauses.specs.Held.{IsHeld, clause_of, AllHeld, held_in};
 ghost use Rattle.fzn_clauses.specs.Rooted.{AreVisited, IsRooted};
-ghost use Rattle.fzn_clauses.specs.Kept.{AreBelow, AreOutside, AreSpared, IsLast, KeepsRewound, KeepsRuns, KeepsRunning, KeepsWatching, LooksAt, Sweeps, Visits, VisitsAll, VisitsEntry};
+ghost use Rattle.fzn_clauses.specs.Kept.{AreBelow, AreOutside, ArePassed, IsLast, IsSatisfiedAt, KeepsRewound, KeepsRuns, KeepsRunning, KeepsWatching, LooksAt, Sweeps, Visits, VisitsAll, VisitsEntry};
 ghost use Rattle.fzn_clauses.specs.Propagation.{IsPropagated, IsConflict, AllSettled};
 ghost use Rattle.fzn_clauses.specs.Watched.{watched_at, removed, added};
 ghost use Rattle.fzn_clauses.specs.Watching.{held_by, IsAt, IsOn, IsTidy, IsEnlistedAt, Enlists, Lengthens, IsRewatched, IsReady, IsRewound, IsRising, IsWatching, AreVariables, Ran, Settles, set_at_mark, start_of};
-ghost use Rattle.fzn_clauses.specs.Keys.{key_at};
+ghost use Rattle.fzn_clauses.specs.Keys.{key_at, IsOutside};
 ghost use Rattle.fzn_clauses.specs.Lists.{list_at, AreLonger};
 ghost use Rattle.fzn_clauses.specs.declared.clauses.Look.TheVariants.{Conflict};
 ghost use Rattle.fzn_clauses.specs.declared.clauses.Visit.TheVariants.{Refuted, Leaves};
@@ -24,7 +24,7 @@ use crate::state::{
     ClauseState, Fallen, can_fail, fallen_numbers, is_certain, may_have_fallen, next_place,
     state_of,
 };
-use fzn_domain::{Lit, Memory};
+use fzn_domain::{Lit, Memory, VarId};
 use fzn_trail::{ClauseId, Reason, Trail};
 use std::alloc::Global;
 
@@ -168,7 +168,7 @@ impl Clauses {
         ensures watching { IsWatching self.now trail.new }
     {
         let k = id.0 as usize;
-        match state_of(self.arena.clause(k), self.arena.pair(k), trail) {
+        match state_of(self.arena.clause(k), self.arena.slot(k).pair, trail) {
             ClauseState::One(place) => {
                 let lit = self.arena.clause(k)[place];
                 force(lit, id, trail)?;
@@ -191,7 +191,7 @@ impl Clauses {
         ensures { IsTrue result ↔ IsHeld (held_by self.now) id }
     {
         let k = id.0 as usize;
-        k < self.arena.len() && self.arena.is_live(k)
+        k < self.arena.len() && self.arena.slot(k).live
     }
 
     /// How many clauses were added.
@@ -335,7 +335,7 @@ impl Clauses {
         ensures keeps { KeepsRuns self.old self.new trail.old trail.new }
         ensures past { IfOk result (λ found. OnFalse found (LooksAt k self.old self.new trail.old trail.new)) }
     {
-        if k >= self.arena.len() || !self.arena.is_live(k) {
+        if k >= self.arena.len() || !self.arena.slot(k).live {
             return Ok(false);
         }
         match self.settle(k, trail)? {
@@ -440,14 +440,16 @@ impl Clauses {
         Ok(None)
     }
 
-    /// The last watcher before this one, in the list at this place of the variable, whose literal the entry may have made false.
+    /// The last watcher before this one, in the list at this place of the variable, whose literal the entry may have made false, and whose
+    /// clause the literal beside does not satisfy.
     fn last_fallen(&self, entry: Lit, place: usize, end: usize, trail: &Trail) -> Option<usize>
         requires var { IsVariable (length trail.now.declared) entry.var }
         requires in_range { place < 18 }
         requires next { trail.now.mark < length trail.now.entries }
+        requires ready { IsReady self.now trail.now }
         requires within { end ≤ length (list_at self.now.lists (key_at entry.var place)) }
-        ensures found { IfSome result (λ j. (j < end) × AreSpared (set_at_mark trail.now) entry trail.now.sets (key_at entry.var place) (list_at self.now.lists (key_at entry.var place)) (j + 1) end) }
-        ensures none { IfNone result (AreSpared (set_at_mark trail.now) entry trail.now.sets (key_at entry.var place) (list_at self.now.lists (key_at entry.var place)) 0 end) }
+        ensures found { IfSome result (λ j. (j < end) × ArePassed (set_at_mark trail.now) entry self.now.arena trail.now.sets (key_at entry.var place) (list_at self.now.lists (key_at entry.var place)) (j + 1) end) }
+        ensures none { IfNone result (ArePassed (set_at_mark trail.now) entry self.now.arena trail.now.sets (key_at entry.var place) (list_at self.now.lists (key_at entry.var place)) 0 end) }
     {
         if end == 0 {
             return None;
@@ -458,7 +460,7 @@ impl Clauses {
         let before = trail.domain_before(trail.seen());
         let list = self.lists.list(key);
         if let Some(fallen) = fallen_numbers(before, domain, entry, place, key) {
-            return last_between(list, end, fallen);
+            return self.last_between(entry.var, place, end, fallen, trail);
         }
         let mut j = end;
         while j > 0 {
@@ -468,11 +470,68 @@ impl Clauses {
                 op,
                 value: list[j].value,
             };
-            if may_have_fallen(before, domain, lit, entry, key) {
-                return Some(j);
+            if !may_have_fallen(before, domain, lit, entry, key) {
+                continue;
             }
+            if self.is_satisfied(list[j].k, lit, trail) {
+                continue;
+            }
+            return Some(j);
         }
         None
+    }
+
+    /// The last watcher before this one, in the list at this place of the variable, whose number is one of these, and whose clause the
+    /// literal beside does not satisfy.
+    fn last_between(
+        &self,
+        var: VarId,
+        place: usize,
+        end: usize,
+        fallen: Fallen,
+        trail: &Trail,
+    ) -> Option<usize>
+        requires ready { IsReady self.now trail.now }
+        requires within { end ≤ length (list_at self.now.lists (key_at var place)) }
+        ensures found { IfSome result (λ j. (j < end) × AreOutside fallen self.now.arena trail.now.sets (list_at self.now.lists (key_at var place)) (j + 1) end) }
+        ensures none { IfNone result (AreOutside fallen self.now.arena trail.now.sets (list_at self.now.lists (key_at var place)) 0 end) }
+    {
+        let list = self.lists.list(key_at(var, place));
+        let op = operator_at(place);
+        let mut j = end;
+        while j > 0 {
+            j -= 1;
+            let value = list[j].value;
+            if !is_among(fallen, value) {
+                continue;
+            }
+            if self.is_satisfied(list[j].k, Lit { var, op, value }, trail) {
+                continue;
+            }
+            return Some(j);
+        }
+        None
+    }
+
+    /// Whether the clause watches the literal, and the one beside is true at every value that is left.
+    fn is_satisfied(&self, k: usize, lit: Lit, trail: &Trail) -> bool
+        requires { IsReady self.now trail.now }
+        ensures { OnTrue result (IsSatisfiedAt self.now.arena trail.now.sets k) }
+    {
+        if k >= self.arena.len() {
+            return false;
+        }
+        let slot = self.arena.slot(k);
+        if !slot.live {
+            return false;
+        }
+        if !slot.listed {
+            return false;
+        }
+        if slot.first == lit {
+            return is_certain(slot.second, trail);
+        }
+        slot.second == lit && is_certain(slot.first, trail)
     }
 
     /// Visits a clause in the list of this key.
@@ -488,9 +547,6 @@ impl Clauses {
     {
         if !self.is_watching(watcher, key) {
             return Ok(Visit::Leaves);
-        }
-        if self.is_satisfied(watcher.k, trail) {
-            return Ok(Visit::Stays);
         }
         match self.settle(watcher.k, trail)? {
             Look::Conflict => Ok(Visit::Refuted),
@@ -531,23 +587,13 @@ impl Clauses {
     fn is_watching(&self, watcher: Watcher, key: usize) -> bool
         ensures { IsTrue result ↔ IsOn self.now.arena watcher key }
     {
-        let k = watcher.k;
-        if k >= self.arena.len() || !self.arena.is_live(k) || !self.arena.is_listed(k) {
+        if watcher.k >= self.arena.len() {
             return false;
         }
-        is_at(self.arena.first(k), watcher, key) || is_at(self.arena.second(k), watcher, key)
-    }
-
-    /// Whether one of the watched literals is true at every value that is left.
-    fn is_satisfied(&self, k: usize, trail: &Trail) -> bool
-        requires in_range { k < length self.now.arena }
-        requires over { IsClauseOver (length trail.now.declared) (watched_at self.now.arena k).clause }
-        requires pair { IsPair (watched_at self.now.arena k).clause (watched_at self.now.arena k).pair }
-        requires filled { NoneEmpty trail.now.sets }
-        ensures { OnTrue result (IsSatisfied trail.now.sets
-            (watched_at self.now.arena k).clause (watched_at self.now.arena k).pair) }
-    {
-        is_certain(self.arena.first(k), trail) || is_certain(self.arena.second(k), trail)
+        let slot = self.arena.slot(watcher.k);
+        slot.live
+            && slot.listed
+            && (is_at(slot.first, watcher, key) || is_at(slot.second, watcher, key))
     }
 
     /// Watches two possible literals of the clause; or asserts the one that is possible, if it is not yet true.
@@ -563,15 +609,16 @@ impl Clauses {
         ensures conflict { IfOk result (λ look. look ≡ Conflict → IsConflict (held_by self.old) trail.new.sets (record { 0 = k })) }
     {
         self.looked = self.looked.saturating_add(1);
-        let pair = self.arena.pair(k);
-        match state_of(self.arena.clause(k), pair, trail) {
+        let pair = self.arena.slot(k).pair;
+        let clause = self.arena.clause(k);
+        match state_of(clause, pair, trail) {
             ClauseState::Conflict => Ok(Look::Conflict),
             ClauseState::Two(pair) => {
                 self.watch(k, pair)?;
                 Ok(Look::Two)
             }
             ClauseState::One(place) => {
-                let lit = self.arena.clause(k)[place];
+                let lit = clause[place];
                 self.watch(k, with_one(pair, place))?;
                 force(lit, ClauseId(k as u64), trail)?;
                 Ok(Look::One)
@@ -587,10 +634,24 @@ impl Clauses {
         ensures ok { OnOk result (IsRewatched k pair self.old self.new) }
         ensures err { OnErr result (Lengthens self.old self.new) }
     {
+        if self.is_watched(k, pair) {
+            return Ok(());
+        }
         self.enlist(k, pair.first)?;
         self.enlist(k, pair.second)?;
         self.arena.watch(k, pair);
         Ok(())
+    }
+
+    /// Whether the clause watches these two places, in this order.
+    fn is_watched(&self, k: usize, pair: Pair) -> bool
+        requires in_range { k < length self.now.arena }
+        requires tidy { IsTidy self.now.arena self.now.lists }
+        requires fits { IsPair (watched_at self.now.arena k).clause pair }
+        ensures { OnTrue result (IsRewatched k pair self.now self.now) }
+    {
+        let slot = self.arena.slot(k);
+        slot.live && slot.listed && slot.pair == pair
     }
 
     /// Puts the clause into the list of its literal at this place, if it is not there yet.
@@ -619,27 +680,17 @@ impl Clauses {
         requires tidy { IsTidy self.now.arena self.now.lists }
         ensures { OnTrue result (IsEnlistedAt self.now.lists k (literal_at (watched_at self.now.arena k).clause place)) }
     {
-        let pair = self.arena.pair(k);
-        let listed = self.arena.is_live(k) && self.arena.is_listed(k);
-        listed && (place == pair.first || place == pair.second)
+        let slot = self.arena.slot(k);
+        let listed = slot.live && slot.listed;
+        listed && (place == slot.pair.first || place == slot.pair.second)
     }
 }
 
-/// The last watcher before this one whose number is one of these.
-fn last_between(list: &[Watcher], end: usize, fallen: Fallen) -> Option<usize>
-    requires within { end ≤ length list.now }
-    ensures found { IfSome result (λ j. (j < end) × AreOutside fallen list.now (j + 1) end) }
-    ensures none { IfNone result (AreOutside fallen list.now 0 end) }
+/// Whether the number is one of these.
+fn is_among(fallen: Fallen, value: i64) -> bool
+    ensures { OnFalse result (IsOutside fallen value) }
 {
-    let mut j = end;
-    while j > 0 {
-        j -= 1;
-        let value = list[j].value;
-        if fallen.from <= value && value < fallen.until {
-            return Some(j);
-        }
-    }
-    None
+    fallen.from <= value && value < fallen.until
 }
 
 /// Whether a level was pushed before all entries below it were visited.
