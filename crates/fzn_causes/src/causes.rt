@@ -169,6 +169,11 @@ impl Causes {
         if is_true_on(declared, truth) {
             return Ok(None);
         }
+        if let Some(place) = last
+            && graph.before(place).is_none()
+        {
+            return Ok(Some(place)); // It is the only one.
+        }
         self.orders.first_true(graph, truth, last)
     }
 
@@ -190,8 +195,11 @@ impl Causes {
                 return Ok(());
             };
             self.found.push(Cause { place, need: truth })?;
+            if entry.level > 0 {
+                return Ok(());
+            }
             let lit = canonical(entry.lit, declared);
-            if entry.level > 0 || implies(lit, truth) {
+            if implies(lit, truth) {
                 return Ok(());
             }
             let Some(older) = self.add_crossed(graph, declared, place, lit, truth)? else {
@@ -211,11 +219,14 @@ impl Causes {
         let Some(entry) = graph.entry(place) else {
             return Ok(());
         };
+        if entry.level == 0 || entry.lit == need {
+            return Ok(());
+        }
         let Some(declared) = graph.declared(entry.lit.var) else {
             return Ok(());
         };
         let lit = canonical(entry.lit, declared);
-        if entry.level == 0 || implies(lit, need) {
+        if implies(lit, need) {
             return Ok(());
         }
         let Some(older) = self.add_crossed(graph, declared, place, lit, need)? else {

@@ -80,6 +80,11 @@ impl Gaps {
         Ok(())
     }
 
+    /// Whether a clause is wanted for some gap.
+    pub fn is_wanting(&self) -> bool {
+        !self.wanted.is_empty()
+    }
+
     /// The number of a gap for which a clause is wanted, which is no longer noted.
     pub fn next_wanted(&mut self) -> Option<usize> {
         self.wanted.pop()

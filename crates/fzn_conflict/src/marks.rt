@@ -238,6 +238,11 @@ impl Marks {
         self.roots.leave(units)
     }
 
+    /// Whether a clause is wanted for anything.
+    pub fn is_wanting(&self) -> bool {
+        self.roots.is_wanting() || self.causes.gaps.is_wanting()
+    }
+
     /// What a clause is wanted for, which is no longer noted: an entry of level 0, those first on which others rest, and then a gap.
     pub fn next_wanted(&mut self) -> Option<Wanted> {
         match self.roots.next_wanted() {

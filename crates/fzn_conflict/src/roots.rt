@@ -56,6 +56,11 @@ impl Roots {
         Ok(())
     }
 
+    /// Whether a clause is wanted for some entry.
+    pub fn is_wanting(&self) -> bool {
+        !self.wanted.is_empty()
+    }
+
     /// The first of the entries for which a clause is wanted, which is no longer noted.
     pub fn next_wanted(&mut self) -> Option<usize> {
         if !self.sorted {

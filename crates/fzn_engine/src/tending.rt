@@ -48,11 +48,11 @@ impl Solver {
         ensures left { IsLeft model.now (S.written sink.new) (S.keeps model.now sink.new) (S.origin sink.new ≡ S.origin sink.old) }
     {
         match self.learn {
-            Learn::Plain => Ok(()),
-            Learn::First => {
+            Learn::First if self.notes.marks.is_wanting() => {
                 self.prove_wanted(alloc, model, sink)?;
                 Ok(())
             }
+            _ => Ok(()),
         }
     }
 

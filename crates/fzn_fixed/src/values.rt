@@ -14,16 +14,20 @@ use fzn_list::Items;
 use fzn_meaning::Term;
 use fzn_terms::least_of;
 use fzn_trail::Trail;
+use smallvec::SmallVec;
 use std::alloc::Global;
 
+/// Values of terms. Most constraints have few inputs, whose values take no memory of their own.
+pub type Values = SmallVec<i64, 4>;
+
 /// The least value of each term, in order.
-pub fn values_of(alloc: Global, trail: &Trail, terms: &[Term]) -> Result<Items<i64>, Memory>
+pub fn values_of(alloc: Global, trail: &Trail, terms: &[Term]) -> Result<Values, Memory>
     requires terms { All (IsTerm (length trail.now.declared)) terms.now }
     requires filled { NoneEmpty trail.now.sets }
-    ensures values { IfOk result (λ values. values ≡ map (least_value trail.now.sets) terms.now) }
-    ensures in_limits { IfOk result (All IsInLimits) }
+    ensures values { IfOk result (λ values. values.items ≡ map (least_value trail.now.sets) terms.now) }
+    ensures in_limits { IfOk result (λ values. All IsInLimits values.items) }
 {
-    let mut values = Items::new(alloc);
+    let mut values = SmallVec::new(alloc);
     for term in terms {
         values.push(least_of(trail, *term))?;
     }

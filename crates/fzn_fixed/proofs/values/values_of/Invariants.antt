@@ -6,6 +6,6 @@ use Rattle.fzn_fixed.proofs.values.values_of.Given as goal
 
 abbrev pub invariant-loop-term : goal.invariant-loop-term
 invariant-loop-term l = record {
-  values : l.values ≡ map (least_value l.trail.sets) (take l.term-index l.terms);
-  in_limits : All IsInLimits l.values;
+  values : l.values.items ≡ map (least_value l.trail.sets) (take l.term-index l.terms);
+  in_limits : All IsInLimits l.values.items;
 }
