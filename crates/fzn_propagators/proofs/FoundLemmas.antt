@@ -15,9 +15,9 @@ use Rattle.fzn_rules.specs.declared.rule.Rule.{Rule}
 use Rattle.fzn_rules.specs.Rules.{IsMet, IsAcceptedBy}
 use Rattle.fzn_cert.specs.Accepted.{IsJustifiedBy}
 use Rattle.fzn_trail.specs.Levels.{Levels, IsNarrower}
-use Rattle.fzn_propagators.specs.declared.kinds.AnyPropagator.{AnyPropagator}
+use Rattle.fzn_kinds.specs.declared.kinds.AnyPropagator.{AnyPropagator}
 use Rattle.fzn_propagator.specs.declared.propagator.Inference.{Inference}
-use Rattle.fzn_propagators.specs.AnyCrate.{any_number, AnyIsFor, AnyFits}
+use Rattle.fzn_kinds.specs.AnyCrate.{any_number, AnyIsFor, AnyFits}
 use Rattle.fzn_propagator.specs.Inference.{IsInferenceOf, AreInferencesOf, AreExhausted, IsInference as IsFound}
 use Rattle.fzn_constraints.specs.Inference.{IsInference, IsJustified, IsQuiet}
 use Rattle.fzn_propagators.specs.Propagators.{IsPropagatorOf, AreFor}

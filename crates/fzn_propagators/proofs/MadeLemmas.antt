@@ -4,14 +4,10 @@ use Rattle.std.proofs.lemmas.Bool.{cases_lt}
 use Rattle.std.proofs.lemmas.List.{get_or_append_left, get_or_push}
 use Rattle.fzn_domain.specs.IntSet.{IntSet}
 use Rattle.fzn_meaning.specs.declared.constraint.Constraint.{Constraint}
-use Rattle.fzn_meaning.specs.declared.constraint.Constraint.TheVariants.{AllDifferent, Inverse}
 use Rattle.fzn_meaning.specs.declared.model.Model.{Model}
-use Rattle.fzn_meaning.specs.declared.term.Term.{Term}
-use Rattle.fzn_meaning.specs.Meaning.{IsWellFormed}
 use Rattle.fzn_meaning.specs.Solutions.{declared_sets}
-use Rattle.fzn_globals.specs.Kinds.{IsKind, IsReady}
-use Rattle.fzn_propagators.specs.declared.kinds.AnyPropagator.{AnyPropagator}
-use Rattle.fzn_propagators.specs.AnyCrate.{any_number, AnyIsFor, AnyFits}
+use Rattle.fzn_kinds.specs.declared.kinds.AnyPropagator.{AnyPropagator}
+use Rattle.fzn_kinds.specs.AnyCrate.{any_number, AnyIsFor, AnyFits}
 use Rattle.fzn_propagators.specs.Propagators.{IsPropagatorOf}
 
 -- where a place stands in a list there is a member
@@ -52,13 +48,3 @@ pub all-fit : (model : Model) (n : ℕ) (items named : List AnyPropagator) → n
 all-fit model n items named within is one_each first =
     let P : AnyPropagator → Type 0 = λ p. (declared : List IntSet) × AnyFits p declared in
     subst (All P) (sym is) (λ k d below. (declared_sets model.vars, (first k (some_member model.constraints k (omega arith)) d (omega arith)).fits))
-
--- the propagator of a constraint of the two global ones that it holds
-module _ (count : ℕ) (given own : Constraint) (is_formed : IsWellFormed count given) where
-  pub all_different-ready : (places : List Term) → given ≡ AllDifferent places → own ≡ AllDifferent places → IsReady count own
-  unfolding IsKind
-  all_different-ready places is made = record { formed = subst (IsWellFormed count) (is ∙ sym made) is_formed; kind = subst IsKind (sym made) tt }
-
-  pub inverse-ready : (forward backward : List Term) → given ≡ Inverse forward backward → own ≡ Inverse forward backward → IsReady count own
-  unfolding IsKind
-  inverse-ready forward backward is made = record { formed = subst (IsWellFormed count) (is ∙ sym made) is_formed; kind = subst IsKind (sym made) tt }

@@ -1,2 +1,1 @@
-pub mod AnyCrate
 pub mod Propagators

@@ -6,9 +6,9 @@ use Rattle.fzn_meaning.specs.declared.model.Model.{Model}
 use Rattle.fzn_meaning.specs.Meaning.{HasBooleanSets, longest}
 use Rattle.fzn_meaning.specs.Solutions.{declared_sets}
 use Rattle.fzn_constraints.specs.Inference.{IsJustified}
-use Rattle.fzn_propagators.specs.declared.kinds.AnyPropagator.{AnyPropagator}
+use Rattle.fzn_kinds.specs.declared.kinds.AnyPropagator.{AnyPropagator}
 use Rattle.fzn_propagators.specs.declared.propagators.Propagators.{Propagators}
-use Rattle.fzn_propagators.specs.AnyCrate.{any_number, AnyIsFor, AnyFits}
+use Rattle.fzn_kinds.specs.AnyCrate.{any_number, AnyIsFor, AnyFits}
 
 -- the propagator of the model's constraint with this number
 pub record IsPropagatorOf (model : Model) (number : ℕ) (constraint : Constraint) (propagator : AnyPropagator) : Type 0 where

@@ -1,7 +1,7 @@
 -- One more propagator that finds nothing, and what it means that none finds anything.
 use Rattle.std.proofs.Common.{arith}
 use Rattle.std.proofs.lemmas.List.Elements.{AllWithin-more}
-use Rattle.fzn_propagators.specs.AnyCrate.{AnyIsFor}
+use Rattle.fzn_kinds.specs.AnyCrate.{AnyIsFor}
 use Rattle.fzn_propagator.specs.Inference.{AreExhausted}
 use Rattle.fzn_propagators.proofs.FoundLemmas.{none-quiet}
 use Rattle.fzn_propagators.proofs.propagators.ask_all.Goals as goal
