@@ -1,9 +1,9 @@
 //! Which propagators are asked next.
 //!
 //! In: the propagators of a model, and then a trail of its declared sets. Out: the place of the next propagator to be asked, or none. A
-//! propagator is asked once a variable that it watches was narrowed, but for a sum that has room for the most of any one place. All of it only
-//! chooses, so nothing but safety is proved: what a propagator finds, and that all are asked where each variable has one value, is proved
-//! where they are asked.
+//! propagator is asked once a variable that it watches was narrowed, but for a sum that has room for the most of any one place. It only
+//! chooses, so that little but safety is proved: what a propagator finds is proved where it is asked. Where it says that some variable has
+//! several values, one has.
 #![tactic(auto)]
 
 pub use agenda::Agenda;

@@ -1,5 +1,5 @@
 //! Propagators of the constraints that are no weighted sum: members of sets, and by the crates below products, quotients, remainders,
-//! amounts, extrema, elements and exclusive or.
+//! absolute values, extrema, elements and exclusive or.
 //!
 //! In: the number of such a constraint of a model, then a trail. Out: inferences, by the law of the trait `Propagator`.
 //! Proved against `specs/Members.antt`: what a membership asks for; and `specs/Fixed.antt` of `fzn_fixed`, for what is promised where no

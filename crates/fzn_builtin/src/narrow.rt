@@ -12,7 +12,7 @@ use fzn_domain::Memory;
 use fzn_equality::{infer_element, infer_extremum};
 use fzn_fixed::{Parts, infer_last};
 use fzn_meaning::Constraint;
-use fzn_operations::{infer_amount, infer_operation};
+use fzn_operations::{infer_absolute_value, infer_operation};
 use fzn_propagator::Findings;
 use fzn_rules::Rule;
 use fzn_trail::Trail;
@@ -90,7 +90,7 @@ fn narrow_rows(
             found,
         ),
         Constraint::IntAbs { of, result } => {
-            infer_amount(alloc, trail, number, *of, *result, found)
+            infer_absolute_value(alloc, trail, number, *of, *result, found)
         }
         Constraint::SetIn { term, set, switch } => {
             infer_member(alloc, trail, number, *term, set, *switch, found)

@@ -1,4 +1,4 @@
-mod AmountLemmas
+mod AbsoluteLemmas
 mod BitSums
 pub mod CallerLemmas
 mod ChoiceLemmas

@@ -20,9 +20,9 @@ AreApart s t = (v : ℤ) → contains s v ≡ true → contains t v ≡ true →
 abbrev pub IsPartOf : IntSet → IntSet → Type 0
 IsPartOf s t = (v : ℤ) → contains s v ≡ true → contains t v ≡ true
 
--- no number of the first set has its amount in the second
-abbrev pub AmountsApart : IntSet → IntSet → Type 0
-AmountsApart s t = (v : ℤ) → contains s v ≡ true → contains t (pos (unsigned_abs v)) ≡ true → ⊥
+-- no number of the first set has its absolute value in the second
+abbrev pub AbsolutesApart : IntSet → IntSet → Type 0
+AbsolutesApart s t = (v : ℤ) → contains s v ≡ true → contains t (pos (unsigned_abs v)) ≡ true → ⊥
 
 -- the sets of the two terms share no value
 abbrev pub ShareNone : List IntSet → Term → Term → Type 0
@@ -55,9 +55,9 @@ abbrev pub Passes : List IntSet → Extreme → Term → Term → Type 0
 Passes sets Greatest result entry = greatest_value sets result <ℤ least_value sets entry
 Passes sets Least result entry = greatest_value sets entry <ℤ least_value sets result
 
--- no value of the one term has its amount in the set of the other
-abbrev pub NoAmountFits : List IntSet → Term → Term → Type 0
-NoAmountFits sets of result = (v : ℤ) → MayBe sets of v → MayBe sets result (pos (unsigned_abs v)) → ⊥
+-- no value of the one term has its absolute value in the set of the other
+abbrev pub NoAbsoluteFits : List IntSet → Term → Term → Type 0
+NoAbsoluteFits sets of result = (v : ℤ) → MayBe sets of v → MayBe sets result (pos (unsigned_abs v)) → ⊥
 
 unfoldable pub IsRowsMet : Constraint → List IntSet → Type 0
 IsRowsMet (Compare relation left right switch) sets = AsksEquality sets relation switch × ShareNone sets left right
@@ -65,7 +65,7 @@ IsRowsMet (BoolToInt boolean integer) sets = ShareNone sets boolean integer
 IsRowsMet (SetIn term set switch) sets = IsSetMissed sets term set switch
 IsRowsMet (Element index entries value) sets = NoEntryFits sets index entries value
 IsRowsMet (Extremum extreme entries result) sets = Any (Passes sets extreme result) entries ⊎ All (λ entry. ShareNone sets entry result) entries
-IsRowsMet (IntAbs of result) sets = NoAmountFits sets of result
+IsRowsMet (IntAbs of result) sets = NoAbsoluteFits sets of result
 IsRowsMet _ sets = ⊥
 
 -- ---- walks over two sets
@@ -80,21 +80,21 @@ pub record IsNextCandidate (s t : IntSet) (v next : ℤ) : Type 0 where
 abbrev pub NoCandidate : IntSet → IntSet → ℤ → Type 0
 NoCandidate s t v = (other : ℤ) → contains s other ≡ true → contains t other ≡ true → other ≤ℤ v
 
--- the least amount of a member that is above a number
-pub record IsNextAmount (s : IntSet) (a next : ℤ) : Type 0 where
+-- the least absolute value of a member that is above a number
+pub record IsNextAbsolute (s : IntSet) (a next : ℤ) : Type 0 where
   pub member : (v : ℤ) × (contains s v ≡ true) × (pos (unsigned_abs v) ≡ next)
   pub greater : a <ℤ next
   pub first : (other : ℤ) → contains s other ≡ true → a <ℤ pos (unsigned_abs other) → next ≤ℤ pos (unsigned_abs other)
 
--- no member's amount is above the number
-abbrev pub NoAmountAbove : IntSet → ℤ → Type 0
-NoAmountAbove s a = (other : ℤ) → contains s other ≡ true → pos (unsigned_abs other) ≤ℤ a
+-- no member's absolute value is above the number
+abbrev pub NoAbsoluteAbove : IntSet → ℤ → Type 0
+NoAbsoluteAbove s a = (other : ℤ) → contains s other ≡ true → pos (unsigned_abs other) ≤ℤ a
 
--- a number above this one and no greater than the next amount of the first set that is in the second
+-- a number above this one and no greater than the next absolute value of the first set that is in the second
 pub record IsNextShared (s t : IntSet) (a next : ℤ) : Type 0 where
   pub greater : a <ℤ next
   pub first : (other : ℤ) → contains s other ≡ true → contains t (pos (unsigned_abs other)) ≡ true → a <ℤ pos (unsigned_abs other) → next ≤ℤ pos (unsigned_abs other)
 
--- no amount of the first set that is in the second is above the number
+-- no absolute value of the first set that is in the second is above the number
 abbrev pub NoneShared : IntSet → IntSet → ℤ → Type 0
 NoneShared s t a = (other : ℤ) → contains s other ≡ true → contains t (pos (unsigned_abs other)) ≡ true → pos (unsigned_abs other) ≤ℤ a

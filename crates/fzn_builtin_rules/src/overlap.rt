@@ -2,7 +2,7 @@
 ghost use Rattle.std.specs.Prelude.{◌≡◌, ◌↔◌, ◌<◌, ◌≤ℤ◌, true, false, ℤ, pos, IsTrue, IfNone, IfSome, unsigned_abs};
 ghost use Rattle.fzn_domain.specs.IntSet.{contains, size, least, greatest};
 ghost use Rattle.fzn_domain.specs.Limits.{IsInLimits};
-ghost use Rattle.fzn_builtin_rules.specs.Rows.{AreApart, IsPartOf, AmountsApart, IsNextCandidate, NoCandidate, IsNextAmount, NoAmountAbove, IsNextShared, NoneShared};
+ghost use Rattle.fzn_builtin_rules.specs.Rows.{AreApart, IsPartOf, AbsolutesApart, IsNextCandidate, NoCandidate, IsNextAbsolute, NoAbsoluteAbove, IsNextShared, NoneShared};
 
 use fzn_domain::Domain;
 
@@ -81,45 +81,45 @@ fn has_each(first: &Domain, second: &Domain) -> bool
     false
 }
 
-/// Whether no number of the first set has its amount in the second. It goes up the amounts of both by turns, so it takes no more steps
-/// than the one with fewer gaps has gaps.
-pub(crate) fn amounts_apart(first: &Domain, second: &Domain) -> bool
-    ensures { IsTrue result ↔ AmountsApart first.now second.now }
+/// Whether no number of the first set has its absolute value in the second. It goes up the absolute values of both by turns, so it takes
+/// no more steps than the one with fewer gaps has gaps.
+pub(crate) fn absolutes_apart(first: &Domain, second: &Domain) -> bool
+    ensures { IsTrue result ↔ AbsolutesApart first.now second.now }
 {
-    let mut amount = 0;
-    while !(second.contains(amount) && is_amount_in(amount, first)) {
-        match next_shared_amount(first, second, amount) {
-            Some(next) => amount = next,
+    let mut absolute = 0;
+    while !(second.contains(absolute) && is_absolute_in(absolute, first)) {
+        match next_shared_absolute(first, second, absolute) {
+            Some(next) => absolute = next,
             None => return true,
         }
     }
     false
 }
 
-/// The next number of the second set, or the next amount of the first set where that is not one.
-fn next_shared_amount(first: &Domain, second: &Domain, amount: i64) -> Option<i64>
-    requires { pos 0 ≤ℤ amount }
-    ensures found { IfSome result (IsNextShared first.now second.now amount) }
-    ensures none { IfNone result (NoneShared first.now second.now amount) }
+/// The next number of the second set, or the next absolute value of the first set where that is not one.
+fn next_shared_absolute(first: &Domain, second: &Domain, absolute: i64) -> Option<i64>
+    requires { pos 0 ≤ℤ absolute }
+    ensures found { IfSome result (IsNextShared first.now second.now absolute) }
+    ensures none { IfNone result (NoneShared first.now second.now absolute) }
     ensures in_limits { IfSome result IsInLimits }
 {
-    let next = second.above(amount)?;
-    if is_amount_in(next, first) {
+    let next = second.above(absolute)?;
+    if is_absolute_in(next, first) {
         Some(next)
     } else {
-        next_amount(first, next)
+        next_absolute(first, next)
     }
 }
 
-/// The least amount of a member that is greater than the given one.
-fn next_amount(set: &Domain, amount: i64) -> Option<i64>
-    requires in_limits { IsInLimits amount }
-    requires amount { pos 0 ≤ℤ amount }
-    ensures found { IfSome result (IsNextAmount set.now amount) }
-    ensures none { IfNone result (NoAmountAbove set.now amount) }
+/// The least absolute value of a member that is greater than the given one.
+fn next_absolute(set: &Domain, absolute: i64) -> Option<i64>
+    requires in_limits { IsInLimits absolute }
+    requires absolute { pos 0 ≤ℤ absolute }
+    ensures found { IfSome result (IsNextAbsolute set.now absolute) }
+    ensures none { IfNone result (NoAbsoluteAbove set.now absolute) }
     ensures in_limits { IfSome result IsInLimits }
 {
-    match (set.above(amount), set.below(-amount)) {
+    match (set.above(absolute), set.below(-absolute)) {
         (Some(up), Some(down)) => Some(up.min(-down)),
         (Some(up), None) => Some(up),
         (None, Some(down)) => Some(-down),
@@ -127,8 +127,8 @@ fn next_amount(set: &Domain, amount: i64) -> Option<i64>
     }
 }
 
-/// Whether the number is the amount of a member.
-pub(crate) fn is_amount_in(value: i64, set: &Domain) -> bool
+/// Whether the number is the absolute value of a member.
+pub(crate) fn is_absolute_in(value: i64, set: &Domain) -> bool
     requires { IsInLimits value }
     ensures yes { IsTrue result → (v : ℤ) × (contains set.now v ≡ true) × (pos (unsigned_abs v) ≡ value) }
     ensures no { result ≡ false → (v : ℤ) → contains set.now v ≡ true → pos (unsigned_abs v) ≡ value → ⊥ }

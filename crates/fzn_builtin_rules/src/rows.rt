@@ -4,9 +4,9 @@ ghost use Rattle.std.specs.List.{All, Any};
 ghost use Rattle.fzn_domain.specs.Narrow.{is_some_empty};
 ghost use Rattle.fzn_meaning.specs.Term.{IsTerm};
 ghost use Rattle.fzn_meaning.specs.Meaning.{IsWellFormed, IsSwitch};
-ghost use Rattle.fzn_builtin_rules.specs.Rows.{AsksEquality, ShareNone, IsOutside, IsInside, IsSetMissed, NoEntryFits, Passes, NoAmountFits, IsRowsMet};
+ghost use Rattle.fzn_builtin_rules.specs.Rows.{AsksEquality, ShareNone, IsOutside, IsInside, IsSetMissed, NoEntryFits, Passes, NoAbsoluteFits, IsRowsMet};
 
-use crate::overlap::{amounts_apart, are_apart, is_amount_in, is_part_of};
+use crate::overlap::{absolutes_apart, are_apart, is_absolute_in, is_part_of};
 use fzn_domain::Domain;
 use fzn_meaning::{Constraint, Extreme, Relation, Term};
 use fzn_sets::{Sets, greatest_value, is_fixed_to, least_value, may_be};
@@ -41,7 +41,7 @@ pub fn is_rows_met(constraint: &Constraint, sets: &Sets) -> bool
             some_passes(sets, *extreme, *result, entries.as_slice())
                 || none_shares(sets, entries.as_slice(), *result)
         }
-        Constraint::IntAbs { of, result } => no_amount_fits(sets, *of, *result),
+        Constraint::IntAbs { of, result } => no_absolute_fits(sets, *of, *result),
         _ => false,
     }
 }
@@ -171,19 +171,19 @@ fn none_shares(sets: &Sets, entries: &[Term], value: Term) -> bool
     true
 }
 
-/// Whether no value of the one term has its amount in the set of the other.
+/// Whether no value of the one term has its absolute value in the set of the other.
 #[tactic(auto, using(fzn_sets::proofs::CallerLemmas::some_value))]
-fn no_amount_fits(sets: &Sets, of: Term, amount: Term) -> bool
+fn no_absolute_fits(sets: &Sets, of: Term, absolute: Term) -> bool
     requires of { IsTerm (length sets.now.present) of }
-    requires amount { IsTerm (length sets.now.present) amount }
+    requires absolute { IsTerm (length sets.now.present) absolute }
     requires nonempty { is_some_empty sets.now.present ≡ false }
-    ensures { IsTrue result ↔ NoAmountFits sets.now.present of amount }
+    ensures { IsTrue result ↔ NoAbsoluteFits sets.now.present of absolute }
 {
-    match (of, amount) {
-        (Term::Constant(k), _) => !may_be(sets, amount, &k.abs()),
-        (Term::Variable(var), Term::Constant(k)) => !is_amount_in(k, sets.domain(var)),
+    match (of, absolute) {
+        (Term::Constant(k), _) => !may_be(sets, absolute, &k.abs()),
+        (Term::Variable(var), Term::Constant(k)) => !is_absolute_in(k, sets.domain(var)),
         (Term::Variable(one), Term::Variable(other)) => {
-            amounts_apart(sets.domain(one), sets.domain(other))
+            absolutes_apart(sets.domain(one), sets.domain(other))
         }
     }
 }

@@ -1,5 +1,5 @@
-// Each call on a stream fails in turn, or moves one byte less: `run`, `check`, `trim` and `core` say so, and what was written is a beginning of what is
-// written else. Where nothing fails nothing changes.
+// Each call on a stream fails in turn, or moves one byte less: `run`, `check`, `trim` and `core` say so, and what was written is a beginning
+// of what is written else. Where nothing fails nothing changes.
 use crate::runs::{options_of, solve};
 use fzn_solver::{RunFault, Unwatched};
 use fzn_strategy::Learn;

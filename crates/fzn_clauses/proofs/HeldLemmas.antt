@@ -1,9 +1,9 @@
 -- What is held, by numbers.
-use Rattle.std.proofs.Common.{◌≡◌, ◌⊎◌, ℕ, zero, suc, ◌<◌, ◌≤◌, Bool, true, false, cond, List, [], ◌∷◌, length, get_or, set, Contains, ◌++◌, length-append, refl, sym, ap, subst, ◌∙◌, inl, inr, arith, Option, Some, None}
+use Rattle.std.proofs.Common.{◌≡◌, ◌⊎◌, ℕ, zero, suc, ◌<◌, ◌≤◌, Bool, true, false, cond, List, [], ◌∷◌, length, get_or, set, ◌++◌, length-append, refl, sym, ap, subst, ◌∙◌, inl, inr, arith, Option, Some, None}
 use Rattle.std.specs.Prelude.{IsSome}
 use Rattle.std.specs.Option.{unwrap_or}
 use Rattle.std.proofs.lemmas.Bool.{cases_lt, false≢true}
-use Rattle.std.proofs.lemmas.List.{length-map, map-set, get_or-map, get_or_append_left, get_or_push, get_or_default}
+use Rattle.std.proofs.lemmas.List.{length-map, map-set, get_or-map, get_or_append_left, get_or_push}
 use Rattle.fzn_domain.specs.declared.literal.Lit.{Lit}
 use Rattle.fzn_trail.specs.declared.trail.ClauseId.{ClauseId}
 use Rattle.fzn_clauses.specs.Held.{Held, IsHeld, clause_of, at_number, AllHeld, held_at, held_in}
@@ -94,10 +94,3 @@ AllHeld-push P held clause all one = λ id is. elim (IsHeld-cases held clause id
   | inl older ↦ subst P (sym (clause_of-grown held (Some clause ∷ []) id older)) (all id older)
   | inr newest ↦ subst P (sym (clause_of-newest held clause id newest)) one
 ]
-
--- a clause that is in the list has a number
-pub AllHeld-contains : (P : List Lit → Type 0) (held : Held) (clause : List Lit) → AllHeld P held → Contains held (Some clause) → P clause
-AllHeld-contains P held clause all there =
-    let id : ClauseId = record { 0 = there.0 } in
-    let at : at_number held id ≡ Some clause = get_or_default held there.0 None (Some clause) there.1 ∙ there.2 in
-    subst P (ap (λ (o : Option (List Lit)). unwrap_or o []) at) (all id (subst IsSome (sym at) refl))

@@ -29,11 +29,11 @@ module _ (outcome : Outcome) where
   arithmetic_is operation left right of (a ∷ []) count is = absurd (omega arith)
   arithmetic_is operation left right of (a ∷ b ∷ c ∷ rest) count is = absurd (omega arith)
 
-  pub amount_is : (of result : Term) (values : List ℤ) → 1 ≡ length values → ((r : ℤ) → IsIntAbs (get_or values 0 (pos 0)) r ↔ Admits outcome (Some r)) → IsOutcome (constraint.IntAbs of result) values outcome
+  pub absolute_is : (of result : Term) (values : List ℤ) → 1 ≡ length values → ((r : ℤ) → IsIntAbs (get_or values 0 (pos 0)) r ↔ Admits outcome (Some r)) → IsOutcome (constraint.IntAbs of result) values outcome
   unfolding result_of Relates
-  amount_is of result (a ∷ []) count is = is
-  amount_is of result [] count is = absurd (omega arith)
-  amount_is of result (a ∷ b ∷ rest) count is = absurd (omega arith)
+  absolute_is of result (a ∷ []) count is = is
+  absolute_is of result [] count is = absurd (omega arith)
+  absolute_is of result (a ∷ b ∷ rest) count is = absurd (omega arith)
 
   pub extremum_is : (extreme : Extreme) (entries : List Term) (of : Term) (values : List ℤ) → ((r : ℤ) → IsExtremum extreme values r ↔ Admits outcome (Some r)) → IsOutcome (constraint.Extremum extreme entries of) values outcome
   unfolding result_of Relates

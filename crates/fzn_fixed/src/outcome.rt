@@ -41,7 +41,7 @@ pub fn outcome_of(constraint: &Constraint, values: &[i64]) -> Outcome
         Constraint::Arithmetic { operation, .. } => {
             of_operation(*operation, &values[0], &values[1])
         },
-        Constraint::IntAbs { .. } => of_amount(&values[0]),
+        Constraint::IntAbs { .. } => of_absolute(&values[0]),
         Constraint::Extremum { extreme, .. } => of_entries(*extreme, values),
         Constraint::Element { .. } => of_index(&values[0], &values[1..]),
         Constraint::SetIn { set, switch, .. } => {
@@ -97,7 +97,7 @@ pub fn of_operation(operation: Operation, left: &i64, right: &i64) -> Outcome
     }
 }
 
-fn of_amount(value: &i64) -> Outcome
+fn of_absolute(value: &i64) -> Outcome
     requires { IsInLimits value.now }
     ensures { (r : ℤ) → IsIntAbs value.now r ↔ Admits result (Some r) }
 {

@@ -39,7 +39,7 @@ pub fn parts_of(alloc: Global, constraint: &Constraint) -> Result<Option<Parts>,
             right,
             result,
         } => arithmetic(alloc, *operation, *left, *right, *result)?,
-        Constraint::IntAbs { of, result } => amount(alloc, *of, *result)?,
+        Constraint::IntAbs { of, result } => absolute(alloc, *of, *result)?,
         Constraint::Extremum {
             extreme,
             entries,
@@ -85,13 +85,16 @@ fn arithmetic(
 }
 
 #[tactic(auto, unfolding(fzn_builtin_rules::specs::Choices::inputs_of, fzn_builtin_rules::specs::Choices::result_of))]
-fn amount(alloc: Global, of: Term, amount: Term) -> Result<Parts, Memory>
-    ensures { IfOk result (ArePartsOf (constraint.IntAbs of amount)) }
+fn absolute(alloc: Global, of: Term, absolute: Term) -> Result<Parts, Memory>
+    ensures { IfOk result (ArePartsOf (constraint.IntAbs of absolute)) }
 {
     Ok(Parts {
-        constraint: Constraint::IntAbs { of, result: amount },
+        constraint: Constraint::IntAbs {
+            of,
+            result: absolute,
+        },
         inputs: listed(alloc, &[of])?,
-        result: Some(amount),
+        result: Some(absolute),
     })
 }
 

@@ -10,6 +10,6 @@ IsArithmetic Times a b c = a *ℤ b ≡ c
 IsArithmetic Quotient a b c = (b ≢ pos 0) × (int_div a b ≡ c)
 IsArithmetic Remainder a b c = (b ≢ pos 0) × (int_rem a b ≡ c)
 
--- b is the amount of a
+-- b is the absolute value of a
 abbrev pub IsIntAbs : ℤ → ℤ → Type 0
 IsIntAbs a b = pos (unsigned_abs a) ≡ b

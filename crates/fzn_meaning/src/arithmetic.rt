@@ -1,4 +1,4 @@
-// Sums, products, quotients, remainders and amounts.
+// Sums, products, quotients, remainders and absolute values.
 ghost use Rattle.std.specs.Prelude.{◌≡◌, ◌≢◌, ◌↔◌, pos, ◌+ℤ◌, ◌*ℤ◌, int_div, int_rem, IsTrue};
 ghost use Rattle.fzn_meaning.specs.Arithmetic.{IsArithmetic, IsIntAbs};
 
@@ -54,8 +54,8 @@ fn remainder(left: i64, right: i64) -> i128
     left as i128 % right as i128
 }
 
-pub(crate) fn is_int_abs(value: i64, amount: i64) -> bool
-    ensures { IsTrue result ↔ IsIntAbs value amount }
+pub(crate) fn is_int_abs(value: i64, absolute: i64) -> bool
+    ensures { IsTrue result ↔ IsIntAbs value absolute }
 {
-    0 <= amount && value.unsigned_abs() == amount as u64
+    0 <= absolute && value.unsigned_abs() == absolute as u64
 }

@@ -51,7 +51,7 @@ pub enum Constraint {
         right: Term,
         result: Term,
     },
-    /// `int_abs`: the result is the amount of the other term.
+    /// `int_abs`: the result is the absolute value of the other term.
     IntAbs {
         of: Term,
         result: Term,

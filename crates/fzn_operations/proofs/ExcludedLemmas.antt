@@ -26,9 +26,9 @@ use Rattle.fzn_terms.specs.declared.claim.Claim.{Claim}
 use Rattle.fzn_terms.specs.Denied.{IsDenied, Refute}
 use Rattle.fzn_terms.specs.declared.interval.Interval.{Interval}
 use Rattle.fzn_operations.specs.declared.excluded.Shape.{Shape}
-use Rattle.fzn_operations.specs.declared.excluded.Shape.TheVariants.{Product, Quotient, Remainder, Amount}
+use Rattle.fzn_operations.specs.declared.excluded.Shape.TheVariants.{Product, Quotient, Remainder, Absolute}
 use Rattle.fzn_terms.specs.Intervals.{IsIn, LiesIn}
-use Rattle.fzn_operations.specs.Excluded.{shaped, rule_of, IsProductBeyond, IsAmountBeyond, NoneGives, IsFew, AreFewPairs, Excludes}
+use Rattle.fzn_operations.specs.Excluded.{shaped, rule_of, IsProductBeyond, IsAbsoluteBeyond, NoneGives, IsFew, AreFewPairs, Excludes}
 
 -- ---- products of numbers between bounds
 
@@ -98,22 +98,22 @@ pub none_more : (P : ℤ → Type 0) (low number at : ℤ) → ((x : ℤ) → lo
 none_more P low number at before here at_is x from upto =
     by_order number x (λ after. let same : at ≡ x = omega (arith, ints) in subst P same here) (λ less. before x from less)
 
--- ---- amounts
+-- ---- absolute values
 
-pub amount_sides : (v : ℤ) → (pos (unsigned_abs v) ≡ v) ⊎ (pos (unsigned_abs v) ≡ pos 0 -ℤ v)
-amount_sides (pos n) = inl refl
-amount_sides (negsuc n) = inr (grind (arith, ints))
+pub absolute_sides : (v : ℤ) → (pos (unsigned_abs v) ≡ v) ⊎ (pos (unsigned_abs v) ≡ pos 0 -ℤ v)
+absolute_sides (pos n) = inl refl
+absolute_sides (negsuc n) = inr (grind (arith, ints))
 
-pub amount_above : (a b low high : ℤ) → ((high <ℤ pos 0) ⊎ ((high <ℤ a) ⊎ (b <ℤ (pos 0 -ℤ high)))) → (v : ℤ) → a ≤ℤ v → v ≤ℤ b → low ≤ℤ pos (unsigned_abs v) → pos (unsigned_abs v) ≤ℤ high → ⊥
-amount_above a b low high beyond v from to over under =
+pub absolute_above : (a b low high : ℤ) → ((high <ℤ pos 0) ⊎ ((high <ℤ a) ⊎ (b <ℤ (pos 0 -ℤ high)))) → (v : ℤ) → a ≤ℤ v → v ≤ℤ b → low ≤ℤ pos (unsigned_abs v) → pos (unsigned_abs v) ≤ℤ high → ⊥
+absolute_above a b low high beyond v from to over under =
     let natural : pos 0 ≤ℤ pos (unsigned_abs v) = omega (arith, ints) in
-    elim (amount_sides v) [
+    elim (absolute_sides v) [
       | inl same ↦ elim beyond [ inl h ↦ absurd (omega (arith, ints)) | inr rest ↦ elim rest [ inl h ↦ absurd (omega (arith, ints)) | inr h ↦ absurd (omega (arith, ints)) ] ]
       | inr opposite ↦ elim beyond [ inl h ↦ absurd (omega (arith, ints)) | inr rest ↦ elim rest [ inl h ↦ absurd (omega (arith, ints)) | inr h ↦ absurd (omega (arith, ints)) ] ]
     ]
 
-pub amount_below : (a b low : ℤ) → (pos 0 -ℤ low) <ℤ a → b <ℤ low → (v : ℤ) → a ≤ℤ v → v ≤ℤ b → low ≤ℤ pos (unsigned_abs v) → ⊥
-amount_below a b low first second v from to over = elim (amount_sides v) [
+pub absolute_below : (a b low : ℤ) → (pos 0 -ℤ low) <ℤ a → b <ℤ low → (v : ℤ) → a ≤ℤ v → v ≤ℤ b → low ≤ℤ pos (unsigned_abs v) → ⊥
+absolute_below a b low first second v from to over = elim (absolute_sides v) [
   | inl same ↦ absurd (omega (arith, ints))
   | inr opposite ↦ absurd (omega (arith, ints))
 ]
@@ -146,9 +146,9 @@ module _ (sets : List IntSet) (left right of : Term) (l r o : Interval) (filled 
       falls_short : (p : ℤ) → p <ℤ o.low → o.low ≤ℤ least_value sets of → p <ℤ least_value sets of
       falls_short p less least = omega (arith, ints)
 
-  met_amount : IsAmountBeyond l o → IsMet (constraint.IntAbs left of) sets rule.Rows
+  met_absolute : IsAbsoluteBeyond l o → IsMet (constraint.IntAbs left of) sets rule.Rows
   unfolding IsMet IsRowsMet
-  met_amount beyond = inl (λ v may there. beyond v (in_l v may) (in_o _ there))
+  met_absolute beyond = inl (λ v may there. beyond v (in_l v may) (in_o _ there))
 
   no_choice : (given : Operation) → NoneGives given l r o → (choice : List ℤ) → IsChoice sets (left ∷ right ∷ []) choice → NoneOf sets (result_of (constraint.Arithmetic given left right of)) (Relates (constraint.Arithmetic given left right of) choice)
   unfolding result_of Relates
@@ -168,7 +168,7 @@ module _ (sets : List IntSet) (left right of : Term) (l r o : Interval) (filled 
   met_shaped Product first second third none = met_product first second third none
   met_shaped Quotient first second third none = met_choices operation.Quotient none.0 none.1
   met_shaped Remainder first second third none = met_choices operation.Remainder none.0 none.1
-  met_shaped Amount first second third none = met_amount none
+  met_shaped Absolute first second third none = met_absolute none
 
 pub refuted_shaped : (count : ℕ) (shape : Shape) (left right of : Term) (l r o : Interval) (a b c d e f : Claim) → IsTerm count left → IsTerm count right → IsTerm count of → ((sets : List IntSet) → IsDenied sets a → IsDenied sets b → LiesIn sets left l) → ((sets : List IntSet) → IsDenied sets c → IsDenied sets d → LiesIn sets right r) → ((sets : List IntSet) → IsDenied sets e → IsDenied sets f → LiesIn sets of o) → Excludes shape l r o → Refute count (a ∷ b ∷ c ∷ d ∷ e ∷ f ∷ []) (shaped shape left right of) (rule_of shape)
 refuted_shaped count shape left right of l r o a b c d e f first second third in_left in_right in_of none sets denying =

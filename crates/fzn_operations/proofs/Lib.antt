@@ -1,2 +1,2 @@
-mod AmountLemmas
+mod AbsoluteLemmas
 mod ExcludedLemmas

@@ -12,20 +12,20 @@ use Rattle.fzn_rules.specs.declared.rule.Rule.TheVariants.{Box, Enum, Rows}
 use Rattle.fzn_terms.specs.declared.interval.Interval.{Interval}
 use Rattle.fzn_terms.specs.Intervals.{IsIn, IsLimitedInterval}
 use Rattle.fzn_operations.specs.declared.excluded.Shape.{Shape}
-use Rattle.fzn_operations.specs.declared.excluded.Shape.TheVariants.{Product, Quotient, Remainder, Amount}
+use Rattle.fzn_operations.specs.declared.excluded.Shape.TheVariants.{Product, Quotient, Remainder, Absolute}
 
 -- the constraint of three places, and the rule for it
 abbrev pub shaped : Shape → Term → Term → Term → Constraint
 shaped Product left right of = Arithmetic operation.Times left right of
 shaped Quotient left right of = Arithmetic operation.Quotient left right of
 shaped Remainder left right of = Arithmetic operation.Remainder left right of
-shaped Amount left right of = IntAbs left of
+shaped Absolute left right of = IntAbs left of
 
 abbrev pub rule_of : Shape → Rule
 rule_of Product = Box
 rule_of Quotient = Enum
 rule_of Remainder = Enum
-rule_of Amount = Rows
+rule_of Absolute = Rows
 
 -- every product exceeds the third interval, or every one is below it
 abbrev pub IsProductBeyond : Interval → Interval → Interval → Type 0
@@ -33,9 +33,9 @@ IsProductBeyond left right of =
     ((x y : ℤ) → IsIn left x → IsIn right y → of.high <ℤ (x *ℤ y))
     ⊎ ((x y : ℤ) → IsIn left x → IsIn right y → (x *ℤ y) <ℤ of.low)
 
--- no amount of a number of the first interval is in the second
-abbrev pub IsAmountBeyond : Interval → Interval → Type 0
-IsAmountBeyond of amount = (x : ℤ) → IsIn of x → IsIn amount (pos (unsigned_abs x)) → ⊥
+-- no absolute value of a number of the first interval is in the second
+abbrev pub IsAbsoluteBeyond : Interval → Interval → Type 0
+IsAbsoluteBeyond of absolute = (x : ℤ) → IsIn of x → IsIn absolute (pos (unsigned_abs x)) → ⊥
 
 -- no two numbers of the first intervals give one of the third
 abbrev pub NoneGives : Operation → Interval → Interval → Interval → Type 0
@@ -55,7 +55,7 @@ abbrev pub Excludes : Shape → Interval → Interval → Interval → Type 0
 Excludes Product left right of = IsProductBeyond left right of
 Excludes Quotient left right of = IsFew left right × NoneGives operation.Quotient left right of
 Excludes Remainder left right of = IsFew left right × NoneGives operation.Remainder left right of
-Excludes Amount left right of = IsAmountBeyond left of
+Excludes Absolute left right of = IsAbsoluteBeyond left of
 
 -- nothing in the intervals meets the constraint
 pub record IsExcluded (shape : Shape) (left right of : Interval) : Type 0 where

@@ -4,7 +4,7 @@ ghost use Rattle.fzn_domain.specs.Limits.{IsInLimits};
 ghost use Rattle.fzn_domain.specs.IntSet.{width};
 ghost use Rattle.fzn_meaning.specs.Arithmetic.{IsArithmetic};
 ghost use Rattle.fzn_terms.specs.Intervals.{IsIn, IsLimitedInterval};
-ghost use Rattle.fzn_operations.specs.Excluded.{IsProductBeyond, IsAmountBeyond, NoneGives, IsFew, AreFewPairs, IsExcluded};
+ghost use Rattle.fzn_operations.specs.Excluded.{IsProductBeyond, IsAbsoluteBeyond, NoneGives, IsFew, AreFewPairs, IsExcluded};
 ghost use Rattle.fzn_fixed.specs.Outcome.{Admits};
 
 use fzn_fixed::{Outcome, of_operation};
@@ -21,8 +21,8 @@ pub enum Shape {
     /// What is left of the quotient, which is rounded toward zero.
     Quotient,
     Remainder,
-    /// The amount of the first; the second has no part in it.
-    Amount,
+    /// The absolute value of the first; the second has no part in it.
+    Absolute,
 }
 
 /// Whether it is sure that no values in the intervals meet the constraint.
@@ -36,11 +36,11 @@ pub fn is_excluded(shape: Shape, left: Interval, right: Interval, of: Interval) 
         Shape::Product => is_product_beyond(left, right, of),
         Shape::Quotient => is_none_given(Operation::Quotient, left, right, of),
         Shape::Remainder => is_none_given(Operation::Remainder, left, right, of),
-        Shape::Amount => is_amount_beyond(left, of),
+        Shape::Absolute => is_absolute_beyond(left, of),
     }
 }
 
-// ---- products and amounts
+// ---- products and absolute values
 
 /// Whether each product is beyond the interval, all on one side.
 fn is_product_beyond(left: Interval, right: Interval, of: Interval) -> bool
@@ -71,16 +71,16 @@ fn product(left: &i64, right: &i64) -> i128
     *left as i128 * *right as i128
 }
 
-/// Whether each amount is above the interval, or each below.
-fn is_amount_beyond(of: Interval, amount: Interval) -> bool
+/// Whether each absolute value is above the interval, or each below.
+fn is_absolute_beyond(of: Interval, absolute: Interval) -> bool
     requires of { IsLimitedInterval of }
-    requires amount { IsLimitedInterval amount }
-    ensures { IsTrue result → IsAmountBeyond of amount }
+    requires absolute { IsLimitedInterval absolute }
+    ensures { IsTrue result → IsAbsoluteBeyond of absolute }
 {
-    if amount.high < 0 || amount.high < of.low || of.high < -amount.high {
+    if absolute.high < 0 || absolute.high < of.low || of.high < -absolute.high {
         return true;
     }
-    -amount.low < of.low && of.high < amount.low
+    -absolute.low < of.low && of.high < absolute.low
 }
 
 // ---- quotients and remainders

@@ -1,4 +1,4 @@
-// Products, quotients, remainders and amounts by intervals of their places.
+// Products, quotients, remainders and absolute values by intervals of their places.
 ghost use Rattle.std.specs.Prelude.{◌≡◌, length, IfOk, IfSome};
 ghost use Rattle.fzn_domain.specs.Narrow.{NoneEmpty};
 ghost use Rattle.fzn_meaning.specs.Term.{IsTerm};
@@ -235,7 +235,7 @@ fn rule_of(shape: Shape) -> Rule
     match shape {
         Shape::Product => Rule::Box,
         Shape::Quotient | Shape::Remainder => Rule::Enum,
-        Shape::Amount => Rule::Rows,
+        Shape::Absolute => Rule::Rows,
     }
 }
 

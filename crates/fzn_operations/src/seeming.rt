@@ -12,7 +12,7 @@ const LOOKS: usize = 4;
 /// Whether no values in the intervals seem to meet the constraint.
 pub fn seems_excluded(shape: Shape, left: Interval, right: Interval, of: Interval) -> bool {
     match shape {
-        Shape::Product | Shape::Amount => is_excluded(shape, left, right, of),
+        Shape::Product | Shape::Absolute => is_excluded(shape, left, right, of),
         Shape::Quotient | Shape::Remainder => {
             left.is_limited()
                 && right.is_limited()
@@ -59,7 +59,7 @@ pub fn seem_beyond(shape: Shape, left: Interval, right: Interval, of: Interval) 
         return false;
     }
     match shape {
-        Shape::Product | Shape::Amount => false,
+        Shape::Product | Shape::Absolute => false,
         Shape::Quotient | Shape::Remainder => are_all_beyond(shape, left, right, of),
     }
 }

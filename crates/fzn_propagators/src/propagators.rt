@@ -49,8 +49,8 @@ impl Propagators {
         })
     }
 
-    /// What the first propagator finds that is to be asked and finds anything. It is asked again, in the next sweep if it costs little, so that
-    /// one which finds a little at a time holds up no other.
+    /// What the first propagator finds that is to be asked and finds anything. It is asked again, in the next sweep if it costs little, so
+    /// that one which finds a little at a time holds up no other.
     fn ask_queued(
         &mut self,
         alloc: Global,

@@ -25,18 +25,6 @@ use fzn_terms::{Interval, interval_of, is_narrow, least_of, may_be, next_value, 
 use fzn_trail::Trail;
 use std::alloc::Global;
 
-/// Whether the value stands so to the bound.
-fn stands(value: i64, op: Op, bound: i64) -> bool
-    ensures { result ≡ compares op value bound }
-{
-    let claim = Lit {
-        var: VarId(1),
-        op,
-        value: bound,
-    };
-    claim.is_true_at(value)
-}
-
 /// The number of the row at the place, both counted from 0.
 fn number_of(places: &[Term], rows: &[Term], r: usize, k: usize) -> i64
     requires whole { IsWhole places.now (numbers_in rows.now) r }
@@ -82,7 +70,10 @@ fn nearest(places: &[Term], rows: &[Term], k: usize, op: Op, value: &i64, end: &
     let mut nearest = *value;
     for r in 0..rows.len() / places.len() {
         let number = number_of(places, rows, r, k);
-        if stands(*value, op, number) && !stands(*end, op, number) && !stands(number, op, nearest) {
+        if op.compares(*value, number)
+            && !op.compares(*end, number)
+            && !op.compares(number, nearest)
+        {
             nearest = number;
         }
     }
@@ -239,7 +230,7 @@ fn row_stands(places: &[Term], rows: &[Term], r: usize, p: usize, op: Op, bound:
     requires in_range { p < length places.now }
     ensures { result ≡ compares op (number_at places.now (numbers_in rows.now) r p) bound.now }
 {
-    stands(number_of(places, rows, r, p), op, *bound)
+    op.compares(number_of(places, rows, r, p), *bound)
 }
 
 /// Whether the row has the value at the place.
@@ -513,7 +504,7 @@ fn bar_beyond(
     ensures kept { found.new ≡ [] → found.old ≡ [] }
     ensures some { IfOk result (λ barred. IsTrue barred → found.new ≢ []) }
 {
-    if bound < LEAST_BOUND || GREATEST_BOUND < bound || stands(*end, op, bound) {
+    if bound < LEAST_BOUND || GREATEST_BOUND < bound || op.compares(*end, bound) {
         return Ok(false);
     }
     bar_claim(alloc, trail, places, rows, number, p, op, &bound, found)

@@ -1,14 +1,13 @@
 // Clauses of claims, which are tested on the trail.
 ghost use Rattle.std.specs.Prelude.{◌≡◌, ◌↔◌, length, IfOk, IfSome, IsTrue};
 ghost use Rattle.std.specs.List.{All};
-ghost use Rattle.fzn_domain.specs.Literal.{compares};
 ghost use Rattle.fzn_domain.specs.Narrow.{IsClauseOver};
 ghost use Rattle.fzn_meaning.specs.Term.{IsTerm};
 ghost use Rattle.fzn_propagator.specs.Clause.{IsWritable, IsForcing};
 ghost use Rattle.fzn_terms.specs.Denied.{IsDenied, IsSaid, IsExplanation};
 
 use crate::claim::Claim;
-use fzn_domain::{GREATEST_BOUND, LEAST_BOUND, Lit, Memory, VarId};
+use fzn_domain::{GREATEST_BOUND, LEAST_BOUND, Lit, Memory};
 use fzn_list::Items;
 use fzn_meaning::Term;
 use fzn_propagator::is_forcing;
@@ -64,25 +63,13 @@ pub fn is_never(trail: &Trail, claim: Claim) -> bool
     ensures { IsTrue result ↔ IsDenied trail.now.declared claim }
 {
     match claim.term {
-        Term::Constant(k) => !is_true_of(claim, k),
+        Term::Constant(k) => !claim.op.compares(k, claim.number),
         Term::Variable(var) => trail.declared(var).is_false(Lit {
             var,
             op: claim.op,
             value: claim.number,
         }),
     }
-}
-
-/// Whether the claim is true of this value.
-fn is_true_of(claim: Claim, value: i64) -> bool
-    ensures { result ≡ compares claim.op value claim.number }
-{
-    Lit {
-        var: VarId(1),
-        op: claim.op,
-        value: claim.number,
-    }
-    .is_true_at(value)
 }
 
 /// Whether the clause is false or forces one literal, and a certificate may have its numbers.

@@ -158,8 +158,8 @@ impl Notes {
         self.next_settling = left.saturating_mul(2);
     }
 
-    /// The entries were settled: so many stand on another trail, and these clauses are their reasons. Gives the clauses that stood for entries before and
-    /// for none now, which may be forgotten.
+    /// The entries were settled: so many stand on another trail, and these clauses are their reasons. Gives the clauses that stood for entries
+    /// before and for none now, which may be forgotten.
     pub fn settle(
         &mut self,
         alloc: Global,

@@ -4,7 +4,7 @@ use Rattle.std.proofs.lemmas.List.{take_all}
 use Rattle.fzn_meaning.specs.Elements.{IsElement}
 use Rattle.fzn_builtin_rules.specs.Choices.{inputs_of}
 use Rattle.fzn_fixed.specs.Outcome.{Admits}
-use Rattle.fzn_fixed.proofs.OutcomeLemmas.{arithmetic_is, amount_is, extremum_is, element_is, any_member_is, xor_is, odd_is, same_then, switched_then}
+use Rattle.fzn_fixed.proofs.OutcomeLemmas.{arithmetic_is, absolute_is, extremum_is, element_is, any_member_is, xor_is, odd_is, same_then, switched_then}
 use Rattle.fzn_fixed.proofs.outcome.outcome_of.Goals as goal
 
 pub returns-in-Arithmetic : goal.returns-in-Arithmetic
@@ -13,7 +13,7 @@ returns-in-Arithmetic c = rw c.in-Arithmetic.is (arithmetic_is _ _ _ _ _ c.args.
 
 pub returns-in-IntAbs : goal.returns-in-IntAbs
 unfolding inputs_of
-returns-in-IntAbs c = rw c.in-IntAbs.is (amount_is _ _ _ c.args.values.now (rw c.in-IntAbs.is at c.requires.inputs) c.of_amount.ensures)
+returns-in-IntAbs c = rw c.in-IntAbs.is (absolute_is _ _ _ c.args.values.now (rw c.in-IntAbs.is at c.requires.inputs) c.of_absolute.ensures)
 
 pub returns-in-Extremum : goal.returns-in-Extremum
 returns-in-Extremum c = rw c.in-Extremum.is (extremum_is _ _ _ _ c.args.values.now c.of_entries.ensures)

@@ -1,14 +1,14 @@
--- The amounts of the members of a set, in order.
+-- The absolute values of the members of a set, in order.
 use Rattle.std.proofs.Common.{◌≡◌, ◌∙◌, sym, ◌⊎◌, inl, inr, refl, arith, ℤ, pos, negsuc, ◌≤ℤ◌, ◌-ℤ◌, unsigned_abs, subst, ap, ap₂, to_z-of_z}
 use Rattle.std.proofs.lemmas.Int.{ints, fits_signed_from_abs}
 use Rattle.std.specs.Int.{int_min}
 use Rattle.fzn_domain.specs.IntSet.{IntSet, IsNextAbove, NoneAbove, IsNextBelow, NoneBelow}
 use Rattle.fzn_domain.specs.Limits.{IsInLimits}
-use Rattle.fzn_builtin_rules.specs.Rows.{IsNextAmount, NoAmountAbove}
+use Rattle.fzn_builtin_rules.specs.Rows.{IsNextAbsolute, NoAbsoluteAbove}
 use mir.Syntax.{w64}
 use mir.Val.{to_z, of_z}
 
--- an amount is the number or its opposite
+-- an absolute value is the number or its opposite
 sides : (v : ℤ) → ((pos (unsigned_abs v) ≡ v) × (pos 0 ≤ℤ v)) ⊎ ((pos (unsigned_abs v) ≡ pos 0 -ℤ v) × (v ≤ℤ pos 0))
 sides (pos n) = inl (refl, grind (arith, ints))
 sides (negsuc n) = inr (grind (arith, ints), grind (arith, ints))
@@ -20,7 +20,7 @@ below_is : (v w : ℤ) → v ≤ℤ pos 0 → w ≡ pos 0 -ℤ v → pos (unsign
 below_is v w h e = elim (sides v) [ inl p ↦ omega (arith, ints, p.0, p.1) | inr p ↦ omega (arith, ints, p.0) ]
 
 module _ (s : IntSet) (a under : ℤ) (opposite : under ≡ pos 0 -ℤ a) (natural : pos 0 ≤ℤ a) where
-  pub up_alone : (up : ℤ) → IsNextAbove s a up → NoneBelow s under → IsNextAmount s a up
+  pub up_alone : (up : ℤ) → IsNextAbove s a up → NoneBelow s under → IsNextAbsolute s a up
   up_alone up above none = record {
     member = (up, above.member, above_is up (omega (arith, ints, above.greater)));
     greater = above.greater;
@@ -30,7 +30,7 @@ module _ (s : IntSet) (a under : ℤ) (opposite : under ≡ pos 0 -ℤ a) (natur
     ];
   }
 
-  pub down_alone : (down to : ℤ) → to ≡ pos 0 -ℤ down → IsNextBelow s under down → NoneAbove s a → IsNextAmount s a to
+  pub down_alone : (down to : ℤ) → to ≡ pos 0 -ℤ down → IsNextBelow s under down → NoneAbove s a → IsNextAbsolute s a to
   down_alone down to is below none = record {
     member = (down, below.member, below_is down to (omega (arith, ints, below.less)) is);
     greater = omega (arith, ints, below.less);
@@ -40,7 +40,7 @@ module _ (s : IntSet) (a under : ℤ) (opposite : under ≡ pos 0 -ℤ a) (natur
     ];
   }
 
-  pub nearer : (up down to : ℤ) → to ≡ pos 0 -ℤ down → IsNextAbove s a up → IsNextBelow s under down → IsNextAmount s a (int_min up to)
+  pub nearer : (up down to : ℤ) → to ≡ pos 0 -ℤ down → IsNextAbove s a up → IsNextBelow s under down → IsNextAbsolute s a (int_min up to)
   nearer up down to is above below = nearer_one (int_min up to) (min_is up to) (min_below up to) (min_below_other up to) where
     min_is : (x y : ℤ) → (int_min x y ≡ x) ⊎ (int_min x y ≡ y)
     min_is x y = grind (arith, ints)
@@ -51,7 +51,7 @@ module _ (s : IntSet) (a under : ℤ) (opposite : under ≡ pos 0 -ℤ a) (natur
     min_below_other : (x y : ℤ) → int_min x y ≤ℤ y
     min_below_other x y = grind (arith, ints)
 
-    nearer_one : (near : ℤ) → (near ≡ up) ⊎ (near ≡ to) → near ≤ℤ up → near ≤ℤ to → IsNextAmount s a near
+    nearer_one : (near : ℤ) → (near ≡ up) ⊎ (near ≡ to) → near ≤ℤ up → near ≤ℤ to → IsNextAbsolute s a near
     nearer_one near which h k = record {
       member = elim which [
         | inl e ↦ (up, above.member, above_is up (omega (arith, ints, above.greater)) ∙ sym e)
@@ -67,7 +67,7 @@ module _ (s : IntSet) (a under : ℤ) (opposite : under ≡ pos 0 -ℤ a) (natur
       ];
     }
 
-  pub none_beyond : NoneAbove s a → NoneBelow s under → NoAmountAbove s a
+  pub none_beyond : NoneAbove s a → NoneBelow s under → NoAbsoluteAbove s a
   none_beyond above below other there = elim (sides other) [
     | inl p ↦ let inner = above other there in omega (arith, ints, p.0)
     | inr p ↦ let inner = below other there in omega (arith, ints, p.0)
