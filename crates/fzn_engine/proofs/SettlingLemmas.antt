@@ -1,5 +1,5 @@
 -- What tending leaves, with the entries of level 0 settled.
-use Rattle.std.proofs.Common.{◌≡◌, ℕ, ◌+◌, ◌-◌, ◌*◌, ◌^◌, ◌<◌, ◌≤◌, List, [], ◌∷◌, ◌++◌, length, take, get_or, set, All, Some, ℤ, suc, refl, sym, ap, ◌∙◌, subst, arith}
+use Rattle.std.proofs.Common.{◌≡◌, ℕ, ◌+◌, ◌-◌, ◌*◌, ◌^◌, ◌<◌, ◌≤◌, List, [], ◌∷◌, ◌++◌, length, get_or, set, All, Some, ℤ, suc, refl, sym, ap, ◌∙◌, subst, arith}
 use Rattle.std.proofs.lemmas.List.{length_push, length-map}
 use Rattle.std.proofs.lemmas.List.Elements.{All-nil, All-weaker}
 use Rattle.fzn_domain.specs.declared.literal.Lit.{Lit}
@@ -24,8 +24,7 @@ use Rattle.fzn_clauses.specs.Watching.{held_by, IsWatching}
 use Rattle.fzn_clauses.proofs.CallerLemmas.{Propagates-keeps, variable-forcing}
 use Rattle.fzn_strategy.specs.declared.learn.Learn.{Learn}
 use Rattle.fzn_strategy.specs.declared.learn.Learn.TheVariants.{Plain, First}
-use Rattle.fzn_inferences.specs.declared.inferences.Inferred.{Inferred}
-use Rattle.fzn_learned.specs.Reasoned.{Known, IsBelow, IsReasoned}
+use Rattle.fzn_learned.specs.Reasoned.{Known, IsReasoned}
 use Rattle.fzn_learned.proofs.CallerLemmas.{IsReasoned-grown, IsReasoned-marked, IsReasoned-forced}
 use Rattle.fzn_upkeep.specs.declared.notes.Notes.{Notes}
 use Rattle.fzn_engine.specs.declared.limits.Limits.{Limits}
@@ -33,7 +32,7 @@ use Rattle.fzn_engine.specs.declared.solver.Solver.{Solver}
 use Rattle.fzn_engine.specs.Volume.{slack}
 use Rattle.fzn_engine.specs.Learned.{resolved}
 use Rattle.fzn_engine.specs.Changes.{IsKeptBy, IsTended, IsOngoing}
-use Rattle.fzn_engine.specs.Moves.{Holds}
+use Rattle.fzn_engine.specs.Moves.{Holds, IsCut}
 use Rattle.fzn_engine.specs.Search.{IsAfter, stock_of, Tally, work, work_of}
 use Rattle.fzn_engine.specs.State.{Stock, known_in, with_held, IsHeldCut, IsJustified, IsStocked, StateOf}
 use Rattle.fzn_engine.proofs.AcceptedLemmas.{resolved-append, length-past_of}
@@ -140,15 +139,15 @@ module _ {model : Model} {old : Solver} {steps : List Step} (h : IsAfter model o
         tally = refl;
       }
 
--- the inferences on which no entry rests are gone
-pub cut-tended : {model : Model} {old : Solver} {steps : List Step} → IsAfter model old steps → (count : ℕ) → All (λ (entry : Entry). IsBelow count entry.reason) old.trail.entries → (stack : List Inferred) → stack ≡ take count old.inferences → (notes : Notes) → IsTended model old (record old { inferences = stack; notes = notes }) steps
-cut-tended {model = model} {old = old} {steps = steps} h count enough stack is notes =
-    let S : List Inferred → Type 0 = λ left. StateOf model old.learn (record (stock_of old) { stack = left }) steps old.trail old.search.nodes in
-    record {
-      state = record { state = subst S (sym is) (State-cut h.state count enough); watching = h.watching; order = h.order };
+-- inferences on which no entry rests are gone
+pub cut-tended : {model : Model} {old new : Solver} {steps : List Step} → IsAfter model old steps → IsCut old new → IsTended model old new steps
+cut-tended {model = model} {old = old} {new = new} {steps = steps} h cut =
+    let T : Solver → Type 0 = λ s. IsTended model old s steps in
+    subst T (sym cut.is) (record {
+      state = record { state = State-cut h.state cut.count cut.enough; watching = h.watching; order = h.order };
       trail = refl;
       tally = refl;
-    }
+    })
 
 -- ---- the clause of the next step
 

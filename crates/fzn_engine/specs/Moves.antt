@@ -1,5 +1,5 @@
 -- What is held, and what changes the trail.
-use Rattle.std.specs.Prelude.{◌≡◌, ℕ, ◌+◌, Bool, true, false, List, [], ◌∷◌}
+use Rattle.std.specs.Prelude.{◌≡◌, ℕ, ◌+◌, Bool, true, false, List, [], ◌∷◌, take}
 use Rattle.fzn_domain.specs.declared.literal.Lit.{Lit}
 use Rattle.fzn_domain.specs.Narrow.{possible_in}
 use Rattle.std.specs.List.{All}
@@ -45,6 +45,12 @@ pub record IsBackAt (level : ℕ) (old new : Solver) : Type 0 where
   pub learn : new.learn ≡ old.learn
   pub found : new.found ≡ old.found
   pub steps : new.steps ≡ old.steps
+
+-- of the inferences at least those stand that entries rest on
+pub record IsCut (old new : Solver) : Type 0 where
+  pub count : ℕ
+  pub enough : All (λ (entry : Entry). IsBelow count entry.reason) old.trail.entries
+  pub is : new ≡ record old { inferences = take count old.inferences; notes = new.notes }
 
 -- the clause's first possible literal was asserted, or it has none
 abbrev pub IsForcedBy : Solver → Reason → Solver → Bool → Type 0

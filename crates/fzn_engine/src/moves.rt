@@ -10,7 +10,7 @@ ghost use Rattle.fzn_search.specs.Fixed.{AllFixed, HasMany};
 ghost use Rattle.fzn_trail.specs.Levels.{level_of};
 ghost use Rattle.fzn_engine.specs.State.{known_in};
 ghost use Rattle.fzn_engine.specs.Changes.{Goes};
-ghost use Rattle.fzn_engine.specs.Moves.{IsBackAt, IsForcedBy, IsDecided};
+ghost use Rattle.fzn_engine.specs.Moves.{IsBackAt, IsCut, IsForcedBy, IsDecided};
 ghost use Rattle.fzn_engine.specs.Search.{stock_of};
 
 use crate::solver::Solver;
@@ -70,6 +70,14 @@ impl Solver {
     {
         self.search.undo(&self.trail, self.trail.count_at(level));
         self.trail.back_to(level);
+        self.cut();
+    }
+
+    /// Drops inferences on which no entry rests.
+    pub fn cut(&mut self)
+        requires { All (λ entry. IsBelow (length self.old.inferences) entry.reason) self.old.trail.entries }
+        ensures { IsCut self.old self.new }
+    {
         let len = kept_len(&self.trail, self.inferences.len(), &mut self.notes);
         self.inferences.truncate(len);
     }
@@ -110,7 +118,7 @@ fn first_possible(clause: &[Lit], trail: &Trail) -> Option<Lit>
 
 /// How many inferences are kept, all on which entries rest among them. It goes over the trail only where enough were stacked since the
 /// last time, and at level 0, whose entries are never undone: each keeps all that was stacked before what it rests on.
-pub fn kept_len(trail: &Trail, count: usize, notes: &mut Notes) -> usize
+fn kept_len(trail: &Trail, count: usize, notes: &mut Notes) -> usize
     requires { All (λ entry. IsBelow count entry.reason) trail.now.entries }
     ensures { All (λ entry. IsBelow result entry.reason) trail.now.entries }
 {

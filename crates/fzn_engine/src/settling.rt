@@ -10,14 +10,11 @@ ghost use Rattle.fzn_clauses.specs.Propagation.{IsPropagated};
 ghost use Rattle.fzn_clauses.specs.Watching.{held_by, IsWatching};
 ghost use Rattle.fzn_strategy.specs.declared.learn.Learn.TheVariants.{First};
 ghost use Rattle.fzn_trail.specs.Levels.{fresh, level_of};
-ghost use Rattle.fzn_learned.specs.Reasoned.{IsReasoned};
 ghost use Rattle.fzn_engine.specs.Volume.{slack};
-ghost use Rattle.fzn_engine.specs.State.{known_in};
 ghost use Rattle.fzn_engine.specs.Changes.{IsKeptBy, IsTended};
-ghost use Rattle.fzn_engine.specs.Search.{stock_of, IsAfter, IsReady, IsLeft};
+ghost use Rattle.fzn_engine.specs.Search.{IsAfter, IsReady, IsLeft};
 
 use crate::fault::Fault;
-use crate::moves::kept_len;
 use crate::sink::Sink;
 use crate::solver::{Solver, declared};
 use fzn_clauses::Clauses;
@@ -84,7 +81,7 @@ impl Solver {
             &self.clauses,
             &self.notes.marks,
         )?;
-        if !is_no_wider(&trail, &self.trail, model.vars.len()) {
+        if !has_no_more_values(&trail, &self.trail, model.vars.len()) {
             return Ok(());
         }
         self.search.undo(&self.trail, 0);
@@ -92,15 +89,6 @@ impl Solver {
         self.cut();
         self.drop_units(alloc)?;
         Ok(())
-    }
-
-    /// Drops the inferences on which no entry rests.
-    fn cut(&mut self)
-        requires reasoned { IsReasoned (known_in (stock_of self.old)) self.old.trail }
-        ensures tended { (model : Model) (steps : List Step) → IsAfter model self.old steps → IsTended model self.old self.new steps }
-    {
-        let len = kept_len(&self.trail, self.inferences.len(), &mut self.notes);
-        self.inferences.truncate(len);
     }
 
     /// Forgets the clauses that stood for entries and are reasons of none.
@@ -192,7 +180,7 @@ fn settled(
 }
 
 /// Whether none of so many variables has more values on one trail than on another.
-fn is_no_wider(one: &Trail, other: &Trail, variables: usize) -> bool
+fn has_no_more_values(one: &Trail, other: &Trail, variables: usize) -> bool
     requires one { variables ≡ length one.now.declared }
     requires other { variables ≡ length other.now.declared }
     ensures { IsTrue result → slack one.now.sets ≤ slack other.now.sets }

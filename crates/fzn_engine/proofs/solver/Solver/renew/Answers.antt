@@ -9,8 +9,10 @@ use Rattle.fzn_clauses.specs.Propagation.{IsPropagated}
 use Rattle.fzn_clauses.specs.Watching.{held_by}
 use Rattle.fzn_clauses.proofs.CallerLemmas.{declared-Propagates}
 use Rattle.fzn_engine.specs.Changes.{IsKeptBy}
+use Rattle.fzn_engine.specs.Search.{stock_of}
 use Rattle.fzn_engine.proofs.ForgetLemmas.{swept-tended, tended-through}
-use Rattle.fzn_engine.proofs.SettlingLemmas.{tended-kept, kept-through, IsRooted-fresh, renewed-kept}
+use Rattle.fzn_engine.proofs.SettlingLemmas.{tended-kept, kept-through, IsRooted-fresh, renewed-kept, cut-tended}
+use Rattle.fzn_engine.proofs.StackLemmas.{AllBelow-reasoned}
 use Rattle.fzn_engine.proofs.solver.Solver.renew.Goals as goal
 
 pub settled-requires-clause-watching : goal.settled-requires-clause-watching
@@ -19,14 +21,14 @@ settled-requires-clause-watching c =
     let before = c.requires.state.1.watching in
     c.in_ok-look_at_all.ensures.anew c.args.self.now.trail (fresh declared) before (IsRooted-fresh declared)
 
-pub is_no_wider-requires-clause-one : goal.is_no_wider-requires-clause-one
-is_no_wider-requires-clause-one c =
+pub has_no_more_values-requires-clause-one : goal.has_no_more_values-requires-clause-one
+has_no_more_values-requires-clause-one c =
     let run = c.in_ok-trail.ensures.propagated in
     let same = declared-Propagates (held_by c.look_at_all.new.self) (fresh (declared_sets c.as_slice.result.now)) run.0 c.in_ok-trail.trail run.1 in
     c.len-2.ensures ∙ sym (ap length (same ∙ ap declared_sets c.as_slice.ensures) ∙ length-map c.args.model.now.vars (λ var. var.domain))
 
-pub returns-then-not-is_no_wider : goal.returns-then-not-is_no_wider
-returns-then-not-is_no_wider c = record {
+pub returns-then-not-has_no_more_values : goal.returns-then-not-has_no_more_values
+returns-then-not-has_no_more_values c = record {
   kept = λ steps h. tended-kept (swept-tended h c.look_at_all.new.self c.in_ok-look_at_all.ensures.held c.in_ok-look_at_all.ensures.watching c.expect_entries.new.self);
 }
 
@@ -35,18 +37,18 @@ cut-requires c =
     let h = c.requires.state.1 in
     let same : declared_sets c.as_slice.result.now ≡ c.args.self.now.trail.declared = ap declared_sets c.as_slice.ensures ∙ sym h.state.core.declared in
     let R : List IntSet → Type 0 = λ declared. IsPropagated (held_by c.look_at_all.new.self) (fresh declared) c.in_ok-trail.trail in
-    let kept = renewed-kept h c.requires.first c.requires.level c.look_at_all.new.self c.in_ok-look_at_all.ensures.held c.in_ok-trail.trail (subst R same c.in_ok-trail.ensures.propagated) c.in_ok-trail.ensures.watching (c.if-not-is_no_wider.ensures refl) c.expect_entries.new.self in
-    record { reasoned = kept.state.state.core.reasoned }
+    let kept = renewed-kept h c.requires.first c.requires.level c.look_at_all.new.self c.in_ok-look_at_all.ensures.held c.in_ok-trail.trail (subst R same c.in_ok-trail.ensures.propagated) c.in_ok-trail.ensures.watching (c.if-not-has_no_more_values.ensures refl) c.expect_entries.new.self in
+    AllBelow-reasoned (stock_of c.args.self.now) c.in_ok-trail.trail (length c.args.self.now.inferences) kept.state.state.core.reasoned refl
 
 pub returns : goal.returns
 returns c = record {
   kept = λ steps h.
       let same : declared_sets c.as_slice.result.now ≡ c.args.self.now.trail.declared = ap declared_sets c.as_slice.ensures ∙ sym h.state.core.declared in
       let R : List IntSet → Type 0 = λ declared. IsPropagated (held_by c.look_at_all.new.self) (fresh declared) c.in_ok-trail.trail in
-      let anew = renewed-kept h c.requires.first c.requires.level c.look_at_all.new.self c.in_ok-look_at_all.ensures.held c.in_ok-trail.trail (subst R same c.in_ok-trail.ensures.propagated) c.in_ok-trail.ensures.watching (c.if-not-is_no_wider.ensures refl) c.expect_entries.new.self in
+      let anew = renewed-kept h c.requires.first c.requires.level c.look_at_all.new.self c.in_ok-look_at_all.ensures.held c.in_ok-trail.trail (subst R same c.in_ok-trail.ensures.propagated) c.in_ok-trail.ensures.watching (c.if-not-has_no_more_values.ensures refl) c.expect_entries.new.self in
       let K : Searching → Type 0 = λ search. IsKeptBy c.args.model.now steps c.args.self.now (record c.args.self.now { clauses = c.look_at_all.new.self; trail = c.in_ok-trail.trail; notes = c.expect_entries.new.self; search = search }) in
       let kept = subst K (sym c.undo.ensures.same) anew in
-      let less = c.cut.ensures.tended c.args.model.now steps kept.state in
+      let less = cut-tended kept.state c.cut.ensures in
       let left = tended-through less (c.in_ok-drop_units.ensures.tended c.args.model.now steps less.state) in
       kept-through kept (tended-kept left);
 }

@@ -1,6 +1,6 @@
 use Rattle.std.proofs.Common.{ℕ, ◌<◌, ◌≤◌, get_or}
 use Rattle.fzn_domain.specs.IntSet.{size, no_values}
-use Rattle.fzn_engine.proofs.settling.is_no_wider.Given as goal
+use Rattle.fzn_engine.proofs.settling.has_no_more_values.Given as goal
 
 -- none of those so far has more values
 abbrev pub invariant-loop-i : goal.invariant-loop-i

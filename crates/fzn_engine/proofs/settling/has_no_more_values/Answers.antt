@@ -1,7 +1,7 @@
 -- Each set was compared.
 use Rattle.std.proofs.Common.{sym, ◌∙◌, arith}
 use Rattle.fzn_engine.proofs.SettlingLemmas.{slack-pointwise}
-use Rattle.fzn_engine.proofs.settling.is_no_wider.Goals as goal
+use Rattle.fzn_engine.proofs.settling.has_no_more_values.Goals as goal
 
 pub returns : goal.returns
 returns c _ =
