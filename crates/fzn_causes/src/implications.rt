@@ -4,8 +4,8 @@ ghost use Rattle.std.specs.Prelude.{◌≡◌, length};
 use crate::causes::Causes;
 use fzn_clauses::Clauses;
 use fzn_domain::{Domain, Lit, Memory, VarId};
-use fzn_inferences::Inferences;
 use fzn_learned::{clause_of, is_known};
+use fzn_propagator::Inferences;
 use fzn_trail::{Entry, Reason, Trail};
 
 /// The entries of a trail, and the clauses of their reasons.

@@ -21,7 +21,7 @@ use Rattle.fzn_cert.specs.Accepted.{HasFault, after}
 use Rattle.fzn_cert_reader.specs.Reader.{Progress, lines_read, Gives, Ends}
 use Rattle.fzn_cert.specs.Verdict.{Outcome, accepted, refused, lines_of, MayEnd, EndsIn, VerdictFrom, header_of, VerdictOn}
 use Rattle.fzn_cert.proofs.VerdictLaws.{verdict-ends, verdict-step}
-use Rattle.fzn_chain.specs.Link.{IsBound}
+use Rattle.fzn_sets.specs.Link.{IsBound}
 use Rattle.fzn_checker.specs.Judged.{HasBounds}
 use Rattle.fzn_checker.specs.Checked.{HasCounts, Standing, IsMidway, Offers, Accepts}
 use Rattle.fzn_checker.specs.Faults.{may_end}

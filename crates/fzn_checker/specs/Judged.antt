@@ -6,7 +6,7 @@ use Rattle.fzn_meaning.specs.declared.model.Model.{Model}
 use Rattle.fzn_meaning.specs.Solutions.{declared_sets}
 use Rattle.fzn_meaning.specs.WellFormed.{IsWellFormed}
 use Rattle.fzn_sets.specs.Sets.{Narrowed, start}
-use Rattle.fzn_chain.specs.Link.{IsBound}
+use Rattle.fzn_sets.specs.Link.{IsBound}
 use Rattle.fzn_cert.specs.declared.step.Step.{Step}
 use Rattle.fzn_cert.specs.declared.step.Step.TheVariants.{Infer, Resolve, Solution, Delete}
 use Rattle.fzn_cert.specs.declared.refusal.Refusal.{Refusal}

@@ -7,9 +7,8 @@ ghost use Rattle.fzn_checker.specs.Judged.{chain_fault};
 
 use crate::history::History;
 use fzn_cert::Refusal;
-use fzn_chain::Link;
 use fzn_domain::Memory;
-use fzn_sets::Sets;
+use fzn_sets::{Link, Sets};
 
 /// What is wrong with the chain of these clauses, if anything.
 pub fn follow(history: &History, sets: &mut Sets, ids: &[u64]) -> Result<Option<Refusal>, Memory>
@@ -22,7 +21,7 @@ pub fn follow(history: &History, sets: &mut Sets, ids: &[u64]) -> Result<Option<
         let Some(clause) = history.clause(*id) else {
             unreachable!()
         };
-        match fzn_chain::follow(sets, clause.as_slice())? {
+        match fzn_sets::follow(sets, clause.as_slice())? {
             Link::Refuted => return Ok(None),
             Link::Narrowed => {}
             Link::Open => return Ok(Some(Refusal::NotUnit)),

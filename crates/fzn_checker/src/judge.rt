@@ -11,7 +11,7 @@ ghost use Rattle.fzn_cert.specs.Past.{Past};
 ghost use Rattle.fzn_cert.specs.Accepted.{IsJudged};
 ghost use Rattle.fzn_cert.specs.Sound.{IsSound};
 ghost use Rattle.fzn_checker.specs.Given.{AreGiven};
-ghost use Rattle.fzn_chain.specs.Link.{IsBound};
+ghost use Rattle.fzn_sets.specs.Link.{IsBound};
 ghost use Rattle.fzn_checker.specs.Judged.{IsReady, HasBounds};
 
 use crate::chain::{are_held, follow};
@@ -19,11 +19,10 @@ use crate::given::Given;
 use crate::history::History;
 use crate::solution::passes_cuts;
 use fzn_cert::{Refusal, Step};
-use fzn_chain::deny;
 use fzn_domain::{Lit, Memory};
 use fzn_meaning::{Model, is_solution};
 use fzn_rules::{Rule, refutes};
-use fzn_sets::Sets;
+use fzn_sets::{Sets, deny};
 use std::alloc::Global;
 
 /// What is wrong with a step after those before it, and none where it is accepted. The present sets are the declared ones before and after;

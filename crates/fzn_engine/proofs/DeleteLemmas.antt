@@ -11,7 +11,7 @@ use Rattle.fzn_cert.specs.declared.step.Version.TheVariants.{Two}
 use Rattle.fzn_cert.specs.Past.{Past, clause_held, IsHeld as IsGiven, without, after_deletion}
 use Rattle.fzn_cert.specs.Accepted.{IsAccepted, AllAccepted, past_of}
 use Rattle.fzn_cert.specs.Spelling.{IsNumber, IdsRise, IsSpelled}
-use Rattle.fzn_inferences.specs.Inferences.{inference_at}
+use Rattle.fzn_propagator.specs.Inferences.{inference_at}
 use Rattle.fzn_trail.specs.Levels.{Levels}
 use Rattle.fzn_clauses.specs.Held.{clause_of}
 use Rattle.fzn_clauses.specs.Watching.{held_by}

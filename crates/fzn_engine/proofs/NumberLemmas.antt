@@ -8,7 +8,7 @@ use Rattle.std.proofs.lemmas.List.Elements.{All-nil, All-cons, All-push, All-wea
 use Rattle.fzn_domain.specs.declared.literal.Lit.{Lit}
 use Rattle.fzn_cert.specs.Past.{Past, clause_held, IsHeld, clauses_held}
 use Rattle.fzn_meaning.specs.declared.model.Model.{Model}
-use Rattle.fzn_inferences.specs.declared.inferences.Inferred.{Inferred}
+use Rattle.fzn_propagator.specs.declared.inferences.Inferred.{Inferred}
 use Rattle.fzn_clauses.specs.Held.{Held, clause_of}
 use Rattle.fzn_clauses.proofs.HeldLemmas.{IsHeld-within, IsHeld-cases, clause_of-grown, clause_of-newest}
 use Rattle.fzn_engine.specs.State.{Give, AreNumbered, IsJustified}

@@ -13,7 +13,7 @@ use Rattle.fzn_meaning.specs.Solutions.{cut_of}
 use Rattle.fzn_cert.specs.declared.step.Step.{Step}
 use Rattle.fzn_cert.specs.Past.{Past, clause_held}
 use Rattle.fzn_cert.specs.Accepted.{past_of}
-use Rattle.fzn_inferences.specs.Inferences.{inference_at}
+use Rattle.fzn_propagator.specs.Inferences.{inference_at}
 use Rattle.fzn_trail.specs.declared.trail.ClauseId.{ClauseId}
 use Rattle.fzn_trail.specs.declared.trail.Entry.{Entry}
 use Rattle.fzn_trail.specs.declared.trail.Reason.{Reason}

@@ -5,15 +5,15 @@ use Rattle.fzn_domain.specs.declared.literal.Lit.{Lit}
 use Rattle.fzn_domain.specs.Narrow.{IsVariable, IsClauseOver, possible_in}
 use Rattle.fzn_meaning.specs.declared.model.Model.{Model}
 use Rattle.fzn_cert.specs.declared.step.Step.{Step}
-use Rattle.fzn_inferences.specs.declared.inferences.Inferred.{Inferred}
-use Rattle.fzn_inferences.specs.Inferences.{inferred}
+use Rattle.fzn_propagator.specs.declared.inferences.Inferred.{Inferred}
+use Rattle.fzn_propagator.specs.Inferences.{inferred}
 use Rattle.fzn_trail.specs.declared.trail.Reason.TheVariants as reason
 use Rattle.fzn_trail.specs.Unit.{IsFalseOrUnit}
 use Rattle.fzn_clauses.proofs.WatchingLemmas.{IsWatching-asserted}
 use Rattle.fzn_learned.specs.Reasoned.{IsKnown, clause_of, IsForced}
 use Rattle.fzn_propagator.specs.declared.propagator.Inference.{Inference}
 use Rattle.fzn_engine.specs.declared.solver.Solver.{Solver}
-use Rattle.fzn_constraints.specs.Inference.{IsInference}
+use Rattle.fzn_propagator.specs.Constraints.{IsInference}
 use Rattle.fzn_engine.specs.Changes.{IsBehind}
 use Rattle.fzn_engine.specs.Moves.{IsForcedBy}
 use Rattle.fzn_engine.specs.Search.{IsAfter, stock_of}

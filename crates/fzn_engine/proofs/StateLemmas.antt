@@ -11,7 +11,7 @@ use Rattle.fzn_meaning.specs.Solutions.{cut_of}
 use Rattle.fzn_cert.specs.declared.step.Step.{Step}
 use Rattle.fzn_cert.specs.Past.{Past, clause_held}
 use Rattle.fzn_cert.specs.Accepted.{IsAccepted, after, past_of}
-use Rattle.fzn_inferences.specs.declared.inferences.Inferred.{Inferred}
+use Rattle.fzn_propagator.specs.declared.inferences.Inferred.{Inferred}
 use Rattle.fzn_trail.specs.declared.trail.Entry.{Entry}
 use Rattle.fzn_trail.specs.Levels.{Levels}
 use Rattle.fzn_clauses.proofs.HeldLemmas.{AllHeld-push}

@@ -9,8 +9,8 @@ use Rattle.fzn_cert.specs.declared.step.Step.{Step}
 use Rattle.fzn_cert.specs.declared.step.Step.TheVariants.{Infer}
 use Rattle.fzn_cert.specs.Past.{Past, clause_held}
 use Rattle.fzn_cert.specs.Accepted.{IsAccepted, after, past_of}
-use Rattle.fzn_inferences.specs.declared.inferences.Inferred.{Inferred}
-use Rattle.fzn_inferences.specs.Inferences.{inference_at, with_number}
+use Rattle.fzn_propagator.specs.declared.inferences.Inferred.{Inferred}
+use Rattle.fzn_propagator.specs.Inferences.{inference_at, with_number}
 use Rattle.fzn_trail.specs.Levels.{Levels}
 use Rattle.fzn_learned.specs.Reasoned.{Known, IsReasoned}
 use Rattle.fzn_engine.specs.Volume.{slack}

@@ -7,8 +7,8 @@ use Rattle.fzn_cert.specs.declared.step.Step.{Step}
 use Rattle.fzn_cert.specs.declared.step.Step.TheVariants.{Infer}
 use Rattle.fzn_cert.specs.Past.{clause_held}
 use Rattle.fzn_cert.specs.Accepted.{AllAccepted, past_of}
-use Rattle.fzn_inferences.specs.declared.inferences.Inferred.{Inferred}
-use Rattle.fzn_inferences.specs.Inferences.{inference_at, with_number}
+use Rattle.fzn_propagator.specs.declared.inferences.Inferred.{Inferred}
+use Rattle.fzn_propagator.specs.Inferences.{inference_at, with_number}
 use Rattle.fzn_trail.specs.declared.trail.Reason.{Reason}
 use Rattle.fzn_learned.specs.Reasoned.{Known, clause_of, opens}
 use Rattle.fzn_engine.specs.declared.solver.Solver.{Solver}

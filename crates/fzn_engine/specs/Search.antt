@@ -12,7 +12,7 @@ use Rattle.fzn_clauses.specs.Held.{AllHeld}
 use Rattle.fzn_clauses.specs.Watching.{held_by, IsWatching}
 use Rattle.fzn_strategy.specs.declared.learn.Learn.{Learn}
 use Rattle.fzn_search.specs.Fixed.{AllFixed}
-use Rattle.fzn_constraints.specs.Inference.{IsQuiet}
+use Rattle.fzn_propagator.specs.Constraints.{IsQuiet}
 use Rattle.fzn_engine.specs.Volume.{slack}
 use Rattle.fzn_engine.specs.State.{Stock, StateOf}
 use Rattle.fzn_engine.specs.Outcome.{HasRoom, count}

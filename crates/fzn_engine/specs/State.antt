@@ -12,8 +12,8 @@ use Rattle.fzn_cert.specs.declared.step.Version.TheVariants.{One}
 use Rattle.fzn_cert.specs.Accepted.{IsConstraintNumber, IsJustifiedBy, AllAccepted, past_of}
 use Rattle.fzn_cert.specs.Past.{Past, clause_held, IsHeld as IsGiven}
 use Rattle.fzn_cert.specs.Spelling.{IsSpelled}
-use Rattle.fzn_inferences.specs.declared.inferences.Inferred.{Inferred}
-use Rattle.fzn_inferences.specs.Inferences.{inference_at, with_number}
+use Rattle.fzn_propagator.specs.declared.inferences.Inferred.{Inferred}
+use Rattle.fzn_propagator.specs.Inferences.{inference_at, with_number}
 use Rattle.fzn_trail.specs.declared.trail.ClauseId.{ClauseId}
 use Rattle.fzn_trail.specs.Levels.{Levels}
 use Rattle.fzn_clauses.specs.Held.{Held, IsHeld, AllHeld, at_number, clause_of}

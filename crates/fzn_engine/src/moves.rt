@@ -15,10 +15,10 @@ ghost use Rattle.fzn_engine.specs.Search.{stock_of};
 
 use crate::solver::Solver;
 use fzn_cert::Step;
-use fzn_constraints::Inference;
 use fzn_domain::{Lit, Memory};
 use fzn_learned::clause_of;
 use fzn_meaning::Model;
+use fzn_propagator::Inference;
 use fzn_trail::{Reason, Trail};
 use fzn_upkeep::Notes;
 

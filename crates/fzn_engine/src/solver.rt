@@ -7,9 +7,9 @@ ghost use Rattle.fzn_engine.specs.Search.{IsAfter};
 
 use fzn_clauses::Clauses;
 use fzn_domain::{Domain, Memory};
-use fzn_inferences::Inferences;
 use fzn_list::Items;
 use fzn_meaning::{Model, Var};
+use fzn_propagator::Inferences;
 use fzn_search::{Choice, Search};
 use fzn_sets::Sets;
 use fzn_strategy::{Annotation, Learn};

@@ -4,7 +4,7 @@ ghost use Rattle.fzn_learned.specs.Reasoned.{known_of, IsKnown, clause_of};
 
 use fzn_clauses::Clauses;
 use fzn_domain::Lit;
-use fzn_inferences::Inferences;
+use fzn_propagator::Inferences;
 use fzn_trail::Reason;
 
 /// The clause of a reason that is no decision.

@@ -8,8 +8,8 @@ ghost use Rattle.fzn_learned.specs.Reasoned.{known_of, IsReasoned, negated_decis
 use crate::learned::Learned;
 use fzn_clauses::Clauses;
 use fzn_domain::{Lit, Memory};
-use fzn_inferences::Inferences;
 use fzn_list::Items;
+use fzn_propagator::Inferences;
 use fzn_trail::{Reason, Trail};
 use std::alloc::Global;
 

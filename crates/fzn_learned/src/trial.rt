@@ -1,7 +1,7 @@
 // Whether a clause that was found keeps what every learned clause promises.
 ghost use Rattle.std.specs.Prelude.{◌≡◌, ◌<◌, true, [], map, length, IfOk, OnOk, IsTrue};
 ghost use Rattle.std.specs.List.{All};
-ghost use Rattle.fzn_chain.specs.Link.{IsBound};
+ghost use Rattle.fzn_sets.specs.Link.{IsBound};
 ghost use Rattle.fzn_domain.specs.declared.literal.Lit.{Lit};
 ghost use Rattle.fzn_domain.specs.Limits.{IsInLimits};
 ghost use Rattle.fzn_domain.specs.Narrow.{IsVariable, IsClauseOver, IsAcceptedFrom, accepted, chain_outcome};
@@ -13,11 +13,10 @@ ghost use Rattle.fzn_learned.specs.Reasoned.{known_of, AreOver, IsKnown, IsReaso
 use crate::antecedent::{clause_of, is_known};
 use crate::learned::Learned;
 use crate::standing::forces_at;
-use fzn_chain::{Link, deny, follow};
 use fzn_clauses::Clauses;
 use fzn_domain::{GREATEST_VALUE, LEAST_VALUE, Lit, Memory};
-use fzn_inferences::Inferences;
-use fzn_sets::Sets;
+use fzn_propagator::Inferences;
+use fzn_sets::{Link, Sets, deny, follow};
 use fzn_trail::{Reason, Trail};
 
 /// Whether the clause may be learned. The sets are used and restored. It answers `Err` where memory runs out, and the sets may be narrowed

@@ -1,21 +1,28 @@
-//! The law of all propagators: what reasons for one constraint.
+//! What is inferred: the law of all propagators, that of what reasons for a model, and the stack of the inferences that stand.
 //!
 //! In: a trail, which narrows the declared sets. Out: the inferences of one pass, of each of which a rule justifies the clause from the
-//! constraint, and which is false or forces one literal on the trail; or none. The law stands at the trait `Propagator`, in the words of
-//! `specs/Clause.antt`: what justifies a clause, and of `specs/Inference.antt`: what an inference promises, and what it means that there is
-//! none.
+//! constraint, and which is false or forces one literal on the trail; or none. The law of what reasons for one constraint stands at the trait
+//! `Propagator`, in the words of `specs/Clause.antt`: what justifies a clause, and of `specs/Inference.antt`: what an inference promises, and
+//! what it means that there is none. What a search asks of all constraints of a model stands at the trait `Constraints`, in the words of
+//! `specs/Constraints.antt`. `Inferences` holds those that stand, newest last, each with the number of its step once it is written:
+//! `specs/Inferences.antt`.
 #![tactic(auto)]
 
+pub use constraints::Constraints;
 pub use cost::Cost;
 pub use event::{Change, Event};
 pub use findings::Findings;
 pub use forcing::is_forcing;
+pub use inferences::{Inferences, Inferred};
 pub use propagator::{Inference, Propagator};
 pub use subscriptions::{Subscription, Subscriptions};
 
+mod constraints;
 mod cost;
 mod event;
 mod findings;
 mod forcing;
+mod inferences;
 mod propagator;
+mod rule;
 mod subscriptions;

@@ -19,7 +19,7 @@ use Rattle.fzn_kinds.specs.declared.kinds.AnyPropagator.{AnyPropagator}
 use Rattle.fzn_propagator.specs.declared.propagator.Inference.{Inference}
 use Rattle.fzn_kinds.specs.AnyCrate.{any_number, AnyIsFor, AnyFits}
 use Rattle.fzn_propagator.specs.Inference.{IsInferenceOf, AreInferencesOf, AreExhausted, IsInference as IsFound}
-use Rattle.fzn_constraints.specs.Inference.{IsInference, IsJustified, IsQuiet}
+use Rattle.fzn_propagator.specs.Constraints.{IsInference, IsJustified, IsQuiet}
 use Rattle.fzn_propagators.specs.Propagators.{IsPropagatorOf, AreFor}
 use Rattle.fzn_propagators.proofs.MadeLemmas.{some_member}
 use Rattle.fzn_propagators.proofs.SpelledLemmas.{rule-spelled, few-number, literals-spelled}

@@ -5,7 +5,7 @@ use Rattle.fzn_meaning.specs.declared.constraint.Constraint.{Constraint}
 use Rattle.fzn_meaning.specs.declared.model.Model.{Model}
 use Rattle.fzn_meaning.specs.Meaning.{HasBooleanSets, longest}
 use Rattle.fzn_meaning.specs.Solutions.{declared_sets}
-use Rattle.fzn_constraints.specs.Inference.{IsJustified}
+use Rattle.fzn_propagator.specs.Constraints.{IsJustified}
 use Rattle.fzn_kinds.specs.declared.kinds.AnyPropagator.{AnyPropagator}
 use Rattle.fzn_propagators.specs.declared.propagators.Propagators.{Propagators}
 use Rattle.fzn_kinds.specs.AnyCrate.{any_number, AnyIsFor, AnyFits}

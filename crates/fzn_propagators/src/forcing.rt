@@ -1,12 +1,11 @@
 // What was found before the trail grew, and is still worth to be handed over.
 ghost use Rattle.std.specs.Prelude.{◌≡◌, IsTrue, IfSome};
 ghost use Rattle.std.specs.List.{All};
-ghost use Rattle.fzn_constraints.specs.Inference.{IsInference, IsJustified};
+ghost use Rattle.fzn_propagator.specs.Constraints.{IsInference, IsJustified};
 ghost use Rattle.fzn_meaning.specs.Solutions.{declared_sets};
 
-use fzn_constraints::Inference;
 use fzn_meaning::Model;
-use fzn_propagator::{Findings, is_forcing};
+use fzn_propagator::{Findings, Inference, is_forcing};
 use fzn_trail::Trail;
 
 /// Whether it is an inference of the trail as it stands.

@@ -5,18 +5,17 @@ ghost use Rattle.fzn_meaning.specs.Solutions.{declared_sets};
 ghost use Rattle.fzn_meaning.specs.WellFormed.{IsWellFormed};
 ghost use Rattle.fzn_trail.specs.Levels.{NoneEmpty};
 ghost use Rattle.fzn_propagator.specs.Inference.{AreExhausted};
-ghost use Rattle.fzn_constraints.specs.Inference.{IsInference, IsJustified, IsQuiet};
+ghost use Rattle.fzn_propagator.specs.Constraints.{IsInference, IsJustified, IsQuiet};
 ghost use Rattle.fzn_kinds.specs.AnyCrate.{AnyIsFor};
 ghost use Rattle.fzn_propagators.specs.Propagators.{AreFor, StandFor};
 
 use crate::forcing::take_forcing;
 use fzn_agenda::Agenda;
-use fzn_constraints::{Constraints, Inference};
 use fzn_domain::Memory;
 use fzn_kinds::{AnyPropagator, propagator_of};
 use fzn_list::Items;
 use fzn_meaning::Model;
-use fzn_propagator::{Findings, Propagator};
+use fzn_propagator::{Constraints, Findings, Inference, Propagator};
 use fzn_trail::Trail;
 use std::alloc::Global;
 

@@ -1,3 +1,4 @@
 pub mod Inside
+pub mod Link
 pub mod Sets
 pub mod Terms

@@ -6,10 +6,10 @@ ghost use Rattle.fzn_cert.specs.Accepted.{AllAccepted};
 ghost use Rattle.fzn_engine.specs.Outcome.{HasRoom, count, IsOutcome};
 
 use fzn_cert::Step;
-use fzn_constraints::Constraints;
 use fzn_domain::VarId;
 use fzn_engine::{Fault, Limits, Report, Sink, solve};
 use fzn_meaning::{Goal, Model};
+use fzn_propagator::Constraints;
 use fzn_search::Choice;
 use fzn_strategy::{Annotation, Learn};
 use std::alloc::Global;

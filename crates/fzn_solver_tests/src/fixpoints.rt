@@ -6,9 +6,9 @@ ghost use Rattle.fzn_meaning.specs.WellFormed.{IsWellFormed};
 ghost use Rattle.fzn_propagators.specs.Propagators.{StandFor};
 
 use crate::models::{model_of, trail_of};
-use fzn_constraints::Constraints;
 use fzn_domain::{Lit, Memory, Op, VarId};
 use fzn_meaning::{Model, holds};
+use fzn_propagator::Constraints;
 use fzn_propagators::Propagators;
 use fzn_trail::Trail;
 use fzn_trail_tests::{is_filled, keep, next_random};

@@ -6,10 +6,9 @@ ghost use Rattle.fzn_meaning.specs.WellFormed.{IsWellFormed};
 
 use crate::models::{model_of, trail_of};
 use fzn_arith::{Propagator, propagator_of};
-use fzn_constraints::Constraints;
 use fzn_domain::{Lit, Memory, Op, VarId};
 use fzn_meaning::Model;
-use fzn_propagator::Findings;
+use fzn_propagator::{Constraints, Findings};
 use fzn_propagators::Propagators;
 use fzn_rules::Rule;
 use fzn_trail::Trail;

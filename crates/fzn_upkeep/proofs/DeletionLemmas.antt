@@ -4,8 +4,8 @@ use Rattle.std.specs.Prelude.{IsSome}
 use Rattle.std.proofs.lemmas.Bool.{cases_lt}
 use Rattle.std.proofs.lemmas.List.Elements.{All-nil, All-push, Contains-push, Contains-append_left}
 use Rattle.fzn_cert.specs.Spelling.{IdsRise}
-use Rattle.fzn_inferences.specs.declared.inferences.Inferred.{Inferred}
-use Rattle.fzn_inferences.specs.Inferences.{inference_at}
+use Rattle.fzn_propagator.specs.declared.inferences.Inferred.{Inferred}
+use Rattle.fzn_propagator.specs.Inferences.{inference_at}
 use Rattle.fzn_trail.specs.declared.trail.ClauseId.{ClauseId}
 use Rattle.fzn_clauses.specs.Held.{Held, IsHeld}
 use Rattle.fzn_upkeep.specs.Deletion.{IsOfHeld, IsOfStacked}

@@ -1,7 +1,7 @@
 -- Which steps may be deleted: those of no held clause and of no inference that stands.
 use Rattle.std.specs.Prelude.{◌≡◌, ◌⊎◌, ℕ, List, Some, slice_index_or}
-use Rattle.fzn_inferences.specs.declared.inferences.Inferred.{Inferred}
-use Rattle.fzn_inferences.specs.Inferences.{IsStacked, inference_at}
+use Rattle.fzn_propagator.specs.declared.inferences.Inferred.{Inferred}
+use Rattle.fzn_propagator.specs.Inferences.{IsStacked, inference_at}
 use Rattle.fzn_trail.specs.declared.trail.ClauseId.{ClauseId}
 use Rattle.fzn_clauses.specs.Held.{Held, IsHeld}
 

@@ -8,8 +8,8 @@ ghost use Rattle.fzn_upkeep.specs.Deletion.{IsOfHeld, IsOfStacked, IsInUse};
 
 use fzn_clauses::Clauses;
 use fzn_domain::Memory;
-use fzn_inferences::Inferences;
 use fzn_list::Items;
+use fzn_propagator::Inferences;
 use fzn_trail::ClauseId;
 use std::alloc::Global;
 

@@ -1,7 +1,7 @@
 use Rattle.std.proofs.Common.{length, ap, sym, subst, ◌∙◌, All, IfSome}
-use Rattle.fzn_chain.specs.Link.{IsLink}
-use Rattle.fzn_chain.specs.declared.chain.Link.{Link}
-use Rattle.fzn_chain.specs.declared.chain.Link.TheVariants.{Narrowed}
+use Rattle.fzn_sets.specs.Link.{IsLink}
+use Rattle.fzn_sets.specs.declared.chain.Link.{Link}
+use Rattle.fzn_sets.specs.declared.chain.Link.TheVariants.{Narrowed}
 use Rattle.fzn_domain.specs.Narrow.{IsClauseOver, possible_in}
 use Rattle.fzn_domain.proofs.NarrowLemmas.{length-narrowed}
 use Rattle.fzn_checker.proofs.ChainLemmas.{held_over, chain-more}

@@ -1,8 +1,8 @@
 use Rattle.std.proofs.Common.{length, ap, sym, subst, ◌∙◌}
 use Rattle.fzn_domain.proofs.NarrowLemmas.{length-narrowed}
 use Rattle.fzn_domain.specs.Narrow.{possible_in}
-use Rattle.fzn_chain.specs.declared.chain.Link.{Link}
-use Rattle.fzn_chain.specs.Link.{IsLink}
+use Rattle.fzn_sets.specs.declared.chain.Link.{Link}
+use Rattle.fzn_sets.specs.Link.{IsLink}
 use Rattle.fzn_learned.specs.Reasoned.{known_of, clause_of}
 use Rattle.fzn_learned.proofs.TrialLemmas.{chain-more}
 use Rattle.fzn_learned.proofs.trial.ends_well.Goals as goal

@@ -1,7 +1,7 @@
 -- What is taken out is justified, and so are the others.
 use Rattle.std.proofs.Common.{All, subst}
 use Rattle.std.proofs.lemmas.List.Elements.{All-head, All-tail}
-use Rattle.fzn_constraints.specs.Inference.{IsJustified}
+use Rattle.fzn_propagator.specs.Constraints.{IsJustified}
 use Rattle.fzn_propagators.proofs.forcing.take_forcing.Goals as goal
 
 pub is_standing-requires-clause-justified : goal.is_standing-requires-clause-justified

@@ -1,5 +1,5 @@
 use Rattle.std.specs.List.{All}
-use Rattle.fzn_constraints.specs.Inference.{IsJustified}
+use Rattle.fzn_propagator.specs.Constraints.{IsJustified}
 use Rattle.fzn_propagators.proofs.forcing.take_forcing.Given as goal
 
 abbrev pub invariant-loop : goal.invariant-loop

@@ -1,5 +1,5 @@
 use Rattle.std.specs.List.{All, AllWithin}
-use Rattle.fzn_constraints.specs.Inference.{IsJustified}
+use Rattle.fzn_propagator.specs.Constraints.{IsJustified}
 use Rattle.fzn_kinds.specs.AnyCrate.{AnyIsFor}
 use Rattle.fzn_propagator.specs.Inference.{AreExhausted}
 use Rattle.fzn_propagators.proofs.propagators.ask_all.Given as goal

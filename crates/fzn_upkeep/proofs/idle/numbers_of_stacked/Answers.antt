@@ -1,6 +1,6 @@
 -- An inference that was written has its number among those found.
 use Rattle.std.proofs.Common.{ℕ, ◌+◌, ◌<◌, List, length, sym, ap, ◌∙◌, subst, arith}
-use Rattle.fzn_inferences.specs.declared.inferences.Inferred.{Inferred}
+use Rattle.fzn_propagator.specs.declared.inferences.Inferred.{Inferred}
 use Rattle.fzn_upkeep.proofs.DeletionLemmas.{AreOfStacked, AreOfStacked-push, AreOfStacked-skip}
 use Rattle.fzn_upkeep.proofs.idle.numbers_of_stacked.Goals as goal
 use Rattle.fzn_upkeep.proofs.idle.numbers_of_stacked.Goals.{in-Some+in_ok-push, in_default}

@@ -1,7 +1,7 @@
 -- The step of its number gives the clause.
 use Rattle.std.proofs.Common.{ℕ, ◌<◌, List, [], ◌∷◌, ◌++◌, length, set, Some, sym, ap, ◌∙◌, subst, arith}
 use Rattle.fzn_domain.specs.declared.literal.Lit.{Lit}
-use Rattle.fzn_inferences.specs.declared.inferences.Inferred.{Inferred}
+use Rattle.fzn_propagator.specs.declared.inferences.Inferred.{Inferred}
 use Rattle.fzn_clauses.specs.Watching.{held_by}
 use Rattle.fzn_engine.specs.Changes.{IsTended}
 use Rattle.fzn_engine.proofs.ForgetLemmas.{more-tended}

@@ -3,11 +3,11 @@ ghost use Rattle.std.specs.Prelude.{◌≡◌, IfOk, IfSome, IfNone};
 ghost use Rattle.fzn_meaning.specs.declared.model.Model.{Model};
 ghost use Rattle.fzn_meaning.specs.Solutions.{declared_sets};
 ghost use Rattle.fzn_trail.specs.Levels.{NoneEmpty};
-ghost use Rattle.fzn_constraints.specs.Inference.{IsInference, IsQuiet};
+ghost use Rattle.fzn_propagator.specs.Constraints.{IsInference, IsQuiet};
 
+use crate::propagator::Inference;
 use fzn_domain::Memory;
 use fzn_meaning::Model;
-use fzn_propagator::Inference;
 use fzn_trail::Trail;
 use std::alloc::Global;
 
