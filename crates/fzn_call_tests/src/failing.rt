@@ -1,7 +1,7 @@
 // Each call on a stream fails in turn, or moves one byte less: `run`, `check`, `trim` and `core` say so, and what was written is a beginning
 // of what is written else. Where nothing fails nothing changes.
 use crate::runs::{options_of, solve};
-use fzn_solver::{RunFault, Unwatched};
+use fzn_solver::{RunFault, Unobserved};
 use fzn_strategy::Learn;
 use fzn_words::Options;
 use std::alloc::Global;
@@ -75,7 +75,7 @@ fn fault_of<R: Read + Drop, W: Write, C: Write>(
     out: &mut W,
     cert: &mut C,
 ) -> Option<RunFault> {
-    solve(alloc, file, options, out, cert, &mut Unwatched).err()
+    solve(alloc, file, options, out, cert, &mut Unobserved).err()
 }
 
 /// What came of a call that was to go wrong.

@@ -1,4 +1,4 @@
-use fzn_solver::{Report, RunFault, Unwatched, Watch, run};
+use fzn_solver::{Observer, Report, RunFault, Unobserved, run};
 use fzn_strategy::Learn;
 use fzn_words::Options;
 use std::alloc::Global;
@@ -43,15 +43,15 @@ fn text_of(bytes: &[u8]) -> &str {
 }
 
 /// A run, whatever it reads and writes.
-pub(crate) fn solve<R: Read + Drop, W: Write, C: Write, P: Watch>(
+pub(crate) fn solve<R: Read + Drop, W: Write, C: Write, P: Observer>(
     alloc: Global,
     file: R,
     options: &Options,
     out: &mut W,
     cert: &mut C,
-    watch: &mut P,
+    observer: &mut P,
 ) -> Result<Report, RunFault> {
-    run(alloc, file, options, out, cert, watch)
+    run(alloc, file, options, out, cert, observer)
 }
 
 /// Whether a run gives this answer; its certificate goes behind what stands in `cert`.
@@ -69,7 +69,7 @@ fn is_answered(
         options,
         &mut out,
         cert,
-        &mut Unwatched,
+        &mut Unobserved,
     );
     report.is_ok() && out.as_slice() == answer
 }

@@ -2,7 +2,7 @@
 use crate::runs::{options_of, solve};
 use fzn_checker::{CheckFault, check};
 use fzn_checker_tests::put_at;
-use fzn_solver::{RunFault, Unwatched};
+use fzn_solver::{RunFault, Unobserved};
 use fzn_words::Options;
 use std::alloc::{AllocError, Global};
 use std::test::Fail;
@@ -37,7 +37,7 @@ fn is_replied_to(alloc: Global, options: &Options, file: &[u8]) -> bool {
     let mut out: Vec<u8> = Vec::new(alloc);
     let mut cert: Vec<u8> = Vec::new(alloc);
     let mut printed: Vec<u8> = Vec::new(alloc);
-    let solver = solve(alloc, file, options, &mut out, &mut cert, &mut Unwatched).err();
+    let solver = solve(alloc, file, options, &mut out, &mut cert, &mut Unobserved).err();
     let checker = check(alloc, file, cert.as_slice(), options.all, &mut printed).err();
     let is_answered = solver.is_none() && checker.is_none();
     let is_nothing = out.is_empty() && cert.is_empty();

@@ -14,7 +14,7 @@ ghost use Rattle.fzn_solver.specs.Run.{IsRun, IsRunFault, IsDue};
 use crate::choice::choice_for;
 use crate::fault::RunFault;
 use crate::history::{History, Initial};
-use crate::progress::{Watch, solve_watched};
+use crate::progress::{Observer, solve_observed};
 use crate::writers::{Writers, is_alone};
 use fzn_cert::StepWriter;
 use fzn_engine::{Limits, Report};
@@ -30,18 +30,18 @@ use std::io::{Read, Write};
 
 /// Solves a file: prints its answer on `out`, and writes a certificate of the answer on `cert`. The paths among the options are not
 /// looked at. The line of a solution stands on the certificate, flushed, before the solution is printed, and the whole certificate
-/// before the line that ends the answer. After decisions and conflicts `watch` is told how far the search has come. It hands on to
+/// before the line that ends the answer. After decisions and conflicts `observer` is told how far the search has come. It hands on to
 /// `run_tracked`, which promises besides that each fault has its cause. It answers `File` with the first fault of the file, and `Read`
 /// where a read fails: both writers are as before then. It answers `Memory` where memory runs out, `WriteOutput` and `WriteCert` where a
 /// write or a flush fails, and `StepTooLong` where a line of the certificate would pass its limit: beginnings of the answer and of the
 /// certificate may stand then.
-pub fn run<R: Read + Drop, W: Write, C: Write, P: Watch>(
+pub fn run<R: Read + Drop, W: Write, C: Write, P: Observer>(
     alloc: Global,
     input: R,
     options: &Options,
     out: &mut W,
     cert: &mut C,
-    watch: &mut P,
+    observer: &mut P,
 ) -> Result<Report, RunFault>
     ensures ran { IfOk result (IsRun (R.remaining input) options.now (W.contents out.old) (W.contents out.new) (C.contents cert.old) (C.contents cert.new)) }
     ensures fault { IfErr result (IsRunFault (R.remaining input) options.now.all (W.contents out.old) (W.contents out.new) (C.contents cert.old) (C.contents cert.new)) }
@@ -49,19 +49,19 @@ pub fn run<R: Read + Drop, W: Write, C: Write, P: Watch>(
     let mut input = TrackedReader::new(input);
     let mut out = TrackedWriter::new(out);
     let mut cert = TrackedWriter::new(cert);
-    run_tracked(alloc, &mut input, options, &mut out, &mut cert, watch)
+    run_tracked(alloc, &mut input, options, &mut out, &mut cert, observer)
 }
 
 /// Solves a file as `run` does, on streams that remember whether a call on them failed. `Read` is answered only after a failed read,
 /// `WriteOutput` only after a failed write or flush of `out`, `WriteCert` only after one of `cert`, and `StepTooLong` only where the line
 /// of a step would pass its limit.
-pub fn run_tracked<R: TrackedRead, W: TrackedWrite, C: TrackedWrite, P: Watch>(
+pub fn run_tracked<R: TrackedRead, W: TrackedWrite, C: TrackedWrite, P: Observer>(
     alloc: Global,
     input: &mut R,
     options: &Options,
     out: &mut W,
     cert: &mut C,
-    watch: &mut P,
+    observer: &mut P,
 ) -> Result<Report, RunFault>
     ensures ran { IfOk result (IsRun (R.remaining input.old) options.now (W.contents out.old) (W.contents out.new) (C.contents cert.old) (C.contents cert.new)) }
     ensures fault { IfErr result (IsRunFault (R.remaining input.old) options.now.all (W.contents out.old) (W.contents out.new) (C.contents cert.old) (C.contents cert.new)) }
@@ -79,12 +79,12 @@ pub fn run_tracked<R: TrackedRead, W: TrackedWrite, C: TrackedWrite, P: Watch>(
         options,
         out,
         cert,
-        watch,
+        observer,
     )
 }
 
 /// Searches a model for its answer, by its annotations.
-fn answer<W: TrackedWrite, C: TrackedWrite, P: Watch>(
+fn answer<W: TrackedWrite, C: TrackedWrite, P: Observer>(
     alloc: Global,
     model: &Model,
     annotations: &[Annotation],
@@ -92,7 +92,7 @@ fn answer<W: TrackedWrite, C: TrackedWrite, P: Watch>(
     options: &Options,
     out: &mut W,
     cert: &mut C,
-    watch: &mut P,
+    observer: &mut P,
 ) -> Result<Report, RunFault>
     requires model { IsWellFormed model.now }
     requires propagators { StandFor propagators.old model.now }
@@ -121,19 +121,19 @@ fn answer<W: TrackedWrite, C: TrackedWrite, P: Watch>(
         propagators,
         options,
         &mut writers,
-        watch,
+        observer,
     )
 }
 
 /// Searches a model for its answer, on fresh writers.
-fn search<W: TrackedWrite, C: TrackedWrite, P: Watch>(
+fn search<W: TrackedWrite, C: TrackedWrite, P: Observer>(
     alloc: Global,
     model: &Model,
     annotations: &[Annotation],
     propagators: &mut Propagators,
     options: &Options,
     writers: &mut Writers<'_, '_, '_, W, C>,
-    watch: &mut P,
+    observer: &mut P,
 ) -> Result<Report, RunFault>
     requires model { IsWellFormed model.now }
     requires propagators { StandFor propagators.old model.now }
@@ -152,7 +152,7 @@ fn search<W: TrackedWrite, C: TrackedWrite, P: Watch>(
         nodes: options.nodes,
         solutions: wanted(options.all, options.limit),
     };
-    let report = match solve_watched(
+    let report = match solve_observed(
         alloc,
         model,
         limits,
@@ -161,7 +161,7 @@ fn search<W: TrackedWrite, C: TrackedWrite, P: Watch>(
         annotations,
         propagators,
         writers,
-        watch,
+        observer,
     ) {
         Ok(report) => report,
         Err(_) => return Err(writers.fault().into()),

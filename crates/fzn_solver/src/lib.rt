@@ -9,7 +9,7 @@
 pub use answer::{run, run_tracked};
 pub use fault::RunFault;
 pub use fzn_engine::Report;
-pub use progress::{Progress, Unwatched, Watch};
+pub use progress::{Observer, Progress, Unobserved};
 
 mod answer;
 mod choice;

@@ -30,41 +30,41 @@ pub struct Progress {
 }
 
 /// Is told how far a run has come, after decisions, conflicts and solutions. No answer depends on it.
-pub trait Watch {
+pub trait Observer {
     /// Is told how far the run has come.
     fn tell(&mut self, progress: Progress);
 }
 
 /// Is told, and does nothing.
 #[derive(Clone, Copy, Debug)]
-pub struct Unwatched;
+pub struct Unobserved;
 
-impl Watch for Unwatched {
+impl Observer for Unobserved {
     fn tell(&mut self, _progress: Progress) {}
 }
 
 /// Hands on each step, and tells how far the run has come.
 #[derive(Drop)]
-struct Watched<'s, 'p, S: Sink, P: Watch> {
+struct Observed<'s, 'p, S: Sink, P: Observer> {
     sink: &'s mut S,
-    watch: &'p mut P,
+    observer: &'p mut P,
     progress: Progress,
 }
 
-impl<'s, 'p, S: Sink, P: Watch> Sink for Watched<'s, 'p, S, P> {
-    ghost written = { λ watched. S.written watched.sink.now };
+impl<'s, 'p, S: Sink, P: Observer> Sink for Observed<'s, 'p, S, P> {
+    ghost written = { λ observed. S.written observed.sink.now };
 
     ghost Origin = { S.Origin × GName };
 
-    ghost origin = { λ watched. (S.origin watched.sink.now, watched.sink.ghost_name) };
+    ghost origin = { λ observed. (S.origin observed.sink.now, observed.sink.ghost_name) };
 
-    ghost keeps = { λ model watched. S.keeps model watched.sink.now };
+    ghost keeps = { λ model observed. S.keeps model observed.sink.now };
 
     fn step(&mut self, alloc: Global, model: &Model, step: &Step) -> Result<(), Fault> {
         self.sink.step(alloc, model, step)?;
         if let Step::Solution(values) = step {
             self.progress = with_solution(self.progress, model.goal, values.as_slice());
-            self.watch.tell(self.progress);
+            self.observer.tell(self.progress);
         }
         Ok(())
     }
@@ -80,7 +80,7 @@ impl<'s, 'p, S: Sink, P: Watch> Sink for Watched<'s, 'p, S, P> {
             inferences,
             ..told
         };
-        self.watch.tell(self.progress);
+        self.observer.tell(self.progress);
     }
 }
 
@@ -104,7 +104,7 @@ fn value_of(values: &[i64], var: VarId) -> Option<i64> {
 }
 
 /// Searches as `solve` of `fzn_engine` does, and tells how far it has come.
-pub fn solve_watched<S: Sink, C: Constraints, P: Watch>(
+pub fn solve_observed<S: Sink, C: Constraints, P: Observer>(
     alloc: Global,
     model: &Model,
     limits: Limits,
@@ -113,7 +113,7 @@ pub fn solve_watched<S: Sink, C: Constraints, P: Watch>(
     annotations: &[Annotation],
     constraints: &mut C,
     sink: &mut S,
-    watch: &mut P,
+    observer: &mut P,
 ) -> Result<Report, Fault>
     requires model { IsWellFormed model.now }
     requires is_for { C.is_for constraints.old model.now }
@@ -125,9 +125,9 @@ pub fn solve_watched<S: Sink, C: Constraints, P: Watch>(
     ensures accepted { AllAccepted model.now (S.written sink.new) }
     ensures kept { S.keeps model.now sink.new × (S.origin sink.new ≡ S.origin sink.old) }
 {
-    let mut watched = Watched {
+    let mut observed = Observed {
         sink,
-        watch,
+        observer,
         progress: Progress {
             nodes: 0,
             conflicts: 0,
@@ -144,6 +144,6 @@ pub fn solve_watched<S: Sink, C: Constraints, P: Watch>(
         choice,
         annotations,
         constraints,
-        &mut watched,
+        &mut observed,
     )
 }

@@ -1,5 +1,5 @@
 // Lines for people at a terminal: how far the search has come.
-use fzn_solver::{Progress, Watch};
+use fzn_solver::{Observer, Progress};
 use std::cell::Cell;
 use std::io;
 use std::io::Write;
@@ -81,7 +81,7 @@ impl<'r> Teller<'r> {
     }
 }
 
-impl Watch for Teller<'_> {
+impl Observer for Teller<'_> {
     fn tell(&mut self, progress: Progress) {
         self.last = progress;
         let Some(elapsed) = self.elapsed() else {

@@ -1,6 +1,6 @@
 // What a run tells of itself.
 use super::{options_of, solve};
-use fzn_solver::{Report, Unwatched};
+use fzn_solver::{Report, Unobserved};
 use fzn_words::Options;
 use std::alloc::{AllocError, Global};
 use std::io;
@@ -39,7 +39,7 @@ fn report_of(alloc: Global, words: &str, file: &str) -> Option<Report> {
         &options,
         &mut io::sink(),
         &mut io::sink(),
-        &mut Unwatched,
+        &mut Unobserved,
     )
     .ok()
 }

@@ -1,6 +1,6 @@
 use super::{TWO_BOOLEANS, options_of, solve};
 use fzn_lexer::{Fault, FaultKind, Place};
-use fzn_solver::{RunFault, Unwatched};
+use fzn_solver::{RunFault, Unobserved};
 use fzn_words::Options;
 use std::alloc::{AllocError, Global};
 use std::io;
@@ -33,7 +33,7 @@ fn is_torn(
 ) -> bool {
     let torn = Torn(file.as_bytes());
     matches!(
-        solve(alloc, torn, options, out, cert, &mut Unwatched),
+        solve(alloc, torn, options, out, cert, &mut Unobserved),
         Err(RunFault::Read)
     )
 }

@@ -1,7 +1,7 @@
 // Runs that restart after each conflict, and keep no learned clause but the newest.
 use super::{is_answered, options_of, solve, text_of};
 use fzn_checker::check;
-use fzn_solver::Unwatched;
+use fzn_solver::Unobserved;
 use fzn_strategy::Learn;
 use fzn_words::Options;
 use std::alloc::Global;
@@ -179,7 +179,7 @@ fn is_written(
     out: &mut Vec<u8>,
     cert: &mut Vec<u8>,
 ) -> bool {
-    solve(alloc, file.as_bytes(), options, out, cert, &mut Unwatched).is_ok()
+    solve(alloc, file.as_bytes(), options, out, cert, &mut Unobserved).is_ok()
 }
 
 /// Three different numbers, with a sum that is made the least.

@@ -1,5 +1,5 @@
 use super::{LEAST, TWO_BOOLEANS, options_of, solve};
-use fzn_solver::{Progress, Unwatched, Watch};
+use fzn_solver::{Observer, Progress, Unobserved};
 use fzn_words::Options;
 use std::alloc::Global;
 use std::test::Fail;
@@ -11,7 +11,7 @@ struct Last {
     falls: u64,
 }
 
-impl Watch for Last {
+impl Observer for Last {
     fn tell(&mut self, progress: Progress) {
         let last = self.progress;
         let has_fallen = progress.nodes < last.nodes
@@ -53,7 +53,7 @@ fn is_same(
         options,
         &mut out,
         &mut cert,
-        &mut Unwatched,
+        &mut Unobserved,
     );
     report.is_ok() && out.as_slice() == answer && cert.as_slice() == certificate
 }

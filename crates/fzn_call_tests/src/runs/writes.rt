@@ -1,5 +1,5 @@
 use super::{ANSWER, LEAST, SOLUTION, TWO_BOOLEANS, is_answered, options_of, solve, text_of};
-use fzn_solver::{RunFault, Unwatched};
+use fzn_solver::{RunFault, Unobserved};
 use fzn_words::Options;
 use std::alloc::Global;
 use std::cell::RefCell;
@@ -58,7 +58,7 @@ fn fault_of<W: Write, C: Write>(
         options,
         out,
         cert,
-        &mut Unwatched,
+        &mut Unobserved,
     )
     .err()
 }
@@ -204,7 +204,7 @@ fn is_written(alloc: Global, options: &Options, file: &str, all: &RefCell<Vec<u8
         options,
         &mut out,
         &mut cert,
-        &mut Unwatched,
+        &mut Unobserved,
     )
     .is_ok()
 }
