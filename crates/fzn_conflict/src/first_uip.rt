@@ -33,7 +33,7 @@ pub fn first_uip(
         clause: denied(alloc, graph, marks, &clause)?,
         antecedents: antecedents_of(alloc, graph, units, &replaced, marks.cited_gaps(), conflict)?,
         level: second_level(graph, &clause),
-        levels: count_levels(graph, &clause),
+        block_distance: block_distance_of(graph, &clause),
         marked: marked_literals(alloc, graph, marks)?,
     })
 }
@@ -177,8 +177,8 @@ fn second_level(graph: Implications, clause: &[usize]) -> usize {
     }
 }
 
-/// How many levels the entries, newest first, stand on.
-fn count_levels(graph: Implications, clause: &[usize]) -> usize {
+/// The literal block distance: how many levels the entries, newest first, stand on.
+fn block_distance_of(graph: Implications, clause: &[usize]) -> usize {
     let mut count: usize = 0;
     let mut last = None;
     for place in clause {
@@ -318,7 +318,7 @@ fn at_level_0(
         clause: Items::from_slice(alloc, clause)?,
         antecedents,
         level: 0,
-        levels: 1,
+        block_distance: 1,
         marked: Items::new(alloc),
     })
 }

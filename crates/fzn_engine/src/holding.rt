@@ -19,13 +19,13 @@ const SHORT: usize = 4;
 
 impl Solver {
     /// Holds the clause of the next step, and tells the search which literals its conflict rests on, and notes on which antecedents the
-    /// clause rests. One whose literals stand on a number of levels may be forgotten.
+    /// clause rests. One with a literal block distance may be forgotten.
     pub fn hold(
         &mut self,
         clause: &[Lit],
         marked: &[Lit],
         antecedents: &[Reason],
-        levels: Option<usize>,
+        block_distance: Option<usize>,
     ) -> Result<ClauseId, Memory>
         requires room { self.old.steps < 10 ^ 18 }
         ensures held { OnOk result (Holds clause.now self.old self.new) }
@@ -34,8 +34,8 @@ impl Solver {
         self.search.bump(marked)?;
         let id = self.clauses.add(clause)?;
         self.notes.cite(antecedents)?;
-        if let Some(levels) = levels {
-            self.notes.learn(id, levels)?;
+        if let Some(block_distance) = block_distance {
+            self.notes.learn(id, block_distance)?;
         }
         self.steps += 1;
         self.numbers.push(self.steps)?;

@@ -77,14 +77,14 @@ impl Solver {
             clause,
             antecedents,
             level,
-            levels,
+            block_distance,
             marked,
         } = learned;
         let id = self.hold(
             clause.as_slice(),
             marked.as_slice(),
             antecedents.as_slice(),
-            Some(levels),
+            Some(block_distance),
         )?;
         let is_empty = clause.len() == 0;
         sink.step(alloc, model, &Step::Resolve { clause, ids })?;

@@ -13,8 +13,8 @@ pub struct Learned {
     pub antecedents: Items<Reason>,
     /// The level, counted from 0, where the search goes back to: below the present one.
     pub level: usize,
-    /// How many levels its literals stand on.
-    pub levels: usize,
+    /// Its literal block distance: how many levels its literals stand on (Audemard and Simon, 2009).
+    pub block_distance: usize,
     /// What was needed of the entries that the analysis looked at, once for each; none for the plain clause.
     pub marked: Items<Lit>,
 }

@@ -32,7 +32,7 @@ pub fn plain_learned(
         clause: plain_clause(alloc, trail, clauses, inferences)?,
         antecedents: plain_antecedents(alloc, trail, conflict)?,
         level: trail.level().saturating_sub(1),
-        levels: trail.level(),
+        block_distance: trail.level(),
         marked: Items::new(alloc),
     })
 }

@@ -64,8 +64,8 @@ pub struct Notes {
 }
 
 impl Notes {
-    /// Nothing is noted yet. A restart keeps so many learned clauses, the newest; between restarts those of the most levels are forgotten
-    /// too, from 800 on. With `Plain` no learned clause is ever forgotten.
+    /// Nothing is noted yet. A restart keeps so many learned clauses, the newest; between restarts those of the greatest literal block
+    /// distance are forgotten too, from 800 on. With `Plain` no learned clause is ever forgotten.
     pub fn new(alloc: Global, keep: u64, learn: Learn) -> Notes {
         let most = match learn {
             Learn::Plain => usize::MAX,
@@ -91,11 +91,11 @@ impl Notes {
         }
     }
 
-    /// A clause was learned from a conflict, and its literals stand on so many levels.
-    pub fn learn(&mut self, id: ClauseId, levels: usize) -> Result<(), Memory> {
+    /// A clause of this literal block distance was learned from a conflict.
+    pub fn learn(&mut self, id: ClauseId, block_distance: usize) -> Result<(), Memory> {
         self.conflicts = self.conflicts.saturating_add(1);
         self.held = self.held.saturating_add(1);
-        self.learned.push(id, levels)
+        self.learned.push(id, block_distance)
     }
 
     /// The clause of an inference is held.
