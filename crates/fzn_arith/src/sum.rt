@@ -85,7 +85,7 @@ impl SumPropagator {
         }
     }
 
-    /// One pass: what it infers goes behind what was found.
+    /// Appends what one pass infers to `found`.
     pub fn infer(&self, alloc: Global, trail: &Trail, found: &mut Findings) -> Result<(), Memory>
         requires ready { IsReady (length trail.now.declared) self.now.form self.now.opposite }
         requires filled { NoneEmpty trail.now.sets }

@@ -27,7 +27,7 @@ use fzn_terms::{
 use fzn_trail::Trail;
 use std::alloc::Global;
 
-/// Clauses that are false or force a literal each, where the values of the term or the switch show some. They go behind what was found.
+/// Appends to `found` clauses that are false or force a literal each, where the values of the term or the switch show some.
 pub fn infer_member(
     alloc: Global,
     trail: &Trail,

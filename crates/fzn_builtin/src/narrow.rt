@@ -18,7 +18,7 @@ use fzn_rules::Rule;
 use fzn_trail::Trail;
 use std::alloc::Global;
 
-/// Clauses that are false or force a literal each. They go behind what was found. None is no promise.
+/// Appends conflicts and unit inferences to `found`. Finding none guarantees nothing.
 pub fn narrow(
     alloc: Global,
     trail: &Trail,

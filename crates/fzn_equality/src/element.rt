@@ -27,7 +27,7 @@ use fzn_terms::{
 use fzn_trail::Trail;
 use std::alloc::Global;
 
-/// Clauses that are false or force a literal each, where the ends and small sets of the places show some. They go behind what was found.
+/// Appends to `found` clauses that are false or force a literal each, where the ends and small sets of the places show some.
 /// What shows one ends the pass: that the index may lie outside of the list, an entry and the result that have no value in common, an end
 /// of the result, or a value of it. Where the index leads to one place, all that is left to show is that the entry there is the result.
 /// There are at most 100,000 entries. It answers `Err` where memory runs out; what was found up to then are inferences all the same.

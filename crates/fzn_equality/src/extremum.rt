@@ -21,7 +21,7 @@ use fzn_terms::{Claim, explanation_of, greatest_of, interval_of, is_thinned_besi
 use fzn_trail::Trail;
 use std::alloc::Global;
 
-/// Clauses that are false or force a literal each, where the ends and small sets of the places show some. They go behind what was found.
+/// Appends to `found` clauses that are false or force a literal each, where the ends and small sets of the places show some.
 /// The values of the result are looked at only where the ends show nothing. It answers `Err` where memory runs out; what was found up to
 /// then are inferences all the same.
 pub fn infer_extremum(

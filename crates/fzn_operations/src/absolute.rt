@@ -20,8 +20,8 @@ use fzn_terms::{
 use fzn_trail::Trail;
 use std::alloc::Global;
 
-/// Clauses that are false or force a literal each, where the ends of the two terms show some, else the values of the first, else those of
-/// the second. They go behind what was found.
+/// Appends to `found` clauses that are false or force a literal each, where the ends of the two terms show some, else the values of the
+/// first, else those of the second.
 pub fn infer_absolute_value(
     alloc: Global,
     trail: &Trail,

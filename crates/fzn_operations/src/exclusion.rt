@@ -74,7 +74,7 @@ enum End {
     High,
 }
 
-/// The clauses that a place has no value at an end of its interval, from where none meets the constraint. They go behind what was found.
+/// Appends to `found` the clauses that a place has no value at an end of its interval, from where none meets the constraint.
 pub fn infer_ends(
     alloc: Global,
     trail: &Trail,

@@ -14,8 +14,7 @@ use fzn_propagator::Findings;
 use fzn_trail::Trail;
 use std::alloc::Global;
 
-/// Clauses that are false or force a literal each, where intervals of the places show some. They go behind what was found. Of sums there
-/// are none.
+/// Appends to `found` clauses that are false or force a literal each, where intervals of the places show some. Of sums there are none.
 pub fn infer_operation(
     alloc: Global,
     trail: &Trail,

@@ -17,8 +17,8 @@ use fzn_terms::{Interval, MOST_VALUES, interval_of, is_thinned};
 use fzn_trail::Trail;
 use std::alloc::Global;
 
-/// Clauses that are false or force a literal each, where the ends of the places show some, else where values of the result are given by no
-/// pair. They go behind what was found.
+/// Appends to `found` clauses that are false or force a literal each, where the ends of the places show some, else where values of the
+/// result are given by no pair.
 pub fn infer_quotient(
     alloc: Global,
     trail: &Trail,
