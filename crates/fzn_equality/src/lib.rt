@@ -1,9 +1,9 @@
 //! Terms that have to be equal: two that are compared, a value and the entry at an index, a result and the least or greatest entry.
 //!
 //! In: the terms of such a constraint, and a trail. Out: clauses that follow from the constraint by the rule `rows`, and are false or
-//! force one literal each; none is no promise. The ends are looked at first, and single values of narrow terms alone, so that a look costs
-//! what the constraint is, however many values a term has. Proved against `specs/Shared.antt` and `specs/Rows.antt`: what the claims of a
-//! clause leave to the terms where they are denied.
+//! force one literal each; finding none guarantees nothing. The ends are looked at first, and single values of narrow terms alone, so that
+//! a look costs what the constraint is, however many values a term has. Proved against `specs/Shared.antt` and `specs/Rows.antt`: what the
+//! claims of a clause leave to the terms where they are denied.
 #![tactic(auto)]
 
 pub use element::infer_element;

@@ -46,8 +46,8 @@ pub trait Propagator {
     /// What it costs to ask it. Nothing but the order in which propagators are asked rests on that.
     fn cost(&self) -> Cost;
 
-    /// One pass: what it infers goes behind what was found. Each inference is one of the trail as it stands, so that one may force what
-    /// another has forced. It answers `Err` where memory runs out; what was found up to then are inferences all the same.
+    /// Appends what one pass infers to `found`. Each inference is one of the trail as it stands, so that one may force what another has
+    /// forced. It answers `Err` where memory runs out; what was found up to then are inferences all the same.
     fn propagate(&self, alloc: Global, trail: &Trail, found: &mut Findings) -> Result<(), Memory>
         requires fits { fits self.now trail.now.declared }
         requires filled { NoneEmpty trail.now.sets }

@@ -343,7 +343,7 @@ fn is_support(
     false
 }
 
-/// The inference that the place stands so to the bound goes behind what was found. `false` where a row stands whose value there does not.
+/// Appends to `found` the inference that the place stands so to the bound. `false` where a row stands whose value there does not.
 fn bar_claim(
     alloc: Global,
     trail: &Trail,
@@ -375,7 +375,7 @@ fn bar_claim(
     Ok(true)
 }
 
-/// The inference that the place has not this value goes behind what was found, where no row that stands has it there.
+/// Appends to `found` the inference that the place has not this value, where no row that stands has it there.
 fn bar_value(
     alloc: Global,
     trail: &Trail,
