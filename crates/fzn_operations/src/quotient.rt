@@ -250,6 +250,6 @@ fn operation_of(shape: Shape) -> Operation {
     match shape {
         Shape::Quotient => Operation::Quotient,
         Shape::Remainder => Operation::Remainder,
-        _ => Operation::Times,
+        Shape::Product | Shape::Absolute => Operation::Times, // Not asked.
     }
 }
