@@ -38,7 +38,8 @@ cut-requires c =
     let same : declared_sets c.as_slice.result.now ≡ c.args.self.now.trail.declared = ap declared_sets c.as_slice.ensures ∙ sym h.state.core.declared in
     let R : List IntSet → Type 0 = λ declared. IsPropagated (held_by c.look_at_all.new.self) (fresh declared) c.in_ok-trail.trail in
     let kept = renewed-kept h c.requires.first c.requires.level c.look_at_all.new.self c.in_ok-look_at_all.ensures.held c.in_ok-trail.trail (subst R same c.in_ok-trail.ensures.propagated) c.in_ok-trail.ensures.watching (c.if-not-has_no_more_values.ensures refl) c.expect_entries.new.self in
-    AllBelow-reasoned (stock_of c.args.self.now) c.in_ok-trail.trail (length c.args.self.now.inferences) kept.state.state.core.reasoned refl
+    let anew = record c.args.self.now { clauses = c.look_at_all.new.self; trail = c.in_ok-trail.trail; notes = c.expect_entries.new.self } in
+    AllBelow-reasoned (stock_of anew) c.in_ok-trail.trail (length c.args.self.now.inferences) kept.state.state.core.reasoned refl
 
 pub returns : goal.returns
 returns c = record {
