@@ -1,7 +1,7 @@
 // Which propagators are to be asked next: those that watch what was narrowed.
-ghost use Rattle.std.specs.Prelude.{◌≡◌, ◌<◌, ◌≤◌, List, length, IfOk, IfSome, IsFalse};
+ghost use Rattle.std.specs.Prelude.{◌≡◌, ◌≢◌, ◌<◌, ◌≤◌, List, length, IfOk, IfSome, IsFalse};
 ghost use Rattle.std.specs.List.{All};
-ghost use Rattle.fzn_domain.specs.IntSet.{IntSet};
+ghost use Rattle.fzn_domain.specs.IntSet.{IntSet, size};
 ghost use Rattle.fzn_domain.specs.Narrow.{AllFixed};
 ghost use Rattle.fzn_kinds.specs.AnyCrate.{AnyFits};
 
@@ -10,7 +10,7 @@ use crate::counters::Counters;
 use crate::order::leading_order;
 use crate::queue::Queue;
 use crate::watchers::{Watch, Watchers};
-use fzn_domain::{Memory, VarId};
+use fzn_domain::{Domain, Memory, VarId};
 use fzn_kinds::AnyPropagator;
 use fzn_meaning::Model;
 use fzn_propagator::Change;
@@ -175,9 +175,16 @@ fn first_open(trail: &Trail, from: usize, upto: usize) -> Option<usize>
 {
     let _entries = trail.len(); // A trail has a set for each variable.
     for index in from..upto {
-        if trail.domain(VarId(index + 1)).len() != 1 {
+        if !has_one_value(trail.domain(VarId(index + 1))) {
             return Some(index);
         }
     }
     None
+}
+
+/// Whether the set has one value. Then its ends are the same.
+fn has_one_value(set: &Domain) -> bool
+    ensures { IsFalse result → size set.now ≢ 1 }
+{
+    !set.is_empty() && set.min() == set.max()
 }

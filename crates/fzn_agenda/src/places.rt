@@ -62,23 +62,19 @@ impl Places {
         }
     }
 
-    /// The first that is in from this place on.
-    pub fn from(&mut self, place: usize) -> Option<usize> {
-        let at = place / WORD;
-        let word = self.words.get(at).copied()?;
-        let rest = word >> (place % WORD);
-        if rest != 0 {
-            return Some(place.wrapping_add(rest.trailing_zeros() as usize));
-        }
-        if self.words.len() <= at.saturating_add(1) {
-            return None;
-        }
-        self.behind(at)
+    /// The bits of this place and of those that share a word with it, where it is below the number of all.
+    pub fn word(&self, place: usize) -> Option<u64> {
+        self.words.get(place / WORD).copied()
     }
 
-    /// The first that is in behind the word at this index.
-    fn behind(&mut self, at: usize) -> Option<usize> {
-        let mut next = at.saturating_add(1);
+    /// Whether no word is behind that of this place.
+    pub fn is_in_last_word(&self, place: usize) -> bool {
+        self.words.len() <= (place / WORD).saturating_add(1)
+    }
+
+    /// The first that is in behind the word of this place.
+    pub fn behind(&mut self, place: usize) -> Option<usize> {
+        let mut next = (place / WORD).saturating_add(1);
         for _ in next..self.words.len() {
             next = first_bit(&self.blocks, next)?;
             let word = self.words.get(next).copied()?;
@@ -91,22 +87,14 @@ impl Places {
         None
     }
 
-    /// The last that is in up to this place.
-    pub fn up_to(&mut self, place: usize) -> Option<usize> {
-        let at = place / WORD;
-        let word = self.words.get(at).copied()?;
-        let rest = word << (WORD - 1 - place % WORD);
-        if rest != 0 {
-            return Some(place.wrapping_sub(rest.leading_zeros() as usize));
-        }
-        if at == 0 {
-            return None;
-        }
-        self.ahead_of(at)
+    /// Whether no word is ahead of that of this place.
+    pub fn is_in_first_word(&self, place: usize) -> bool {
+        place < WORD
     }
 
-    /// The last that is in ahead of the word at this index.
-    fn ahead_of(&mut self, at: usize) -> Option<usize> {
+    /// The last that is in ahead of the word of this place.
+    pub fn ahead_of(&mut self, place: usize) -> Option<usize> {
+        let at = place / WORD;
         for _ in 0..at {
             let last = last_bit(&self.blocks, at)?;
             let word = self.words.get(last).copied()?;
@@ -118,6 +106,24 @@ impl Places {
         }
         None
     }
+}
+
+/// The first that is in from this place on, among those of its word.
+pub fn first_in(word: u64, place: usize) -> Option<usize> {
+    let rest = word >> (place % WORD);
+    if rest == 0 {
+        return None;
+    }
+    Some(place.wrapping_add(rest.trailing_zeros() as usize))
+}
+
+/// The last that is in up to this place, among those of its word.
+pub fn last_in(word: u64, place: usize) -> Option<usize> {
+    let rest = word << (WORD - 1 - place % WORD);
+    if rest == 0 {
+        return None;
+    }
+    Some(place.wrapping_sub(rest.leading_zeros() as usize))
 }
 
 fn clear_bit(words: &mut Vec<u64>, place: usize) {

@@ -1,5 +1,5 @@
 // Which propagators of one cost are to be asked, up and down their ranks in turn.
-use crate::places::Places;
+use crate::places::{Places, first_in, last_in};
 use fzn_domain::Memory;
 use std::alloc::Global;
 
@@ -35,23 +35,47 @@ impl Sweep {
 
     /// The rank of the one that is to be asked next, where the sweep is then: it turns where none is ahead.
     pub fn first(&mut self) -> Option<usize> {
-        let rank = match self.ahead() {
-            Some(rank) => rank,
-            None => {
-                self.is_downward = !self.is_downward;
-                self.ahead()?
-            }
+        let word = self.waiting.word(self.at)?;
+        let rank = if self.is_downward {
+            self.below_or_turn(word)?
+        } else {
+            self.above_or_turn(word)?
         };
         self.at = rank;
         Some(rank)
     }
 
-    /// The first in the direction of the sweep.
-    fn ahead(&mut self) -> Option<usize> {
-        if self.is_downward {
-            self.waiting.up_to(self.at)
-        } else {
-            self.waiting.from(self.at)
+    /// The next on the way up, or the first on the way back. The word is that of the rank at which the sweep is.
+    fn above_or_turn(&mut self, word: u64) -> Option<usize> {
+        if let Some(rank) = first_in(word, self.at) {
+            return Some(rank);
+        }
+        if !self.waiting.is_in_last_word(self.at)
+            && let Some(rank) = self.waiting.behind(self.at)
+        {
+            return Some(rank);
+        }
+        self.is_downward = true;
+        match last_in(word, self.at) {
+            Some(rank) => Some(rank),
+            None => self.waiting.ahead_of(self.at),
+        }
+    }
+
+    /// The next on the way down, or the first on the way back. The word is that of the rank at which the sweep is.
+    fn below_or_turn(&mut self, word: u64) -> Option<usize> {
+        if let Some(rank) = last_in(word, self.at) {
+            return Some(rank);
+        }
+        if !self.waiting.is_in_first_word(self.at)
+            && let Some(rank) = self.waiting.ahead_of(self.at)
+        {
+            return Some(rank);
+        }
+        self.is_downward = false;
+        match first_in(word, self.at) {
+            Some(rank) => Some(rank),
+            None => self.waiting.behind(self.at),
         }
     }
 

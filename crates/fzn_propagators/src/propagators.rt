@@ -1,5 +1,5 @@
 // All propagators of a model.
-ghost use Rattle.std.specs.Prelude.{◌≡◌, ◌<◌, length, IfOk, IfSome, IfNone};
+ghost use Rattle.std.specs.Prelude.{◌≡◌, ◌<◌, [], length, IfOk, IfSome, IfNone};
 ghost use Rattle.std.specs.List.{All, HoldsAt};
 ghost use Rattle.fzn_meaning.specs.Solutions.{declared_sets};
 ghost use Rattle.fzn_meaning.specs.WellFormed.{IsWellFormed};
@@ -62,6 +62,7 @@ impl Propagators {
         ensures found { IfOk result (λ found. IfSome found (IsInference model.now trail.now)) }
         ensures same { StandFor self.new model.now }
     {
+        self.found.clear();
         for _ in 0..self.agenda.len() {
             let Some(place) = self.agenda.first() else {
                 return Ok(None);
@@ -133,11 +134,12 @@ fn ask(
     requires declared { trail.now.declared ≡ declared_sets model.now.vars }
     requires not_empty { NoneEmpty trail.now.sets }
     requires place { place < length items.now }
+    requires empty { found.old ≡ [] }
     ensures first { IfOk result (λ first. IfSome first (IsInference model.now trail.now)) }
     ensures none { IfOk result (λ first. IfNone first (HoldsAt (λ p. AreExhausted (AnyIsFor p) trail.now) items.now place)) }
     ensures rest { All (IsJustified model.now) found.new }
+    ensures left { IfOk result (λ first. IfNone first (found.new ≡ [])) }
 {
-    found.clear();
     let propagator = &items.as_slice()[place];
     propagator.propagate(alloc, trail, found)?;
     Ok(found.take_first())
@@ -159,6 +161,7 @@ fn ask_all(
     ensures none { IfOk result (λ first. IfNone first (IsQuiet model.now trail.now)) }
     ensures rest { All (IsJustified model.now) found.new }
 {
+    found.clear();
     let _entries = trail.len(); // Each present set lies within its declared one.
     for place in 0..items.len() {
         if let Some(first) = ask(alloc, model, trail, items, place, found)? {

@@ -12,6 +12,7 @@ loop-place-preserved c = record {
       AllWithin-more (λ p. AreExhausted (AnyIsFor p) c.args.trail.now) c.args.items.now 0 c.loop-place.place c.loop-place.invariant.none
       (rw c.in_default.is at c.in_ok-first.ensures.none);
   rest = c.ask.ensures.rest;
+  left = rw c.in_default.is at c.in_ok-first.ensures.left;
 }
 
 pub returns-clause-none : goal.returns-clause-none

@@ -1,3 +1,4 @@
+use Rattle.std.specs.Prelude.{◌≡◌, []}
 use Rattle.std.specs.List.{All, AllWithin}
 use Rattle.fzn_propagator.specs.Constraints.{IsJustified}
 use Rattle.fzn_kinds.specs.AnyCrate.{AnyIsFor}
@@ -9,4 +10,5 @@ abbrev pub invariant-loop-place : goal.invariant-loop-place
 invariant-loop-place l = record {
   none : AllWithin (λ p. AreExhausted (AnyIsFor p) l.trail) l.items 0 l.place;
   rest : All (IsJustified l.model) l.found;
+  left : l.found ≡ [];
 }
