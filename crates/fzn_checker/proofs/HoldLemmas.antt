@@ -12,14 +12,14 @@ use Rattle.fzn_cert.specs.Past.{Past, start}
 use Rattle.fzn_cert.specs.Accepted.{IsAccepted, AllAcceptedAfter, AllAccepted, after, past_of}
 use Rattle.fzn_cert.specs.Verdict.{accepted, lines_of, AllHaveLines, MayEnd, VerdictOn}
 use Rattle.fzn_cert.proofs.CallerLemmas.{some_is}
+use Rattle.fzn_cert.proofs.SoundLaws.{sound-after}
 use Rattle.fzn_cert_reader.specs.Reader.{Progress, IsFresh, Gives, Ends, HasRead, certificate_text}
 use Rattle.fzn_cert_reader.proofs.CallerLemmas.{HasRead-end}
 use Rattle.fzn_checker.specs.declared.hold.Held.{Held}
 use Rattle.fzn_checker.specs.declared.hold.Taken.{Taken}
 use Rattle.fzn_checker.specs.Checked.{HasCounts, Accepts}
 use Rattle.fzn_checker.specs.Given.{AreGiven}
-use Rattle.fzn_checker.specs.Judged.{IsReady}
-use Rattle.fzn_checker.specs.Held.{HasTaken, certificate_of, IsCertificate, IsHeld}
+use Rattle.fzn_checker.specs.Held.{MayTake, HasTaken, certificate_of, IsCertificate, IsHeld}
 use Rattle.fzn_checker.proofs.FaultLaws.{found-refuted}
 use Rattle.fzn_checker.proofs.RewriteLemmas.{all_more}
 use Rattle.fzn_checker.proofs.StandingLaws.{header_is}
@@ -34,13 +34,25 @@ accepted-more : (model : Model) (past : Past) (steps : List Step) (step : Step) 
 accepted-more model past [] step h k = (k, tt)
 accepted-more model past (head ∷ steps) step h k = (h.0, accepted-more model (after model past head) steps step h.1 k)
 
-pub taken-more : (model : Model) (old new : Taken) (step : Step) → HasTaken model old → IsAccepted model old.history step → new.steps ≡ old.steps ++ step ∷ [] → new.history ≡ after model old.history step
-    → IsReady model new.history new.sets new.has_empty → AreGiven model new.history.solutions new.given → HasTaken model new
-taken-more model old new step taken is_accepted more history ready given = record {
-  ready = ready;
+-- the step after an accepted one can be judged
+pub take-more : (model : Model) (old new : Taken) (step : Step) → MayTake model old → IsAccepted model old.history step → new.history ≡ after model old.history step → AreGiven model new.history.solutions new.given
+    → new.sets ≡ old.sets → new.has_empty ≡ old.has_empty → MayTake model new
+take-more model old new step may is_accepted history given sets empty = record {
+  ready = record {
+    well_formed = may.ready.well_formed;
+    sound = rw history (sound-after model old.history step may.ready.well_formed may.ready.sound is_accepted);
+    fresh = sets ∙ may.ready.fresh;
+    empty = empty ∙ may.ready.empty;
+  };
   given = given;
-  past = history ∙ ap (λ (p : Past). after model p step) taken.past ∙ sym (past-more model start old.steps step) ∙ ap (past_of model) (sym more);
-  accepted = subst (AllAccepted model) (sym more) (accepted-more model start old.steps step taken.accepted (subst (λ (p : Past). IsAccepted model p step) taken.past is_accepted));
+}
+
+pub taken-more : (model : Model) (old new : Taken) (step : Step) → IsAccepted model old.history step → new.history ≡ after model old.history step → MayTake model new
+    → (steps : List Step) → HasTaken model steps old → HasTaken model (steps ++ step ∷ []) new
+taken-more model old new step is_accepted history ready steps taken = record {
+  ready = ready;
+  past = history ∙ ap (λ (p : Past). after model p step) taken.past ∙ sym (past-more model start steps step);
+  accepted = accepted-more model start steps step taken.accepted (subst (λ (p : Past). IsAccepted model p step) taken.past is_accepted);
 }
 
 -- ---- their lines
@@ -101,19 +113,19 @@ certificate-read model bytes old new steps read spelled ends counts same = recor
     by_bytes None so_far = tt
     by_bytes (Some text) so_far = HasRead-end text old new steps so_far ends same ∙ certificate-is model ends.header steps ends.closed counts
 
-pub held-end : (model : Model) (bytes : Option (List ℕ)) (taken : Taken) (old new : Progress) (held : Held) → HasTaken model taken → HasRead bytes old taken.steps → AreSpelled old taken.steps
+pub held-end : (model : Model) (bytes : Option (List ℕ)) (steps : List Step) (taken : Taken) (old new : Progress) (held : Held) → HasTaken model steps taken → HasRead bytes old steps → AreSpelled old steps
     → Accepts model taken.history old new → Ends old new → IfSome new.header (HasCounts model) → (IsSome old.header → new.header ≡ old.header)
-    → held.steps ≡ taken.steps → held.solutions.items ≡ taken.history.solutions → held.closed ≡ unwrap_or new.closing false → IsHeld model bytes held
-held-end model bytes taken old new held has_taken read spelled accepts ends counts same steps solutions closed =
+    → held.steps ≡ steps → held.solutions.items ≡ taken.history.solutions → held.closed ≡ unwrap_or new.closing false → IsHeld model bytes held
+held-end model bytes steps taken old new held has_taken read spelled accepts ends counts same held_steps solutions closed =
     let fits : HasCounts model ends.header = subst (λ (o : Option Header). IfSome o (HasCounts model)) ends.told counts in
     let said : ends.closed ≡ held.closed = sym (closed ∙ ap (λ (o : Option Bool). unwrap_or o false) ends.closing) in
-    let past : taken.history ≡ past_of model held.steps = has_taken.past ∙ ap (past_of model) (sym steps) in
+    let past : taken.history ≡ past_of model held.steps = has_taken.past ∙ ap (past_of model) (sym held_steps) in
     record {
       version = ends.header.version;
       certificate = subst (λ (b : Bool). IsCertificate model ends.header.version bytes held.steps b) said
-          (subst (λ (all : List Step). IsCertificate model ends.header.version bytes all ends.closed) (sym steps) (certificate-read model bytes old new taken.steps read spelled ends fits same));
+          (subst (λ (all : List Step). IsCertificate model ends.header.version bytes all ends.closed) (sym held_steps) (certificate-read model bytes old new steps read spelled ends fits same));
       stands = record {
-        accepted = subst (AllAccepted model) (sym steps) has_taken.accepted;
+        accepted = subst (AllAccepted model) (sym held_steps) has_taken.accepted;
         found = solutions ∙ ap (λ (p : Past). p.solutions) past;
         may_end = subst (λ (p : Past). MayEnd p held.closed) past (found-refuted model taken.history old new held.closed accepts closed);
       };

@@ -16,12 +16,16 @@ use Rattle.fzn_checker.specs.Judged.{IsReady}
 abbrev pub past_in : Taken → Past
 past_in taken = taken.history
 
--- the steps are accepted one after the other, and the next one can be judged
-pub record HasTaken (model : Model) (taken : Taken) : Type 0 where
+-- the next step can be judged
+pub record MayTake (model : Model) (taken : Taken) : Type 0 where
   pub ready : IsReady model taken.history taken.sets taken.has_empty
   pub given : AreGiven model taken.history.solutions taken.given
-  pub past : taken.history ≡ past_of model taken.steps
-  pub accepted : AllAccepted model taken.steps
+
+-- these steps are accepted one after the other, and the next one can be judged
+pub record HasTaken (model : Model) (steps : List Step) (taken : Taken) : Type 0 where
+  pub ready : MayTake model taken
+  pub past : taken.history ≡ past_of model steps
+  pub accepted : AllAccepted model steps
 
 -- the steps are accepted one after the other, these are their solutions, and they may end so
 pub record Stands (model : Model) (held : Held) : Type 0 where

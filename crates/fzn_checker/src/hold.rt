@@ -1,13 +1,14 @@
 // A certificate checked from its bytes, with its steps held.
-ghost use Rattle.std.specs.Prelude.{◌≡◌, [], ◌∷◌, ◌++◌, None, IfOk, IfErr};
+ghost use Rattle.std.specs.Prelude.{◌≡◌, List, [], ◌∷◌, ◌++◌, None, IfOk, IfErr};
 ghost use Rattle.fzn_meaning.specs.WellFormed.{IsWellFormed};
+ghost use Rattle.fzn_cert.specs.declared.step.Step.{Step};
 ghost use Rattle.fzn_cert.specs.declared.step.Version.TheVariants.{Two};
 ghost use Rattle.fzn_cert.specs.Spelling.{IsSpelled};
 ghost use Rattle.fzn_cert.specs.Accepted.{IsJudged, after};
 ghost use Rattle.fzn_cert.specs.Verdict.{VerdictOn};
 ghost use Rattle.fzn_cert_reader.specs.Reader.{progress, input_of};
 ghost use Rattle.fzn_checker.specs.Checked.{IsUnread, IsFaultWhere, IsReadDue};
-ghost use Rattle.fzn_checker.specs.Held.{past_in, HasTaken, IsHeld};
+ghost use Rattle.fzn_checker.specs.Held.{past_in, MayTake, HasTaken, IsHeld};
 
 use crate::certificate::first_sets;
 use crate::fault::CheckFault;
@@ -36,11 +37,9 @@ pub struct Held {
     pub closed: bool,
 }
 
-/// Steps that were accepted one after the other, and what they leave for later ones.
+/// What steps that were accepted one after the other leave for later ones. The steps themselves are not held.
 #[derive(Drop)]
 pub struct Taken {
-    /// The steps, in order.
-    pub steps: Script,
     history: History,
     given: Given,
     sets: Sets,
@@ -48,16 +47,14 @@ pub struct Taken {
 }
 
 impl Taken {
-    /// No step yet. It answers `Err` where memory runs out.
+    /// Before the first step. It answers `Err` where memory runs out.
     pub fn new(alloc: Global, model: &Model) -> Result<Taken, Memory>
         requires { IsWellFormed model.now }
-        ensures taken { IfOk result (HasTaken model.now) }
-        ensures none { IfOk result (λ taken. taken.steps ≡ []) }
+        ensures { IfOk result (HasTaken model.now []) }
     {
         let sets = first_sets(alloc, model)?;
         let has_empty = sets.has_empty();
         Ok(Taken {
-            steps: Script::new(alloc),
             history: History::new(alloc),
             given: Given::new(alloc),
             sets,
@@ -66,18 +63,18 @@ impl Taken {
     }
 
     /// Takes the next step, one that version 2 spells, where it is accepted, and else answers what is wrong with it and takes none. It
-    /// answers `Err` where memory runs out, and nothing is known of the steps then.
+    /// answers `Err` where memory runs out, and nothing is known of what was taken then.
     pub fn take(
         &mut self,
         alloc: Global,
         model: &Model,
         step: Step,
     ) -> Result<Option<Refusal>, Memory>
-        requires taken { HasTaken model.now self.old }
+        requires ready { MayTake model.now self.old }
         requires spelled { IsSpelled Two step }
         ensures judged { IfOk result (IsJudged model.now (past_in self.old) step) }
-        ensures taken { IfOk result (λ fault. fault ≡ None → HasTaken model.now self.new) }
-        ensures more { IfOk result (λ fault. fault ≡ None → self.new.steps ≡ self.old.steps ++ step ∷ []) }
+        ensures ready { IfOk result (λ fault. fault ≡ None → MayTake model.now self.new) }
+        ensures taken { IfOk result (λ fault. fault ≡ None → (steps : List Step) → HasTaken model.now steps self.old → HasTaken model.now (steps ++ step ∷ []) self.new) }
         ensures after { IfOk result (λ fault. fault ≡ None → past_in self.new ≡ after model.now (past_in self.old) step) }
     {
         let fault = fault_of(
@@ -92,7 +89,6 @@ impl Taken {
         if let Some(refusal) = fault {
             return Ok(Some(refusal));
         }
-        self.steps.push(alloc, &step)?;
         accept(alloc, model, &mut self.history, &mut self.given, step)?;
         Ok(None)
     }
@@ -110,19 +106,6 @@ impl Taken {
     {
         self.history.is_refuted()
     }
-
-    /// The steps with their solutions, and this ending.
-    pub fn into_held(self, closed: bool) -> Held
-        ensures steps { result.steps ≡ self.steps }
-        ensures solutions { result.solutions.items ≡ (past_in self).solutions }
-        ensures closed { result.closed ≡ closed }
-    {
-        Held {
-            steps: self.steps,
-            solutions: self.history.into_solutions(),
-            closed,
-        }
-    }
 }
 
 /// Checks a certificate as `check_certificate` does, with the same faults, and answers its steps too. All of them are held until the end, as
@@ -139,12 +122,18 @@ pub fn hold_certificate<C: TrackedRead + Drop>(
     ensures due { IfErr result (IsReadDue (C.has_failed (input_of cert.new))) }
 {
     let mut taken = Taken::new(alloc, model)?;
+    let mut steps = Script::new(alloc);
     let mut line = 3;
     while let Some(step) = next_step(alloc, model, &taken.history, line, cert)? {
+        steps.push(alloc, &step)?;
         if let Some(refusal) = taken.take(alloc, model, step)? {
             return Err(CheckFault::Refused { line, refusal });
         }
         line += 1;
     }
-    Ok(taken.into_held(cert.closed().unwrap_or(false)))
+    Ok(Held {
+        steps,
+        solutions: taken.history.into_solutions(),
+        closed: cert.closed().unwrap_or(false),
+    })
 }

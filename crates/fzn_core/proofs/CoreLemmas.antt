@@ -111,11 +111,11 @@ rests-on model steps found numbers wf accepted found_are refuted cited rising =
       exhausted = subst (IsExhausted (only model numbers)) found_are (exhausted-sound (only model numbers) (past_of model steps) sound refuted);
     }
 
-pub closed-core : (model : Model) (held kept : Held) (numbers : List ℕ) → IsWellFormed model → held.closed ≡ true → IsTrimOf model held kept
-    → ((number : ℕ) → Contains numbers number ↔ Contains (filter_map constraint_of kept.steps) number) → IsStrictlyIncreasing numbers → IsCore model held.solutions.items held.closed numbers
+pub closed-core : (model : Model) (held : Held) (kept : List Step) (numbers : List ℕ) → IsWellFormed model → held.closed ≡ true → IsTrimOf model held kept
+    → ((number : ℕ) → Contains numbers number ↔ Contains (filter_map constraint_of kept) number) → IsStrictlyIncreasing numbers → IsCore model held.solutions.items held.closed numbers
 closed-core model held kept numbers wf closed trim cited rising =
     subst (λ (b : Bool). IsCore model held.solutions.items b numbers) (sym closed)
-    (rests-on model kept.steps held.solutions.items numbers wf trim.stands.accepted (sym trim.stands.found ∙ trim.found) (trim.stands.may_end (trim.closed ∙ closed)) cited rising)
+    (rests-on model kept held.solutions.items numbers wf trim.accepted trim.found (trim.may_end closed) cited rising)
 
 pub open-core : (model : Model) (found : List (List ℤ)) (closed : Bool) → closed ≡ false → IsCore model found closed []
 open-core model found closed is = subst (λ (b : Bool). IsCore model found b []) (sym is) refl

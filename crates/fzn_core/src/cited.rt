@@ -6,14 +6,14 @@ ghost use Rattle.fzn_meaning.specs.WellFormed.{IsWellFormed};
 ghost use Rattle.fzn_cert.specs.declared.step.Version.TheVariants.{Two};
 ghost use Rattle.fzn_cert.specs.Verdict.{AllHaveLines};
 ghost use Rattle.fzn_checker.specs.Held.{Stands};
+ghost use Rattle.fzn_trim.specs.Kept.{steps_in};
 ghost use Rattle.fzn_core.specs.Core.{IsCore, constraint_of};
 
 use fzn_cert::Step;
-use fzn_cert_reader::Script;
 use fzn_checker::Held;
 use fzn_domain::Memory;
 use fzn_meaning::Model;
-use fzn_trim::trimmed_steps;
+use fzn_trim::{Kept, trimmed_steps};
 use std::alloc::Global;
 
 /// The numbers of the constraints that the held steps' answer was found to rest on, in rising order, and none where it is open. It answers
@@ -28,29 +28,29 @@ pub fn core_numbers(alloc: Global, model: &Model, held: Held) -> Result<Vec<u64>
         return Ok(Vec::new(alloc));
     }
     let kept = trimmed_steps(alloc, model, held)?;
-    let numbers = cited_by(alloc, &kept.steps)?;
+    let numbers = cited_by(alloc, &kept)?;
     Ok(numbers)
 }
 
 /// The numbers of the constraints that the steps infer from, each once, in rising order.
-fn cited_by(alloc: Global, steps: &Script) -> Result<Vec<u64>, Memory>
-    ensures cited { IfOk result (λ numbers. (number : ℕ) → Contains numbers.items number ↔ Contains (filter_map constraint_of steps.now) number) }
+fn cited_by(alloc: Global, kept: &Kept) -> Result<Vec<u64>, Memory>
+    ensures cited { IfOk result (λ numbers. (number : ℕ) → Contains numbers.items number ↔ Contains (filter_map constraint_of (steps_in kept.now)) number) }
     ensures rising { IfOk result (λ numbers. IsStrictlyIncreasing numbers.items) }
 {
-    let mut numbers = numbers_in(alloc, steps)?;
+    let mut numbers = numbers_in(alloc, kept)?;
     numbers.sort_unstable();
     numbers.dedup();
     Ok(numbers)
 }
 
 /// The number of the constraint of each step that infers from one.
-fn numbers_in(alloc: Global, steps: &Script) -> Result<Vec<u64>, Memory>
-    ensures { IfOk result (λ numbers. numbers.items ≡ filter_map constraint_of steps.now) }
+fn numbers_in(alloc: Global, kept: &Kept) -> Result<Vec<u64>, Memory>
+    ensures { IfOk result (λ numbers. numbers.items ≡ filter_map constraint_of (steps_in kept.now)) }
 {
     let mut numbers = Vec::new(alloc);
-    for place in 0..steps.len() {
+    for place in 0..kept.len() {
         // Not reached: there is a step at the place.
-        let Some(step) = steps.get(alloc, place)? else {
+        let Some(step) = kept.get(alloc, place)? else {
             return Ok(numbers);
         };
         push_number(&step, &mut numbers)?;

@@ -1,2 +1,3 @@
 mod TrialLemmas
 mod TrimLemmas
+mod WriteLemmas

@@ -1,5 +1,5 @@
 -- What the steps that are left make of a whole certificate, and what a fault leaves.
-use Rattle.std.proofs.Common.{◌≡◌, ℕ, Bool, List, ℤ, length, Option, Some, Err, IfSome, sym, ap, subst, ◌∙◌, inl, inr}
+use Rattle.std.proofs.Common.{◌≡◌, ℕ, List, ℤ, length, Option, Some, Err, IfSome, refl, sym, subst, inl, inr}
 use Rattle.std.proofs.KnownBytes.{Keeps-refl}
 use Rattle.fzn_streams.specs.Output.{AppendsFront}
 use Rattle.fzn_meaning.specs.declared.model.Model.{Model}
@@ -8,9 +8,9 @@ use Rattle.fzn_meaning.specs.WellFormed.{IsWellFormed}
 use Rattle.fzn_reading.specs.declared.fault.ModelFault.{ModelFault}
 use Rattle.fzn_reading.specs.declared.fault.ModelFault.TheVariants as reading
 use Rattle.fzn_reading.specs.Reads.{Answers}
+use Rattle.fzn_cert.specs.declared.step.Step.{Step}
 use Rattle.fzn_cert.specs.declared.step.Version.TheVariants.{Two}
-use Rattle.fzn_cert.specs.Accepted.{past_of}
-use Rattle.fzn_cert.specs.Verdict.{accepted, MayEnd, VerdictOn}
+use Rattle.fzn_cert.specs.Verdict.{accepted, VerdictOn}
 use Rattle.fzn_cert.proofs.SoundLaws.{accepted-proper, closed-exhausted}
 use Rattle.fzn_checker.specs.declared.fault.CheckFault.{CheckFault}
 use Rattle.fzn_checker.specs.declared.fault.CheckFault.TheVariants.{File, Refused, NotVersionOne, Memory, Read, WriteOutput, WriteCert}
@@ -27,16 +27,11 @@ use Rattle.fzn_trim.specs.Written.{IsWriteFault}
 
 module _ (file cert : Option (List ℕ)) (model : Model) (states : States file model) where
   -- the certificate of the steps that are left
-  pub trims-of : (held kept : Held) (trimmed : Trimmed) → IsWellFormed model → IsHeld model cert held → IsTrimOf model held kept → trimmed.steps ≡ length held.steps → trimmed.kept ≡ length kept.steps
-      → Trims file cert (certificate_of model Two kept.steps kept.closed) trimmed
+  pub trims-of : (held : Held) (kept : List Step) (trimmed : Trimmed) → IsWellFormed model → IsHeld model cert held → IsTrimOf model held kept → trimmed.steps ≡ length held.steps → trimmed.kept ≡ length kept
+      → Trims file cert (certificate_of model Two kept held.closed) trimmed
   trims-of held kept trimmed wf is_held trim steps count =
-      let bytes = certificate_of model Two kept.steps kept.closed in
-      let new : IsCertificate model Two (Some bytes) kept.steps held.closed = record {
-        sized = is_held.certificate.sized;
-        spelled = trim.lines;
-        text = ap (λ (b : Bool). certificate_of model Two kept.steps b) trim.closed;
-      } in
-      let same : (past_of model kept.steps).solutions ≡ held.solutions.items = sym trim.stands.found ∙ trim.found in
+      let bytes = certificate_of model Two kept held.closed in
+      let new : IsCertificate model Two (Some bytes) kept held.closed = record { sized = is_held.certificate.sized; spelled = trim.lines; text = refl } in
       record {
         model = model;
         found = held.solutions.items;
@@ -48,12 +43,12 @@ module _ (file cert : Option (List ℕ)) (model : Model) (states : States file m
           proper = subst (IsProper model) (sym is_held.stands.found) (accepted-proper model held.steps wf is_held.stands.accepted);
           exhausted = λ closed. subst (IsExhausted model) (sym is_held.stands.found) (closed-exhausted model held.steps wf is_held.stands.accepted (is_held.stands.may_end closed));
         };
-        verdict = subst (λ (found : List (List ℤ)). VerdictOn model (Some bytes) (accepted found held.closed)) same
-            (certificate-accepted model Two (Some bytes) kept.steps held.closed new trim.stands.accepted (subst (λ (b : Bool). MayEnd (past_of model kept.steps) b) trim.closed trim.stands.may_end));
+        verdict = subst (λ (found : List (List ℤ)). VerdictOn model (Some bytes) (accepted found held.closed)) trim.found
+            (certificate-accepted model Two (Some bytes) kept held.closed new trim.accepted trim.may_end);
         version = is_held.version;
         steps = held.steps;
         old = is_held.certificate;
-        kept = kept.steps;
+        kept = kept;
         new = new;
         fewer = trim.fewer;
         counts = (steps, count);

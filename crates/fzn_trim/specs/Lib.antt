@@ -1,3 +1,4 @@
 pub mod Kept
+pub mod Planned
 pub mod Trimmed
 pub mod Written

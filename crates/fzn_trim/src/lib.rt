@@ -6,9 +6,11 @@
 //! one is refused the old steps are written in place of all. Proved against `specs/Trimmed.antt`, in the words of `fzn_cert`'s `Verdict`.
 #![tactic(auto)]
 
+pub use kept::Kept;
 pub use trial::trimmed_steps;
 pub use trimming::{Trimmed, trim, trim_tracked};
 
+mod kept;
 mod plan;
 mod trial;
 mod trimming;

@@ -1,4 +1,11 @@
-// Which steps of a certificate its answer rests on. Nothing is promised of what is found here: whoever takes it tests what it makes.
+// Which steps of a certificate its answer rests on. Nothing is promised of what is found here: whoever takes it tests the steps of its lines.
+ghost use Rattle.std.specs.Prelude.{◌≡◌, ◌-◌, List, [], length, slice_get, map, IfOk};
+ghost use Rattle.fzn_cert.specs.declared.step.Step.{Step};
+ghost use Rattle.fzn_cert.specs.declared.step.Step.TheVariants.{Delete};
+ghost use Rattle.fzn_cert.specs.declared.step.Version.TheVariants.{Two};
+ghost use Rattle.fzn_cert.specs.Spelling.{IsSpelled};
+ghost use Rattle.fzn_trim.specs.Planned.{new_number, renumbered, planned_step, planned, MayStand};
+
 use fzn_cert::Step;
 use fzn_cert_reader::Script;
 use fzn_checker::Held;
@@ -11,31 +18,61 @@ use std::mem;
 /// So many clauses are deleted in one line, which keeps its limit then.
 const MOST_DELETED: usize = 200_000;
 
-/// What a trimmed certificate has in its next line.
-#[derive(Drop)]
+/// A line of a trimmed certificate.
+#[derive(Clone, Copy)]
 pub enum Line {
     /// The step at this place of the certificate, with other numbers for the clauses that it cites.
     Keep { place: usize },
-    /// A deletion of the clauses of these steps.
-    Delete { ids: Items<u64> },
+    /// The deletion at this place of those that the plan adds.
+    Deletion { place: usize },
 }
 
-/// A deletion of a trimmed certificate.
-#[derive(Drop)]
-pub struct Deletion {
-    /// It stands behind those of the first so many steps that stay.
-    pub after: usize,
-    /// The numbers of the lines whose clauses are deleted.
-    pub ids: Items<u64>,
-}
-
-/// The lines of a trimmed certificate: of each step that stays, and the deletions between them.
+/// The lines of a trimmed certificate, over the steps of the old one: those that stay, and the deletions between them.
 #[derive(Drop)]
 pub struct Plan {
+    /// In order.
+    pub lines: Vec<Line>,
     /// The number of each step's line, and 0 where it has none.
     pub numbers: Vec<u64>,
-    /// In order.
-    pub deletions: Vec<Deletion>,
+    /// The numbers of the lines whose clauses each deletion gives up.
+    pub deletions: Vec<Items<u64>>,
+}
+
+impl Plan {
+    /// How many steps the lines have.
+    pub fn len(&self) -> usize
+        ensures { (held : List Step) → result ≡ length (planned self.now held) }
+    {
+        self.lines.len()
+    }
+
+    /// The step of the line at this place, and none behind the last. It answers `Err` where memory runs out.
+    pub fn get(&self, alloc: Global, held: &Script, place: usize) -> Result<Option<Step>, Memory>
+        ensures { IfOk result (λ found. found ≡ slice_get (planned self.now held.now) place) }
+    {
+        match self.lines.get(place) {
+            None => Ok(None),
+            Some(line) => Ok(Some(self.step(alloc, held, *line)?)),
+        }
+    }
+
+    /// The step of a line. Where none is held at its place, it is a deletion of nothing, which no version spells. It answers `Err` where
+    /// memory runs out.
+    pub fn step(&self, alloc: Global, held: &Script, line: Line) -> Result<Step, Memory>
+        ensures value { IfOk result (λ step. step ≡ planned_step self.now held.now line) }
+        ensures spelled { IfOk result (λ step. MayStand step → IsSpelled Two step) }
+    {
+        match line {
+            Line::Keep { place } => match held.get(alloc, place)? {
+                None => Ok(nothing(alloc)),
+                Some(step) => renumbered(alloc, step, &self.numbers),
+            },
+            Line::Deletion { place } => match self.deletions.get(place) {
+                None => Ok(nothing(alloc)),
+                Some(ids) => deletion(alloc, ids.as_slice()),
+            },
+        }
+    }
 }
 
 /// The lines of a certificate with all solutions of this one, and those of its other steps that its first empty clause rests on. It
@@ -54,13 +91,56 @@ pub fn planned_lines(alloc: Global, model: &Model, held: &Held) -> Result<Plan, 
         }
     }
     Ok(Plan {
+        lines: writing.lines,
         numbers: writing.numbers,
         deletions: writing.deletions,
     })
 }
 
+/// A deletion of nothing.
+fn nothing(alloc: Global) -> Step
+    ensures { result ≡ Delete [] }
+{
+    Step::Delete {
+        ids: Items::new(alloc),
+    }
+}
+
+/// A deletion of these clauses.
+fn deletion(alloc: Global, ids: &[u64]) -> Result<Step, Memory>
+    ensures { IfOk result (λ step. step ≡ Delete ids.now) }
+{
+    let ids = Items::from_slice(alloc, ids)?;
+    Ok(Step::Delete { ids })
+}
+
+/// The step with the new numbers of the clauses that it cites.
+fn renumbered(alloc: Global, step: Step, numbers: &[u64]) -> Result<Step, Memory>
+    ensures { IfOk result (λ new. new ≡ renumbered numbers.now step) }
+{
+    match step {
+        Step::Resolve { clause, ids } => {
+            let ids = new_numbers(alloc, numbers, ids.as_slice())?;
+            Ok(Step::Resolve { clause, ids })
+        }
+        _ => Ok(step),
+    }
+}
+
+fn new_numbers(alloc: Global, numbers: &[u64], ids: &[u64]) -> Result<Items<u64>, Memory>
+    ensures { IfOk result (λ new. new ≡ map (new_number numbers.now) ids.now) }
+{
+    let mut new = Items::new(alloc);
+    for id in ids {
+        new.push(new_number(numbers, *id))?;
+    }
+    Ok(new)
+}
+
 /// The number of the line in which the step with this number stands.
-pub fn new_number(numbers: &[u64], id: u64) -> u64 {
+fn new_number(numbers: &[u64], id: u64) -> u64
+    ensures { result ≡ new_number numbers.now id }
+{
     match numbers.get(place_of(id)) {
         Some(number) => *number,
         None => 0,
@@ -195,7 +275,9 @@ fn mark_cited(needed: &mut [bool], ids: &[u64]) {
 }
 
 /// The place of the step with this number.
-fn place_of(id: u64) -> usize {
+fn place_of(id: u64) -> usize
+    ensures { result ≡ id - 1 }
+{
     id.saturating_sub(1) as usize
 }
 
@@ -225,11 +307,10 @@ fn note_uses(uses: &mut [usize], place: usize, ids: &[u64]) {
 #[derive(Drop)]
 struct Writing {
     alloc: Global,
-    deletions: Vec<Deletion>,
+    lines: Vec<Line>,
     /// The number of each step's line so far, and 0 where it has none.
     numbers: Vec<u64>,
-    /// How many lines there are.
-    written: u64,
+    deletions: Vec<Items<u64>>,
     /// The clauses that no later step cites and that are not deleted yet.
     waiting: Vec<u64>,
     /// They wait until they are as many.
@@ -244,9 +325,9 @@ impl Writing {
         let left = steps.saturating_sub(kept);
         Writing {
             alloc,
-            deletions: Vec::new(alloc),
+            lines: Vec::new(alloc),
             numbers: Vec::new(alloc),
-            written: 0,
+            deletions: Vec::new(alloc),
             waiting: Vec::new(alloc),
             fewest: fewest_deleted(kept, left),
             left,
@@ -255,8 +336,9 @@ impl Writing {
 
     /// Writes the step of the next place.
     fn keep(&mut self) -> Result<(), Memory> {
-        self.written = self.written.saturating_add(1);
-        self.numbers.push(self.written)?;
+        let place = self.numbers.len();
+        self.lines.push(Line::Keep { place })?;
+        self.numbers.push(self.lines.len() as u64)?;
         Ok(())
     }
 
@@ -286,10 +368,9 @@ impl Writing {
         for ids in waiting.chunks(MOST_DELETED) {
             if self.left > 0 {
                 self.left -= 1;
-                let after = self.numbers.len();
-                let ids = Items::from_slice(self.alloc, ids)?;
-                self.deletions.push(Deletion { after, ids })?;
-                self.written = self.written.saturating_add(1);
+                let place = self.deletions.len();
+                self.lines.push(Line::Deletion { place })?;
+                self.deletions.push(Items::from_slice(self.alloc, ids)?)?;
             }
         }
         Ok(())

@@ -61,10 +61,11 @@ pub fn trim_tracked<R: TrackedRead, C: TrackedRead + Drop, W: TrackedWrite>(
     let model = read_model(alloc, file)?;
     let held = hold_certificate(alloc, &model, cert)?;
     let steps = held.steps.len();
+    let closed = held.closed;
     let kept = trimmed_steps(alloc, &model, held)?;
-    write_certificate(alloc, &model, &kept, new)?;
+    write_certificate(alloc, &model, &kept, closed, new)?;
     Ok(Trimmed {
         steps,
-        kept: kept.steps.len(),
+        kept: kept.len(),
     })
 }

@@ -1,27 +1,33 @@
 // A certificate of version 2 written from its steps.
 ghost use Rattle.std.specs.Prelude.{◌≡◌, ◌++◌, IfErr};
-ghost use Rattle.fzn_streams.specs.Output.{Puts, IsDue};
+ghost use Rattle.fzn_streams.specs.Output.{Puts};
 ghost use Rattle.fzn_cert.specs.declared.step.Version.TheVariants.{Two};
-ghost use Rattle.fzn_cert.specs.Spelling.{end_line};
+ghost use Rattle.fzn_cert.specs.Spelling.{end_line, step_line};
 ghost use Rattle.fzn_cert.specs.Verdict.{lines_of};
 ghost use Rattle.fzn_checker.specs.Held.{certificate_of};
+ghost use Rattle.fzn_trim.specs.Kept.{steps_in};
+ghost use Rattle.fzn_trim.specs.Planned.{planned};
 ghost use Rattle.fzn_trim.specs.Written.{IsWriteFault, IsWriteDue};
 
-use fzn_cert::{Version, header_of, put_end};
-use fzn_checker::{CheckFault, Held};
+use crate::kept::Kept;
+use crate::plan::Plan;
+use fzn_cert::{Step, Version, header_of, push_step, put_end};
+use fzn_cert_reader::Script;
+use fzn_checker::CheckFault;
 use fzn_meaning::Model;
 use fzn_streams::{TrackedWrite, WriteFailed, put};
 use std::alloc::Global;
 
-/// Writes a certificate of version 2 with these steps and this ending. It answers `Memory` where memory runs out, and nothing is written
-/// then; and `WriteCert` only where a write or the flush of `new` failed, and a beginning of the certificate stands then.
+/// Writes a certificate of version 2 with these steps and this ending, each step as it is made. It answers `Memory` where memory runs out,
+/// and `WriteCert` only where a write or the flush of `new` failed, and a beginning of the certificate stands then.
 pub fn write_certificate<W: TrackedWrite>(
     alloc: Global,
     model: &Model,
-    kept: &Held,
+    kept: &Kept,
+    closed: bool,
     new: &mut W,
 ) -> Result<(), CheckFault>
-    ensures text { Puts (W.contents new.old) (W.contents new.new) result (certificate_of model.now Two kept.now.steps kept.now.closed) }
+    ensures text { Puts (W.contents new.old) (W.contents new.new) result (certificate_of model.now Two (steps_in kept.now) closed) }
     ensures fault { IfErr result IsWriteFault }
     ensures due { IfErr result (IsWriteDue (W.has_failed new.new)) }
     ensures same_stream { W.stream new.new ≡ W.stream new.old }
@@ -31,19 +37,95 @@ pub fn write_certificate<W: TrackedWrite>(
     let Ok(header) = header_of(alloc, Version::Two, variables, constraints) else {
         return Err(CheckFault::Memory);
     };
-    match put_lines(new, header.as_bytes(), kept) {
+    put_lines(alloc, header.as_bytes(), kept, closed, new)
+}
+
+/// Writes the first two lines, those of the steps and the last one, and flushes the writer.
+#[tactic(auto, using(fzn_streams::proofs::CallerLemmas::puts))]
+fn put_lines<W: TrackedWrite>(
+    alloc: Global,
+    header: &[u8],
+    kept: &Kept,
+    closed: bool,
+    new: &mut W,
+) -> Result<(), CheckFault>
+    ensures text { Puts (W.contents new.old) (W.contents new.new) result (header.now ++ (lines_of (steps_in kept.now) ++ end_line closed)) }
+    ensures fault { IfErr result IsWriteFault }
+    ensures due { IfErr result (IsWriteDue (W.has_failed new.new)) }
+    ensures same_stream { W.stream new.new ≡ W.stream new.old }
+{
+    put_text(new, header)?;
+    put_steps(alloc, kept, new)?;
+    put_ending(new, closed)
+}
+
+/// Writes the lines of the steps.
+fn put_steps<W: TrackedWrite>(alloc: Global, kept: &Kept, new: &mut W) -> Result<(), CheckFault>
+    ensures text { Puts (W.contents new.old) (W.contents new.new) result (lines_of (steps_in kept.now)) }
+    ensures fault { IfErr result IsWriteFault }
+    ensures due { IfErr result (IsWriteDue (W.has_failed new.new)) }
+    ensures same_stream { W.stream new.new ≡ W.stream new.old }
+{
+    match &kept.plan {
+        None => put_text(new, kept.held.text()),
+        Some(plan) => put_planned(alloc, &kept.held, plan, new),
+    }
+}
+
+/// Writes the lines of a plan.
+fn put_planned<W: TrackedWrite>(
+    alloc: Global,
+    held: &Script,
+    plan: &Plan,
+    new: &mut W,
+) -> Result<(), CheckFault>
+    ensures text { Puts (W.contents new.old) (W.contents new.new) result (lines_of (planned plan.now held.now)) }
+    ensures fault { IfErr result IsWriteFault }
+    ensures due { IfErr result (IsWriteDue (W.has_failed new.new)) }
+    ensures same_stream { W.stream new.new ≡ W.stream new.old }
+{
+    for place in 0..plan.lines.len() {
+        let step = plan.step(alloc, held, plan.lines[place])?;
+        put_step(alloc, &step, new)?;
+    }
+    Ok(())
+}
+
+/// Writes the line of a step.
+fn put_step<W: TrackedWrite>(alloc: Global, step: &Step, new: &mut W) -> Result<(), CheckFault>
+    ensures text { Puts (W.contents new.old) (W.contents new.new) result (step_line step.now) }
+    ensures fault { IfErr result IsWriteFault }
+    ensures due { IfErr result (IsWriteDue (W.has_failed new.new)) }
+    ensures same_stream { W.stream new.new ≡ W.stream new.old }
+{
+    let mut line = String::new(alloc);
+    push_step(&mut line, step)?;
+    line.push_str("\n")?;
+    put_text(new, line.as_bytes())
+}
+
+/// Writes the last line, and flushes the writer.
+fn put_ending<W: TrackedWrite>(new: &mut W, closed: bool) -> Result<(), CheckFault>
+    ensures text { Puts (W.contents new.old) (W.contents new.new) result (end_line closed) }
+    ensures fault { IfErr result IsWriteFault }
+    ensures due { IfErr result (IsWriteDue (W.has_failed new.new)) }
+    ensures same_stream { W.stream new.new ≡ W.stream new.old }
+{
+    match put_end(new, closed) {
         Ok(()) => Ok(()),
         Err(WriteFailed) => Err(CheckFault::WriteCert),
     }
 }
 
-/// Writes the first two lines, those of the steps and the last one, and flushes the writer.
-#[tactic(auto, using(fzn_streams::proofs::CallerLemmas::puts))]
-fn put_lines<W: TrackedWrite>(new: &mut W, header: &[u8], kept: &Held) -> Result<(), WriteFailed>
-    ensures text { Puts (W.contents new.old) (W.contents new.new) result (header.now ++ (lines_of kept.now.steps ++ end_line kept.now.closed)) }
-    ensures due { IsDue W.stream W.has_failed new.old new.new result }
+/// Writes the bytes.
+fn put_text<W: TrackedWrite>(new: &mut W, bytes: &[u8]) -> Result<(), CheckFault>
+    ensures text { Puts (W.contents new.old) (W.contents new.new) result bytes.now }
+    ensures fault { IfErr result IsWriteFault }
+    ensures due { IfErr result (IsWriteDue (W.has_failed new.new)) }
+    ensures same_stream { W.stream new.new ≡ W.stream new.old }
 {
-    put(new, header)?;
-    put(new, kept.steps.text())?;
-    put_end(new, kept.closed)
+    match put(new, bytes) {
+        Ok(()) => Ok(()),
+        Err(WriteFailed) => Err(CheckFault::WriteCert),
+    }
 }

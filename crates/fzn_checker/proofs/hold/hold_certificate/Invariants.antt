@@ -7,15 +7,15 @@ use Rattle.fzn_checker.specs.Held.{HasTaken}
 use Rattle.fzn_checker.proofs.HoldLemmas.{AreSpelled}
 use Rattle.fzn_checker.proofs.hold.hold_certificate.Given as goal
 
-abbrev pub invariant-loop-taken : goal.invariant-loop-taken
-invariant-loop-taken g l = record {
+abbrev pub invariant-loop-steps : goal.invariant-loop-steps
+invariant-loop-steps g l = record {
   midway : IsMidway l.model l.taken.history (progress g.C.Read.remaining l.cert);
   line : l.line ≡ (progress g.C.Read.remaining l.cert).steps + 3;
   goes_on : (outcome : Outcome) → Standing l.model l.taken.history (progress g.C.Read.remaining l.cert) outcome → VerdictOn l.model (progress g.C.Read.remaining l.fn.cert).left outcome;
-  taken : HasTaken l.model l.taken;
-  read : HasRead (progress g.C.Read.remaining l.fn.cert).left (progress g.C.Read.remaining l.cert) l.taken.steps;
-  spelled : AreSpelled (progress g.C.Read.remaining l.cert) l.taken.steps;
+  taken : HasTaken l.model l.steps l.taken;
+  read : HasRead (progress g.C.Read.remaining l.fn.cert).left (progress g.C.Read.remaining l.cert) l.steps;
+  spelled : AreSpelled (progress g.C.Read.remaining l.cert) l.steps;
 }
 
-abbrev pub decreases-loop-taken : goal.decreases-loop-taken
-decreases-loop-taken g l = LAST_STEP - (progress g.C.Read.remaining l.cert).steps
+abbrev pub decreases-loop-steps : goal.decreases-loop-steps
+decreases-loop-steps g l = LAST_STEP - (progress g.C.Read.remaining l.cert).steps

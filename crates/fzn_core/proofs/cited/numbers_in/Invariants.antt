@@ -1,7 +1,8 @@
 use Rattle.std.proofs.Common.{◌≡◌, take}
 use Rattle.std.specs.List.{filter_map}
+use Rattle.fzn_trim.specs.Kept.{steps_in}
 use Rattle.fzn_core.specs.Core.{constraint_of}
 use Rattle.fzn_core.proofs.cited.numbers_in.Given as goal
 
 abbrev pub invariant-loop-place : goal.invariant-loop-place
-invariant-loop-place l = l.numbers.items ≡ filter_map constraint_of (take l.place l.steps)
+invariant-loop-place l = l.numbers.items ≡ filter_map constraint_of (take l.place (steps_in l.kept))

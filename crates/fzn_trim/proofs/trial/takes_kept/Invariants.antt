@@ -1,7 +1,0 @@
-use Rattle.fzn_cert.specs.declared.step.Version.TheVariants.{Two}
-use Rattle.fzn_cert.specs.Verdict.{AllHaveLines}
-use Rattle.fzn_checker.specs.Held.{HasTaken}
-use Rattle.fzn_trim.proofs.trial.takes_kept.Given as goal
-
-abbrev pub invariant-loop-place : goal.invariant-loop-place
-invariant-loop-place l = HasTaken l.model l.taken × AllHaveLines Two 0 l.taken.steps

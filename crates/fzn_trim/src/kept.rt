@@ -1,0 +1,40 @@
+// The steps of a trimmed certificate.
+ghost use Rattle.std.specs.Prelude.{◌≡◌, length, slice_get, IfOk};
+ghost use Rattle.fzn_trim.specs.Kept.{steps_in};
+
+use crate::plan::Plan;
+use fzn_cert::Step;
+use fzn_cert_reader::Script;
+use fzn_domain::Memory;
+use std::alloc::Global;
+
+/// The steps of a trimmed certificate, in order. They are made one by one from the steps of the old one, which alone are held.
+#[derive(Drop)]
+pub struct Kept {
+    /// The steps of the old certificate.
+    pub held: Script,
+    /// What is made of them, and none where they all stay as they are.
+    pub plan: Option<Plan>,
+}
+
+impl Kept {
+    /// How many steps there are.
+    pub fn len(&self) -> usize
+        ensures { result ≡ length (steps_in self.now) }
+    {
+        match &self.plan {
+            None => self.held.len(),
+            Some(plan) => plan.len(),
+        }
+    }
+
+    /// The step at this place, counted from 0, and none behind the last. It answers `Err` where memory runs out.
+    pub fn get(&self, alloc: Global, place: usize) -> Result<Option<Step>, Memory>
+        ensures { IfOk result (λ found. found ≡ slice_get (steps_in self.now) place) }
+    {
+        match &self.plan {
+            None => self.held.get(alloc, place),
+            Some(plan) => plan.get(alloc, &self.held, place),
+        }
+    }
+}
