@@ -1,5 +1,5 @@
 -- Steps that are held as the text of their lines are read again.
-use Rattle.std.proofs.Common.{◌≡◌, ℕ, zero, suc, ◌+◌, ◌-◌, ◌<◌, ◌≤◌, List, [], ◌∷◌, ◌++◌, length, get_or, Option, None, refl, sym, ap, ap₂, subst, ◌∙◌, arith, inl, inr, append_assoc, append-nil, length-append}
+use Rattle.std.proofs.Common.{◌≡◌, ℕ, zero, suc, ◌+◌, ◌-◌, ◌<◌, ◌≤◌, List, [], ◌∷◌, ◌++◌, length, get_or, Option, Some, None, refl, sym, ap, ap₂, subst, ◌∙◌, arith, inl, inr, append_assoc, append-nil, length-append}
 use Rattle.std.specs.Prelude.{slice_range, slice_get}
 use Rattle.std.specs.List.{AllByRecursion, filter_map}
 use Rattle.std.proofs.Math.Seq.{take-append_seam, drop-append_seam}
@@ -129,6 +129,7 @@ pub record IsRead (text : List ℕ) (start end : ℕ) (found : Option Step) : Ty
   pub forth : start < end
   pub within : end ≤ length text
   pub is : step_of Two (slice_range text start (end - 1)) ≡ found
+  pub spells : (step : Step) × (found ≡ Some step) × (slice_range text start (end - 1) ≡ step_text step)
 
 spelled-each : (steps : List Step) (i : ℕ) (d : Step) → AllByRecursion (IsSpelled Two) steps → i < length steps → IsSpelled Two (get_or steps i d)
 spelled-each [] i d h lt = absurd (omega (arith, lt))
@@ -153,6 +154,7 @@ module _ (text ends : List ℕ) (steps : List Step) (script : IsScript text ends
         forth = line.forth;
         within = line.within;
         is = ap (λ (t : List ℕ). step_of Two t) line.is ∙ text_again Two (get_or steps i d) (spelled-each steps i d script-viewed.spelled below) ∙ sym (slice_get-get_or steps i d below);
+        spells = (get_or steps i d, slice_get-get_or steps i d below, line.is);
       }))
 
   pub none-behind : (i : ℕ) → length ends ≤ i → slice_get steps i ≡ None

@@ -83,19 +83,10 @@ impl Script {
         }
     }
 
-    /// How many bytes the line of the step at this place has, without its line feed.
-    pub fn line_len(&self, place: usize) -> usize
-        ensures { (step : Step) → slice_get self.now place ≡ Some step → result ≡ length (step_text step) }
-    {
-        match self.line(place) {
-            Some(line) => line.len(),
-            None => 0,
-        }
-    }
-
-    /// The line of the step at this place, without its line feed.
-    fn line(&self, place: usize) -> Option<&[u8]>
+    /// The line of the step at this place, without its line feed, and none behind the last.
+    pub fn line(&self, place: usize) -> Option<&[u8]>
         ensures some { IfSome result (λ line. step_of Two line.now ≡ slice_get self.now place) }
+        ensures text { IfSome result (λ line. (step : Step) × (slice_get self.now place ≡ Some step) × (line.now ≡ step_text step)) }
         ensures none { IfNone result (slice_get self.now place ≡ None) }
     {
         let end = *self.ends.get(place)?;

@@ -1,11 +1,13 @@
 -- Steps that stand the test of a plan.
-use Rattle.std.proofs.Common.{◌≡◌, ℕ, ◌+◌, ◌<◌, ◌≤◌, List, [], ◌∷◌, ◌++◌, length, refl, sym, subst, ap, ◌∙◌, arith, ◌==◌, not}
+use Rattle.std.proofs.Common.{◌≡◌, ℕ, ◌+◌, ◌<◌, ◌≤◌, List, [], ◌∷◌, ◌++◌, length, refl, sym, subst, ap, ◌∙◌, arith, ◌==◌, not, false}
+use Rattle.std.specs.Prelude.{slice_index}
 use Rattle.std.proofs.lemmas.List.Elements.{recursion_from_All}
+use Rattle.fzn_domain.specs.declared.literal.Lit.{Lit}
 use Rattle.fzn_meaning.specs.declared.model.Model.{Model}
 use Rattle.fzn_cert.specs.declared.step.Step.{Step}
 use Rattle.fzn_cert.specs.declared.step.Step.TheVariants.{Infer, Resolve, Solution, Delete}
 use Rattle.fzn_cert.specs.declared.step.Version.TheVariants.{Two}
-use Rattle.fzn_cert.specs.Spelling.{IsNumber, IsSpelled, HasLine}
+use Rattle.fzn_cert.specs.Spelling.{spaced, step_text, IsNumber, IsSpelled, HasLine}
 use Rattle.fzn_cert.specs.Reading.{ids_rise}
 use Rattle.fzn_cert.specs.Past.{Past}
 use Rattle.fzn_cert.specs.Verdict.{AllHaveLines, MayEnd}
@@ -31,6 +33,22 @@ renumbered-spelled numbers (Infer constraint rule clause) spelled may = spelled
 renumbered-spelled numbers (Resolve clause ids) spelled may = (spelled.0, recursion_from_All IsNumber _ may)
 renumbered-spelled numbers (Solution values) spelled may = spelled
 renumbered-spelled numbers (Delete ids) spelled may = spelled
+
+-- the line of a step from clauses begins so
+begins-so : (clause : List Lit) (ids : List ℕ) → slice_index (step_text (Resolve clause ids)) 0 ≡ 114
+unfolding spaced
+begins-so [] ids = refl
+begins-so (lit ∷ clause) ids = refl
+
+-- and each step of another line stays as it is
+pub stays : (numbers : List ℕ) (step : Step) (text : List ℕ) → text ≡ step_text step → (slice_index text 0 == 114) ≡ false → text ≡ step_text (renumbered numbers step)
+stays numbers (Infer constraint rule clause) text is test = is
+stays numbers (Resolve clause ids) text is test =
+    let first : slice_index text 0 ≡ 114 = ap (λ (t : List ℕ). slice_index t 0) is ∙ begins-so clause ids in
+    let same : (114 == 114) ≡ false = subst (λ (n : ℕ). (n == 114) ≡ false) first test in
+    cc
+stays numbers (Solution values) text is test = is
+stays numbers (Delete ids) text is test = is
 
 -- ---- one line more
 

@@ -1,9 +1,9 @@
 // Which steps of a certificate its answer rests on. Nothing is promised of what is found here: whoever takes it tests the steps of its lines.
-ghost use Rattle.std.specs.Prelude.{◌≡◌, ◌-◌, List, [], length, slice_get, map, IfOk};
+ghost use Rattle.std.specs.Prelude.{◌≡◌, ◌==◌, ◌-◌, ℕ, List, [], length, map, slice_get, slice_index, unwrap_or, IfOk, IfSome};
 ghost use Rattle.fzn_cert.specs.declared.step.Step.{Step};
 ghost use Rattle.fzn_cert.specs.declared.step.Step.TheVariants.{Delete};
 ghost use Rattle.fzn_cert.specs.declared.step.Version.TheVariants.{Two};
-ghost use Rattle.fzn_cert.specs.Spelling.{IsSpelled};
+ghost use Rattle.fzn_cert.specs.Spelling.{step_text, IsSpelled};
 ghost use Rattle.fzn_trim.specs.Planned.{new_number, renumbered, planned_step, planned, MayStand};
 
 use fzn_cert::Step;
@@ -56,6 +56,16 @@ impl Plan {
         }
     }
 
+    /// The text of a line that stays as it is, without its line feed; none of one that cites clauses, and of a deletion that the plan adds.
+    pub fn unchanged<'a>(&self, held: &'a Script, line: Line) -> Option<&'a [u8]>
+        ensures { IfSome result (λ text. text.now ≡ step_text (planned_step self.now held.now line)) }
+    {
+        match line {
+            Line::Keep { place } => line_without_ids(held, place),
+            Line::Deletion { .. } => None,
+        }
+    }
+
     /// The step of a line. Where none is held at its place, it is a deletion of nothing, which no version spells. It answers `Err` where
     /// memory runs out.
     pub fn step(&self, alloc: Global, held: &Script, line: Line) -> Result<Step, Memory>
@@ -95,6 +105,25 @@ pub fn planned_lines(alloc: Global, model: &Model, held: &Held) -> Result<Plan, 
         numbers: writing.numbers,
         deletions: writing.deletions,
     })
+}
+
+/// The text of the held step at this place, without its line feed, where it cites no clauses.
+fn line_without_ids(held: &Script, place: usize) -> Option<&[u8]>
+    ensures { IfSome result (λ text. (numbers : List ℕ) → text.now ≡ step_text (renumbered numbers (unwrap_or (slice_get held.now place) (Delete [])))) }
+{
+    let text = held.line(place)?;
+    if is_resolution(text) {
+        None
+    } else {
+        Some(text)
+    }
+}
+
+/// Whether a line is one of a step from clauses.
+fn is_resolution(line: &[u8]) -> bool
+    ensures { result ≡ (slice_index line.now 0 == 114) }
+{
+    !line.is_empty() && line[0] == b'r'
 }
 
 /// A deletion of nothing.

@@ -1,11 +1,11 @@
 // The test of a plan: the steps of its lines have to be accepted, with the same answer, and may be no more.
-ghost use Rattle.std.specs.Prelude.{◌≡◌, ◌∷◌, ◌++◌, [], List, IfOk, IsTrue};
+ghost use Rattle.std.specs.Prelude.{◌≡◌, ◌∷◌, ◌++◌, [], List, length, IfOk, IsTrue};
 ghost use Rattle.std.specs.Bool.{OnTrue};
 ghost use Rattle.std.specs.List.{All};
 ghost use Rattle.fzn_meaning.specs.WellFormed.{IsWellFormed};
 ghost use Rattle.fzn_cert.specs.declared.step.Step.{Step};
 ghost use Rattle.fzn_cert.specs.declared.step.Version.TheVariants.{Two};
-ghost use Rattle.fzn_cert.specs.Spelling.{IsNumber, HasRoom, HasLine};
+ghost use Rattle.fzn_cert.specs.Spelling.{step_text, IsNumber, HasRoom, HasLine};
 ghost use Rattle.fzn_cert.specs.Verdict.{AllHaveLines, MayEnd};
 ghost use Rattle.fzn_checker.specs.Held.{past_in, MayTake, HasTaken, Stands};
 ghost use Rattle.fzn_trim.specs.Kept.{steps_in, IsTrimOf};
@@ -78,7 +78,8 @@ fn takes(
     ensures line { IfOk result (λ goes_on. OnTrue goes_on (HasLine Two before (planned_step plan.now held.now line))) }
 {
     let step = plan.step(alloc, held, line)?;
-    if !may_stand(&step) || !has_room(alloc, &step, before)? {
+    let len = line_len(alloc, held, plan, line, &step)?;
+    if !may_stand(&step) || !has_room(len, before) {
         return Ok(false);
     }
     match taken.take(alloc, model, step)? {
@@ -104,14 +105,36 @@ fn are_numbers(ids: &[u64]) -> bool
     ids.iter().all(|id| 1 <= *id && *id <= LAST_STEP)
 }
 
-/// Whether a step may stand behind so many others: its line keeps the limit, and there are no more than `LAST_STEP` steps. It answers `Err`
-/// where memory runs out.
-fn has_room(alloc: Global, step: &Step, before: usize) -> Result<bool, Memory>
-    ensures { IfOk result (λ fits. IsTrue fits → HasRoom before step.now) }
+/// How many bytes the line of the step has, without its line feed. It answers `Err` where memory runs out.
+fn line_len(
+    alloc: Global,
+    held: &Script,
+    plan: &Plan,
+    line: Line,
+    step: &Step,
+) -> Result<usize, Memory>
+    requires { step.now ≡ planned_step plan.now held.now line }
+    ensures { IfOk result (λ len. len ≡ length (step_text step.now)) }
 {
-    let mut line = String::new(alloc);
-    push_step(&mut line, step)?;
-    Ok(line.len() <= LINE_LIMIT && (before as u64) < LAST_STEP)
+    match plan.unchanged(held, line) {
+        Some(text) => Ok(text.len()),
+        None => spelled_len(alloc, step),
+    }
+}
+
+fn spelled_len(alloc: Global, step: &Step) -> Result<usize, Memory>
+    ensures { IfOk result (λ len. len ≡ length (step_text step.now)) }
+{
+    let mut text = String::new(alloc);
+    push_step(&mut text, step)?;
+    Ok(text.len())
+}
+
+/// Whether a line of this length may stand behind so many others: it keeps the limit, and there are no more than `LAST_STEP` steps.
+fn has_room(len: usize, before: usize) -> bool
+    ensures { (step : Step) → len ≡ length (step_text step) → IsTrue result → HasRoom before step }
+{
+    len <= LINE_LIMIT && (before as u64) < LAST_STEP
 }
 
 /// Whether the steps have the solutions of those that are held, and may end as they do.

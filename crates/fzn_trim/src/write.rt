@@ -1,16 +1,16 @@
 // A certificate of version 2 written from its steps.
-ghost use Rattle.std.specs.Prelude.{◌≡◌, ◌++◌, IfErr};
+ghost use Rattle.std.specs.Prelude.{◌≡◌, ◌++◌, ◌∷◌, [], IfErr};
 ghost use Rattle.fzn_streams.specs.Output.{Puts};
 ghost use Rattle.fzn_cert.specs.declared.step.Version.TheVariants.{Two};
 ghost use Rattle.fzn_cert.specs.Spelling.{end_line, step_line};
 ghost use Rattle.fzn_cert.specs.Verdict.{lines_of};
 ghost use Rattle.fzn_checker.specs.Held.{certificate_of};
 ghost use Rattle.fzn_trim.specs.Kept.{steps_in};
-ghost use Rattle.fzn_trim.specs.Planned.{planned};
+ghost use Rattle.fzn_trim.specs.Planned.{planned, planned_step};
 ghost use Rattle.fzn_trim.specs.Written.{IsWriteFault, IsWriteDue};
 
 use crate::kept::Kept;
-use crate::plan::Plan;
+use crate::plan::{Line, Plan};
 use fzn_cert::{Step, Version, header_of, push_step, put_end};
 use fzn_cert_reader::Script;
 use fzn_checker::CheckFault;
@@ -85,10 +85,43 @@ fn put_planned<W: TrackedWrite>(
     ensures same_stream { W.stream new.new ≡ W.stream new.old }
 {
     for place in 0..plan.lines.len() {
-        let step = plan.step(alloc, held, plan.lines[place])?;
-        put_step(alloc, &step, new)?;
+        put_line(alloc, held, plan, plan.lines[place], new)?;
     }
     Ok(())
+}
+
+/// Writes a line of a plan.
+fn put_line<W: TrackedWrite>(
+    alloc: Global,
+    held: &Script,
+    plan: &Plan,
+    line: Line,
+    new: &mut W,
+) -> Result<(), CheckFault>
+    ensures text { Puts (W.contents new.old) (W.contents new.new) result (step_line (planned_step plan.now held.now line)) }
+    ensures fault { IfErr result IsWriteFault }
+    ensures due { IfErr result (IsWriteDue (W.has_failed new.new)) }
+    ensures same_stream { W.stream new.new ≡ W.stream new.old }
+{
+    match plan.unchanged(held, line) {
+        Some(text) => put_ended(new, text),
+        None => {
+            let step = plan.step(alloc, held, line)?;
+            put_step(alloc, &step, new)
+        }
+    }
+}
+
+/// Writes the text, and a line feed.
+#[tactic(auto, using(fzn_streams::proofs::CallerLemmas::puts))]
+fn put_ended<W: TrackedWrite>(new: &mut W, text: &[u8]) -> Result<(), CheckFault>
+    ensures text { Puts (W.contents new.old) (W.contents new.new) result (text.now ++ 10 ∷ []) }
+    ensures fault { IfErr result IsWriteFault }
+    ensures due { IfErr result (IsWriteDue (W.has_failed new.new)) }
+    ensures same_stream { W.stream new.new ≡ W.stream new.old }
+{
+    put_text(new, text)?;
+    put_text(new, b"\n")
 }
 
 /// Writes the line of a step.
@@ -100,8 +133,7 @@ fn put_step<W: TrackedWrite>(alloc: Global, step: &Step, new: &mut W) -> Result<
 {
     let mut line = String::new(alloc);
     push_step(&mut line, step)?;
-    line.push_str("\n")?;
-    put_text(new, line.as_bytes())
+    put_ended(new, line.as_bytes())
 }
 
 /// Writes the last line, and flushes the writer.

@@ -34,3 +34,9 @@ pub returns-clause-some : goal.returns-clause-some
 returns-clause-some c =
     ap (λ (line : List ℕ). step_of Two line) (c.line_between.ensures ∙ ap (λ (text : List ℕ). slice_range text c.start_of-start.result (c.in_ok-end.field-0.now - 1)) c.deref-2.ensures.value)
     ∙ (found (goal.at.returns-clause-some c).After-deref-2).is
+
+pub returns-clause-text : goal.returns-clause-text
+returns-clause-text c =
+    let spells = (found (goal.at.returns-clause-text c).After-deref-2).spells in
+    let line = c.line_between.ensures ∙ ap (λ (text : List ℕ). slice_range text c.start_of-start.result (c.in_ok-end.field-0.now - 1)) c.deref-2.ensures.value in
+    (spells.0, spells.1, line ∙ spells.2)
