@@ -4,9 +4,9 @@
 A model has a search annotation and one constraint, or the same a few times. Each of its decisions wakes a propagator, which is asked
 until a pass finds nothing. Each model is run with one decision and with four, and so is the same model without constraints;
 what three decisions cost more with them, divided by the passes, is printed for each size, and behind it how many passes a decision leads
-to: where these are two or more, a pass has its share of what the inferences cost beyond it, and where it is 0, as of a sum that has room, the
-figure is what a decision costs. Constraints of Booleans of a fixed number have one size. `bool_lt` has no row: it has no choice left before the first decision. Instructions and passes are counted by
-`valgrind --tool=callgrind`.
+to: where these are two or more, a pass has its share of what the inferences cost beyond it, and where it is 0, as of a sum that has room,
+the figure is what a decision costs. Constraints of Booleans of a fixed number have one size. `bool_lt` has no row: it has no choice left
+before the first decision. Instructions and passes are counted by `valgrind --tool=callgrind`.
 
     bench/propagators.py [--solve PATH] [--sizes N,N] [KIND..]
 
