@@ -13,7 +13,7 @@ mod bounds;
 mod counter;
 mod counters;
 mod order;
-mod places;
 mod queue;
+mod rank_set;
 mod sweep;
 mod watchers;

@@ -1,5 +1,5 @@
 // Which propagators of one cost are to be asked, up and down their ranks in turn.
-use crate::places::{Places, first_in, last_in};
+use crate::rank_set::{RankSet, first_in, last_in};
 use fzn_domain::Memory;
 use std::alloc::Global;
 
@@ -7,7 +7,7 @@ use std::alloc::Global;
 /// ahead of the sweep is asked in it, each behind it in the next one. So a chain of bounds is gone through once in each direction.
 #[derive(Debug, Drop)]
 pub struct Sweep {
-    waiting: Places,
+    waiting: RankSet,
     /// The rank at which the sweep is.
     at: usize,
     is_downward: bool,
@@ -17,7 +17,7 @@ impl Sweep {
     /// None of so many propagators is to be asked.
     pub fn new(alloc: Global, ranks: usize) -> Result<Sweep, Memory> {
         Ok(Sweep {
-            waiting: Places::new(alloc, ranks)?,
+            waiting: RankSet::new(alloc, ranks)?,
             at: 0,
             is_downward: false,
         })

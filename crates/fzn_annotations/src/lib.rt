@@ -7,5 +7,5 @@
 
 pub use taken::annotations_of;
 
-mod form;
 mod taken;
+mod written;

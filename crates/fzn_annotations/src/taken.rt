@@ -5,7 +5,7 @@ ghost use Rattle.fzn_domain.specs.Narrow.{IsVariable};
 ghost use Rattle.fzn_annotations.specs.Over.{IsOver};
 ghost use Rattle.fzn_annotations.specs.Taken.{count_of, StaysOver, IsSame};
 
-use crate::form::{Form, Search, form_of, name_alone};
+use crate::written::{Search, Written, name_alone, written_in};
 use fzn_domain::VarId;
 use fzn_list::{Items, Text};
 use fzn_meaning::Term;
@@ -59,9 +59,9 @@ impl Taken {
         ensures over { OnOk result (StaysOver self.old self.new) }
         ensures count { count_of self.new ≡ count_of self.old }
     {
-        match form_of(ann) {
-            Form::Search(search) => self.take_search(alloc, names, &search),
-            Form::Sequence(terms) if 0 < levels => {
+        match written_in(ann) {
+            Written::Search(search) => self.take_search(alloc, names, &search),
+            Written::Sequence(terms) if 0 < levels => {
                 for term in terms {
                     if let AnnTerm::Ann(ann) = term {
                         self.take(alloc, names, ann, levels - 1)?;

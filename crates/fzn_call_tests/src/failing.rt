@@ -80,18 +80,18 @@ fn fault_of<R: Read + Drop, W: Write, C: Write>(
 
 /// What came of a call that was to go wrong.
 #[derive(Clone, Copy, Debug, PartialEq, Eq)]
-enum Outcome {
+enum Trial {
     AsPromised,
     Otherwise,
     /// There are no so many calls, and nothing went wrong.
     NoSuchCall,
 }
 
-fn outcome_of(is_reached: bool, is_promised: bool) -> Outcome {
+fn trial_of(is_reached: bool, is_promised: bool) -> Trial {
     match (is_reached, is_promised) {
-        (_, false) => Outcome::Otherwise,
-        (true, true) => Outcome::AsPromised,
-        (false, true) => Outcome::NoSuchCall,
+        (_, false) => Trial::Otherwise,
+        (true, true) => Trial::AsPromised,
+        (false, true) => Trial::NoSuchCall,
     }
 }
 

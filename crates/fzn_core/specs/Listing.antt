@@ -5,7 +5,7 @@ use Rattle.std.specs.Fmt.{decimal}
 use Rattle.std.specs.Io.KnownBytes.{Appends, Keeps}
 use Rattle.fzn_streams.specs.Output.{AppendsFront}
 use Rattle.fzn_lexer.specs.declared.halt.Halt.TheVariants as errors
-use Rattle.fzn_lexer.specs.declared.token.Place.{Place}
+use Rattle.fzn_lexer.specs.declared.token.Position.{Position}
 use Rattle.fzn_lexer.specs.declared.token.Span.{Span}
 use Rattle.fzn_meaning.specs.declared.model.Model.{Model}
 use Rattle.fzn_reading.specs.Reads.{Reads}
@@ -22,15 +22,15 @@ use Rattle.fzn_core.specs.Core.{IsCore}
 abbrev pub labelled : List ℕ → ℕ → List ℕ
 labelled label number = label ++ decimal number
 
-abbrev pub place_text : Place → List ℕ
-place_text place = labelled (codes " line ") place.line ++ labelled (codes " column ") place.column ++ codes ": "
+abbrev pub position_text : Position → List ℕ
+position_text position = labelled (codes " line ") position.line ++ labelled (codes " column ") position.column ++ codes ": "
 
 -- the bytes of the item, and a line feed
 abbrev pub item_text : List ℕ → Span → List ℕ
 item_text bytes item = slice_range bytes item.start item.end ++ 10 ∷ []
 
 abbrev pub line_of : List ℕ → ℕ → Span → List ℕ
-line_of bytes number item = decimal number ++ place_text item.place ++ item_text bytes item
+line_of bytes number item = decimal number ++ position_text item.position ++ item_text bytes item
 
 abbrev pub line_at : List ℕ → ℕ → Option Span → List ℕ
 line_at bytes number None = []

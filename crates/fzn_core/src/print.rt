@@ -3,9 +3,9 @@ ghost use Rattle.std.specs.Prelude.{◌≡◌, ◌-◌, ◌∷◌, [], ◌++◌,
 ghost use Rattle.std.specs.List.{flat_map};
 ghost use Rattle.std.specs.Fmt.{decimal};
 ghost use Rattle.fzn_streams.specs.Output.{Puts, IsDue};
-ghost use Rattle.fzn_core.specs.Listing.{core_text, count_text, counts_text, ending_text, item_text, labelled, line_of, number_line, place_text};
+ghost use Rattle.fzn_core.specs.Listing.{core_text, count_text, counts_text, ending_text, item_text, labelled, line_of, number_line, position_text};
 
-use fzn_lexer::{Place, Span};
+use fzn_lexer::{Position, Span};
 use fzn_streams::{TrackedWrite, WriteFailed, put};
 use itoa::Buffer;
 
@@ -56,7 +56,7 @@ fn put_number_line<W: TrackedWrite>(
     }
 }
 
-/// The number, the place and the item, and a line feed.
+/// The number, the position and the item, and a line feed.
 #[tactic(auto, using(fzn_streams::proofs::CallerLemmas::puts))]
 fn put_line<W: TrackedWrite>(
     out: &mut W,
@@ -68,17 +68,17 @@ fn put_line<W: TrackedWrite>(
     ensures due { IsDue W.stream W.has_failed out.old out.new result }
 {
     put_number(out, number)?;
-    put_place(out, item.place)?;
+    put_position(out, item.position)?;
     put_item(out, bytes, item)
 }
 
 #[tactic(auto, using(fzn_streams::proofs::CallerLemmas::puts))]
-fn put_place<W: TrackedWrite>(out: &mut W, place: Place) -> Result<(), WriteFailed>
-    ensures text { Puts (W.contents out.old) (W.contents out.new) result (place_text place) }
+fn put_position<W: TrackedWrite>(out: &mut W, position: Position) -> Result<(), WriteFailed>
+    ensures text { Puts (W.contents out.old) (W.contents out.new) result (position_text position) }
     ensures due { IsDue W.stream W.has_failed out.old out.new result }
 {
-    put_labelled(out, b" line ", place.line as u64)?;
-    put_labelled(out, b" column ", place.column as u64)?;
+    put_labelled(out, b" line ", position.line as u64)?;
+    put_labelled(out, b" column ", position.column as u64)?;
     put(out, b": ")
 }
 

@@ -1,4 +1,4 @@
--- By the rule `fixed`: inputs that have one value each, and what their outcome asks of the result.
+-- By the rule `fixed`: inputs that have one value each, and what their image asks of the result.
 use Rattle.std.proofs.Common.{◌≡◌, ◌↔◌, ℕ, ◌-◌, ◌*◌, false, List, [], ◌∷◌, length, map, refl, sym, ap₂, subst, ◌∙◌, arith, ℤ, All, Option, Some, None, IfNone, IsSomeAnd, MatchOption}
 use Rattle.std.proofs.lemmas.Bool.{true≢false}
 use Rattle.std.proofs.lemmas.List.Elements.{All-head, All-tail}
@@ -19,11 +19,11 @@ use Rattle.fzn_propagator.proofs.CallerLemmas.{left_of_may, forcing_of_false, ju
 use Rattle.fzn_propagator.specs.Clause.{IsForcing, IsJustified}
 use Rattle.fzn_rules.specs.declared.rule.Rule.TheVariants.{Fixed}
 use Rattle.fzn_rules.specs.Rules.{IsMet}
-use Rattle.fzn_fixed.specs.declared.outcome.Outcome.{Outcome}
+use Rattle.fzn_fixed.specs.declared.image.Image.{Image}
 use Rattle.fzn_fixed.specs.declared.parts.Parts.{Parts}
 use Rattle.fzn_fixed.specs.Demand.{AdmitsWhere}
 use Rattle.fzn_fixed.specs.Denial.{IsOnlyLeft, IsDenial, IsDenialOr}
-use Rattle.fzn_fixed.specs.Outcome.{Admits, IsOutcome}
+use Rattle.fzn_fixed.specs.Image.{Admits, IsImage}
 use Rattle.fzn_fixed.specs.Parts.{IsReady}
 
 -- the values of the inputs on the trail
@@ -55,54 +55,54 @@ module _ (trail : Levels) (clause : List Lit) (over : IsClauseOver (length trail
         (one_choice inputs (All-tail (IsTerm (length trail.declared)) t inputs fit) (All-tail (IsOnlyLeft trail clause) t inputs only))
 
 -- no value that the clause leaves the result is admitted
-abbrev pub NoneLeft : Levels → List Lit → Option Term → Outcome → Type 0
-NoneLeft trail clause None outcome = Admits outcome None → ⊥
-NoneLeft trail clause (Some term) outcome = (v : ℤ) → IsLeft trail.declared clause term v → Admits outcome (Some v) → ⊥
+abbrev pub NoneLeft : Levels → List Lit → Option Term → Image → Type 0
+NoneLeft trail clause None image = Admits image None → ⊥
+NoneLeft trail clause (Some term) image = (v : ℤ) → IsLeft trail.declared clause term v → Admits image (Some v) → ⊥
 
 -- so no value of the denied sets relates
-none_relates : (trail : Levels) (clause : List Lit) (of : Option Term) (outcome : Outcome) (R : Option ℤ → Type 0) → IsClauseOver (length trail.declared) clause → MatchOption of (R None ↔ Admits outcome None) (λ _. (r : ℤ) → R (Some r) ↔ Admits outcome (Some r)) → NoneLeft trail clause of outcome → NoneOf (denied trail.declared clause) of R
-none_relates trail clause None outcome R over is none = λ related. none (is.0 related)
-none_relates trail clause (Some term) outcome R over is none = λ v may related. none v (left_of_may clause trail.declared term v over may) ((is v).0 related)
+none_relates : (trail : Levels) (clause : List Lit) (of : Option Term) (image : Image) (R : Option ℤ → Type 0) → IsClauseOver (length trail.declared) clause → MatchOption of (R None ↔ Admits image None) (λ _. (r : ℤ) → R (Some r) ↔ Admits image (Some r)) → NoneLeft trail clause of image → NoneOf (denied trail.declared clause) of R
+none_relates trail clause None image R over is none = λ related. none (is.0 related)
+none_relates trail clause (Some term) image R over is none = λ v may related. none v (left_of_may clause trail.declared term v over may) ((is v).0 related)
 
-declared_none : (trail : Levels) (clause : List Lit) (of : Option Term) (outcome : Outcome) → NoneOf trail.declared of (Admits outcome) → NoneLeft trail clause of outcome
-declared_none trail clause None outcome none = none
-declared_none trail clause (Some (Constant k)) outcome none = λ v left. none v (sym left)
-declared_none trail clause (Some (Variable var)) outcome none = λ v left. none v left.0
+declared_none : (trail : Levels) (clause : List Lit) (of : Option Term) (image : Image) → NoneOf trail.declared of (Admits image) → NoneLeft trail clause of image
+declared_none trail clause None image none = none
+declared_none trail clause (Some (Constant k)) image none = λ v left. none v (sym left)
+declared_none trail clause (Some (Variable var)) image none = λ v left. none v left.0
 
-literal_none : (trail : Levels) (clause : List Lit) (of : Option Term) (outcome : Outcome) (lit : Lit) → AdmitsWhere trail.declared of outcome lit → ((v : ℤ) → IsLeft trail.declared clause (Variable lit.var) v → is_true_at lit v ≡ false) → NoneLeft trail clause of outcome
-literal_none trail clause of outcome lit where_true fails =
-    subst (λ (o : Option Term). NoneLeft trail clause o outcome) (sym where_true.of_result)
+literal_none : (trail : Levels) (clause : List Lit) (of : Option Term) (image : Image) (lit : Lit) → AdmitsWhere trail.declared of image lit → ((v : ℤ) → IsLeft trail.declared clause (Variable lit.var) v → is_true_at lit v ≡ false) → NoneLeft trail clause of image
+literal_none trail clause of image lit where_true fails =
+    subst (λ (o : Option Term). NoneLeft trail clause o image) (sym where_true.of_result)
     (λ v left admitted. true≢false (sym ((where_true.admitted v left.0).0 admitted) ∙ fails v left))
 
 pub some_and : {A : Type 0} (found : Option A) (a : A) (P : A → Type 0) → found ≡ Some a → P a → IsSomeAnd found P
 some_and {A = A} found a P is h = subst (λ (o : Option A). IsSomeAnd o P) (sym is) h
 
-module _ (trail : Levels) (parts : Parts) (outcome : Outcome) (clause : List Lit) (ready : IsReady (length trail.declared) parts) (fit : All (IsTerm (length trail.declared)) parts.inputs) (is : IsOutcome parts.constraint (values_on trail parts.inputs) outcome) where
-  pub fixed_met : IsClauseOver (length trail.declared) clause → All (IsOnlyLeft trail clause) parts.inputs → NoneLeft trail clause parts.result outcome → is_some_empty (denied trail.declared clause) ≡ false → IsFixedMet parts.constraint (denied trail.declared clause)
+module _ (trail : Levels) (parts : Parts) (image : Image) (clause : List Lit) (ready : IsReady (length trail.declared) parts) (fit : All (IsTerm (length trail.declared)) parts.inputs) (is : IsImage parts.constraint (values_on trail parts.inputs) image) where
+  pub fixed_met : IsClauseOver (length trail.declared) clause → All (IsOnlyLeft trail clause) parts.inputs → NoneLeft trail clause parts.result image → is_some_empty (denied trail.declared clause) ≡ false → IsFixedMet parts.constraint (denied trail.declared clause)
   fixed_met over only none some =
       some_and (inputs_of parts.constraint) parts.inputs _ ready.parts_of.inputs (
         one_choice trail clause over some parts.inputs fit only,
         λ choice chosen.
             let C = parts.constraint in
             let same = choice_is trail clause over parts.inputs choice only chosen in
-            let last : NoneLeft trail clause (result_of C) outcome = subst (λ (of : Option Term). NoneLeft trail clause of outcome) (sym ready.parts_of.result) none in
+            let last : NoneLeft trail clause (result_of C) image = subst (λ (of : Option Term). NoneLeft trail clause of image) (sym ready.parts_of.result) none in
             subst (λ (xs : List ℤ). NoneOf (denied trail.declared clause) (result_of C) (Relates C xs)) (sym same)
-            (none_relates trail clause (result_of C) outcome (Relates C (values_on trail parts.inputs)) over is last),
+            (none_relates trail clause (result_of C) image (Relates C (values_on trail parts.inputs)) over is last),
       )
 
   -- by the rule
-  fixed_by : IsForcing trail clause → All (IsOnlyLeft trail clause) parts.inputs → NoneLeft trail clause parts.result outcome → IsJustified trail parts.constraint Fixed clause
+  fixed_by : IsForcing trail clause → All (IsOnlyLeft trail clause) parts.inputs → NoneLeft trail clause parts.result image → IsJustified trail parts.constraint Fixed clause
   unfolding IsMet
   fixed_by forcing only none =
       justified_by trail parts.constraint Fixed clause (IsFixedMet parts.constraint) (λ sets met. met) (record { forcing = forcing; met = fixed_met forcing.over only none })
 
   -- no declared value of the result is admitted
-  pub fixed_denied : NoneOf trail.declared parts.result (Admits outcome) → IsDenial trail parts.inputs clause → IsJustified trail parts.constraint Fixed clause
-  fixed_denied none denial = fixed_by (forcing_of_false trail clause denial.still) denial.only (declared_none trail clause parts.result outcome none)
+  pub fixed_denied : NoneOf trail.declared parts.result (Admits image) → IsDenial trail parts.inputs clause → IsJustified trail parts.constraint Fixed clause
+  fixed_denied none denial = fixed_by (forcing_of_false trail clause denial.still) denial.only (declared_none trail clause parts.result image none)
 
   -- those values are admitted at which the literal is true
-  pub fixed_forced : (lit : Lit) → AdmitsWhere trail.declared parts.result outcome lit → IsDenialOr trail parts.inputs lit clause → IsJustified trail parts.constraint Fixed clause
-  fixed_forced lit where_true denial = fixed_by denial.forcing denial.only (literal_none trail clause parts.result outcome lit where_true denial.literal)
+  pub fixed_forced : (lit : Lit) → AdmitsWhere trail.declared parts.result image lit → IsDenialOr trail parts.inputs lit clause → IsJustified trail parts.constraint Fixed clause
+  fixed_forced lit where_true denial = fixed_by denial.forcing denial.only (literal_none trail clause parts.result image lit where_true denial.literal)
 
 pub none_then : {X : Type 0} (o : Option X) (A B : Type 0) → IfNone o A → (A → B) → IfNone o B
 none_then None A B h so = so h

@@ -16,9 +16,9 @@ use Rattle.fzn_rules.specs.declared.rule.Rule.TheVariants as rule
 use Rattle.fzn_rules.specs.Rules.{IsMet}
 use Rattle.fzn_terms.specs.declared.claim.Claim.{Claim}
 use Rattle.fzn_terms.specs.Denied.{IsDenied, Refute}
-use Rattle.fzn_fixed.specs.declared.outcome.Outcome.{Outcome}
+use Rattle.fzn_fixed.specs.declared.image.Image.{Image}
 use Rattle.fzn_fixed.specs.declared.parts.Parts.{Parts}
-use Rattle.fzn_fixed.specs.Outcome.{Admits, IsOutcome}
+use Rattle.fzn_fixed.specs.Image.{Admits, IsImage}
 use Rattle.fzn_fixed.specs.Parts.{IsReady}
 use Rattle.fzn_fixed.proofs.MeaningLemmas.{inputs_fit}
 use Rattle.fzn_equality.proofs.CallerLemmas.{All-front, All-last}
@@ -53,9 +53,9 @@ module _ (sets : List IntSet) (filled : is_some_empty sets ≡ false) where
   same_choice (t ∷ terms) (x ∷ values) (y ∷ choice) count only is =
       ap₂ (λ (z : ℤ) (zs : List ℤ). z ∷ zs) (only 0 (omega arith) y is.0) (same_choice terms values choice (omega arith) (λ j below. only (suc j) (omega arith)) is.1)
 
-none_related : (sets : List IntSet) (of : Option Term) (outcome : Outcome) (R : Option ℤ → Type 0) → MatchOption of (R None ↔ Admits outcome None) (λ _. (r : ℤ) → R (Some r) ↔ Admits outcome (Some r)) → NoneOf sets of (Admits outcome) → NoneOf sets of R
-none_related sets None outcome R is none = λ related. none (is.0 related)
-none_related sets (Some t) outcome R is none = λ v may related. none v may ((is v).0 related)
+none_related : (sets : List IntSet) (of : Option Term) (image : Image) (R : Option ℤ → Type 0) → MatchOption of (R None ↔ Admits image None) (λ _. (r : ℤ) → R (Some r) ↔ Admits image (Some r)) → NoneOf sets of (Admits image) → NoneOf sets of R
+none_related sets None image R is none = λ related. none (is.0 related)
+none_related sets (Some t) image R is none = λ v may related. none v may ((is v).0 related)
 
 -- ---- the claims
 
@@ -82,16 +82,16 @@ others_push count inputs values claims k d number claim so_far below fit number_
 }
 
 -- and the result has no value that they admit
-pub refuted_others : (count : ℕ) (parts : Parts) (values : List ℤ) (outcome : Outcome) (claims : List Claim) (claim : Claim) → IsReady count parts → length values ≡ length parts.inputs → IsOutcome parts.constraint values outcome → AreOthers count parts.inputs values claims (length parts.inputs) → ((sets : List IntSet) → IsDenied sets claim → NoneOf sets parts.result (Admits outcome)) → Refute count (claims ++ claim ∷ []) parts.constraint rule.Fixed
+pub refuted_others : (count : ℕ) (parts : Parts) (values : List ℤ) (image : Image) (claims : List Claim) (claim : Claim) → IsReady count parts → length values ≡ length parts.inputs → IsImage parts.constraint values image → AreOthers count parts.inputs values claims (length parts.inputs) → ((sets : List IntSet) → IsDenied sets claim → NoneOf sets parts.result (Admits image)) → Refute count (claims ++ claim ∷ []) parts.constraint rule.Fixed
 unfolding IsMet
-refuted_others count parts values outcome claims claim ready one_each is others admitted sets denying =
+refuted_others count parts values image claims claim ready one_each is others admitted sets denying =
     let C = parts.constraint in
     let fit : All (IsTerm (length sets)) parts.inputs = subst (λ (n : ℕ). All (IsTerm n) parts.inputs) (sym denying.one_each) (inputs_fit count parts ready) in
     let only = others.only sets (All-front (IsDenied sets) claims claim denying.denied) in
-    let none : NoneOf sets (result_of C) (Admits outcome) = subst (λ (of : Option Term). NoneOf sets of (Admits outcome)) (sym ready.parts_of.result) (admitted sets (All-last (IsDenied sets) claims claim denying.denied)) in
+    let none : NoneOf sets (result_of C) (Admits image) = subst (λ (of : Option Term). NoneOf sets of (Admits image)) (sym ready.parts_of.result) (admitted sets (All-last (IsDenied sets) claims claim denying.denied)) in
     some_and (inputs_of C) parts.inputs _ ready.parts_of.inputs (
       one_choice sets denying.filled parts.inputs values fit only,
       λ choice chosen.
           subst (λ (xs : List ℤ). NoneOf sets (result_of C) (Relates C xs)) (sym (same_choice sets denying.filled parts.inputs values choice one_each only chosen))
-          (none_related sets (result_of C) outcome (Relates C values) is none),
+          (none_related sets (result_of C) image (Relates C values) is none),
     )

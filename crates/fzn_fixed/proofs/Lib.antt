@@ -2,4 +2,4 @@ mod DenialLemmas
 mod FixedLemmas
 mod LastLemmas
 mod MeaningLemmas
-mod OutcomeLemmas
+mod ImageLemmas

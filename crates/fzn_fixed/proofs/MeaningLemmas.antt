@@ -1,4 +1,4 @@
--- Where all variables are fixed and the result is one that the outcome admits, the constraint holds.
+-- Where all variables are fixed and the result is one that the image admits, the constraint holds.
 use Rattle.std.proofs.Common.{◌≡◌, ◌↔◌, ℕ, ◌-◌, true, List, [], ◌∷◌, length, map, get_or, refl, sym, ap₂, subst, ◌∙◌, arith, ℤ, All, Option, Some, None, IfSome, MatchOption}
 use Rattle.std.proofs.lemmas.List.Elements.{All-head, All-tail, All-cons, All-from_recursion}
 use Rattle.std.proofs.lemmas.Option.{none-some}
@@ -16,13 +16,13 @@ use Rattle.fzn_builtin_rules.specs.Form.{form_of}
 use Rattle.fzn_builtin_rules.specs.Choices.{inputs_of, result_of, Relates}
 use Rattle.fzn_trail.specs.Levels.{Levels}
 use Rattle.fzn_propagator.specs.Inference.{AllFixed, HoldsWhereFixed}
-use Rattle.fzn_fixed.specs.declared.outcome.Outcome.{Outcome}
+use Rattle.fzn_fixed.specs.declared.image.Image.{Image}
 use Rattle.fzn_fixed.specs.declared.parts.Parts.{Parts}
 use Rattle.fzn_fixed.specs.Demand.{AdmitsEach, AdmitsWhere}
 use Rattle.fzn_terms.specs.Claims.{IsFixed}
 use Rattle.fzn_terms.proofs.FixedLemmas.{fixed_to, fixed_ends}
 use Rattle.fzn_fixed.specs.Denial.{IsTrueOn}
-use Rattle.fzn_fixed.specs.Outcome.{Admits, IsOutcome}
+use Rattle.fzn_fixed.specs.Image.{Admits, IsImage}
 use Rattle.fzn_fixed.specs.Parts.{IsReady}
 use Rattle.fzn_fixed.proofs.FixedLemmas.{values_on}
 
@@ -47,41 +47,41 @@ meets _ values other = tt
 
 module _ (sets : List IntSet) (values : List ℤ) (within : IsWithin sets values) where
   -- it is one that is admitted of each
-  admitted : (of : Option Term) (outcome : Outcome) → IsSwitch (length sets) of → AdmitsEach sets of outcome → Admits outcome (switch_value values of)
-  admitted None outcome fits each = each
-  admitted (Some term) outcome fits each = each (term_value values term) (MayBe-term_value sets values term within fits)
+  admitted : (of : Option Term) (image : Image) → IsSwitch (length sets) of → AdmitsEach sets of image → Admits image (switch_value values of)
+  admitted None image fits each = each
+  admitted (Some term) image fits each = each (term_value values term) (MayBe-term_value sets values term within fits)
 
   module _ (fixed : AllFixed sets) where
     values_are : (terms : List Term) → All (IsTerm (length sets)) terms → values_of values terms ≡ map (least_value sets) terms
     values_are [] fit = refl
     values_are (t ∷ terms) fit = ap₂ (λ (x : ℤ) (xs : List ℤ). x ∷ xs) (sym (fixed_to sets values within fixed t (All-head (IsTerm (length sets)) t terms fit)).0) (values_are terms (All-tail (IsTerm (length sets)) t terms fit))
 
-related_of : (values : List ℤ) (of : Option Term) (outcome : Outcome) (R : Option ℤ → Type 0) → MatchOption of (R None ↔ Admits outcome None) (λ _. (r : ℤ) → R (Some r) ↔ Admits outcome (Some r)) → Admits outcome (switch_value values of) → R (switch_value values of)
-related_of values None outcome R is here = is.1 here
-related_of values (Some term) outcome R is here = (is (term_value values term)).1 here
+related_of : (values : List ℤ) (of : Option Term) (image : Image) (R : Option ℤ → Type 0) → MatchOption of (R None ↔ Admits image None) (λ _. (r : ℤ) → R (Some r) ↔ Admits image (Some r)) → Admits image (switch_value values of) → R (switch_value values of)
+related_of values None image R is here = is.1 here
+related_of values (Some term) image R is here = (is (term_value values term)).1 here
 
-module _ (trail : Levels) (parts : Parts) (outcome : Outcome) (ready : IsReady (length trail.declared) parts) (fit : All (IsTerm (length trail.declared)) parts.inputs) (is : IsOutcome parts.constraint (values_on trail parts.inputs) outcome) where
-  holds_by : ((values : List ℤ) → IsWithin trail.declared values → IsWithin trail.sets values → Admits outcome (switch_value values parts.result)) → HoldsWhereFixed trail parts.constraint
+module _ (trail : Levels) (parts : Parts) (image : Image) (ready : IsReady (length trail.declared) parts) (fit : All (IsTerm (length trail.declared)) parts.inputs) (is : IsImage parts.constraint (values_on trail parts.inputs) image) where
+  holds_by : ((values : List ℤ) → IsWithin trail.declared values → IsWithin trail.sets values → Admits image (switch_value values parts.result)) → HoldsWhereFixed trail parts.constraint
   holds_by each fixed values declared present =
       let C = parts.constraint in
       let count : length trail.declared ≡ length trail.sets = sym declared.one_each ∙ present.one_each in
       let same : values_of values parts.inputs ≡ values_on trail parts.inputs = values_are trail.sets values present fixed parts.inputs (subst (λ (n : ℕ). All (IsTerm n) parts.inputs) count fit) in
-      let here : Admits outcome (switch_value values (result_of C)) = subst (λ (of : Option Term). Admits outcome (switch_value values of)) (sym ready.parts_of.result) (each values declared present) in
+      let here : Admits image (switch_value values (result_of C)) = subst (λ (of : Option Term). Admits image (switch_value values of)) (sym ready.parts_of.result) (each values declared present) in
       let related : Relates C (values_of values parts.inputs) (switch_value values (result_of C)) =
-      subst (λ (xs : List ℤ). Relates C xs (switch_value values (result_of C))) (sym same) (related_of values (result_of C) outcome (Relates C (values_on trail parts.inputs)) is here) in
+      subst (λ (xs : List ℤ). Relates C xs (switch_value values (result_of C))) (sym same) (related_of values (result_of C) image (Relates C (values_on trail parts.inputs)) is here) in
       subst (λ (o : Option (List Term)). IfSome o (λ inputs. Relates C (values_of values inputs) (switch_value values (result_of C)) → Meets C values)) ready.parts_of.inputs (meets C values ready.other) related
 
   -- each declared value of the result is admitted
-  pub holds_of_each : IsSwitch (length trail.declared) parts.result → AdmitsEach trail.declared parts.result outcome → HoldsWhereFixed trail parts.constraint
-  holds_of_each fits each = holds_by (λ values declared present. admitted trail.declared values declared parts.result outcome fits each)
+  pub holds_of_each : IsSwitch (length trail.declared) parts.result → AdmitsEach trail.declared parts.result image → HoldsWhereFixed trail parts.constraint
+  holds_of_each fits each = holds_by (λ values declared present. admitted trail.declared values declared parts.result image fits each)
 
   -- the literal says so, and is true
-  pub holds_of_literal : (lit : Lit) → AdmitsWhere trail.declared parts.result outcome lit → IsTrueOn trail.sets lit → HoldsWhereFixed trail parts.constraint
+  pub holds_of_literal : (lit : Lit) → AdmitsWhere trail.declared parts.result image lit → IsTrueOn trail.sets lit → HoldsWhereFixed trail parts.constraint
   holds_of_literal lit where_true holds = holds_by (λ values declared present.
       let variable = where_true.variable in
       let there : contains (set_of trail.declared lit.var) (value_of values lit.var) ≡ true = declared.inside (lit.var.0 - 1) (omega arith) in
       let now : contains (set_of trail.sets lit.var) (value_of values lit.var) ≡ true = present.inside (lit.var.0 - 1) (let a = declared.one_each in let b = present.one_each in omega arith) in
-      subst (λ (of : Option Term). Admits outcome (switch_value values of)) (sym where_true.of_result)
+      subst (λ (of : Option Term). Admits image (switch_value values of)) (sym where_true.of_result)
       ((where_true.admitted (value_of values lit.var) there).1 (holds (value_of values lit.var) now)))
 
 -- some input has several values

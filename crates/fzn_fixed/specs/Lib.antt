@@ -1,4 +1,4 @@
 pub mod Demand
 pub mod Denial
-pub mod Outcome
+pub mod Image
 pub mod Parts

@@ -1,4 +1,4 @@
-// What the outcome of a constraint asks of its result.
+// What the image of a constraint asks of its result.
 ghost use Rattle.std.specs.Prelude.{List, Some, length};
 ghost use Rattle.fzn_domain.specs.IntSet.{IntSet};
 ghost use Rattle.fzn_domain.specs.Narrow.{IsVariable};
@@ -6,7 +6,7 @@ ghost use Rattle.fzn_meaning.specs.declared.term.Term.TheVariants.{Constant, Var
 ghost use Rattle.fzn_meaning.specs.Meaning.{IsSwitch};
 ghost use Rattle.fzn_fixed.specs.Demand.{IsDemand};
 
-use crate::outcome::Outcome;
+use crate::image::Image;
 use fzn_domain::{Lit, Op, VarId};
 use fzn_meaning::Term;
 use fzn_trail::Trail;
@@ -22,29 +22,29 @@ pub enum Demand {
     Literal(Lit),
 }
 
-/// What the outcome asks of the result, whose declared set may hold more than the trail leaves.
-pub fn demand_of(trail: &Trail, of: Option<Term>, outcome: Outcome) -> Demand
+/// What the image asks of the result, whose declared set may hold more than the trail leaves.
+pub fn demand_of(trail: &Trail, of: Option<Term>, image: Image) -> Demand
     requires { IsSwitch (length trail.now.declared) of }
-    ensures { IsDemand trail.now.declared of outcome result }
+    ensures { IsDemand trail.now.declared of image result }
 {
     let Some(term) = of else {
-        return match outcome {
-            Outcome::Holds => Demand::Nothing,
+        return match image {
+            Image::Holds => Demand::Nothing,
             _ => Demand::Impossible,
         };
     };
     match term {
-        Term::Constant(k) => of_constant(k, outcome),
-        Term::Variable(var) => of_variable(trail, var, outcome),
+        Term::Constant(k) => of_constant(k, image),
+        Term::Variable(var) => of_variable(trail, var, image),
     }
 }
 
-fn of_constant(k: i64, outcome: Outcome) -> Demand
-    ensures { (declared : List IntSet) → IsDemand declared (Some (Constant k)) outcome result }
+fn of_constant(k: i64, image: Image) -> Demand
+    ensures { (declared : List IntSet) → IsDemand declared (Some (Constant k)) image result }
 {
-    let holds = match outcome {
-        Outcome::Only(value) => k == value,
-        Outcome::AllBut(value) => k != value,
+    let holds = match image {
+        Image::Only(value) => k == value,
+        Image::AllBut(value) => k != value,
         _ => false,
     };
     if holds {
@@ -54,24 +54,24 @@ fn of_constant(k: i64, outcome: Outcome) -> Demand
     }
 }
 
-fn of_variable(trail: &Trail, var: VarId, outcome: Outcome) -> Demand
+fn of_variable(trail: &Trail, var: VarId, image: Image) -> Demand
     requires { IsVariable (length trail.now.declared) var }
-    ensures { IsDemand trail.now.declared (Some (Variable var)) outcome result }
+    ensures { IsDemand trail.now.declared (Some (Variable var)) image result }
 {
     let declared = trail.declared(var);
     let _none = declared.is_empty(); // Its values lie within the limits.
-    match outcome {
-        Outcome::Only(value) if declared.contains(value) => Demand::Literal(Lit {
+    match image {
+        Image::Only(value) if declared.contains(value) => Demand::Literal(Lit {
             var,
             op: Op::Equal,
             value,
         }),
-        Outcome::AllBut(value) if declared.contains(value) => Demand::Literal(Lit {
+        Image::AllBut(value) if declared.contains(value) => Demand::Literal(Lit {
             var,
             op: Op::NotEqual,
             value,
         }),
-        Outcome::AllBut(_) => Demand::Nothing,
+        Image::AllBut(_) => Demand::Nothing,
         _ => Demand::Impossible,
     }
 }

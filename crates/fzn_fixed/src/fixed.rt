@@ -11,7 +11,7 @@ ghost use Rattle.fzn_fixed.specs.Denial.{IsDenialOr, IsTrueOn};
 ghost use Rattle.fzn_fixed.specs.Parts.{IsReady};
 
 use crate::demand::{Demand, demand_of};
-use crate::outcome::outcome_of;
+use crate::image::image_of;
 use crate::parts::Parts;
 use crate::values::{denial, values_of};
 use fzn_domain::{Lit, Memory};
@@ -39,8 +39,8 @@ pub fn refute_fixed(
     }
     let values = values_of(alloc, trail, inputs)?;
     let chosen = values.as_slice();
-    let outcome = outcome_of(&parts.constraint, chosen);
-    match demand_of(trail, parts.result, outcome) {
+    let image = image_of(&parts.constraint, chosen);
+    match demand_of(trail, parts.result, image) {
         Demand::Nothing => Ok(None),
         Demand::Impossible => {
             let clause = denial(alloc, trail, inputs)?;

@@ -10,10 +10,10 @@ ghost use Rattle.fzn_builtin_rules.specs.Choices.{NoneOf};
 ghost use Rattle.fzn_rules.specs.declared.rule.Rule.TheVariants as rule;
 ghost use Rattle.fzn_terms.specs.Denied.{IsDenied};
 ghost use Rattle.fzn_propagator.specs.Clause.{IsJustified};
-ghost use Rattle.fzn_fixed.specs.Outcome.{Admits};
+ghost use Rattle.fzn_fixed.specs.Image.{Admits};
 ghost use Rattle.fzn_fixed.specs.Parts.{IsReady};
 
-use crate::outcome::{Outcome, outcome_of};
+use crate::image::{Image, image_of};
 use crate::parts::Parts;
 use fzn_domain::{Lit, Memory};
 use fzn_list::Items;
@@ -51,8 +51,8 @@ pub fn infer_last(alloc: Global, trail: &Trail, parts: &Parts) -> Result<Option<
         }
         if may_be(trail, inputs[place], &value) {
             let values = values_with(alloc, trail, inputs, place, value)?;
-            let outcome = outcome_of(&parts.constraint, values.as_slice());
-            if is_missed(trail, parts.result, outcome) {
+            let image = image_of(&parts.constraint, values.as_slice());
+            if is_missed(trail, parts.result, image) {
                 return other_values(alloc, trail, parts, values.as_slice());
             }
         }
@@ -127,15 +127,15 @@ fn is_settled(trail: &Trail, of: Option<Term>) -> bool
     }
 }
 
-/// Whether the trail leaves the result no value that the outcome admits.
-fn is_missed(trail: &Trail, of: Option<Term>, outcome: Outcome) -> bool
+/// Whether the trail leaves the result no value that the image admits.
+fn is_missed(trail: &Trail, of: Option<Term>, image: Image) -> bool
     requires of { IsSwitch (length trail.now.declared) of }
     requires filled { NoneEmpty trail.now.sets }
 {
-    match (of, outcome) {
-        (_, Outcome::Fails) => true,
-        (Some(term), Outcome::Only(value)) => !may_be(trail, term, &value),
-        (Some(term), Outcome::AllBut(value)) => {
+    match (of, image) {
+        (_, Image::Fails) => true,
+        (Some(term), Image::Only(value)) => !may_be(trail, term, &value),
+        (Some(term), Image::AllBut(value)) => {
             is_fixed(trail, term) && least_of(trail, term) == value
         }
         _ => false,
@@ -157,8 +157,8 @@ fn other_values(
     ensures { IfOk result (λ found. IfSome found (IsJustified trail.now parts.now.constraint rule.Fixed)) }
 {
     let inputs = parts.inputs.as_slice();
-    let outcome = outcome_of(&parts.constraint, values);
-    let Some(claim) = admitted(parts.result, outcome) else {
+    let image = image_of(&parts.constraint, values);
+    let Some(claim) = admitted(parts.result, image) else {
         return Ok(None);
     };
     let mut claims = Items::new(alloc);
@@ -169,15 +169,15 @@ fn other_values(
     explanation_of(alloc, trail, claims.as_slice())
 }
 
-/// The claim that the result has a value which the outcome admits. Nothing where the constraint holds without a result.
-fn admitted(of: Option<Term>, outcome: Outcome) -> Option<Claim>
+/// The claim that the result has a value which the image admits. Nothing where the constraint holds without a result.
+fn admitted(of: Option<Term>, image: Image) -> Option<Claim>
     ensures term { IfSome result (λ claim. (count : ℕ) → IsSwitch count of → IsTerm count claim.term) }
-    ensures none { IfSome result (λ claim. (sets : List IntSet) → IsDenied sets claim → NoneOf sets of (Admits outcome)) }
+    ensures none { IfSome result (λ claim. (sets : List IntSet) → IsDenied sets claim → NoneOf sets of (Admits image)) }
 {
-    match (of, outcome) {
-        (None, Outcome::Holds) => None,
-        (Some(term), Outcome::Only(value)) => Some(Claim::equal(term, value)),
-        (Some(term), Outcome::AllBut(value)) => Some(Claim::other_than(term, value)),
+    match (of, image) {
+        (None, Image::Holds) => None,
+        (Some(term), Image::Only(value)) => Some(Claim::equal(term, value)),
+        (Some(term), Image::AllBut(value)) => Some(Claim::other_than(term, value)),
         _ => Some(Claim::never()),
     }
 }

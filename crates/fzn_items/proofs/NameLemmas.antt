@@ -5,7 +5,7 @@ use Rattle.std.specs.List.{All}
 use Rattle.std.proofs.lemmas.List.Elements.{All-nil, All-cons, All-weaker}
 use Rattle.fzn_lexer.specs.declared.fault.FaultKind.TheVariants.{SetRefused, UnknownName}
 use Rattle.fzn_names.specs.Declarations.{declaration_faults}
-use Rattle.fzn_symbols.specs.Places.{at}
+use Rattle.fzn_symbols.specs.Positions.{at}
 use Rattle.fzn_symbols.specs.Values.{NameList}
 use Rattle.fzn_symbols.proofs.CallerLemmas.{left_empty, right_empty}
 use Rattle.fzn_registry.specs.declared.name.Name.{Name}

@@ -3,7 +3,7 @@ ghost use Rattle.std.specs.Prelude.{◌≡◌, IfOk};
 ghost use Rattle.fzn_lexer.specs.Kept.{token_of};
 ghost use Rattle.fzn_items.specs.Items.{items_of, opened};
 
-use fzn_lexer::{Kept, Parts, Places, Span, Symbol, TokenList};
+use fzn_lexer::{Kept, Parts, Positions, Span, Symbol, TokenList};
 use std::alloc::{AllocError, Global};
 
 /// The items of the tokens in order, each from its first token to its `;`. It answers `Err` where memory runs out.
@@ -30,7 +30,7 @@ pub fn items_of(alloc: Global, tokens: &TokenList<'_>) -> Result<Vec<Span>, Allo
 }
 
 /// The item that has begun, or else the one that begins with the token.
-fn opened(begun: Option<Span>, file: &mut Places<'_>, token: &Kept) -> Span
+fn opened(begun: Option<Span>, file: &mut Positions<'_>, token: &Kept) -> Span
     ensures value { result ≡ opened begun (token_of file.old token.now).span }
     ensures same { file.new ≡ file.old }
 {
@@ -41,7 +41,7 @@ fn opened(begun: Option<Span>, file: &mut Places<'_>, token: &Kept) -> Span
             Span {
                 start,
                 end: token.end as usize,
-                place: file.of(start),
+                position: file.of(start),
             }
         }
     }

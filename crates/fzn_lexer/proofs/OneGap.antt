@@ -1,4 +1,4 @@
--- A gap ends in one place alone.
+-- A gap ends in one position alone.
 use Rattle.std.proofs.Common.{◌≡◌, ℕ, true, false, not, ◌||◌, ◌==◌, List, [], ◌∷◌, ◌++◌, get_or, drop, refl, sym, ap, subst, ◌∙◌, arith, append_assoc, inl, inr, ◌⊎◌}
 use Rattle.std.proofs.lemmas.Bool.{false≢true}
 use Rattle.std.proofs.lemmas.Bool.Decides.{nat_tests}
@@ -40,7 +40,7 @@ no_lf b more e pass = false≢true (ap (λ (n : ℕ). not (is_lf n)) (sym e) ∙
 no_lf_tail : (b : ℕ) (more : List ℕ) → NoLf (b ∷ more) → NoLf more
 no_lf_tail b more pass = All-tail (λ x. not (is_lf x) ≡ true) b more pass
 
--- the first LF stands in one place
+-- the first LF stands in one position
 lf_split : (a b x y : List ℕ) → NoLf a → NoLf b → a ++ 10 ∷ x ≡ b ++ 10 ∷ y → (a ≡ b) × (x ≡ y)
 lf_split [] [] x y p q e = (refl, rest_is 10 10 x y e)
 lf_split [] (c ∷ b) x y p q e = absurd (no_lf c b (sym (first_is 10 c x (b ++ 10 ∷ y) e)) q)

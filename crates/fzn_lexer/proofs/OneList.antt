@@ -6,17 +6,17 @@ use Rattle.std.specs.List.{AllPass}
 use Rattle.fzn_lexer.specs.declared.fault.Fault.{Fault}
 use Rattle.fzn_lexer.specs.declared.fault.FaultKind.{FaultKind}
 use Rattle.fzn_lexer.specs.declared.token.Kind.{Kind}
-use Rattle.fzn_lexer.specs.declared.token.Place.{Place}
+use Rattle.fzn_lexer.specs.declared.token.Position.{Position}
 use Rattle.fzn_lexer.specs.declared.token.Token.{Token}
 use Rattle.fzn_lexer.specs.Bytes.{is_known}
-use Rattle.fzn_lexer.specs.Places.{place_after}
+use Rattle.fzn_lexer.specs.Positions.{position_after}
 use Rattle.fzn_lexer.specs.Lexemes.{StandsFirst, StandsFault}
 use Rattle.fzn_lexer.specs.Tokens.{IsGap, IsLastGap, begins_gap, StandsAt, Stand, FaultStandsAt, IsEnd, IsKnown, IsBadByte, AreTokens, IsLexicalFault, IsReading, max_file}
 use Rattle.fzn_lexer.proofs.Shapes.{spells_some}
 use Rattle.fzn_lexer.proofs.OneGap.{one_gap, no_last}
 use Rattle.fzn_lexer.proofs.OneToken.{spells_no_gap, one_text, no_fault, one_fault}
 
--- ---- one place behind the gap
+-- ---- one position behind the gap
 
 split : (bytes : List ℕ) (from start : ℕ) → from ≤ start → drop from bytes ≡ slice_range bytes from start ++ drop start bytes
 split bytes from start le =
@@ -59,12 +59,12 @@ behind_fault bytes from f p = record { in_order = p.in_order; gap = p.gap; ends 
 
 -- ---- what stands there
 
-token_by : Kind → ℕ → ℕ → Place → Token
-token_by kind start end place = record { kind = kind; span = record { start = start; end = end; place = place } }
+token_by : Kind → ℕ → ℕ → Position → Token
+token_by kind start end position = record { kind = kind; span = record { start = start; end = end; position = position } }
 
-token_same : (k l : Kind) (a b c d : ℕ) (p q : Place) → k ≡ l → a ≡ b → c ≡ d → p ≡ q → token_by k a c p ≡ token_by l b d q
-token_same k l a b c d p q kinds starts ends places =
-    ap (λ (z : Kind). token_by z a c p) kinds ∙ (ap (λ (n : ℕ). token_by l n c p) starts ∙ (ap (λ (n : ℕ). token_by l b n p) ends ∙ ap (token_by l b d) places))
+token_same : (k l : Kind) (a b c d : ℕ) (p q : Position) → k ≡ l → a ≡ b → c ≡ d → p ≡ q → token_by k a c p ≡ token_by l b d q
+token_same k l a b c d p q kinds starts ends positions =
+    ap (λ (z : Kind). token_by z a c p) kinds ∙ (ap (λ (n : ℕ). token_by l n c p) starts ∙ (ap (λ (n : ℕ). token_by l b n p) ends ∙ ap (token_by l b d) positions))
 
 one_token : (bytes : List ℕ) (from : ℕ) (x y : Token) → StandsAt bytes from x → StandsAt bytes from y → x ≡ y
 unfolding token_by
@@ -73,19 +73,19 @@ one_token bytes from x y p q =
     let here = subst (λ (n : ℕ). StandsFirst (drop n bytes) p.text x.kind) starts p.first in
     let texts = one_text (drop y.span.start bytes) p.text q.text x.kind y.kind here q.first in
     let ends : x.span.end ≡ y.span.end = p.end ∙ (ap (λ (n : ℕ). n + length p.text) starts ∙ (ap (λ (z : List ℕ). y.span.start + length z) texts.0 ∙ sym q.end)) in
-    let places : x.span.place ≡ y.span.place = p.place ∙ (ap (λ (n : ℕ). place_after (take n bytes)) starts ∙ sym q.place) in
-    token_same x.kind y.kind x.span.start y.span.start x.span.end y.span.end x.span.place y.span.place texts.1 starts ends places
+    let positions : x.span.position ≡ y.span.position = p.position ∙ (ap (λ (n : ℕ). position_after (take n bytes)) starts ∙ sym q.position) in
+    token_same x.kind y.kind x.span.start y.span.start x.span.end y.span.end x.span.position y.span.position texts.1 starts ends positions
 
-fault_by : FaultKind → Place → Fault
-fault_by kind place = record { kind = kind; place = place }
+fault_by : FaultKind → Position → Fault
+fault_by kind position = record { kind = kind; position = position }
 
-fault_same : (f g : Fault) → f.kind ≡ g.kind → f.place ≡ g.place → f ≡ g
+fault_same : (f g : Fault) → f.kind ≡ g.kind → f.position ≡ g.position → f ≡ g
 unfolding fault_by
-fault_same f g kinds places = ap (λ (k : FaultKind). fault_by k f.place) kinds ∙ ap (fault_by g.kind) places
+fault_same f g kinds positions = ap (λ (k : FaultKind). fault_by k f.position) kinds ∙ ap (fault_by g.kind) positions
 
 end_same : (bytes : List ℕ) (x y : Token) → IsEnd bytes x → IsEnd bytes y → x ≡ y
 unfolding token_by
-end_same bytes x y p q = token_same x.kind y.kind x.span.start y.span.start x.span.end y.span.end x.span.place y.span.place (p.kind ∙ sym q.kind) (p.start ∙ sym q.start) (p.end ∙ sym q.end) (p.place ∙ sym q.place)
+end_same bytes x y p q = token_same x.kind y.kind x.span.start y.span.start x.span.end y.span.end x.span.position y.span.position (p.kind ∙ sym q.kind) (p.start ∙ sym q.start) (p.end ∙ sym q.end) (p.position ∙ sym q.position)
 
 -- ---- the end of a list, or its fault
 
@@ -106,7 +106,7 @@ one_final bytes from (inr f) (inl y) p q = absurd (not_last bytes from p.start (
 one_final bytes from (inr f) (inr g) p q =
     let starts = start_same bytes from p.start q.start (behind_fault bytes from f p) (behind_fault bytes from g q) in
     let kinds = one_fault (drop q.start bytes) f.kind g.kind (subst (λ (n : ℕ). StandsFault (drop n bytes) f.kind) starts p.faulty) q.faulty in
-    ap inr (fault_same f g kinds (p.place ∙ (ap (λ (n : ℕ). place_after (take n bytes)) starts ∙ sym q.place)))
+    ap inr (fault_same f g kinds (p.position ∙ (ap (λ (n : ℕ). position_after (take n bytes)) starts ∙ sym q.position)))
 
 goes_on : (bytes : List ℕ) (from : ℕ) (t : Token) (p : Token ⊎ Fault) → StandsAt bytes from t → Final bytes from p → ⊥
 goes_on bytes from t (inl x) s p = not_last bytes from t.span.start (behind_token bytes from t s) p.0
@@ -144,24 +144,24 @@ bad_order : (bytes : List ℕ) (a b : ℕ) → a < b → a < length bytes → Al
 bad_order bytes a b lt within before unknown =
     false≢true (sym unknown ∙ (ap is_known (sym (get_or-take b bytes a 0 lt)) ∙ before a 0 (omega (arith, length-take b bytes))))
 
-one_bad : (bytes : List ℕ) (p q : Place) → IsBadByte bytes p → IsBadByte bytes q → p ≡ q
+one_bad : (bytes : List ℕ) (p q : Position) → IsBadByte bytes p → IsBadByte bytes q → p ≡ q
 one_bad bytes p q x y =
     let not_less : x.at < y.at → ⊥ = λ lt. bad_order bytes x.at y.at lt x.within y.before x.unknown in
     let not_more : y.at < x.at → ⊥ = λ lt. bad_order bytes y.at x.at lt y.within x.before y.unknown in
     let same : x.at ≡ y.at = omega arith in
-    x.here ∙ (ap (λ (n : ℕ). place_after (take n bytes)) same ∙ sym y.here)
+    x.here ∙ (ap (λ (n : ℕ). position_after (take n bytes)) same ∙ sym y.here)
 
 too_long : (bytes : List ℕ) → max_file < length bytes → length bytes ≤ max_file → ⊥
 too_long bytes long short = omega arith
 
-no_bad_byte : (bytes : List ℕ) (p : Place) → IsBadByte bytes p → IsKnown bytes → ⊥
+no_bad_byte : (bytes : List ℕ) (p : Position) → IsBadByte bytes p → IsKnown bytes → ⊥
 no_bad_byte bytes p x known = unknown_not bytes x.at x.within known.known x.unknown
 
 -- no list of tokens where a fault is
 no_tokens : (bytes : List ℕ) (tokens : List Token) (f : Fault) → AreTokens bytes tokens → IsLexicalFault bytes f → ⊥
 unfolding is_token
 no_tokens bytes tokens f are (inl x) = too_long bytes x.1 are.file.short
-no_tokens bytes tokens f are (inr (inl x)) = no_bad_byte bytes f.place x.1 are.file
+no_tokens bytes tokens f are (inr (inl x)) = no_bad_byte bytes f.position x.1 are.file
 no_tokens bytes tokens f are (inr (inr x)) =
     let both = one_run bytes are.front x.tokens 0 are.upto x.upto (inl are.last) (inr f) are.stand (are.gap, are.is_end) x.stand x.here in
     false≢true (sym (ap is_token both.1))
@@ -179,9 +179,9 @@ one_lexical bytes f g (inl x) (inr (inl y)) = absurd (too_long bytes x.1 y.1.sho
 one_lexical bytes f g (inl x) (inr (inr y)) = absurd (too_long bytes x.1 y.file.short)
 one_lexical bytes f g (inr (inl x)) (inl y) = absurd (too_long bytes y.1 x.1.short)
 one_lexical bytes f g (inr (inr x)) (inl y) = absurd (too_long bytes y.1 x.file.short)
-one_lexical bytes f g (inr (inl x)) (inr (inl y)) = fault_same f g (x.0 ∙ sym y.0) (one_bad bytes f.place g.place x.1 y.1)
-one_lexical bytes f g (inr (inl x)) (inr (inr y)) = absurd (no_bad_byte bytes f.place x.1 y.file)
-one_lexical bytes f g (inr (inr x)) (inr (inl y)) = absurd (no_bad_byte bytes g.place y.1 x.file)
+one_lexical bytes f g (inr (inl x)) (inr (inl y)) = fault_same f g (x.0 ∙ sym y.0) (one_bad bytes f.position g.position x.1 y.1)
+one_lexical bytes f g (inr (inl x)) (inr (inr y)) = absurd (no_bad_byte bytes f.position x.1 y.file)
+one_lexical bytes f g (inr (inr x)) (inr (inl y)) = absurd (no_bad_byte bytes g.position y.1 x.file)
 one_lexical bytes f g (inr (inr x)) (inr (inr y)) = ap (fault_in f) (one_run bytes x.tokens y.tokens 0 x.upto y.upto (inr f) (inr g) x.stand x.here y.stand y.here).1
 
 pub one_reading : (bytes : List ℕ) (x y : List Token ⊎ Fault) → IsReading bytes x → IsReading bytes y → x ≡ y

@@ -1,4 +1,4 @@
--- One token stands at the front, or one fault in its place.
+-- One token stands at the front, or one fault in its position.
 use Rattle.std.proofs.Common.{◌≡◌, ℕ, ◌<◌, ℤ, pos, ◌-ℤ◌, Bool, true, false, ◌&&◌, ◌||◌, ◌==◌, if◌then◌else◌, List, [], ◌∷◌, ◌++◌, length, get_or, drop, refl, sym, ap, subst, ◌∙◌, arith, codes, inl, inr, length-append}
 use Rattle.std.proofs.lemmas.Bool.{false≢true}
 use Rattle.std.proofs.lemmas.Bool.Decides.{nat_tests}
@@ -207,7 +207,7 @@ no_float rest text kind p (inl f) = float_named kind (subst (λ (z : List ℕ). 
 no_float rest text kind p (inr (inl f)) = number_ends rest text kind (float_digits_number rest f) p (inr (inl f))
 no_float rest text kind p (inr (inr f)) = number_ends rest text kind (ap (λ (z : List ℕ). begins_number (get_or z 0 0)) f.1) p (inr (inr f))
 
--- ---- one fault in a token's place, and no token
+-- ---- one fault in a token's position, and no token
 
 pub no_fault : (rest text : List ℕ) (kind : Kind) (fault : FaultKind) → StandsFirst rest text kind → IsSmall kind → StandsFault rest fault → ⊥
 no_fault rest text kind fault p small (inl f) = no_float rest text kind p f.1

@@ -2,7 +2,7 @@ pub mod Bytes
 pub mod Kept
 pub mod Kinds
 pub mod Lexemes
-pub mod Places
+pub mod Positions
 pub mod Steps
 pub mod Strings
 pub mod Tokens

@@ -7,7 +7,7 @@ use crate::token::Symbol;
 
 /// What a token is, beside its text.
 #[derive(Clone, Copy, Debug)]
-pub enum Form {
+pub enum TokenForm {
     /// A reserved word, a sign or the end of the file.
     Symbol(Symbol),
     /// A word that is not reserved.
@@ -18,7 +18,7 @@ pub enum Form {
     Text,
 }
 
-impl Form {
+impl TokenForm {
     ghost use Rattle.std.specs.Prelude.{ℕ, List};
     ghost use Rattle.fzn_lexer.specs.Kept.{kind_in};
     ghost use Rattle.fzn_lexer.specs.Kinds.{is_symbol};
@@ -28,7 +28,7 @@ impl Form {
         ensures { (text : List ℕ) → result ≡ is_symbol symbol (kind_in self text) }
     {
         match self {
-            Form::Symbol(held) => held == symbol,
+            TokenForm::Symbol(held) => held == symbol,
             _ => false,
         }
     }
@@ -38,7 +38,7 @@ impl Form {
 #[derive(Clone, Copy, Debug)]
 pub struct Kept {
     /// What it is.
-    pub form: Form,
+    pub form: TokenForm,
     /// The index of its first byte.
     pub start: u32,
     /// The index behind its last byte.

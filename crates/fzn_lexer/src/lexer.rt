@@ -8,10 +8,10 @@ use crate::bytes::Class;
 use crate::fault::{Fault, FaultKind};
 use crate::gap::gap_len;
 use crate::halt::Halt;
-use crate::kept::{Form, Kept};
+use crate::kept::{Kept, TokenForm};
 use crate::lexeme::read_lexeme;
 use crate::list::TokenList;
-use crate::token::{Place, Symbol};
+use crate::token::{Position, Symbol};
 use fzn_list::Items;
 use std::alloc::Global;
 
@@ -34,7 +34,7 @@ fn read_next(bytes: &[u8], from: usize) -> Result<Next, Fault>
     let start = from + gap_len(&bytes[from..]);
     if start == bytes.len() {
         return Ok(Next::End(Kept {
-            form: Form::Symbol(Symbol::End),
+            form: TokenForm::Symbol(Symbol::End),
             start: start as u32,
             end: start as u32,
         }));
@@ -47,7 +47,7 @@ fn read_next(bytes: &[u8], from: usize) -> Result<Next, Fault>
         })),
         Err(kind) => Err(Fault {
             kind,
-            place: Place::START.behind(&bytes[..start]),
+            position: Position::START.behind(&bytes[..start]),
         }),
     }
 }
@@ -83,14 +83,14 @@ pub fn tokens(alloc: Global, bytes: &[u8]) -> Result<TokenList<'_>, Halt<Fault>>
     if bytes.len() > MAX_FILE {
         return Err(Halt::Fault(Fault {
             kind: FaultKind::FileTooLong,
-            place: Place::START,
+            position: Position::START,
         }));
     }
     let known = Class::Known.run(bytes);
     if known < bytes.len() {
         return Err(Halt::Fault(Fault {
             kind: FaultKind::BadByte,
-            place: Place::START.behind(&bytes[..known]),
+            position: Position::START.behind(&bytes[..known]),
         }));
     }
     scan(alloc, bytes)

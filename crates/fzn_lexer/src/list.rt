@@ -3,9 +3,9 @@
 ghost use Rattle.std.specs.Prelude.{◌≡◌, length, IfOk, slice_get};
 ghost use Rattle.fzn_lexer.specs.Kept.{kind_in, token_of, tokens_of};
 
-use crate::kept::{Form, Kept, inside};
-use crate::places::Places;
-use crate::token::{Kind, Place, Span, Token};
+use crate::kept::{Kept, TokenForm, inside};
+use crate::positions::Positions;
+use crate::token::{Kind, Position, Span, Token};
 use fzn_list::{Items, Text};
 use std::alloc::{AllocError, Global};
 use std::marker::Model;
@@ -31,19 +31,19 @@ impl<'a> Model for TokenList<'a> {
 }
 
 /// What a token with this text is.
-fn kind_in(alloc: Global, form: Form, text: &[u8]) -> Result<Kind, AllocError>
+fn kind_in(alloc: Global, form: TokenForm, text: &[u8]) -> Result<Kind, AllocError>
     ensures { IfOk result (λ kind. kind ≡ kind_in form text.now) }
 {
     match form {
-        Form::Symbol(symbol) => Ok(Kind::Symbol(symbol)),
-        Form::Name => Ok(Kind::Name(Text::from_slice(alloc, text)?)),
-        Form::Int(value) => Ok(Kind::Int(i64::from(value))),
-        Form::Text => Ok(Kind::Text(Text::from_slice(alloc, inside(text))?)),
+        TokenForm::Symbol(symbol) => Ok(Kind::Symbol(symbol)),
+        TokenForm::Name => Ok(Kind::Name(Text::from_slice(alloc, text)?)),
+        TokenForm::Int(value) => Ok(Kind::Int(i64::from(value))),
+        TokenForm::Text => Ok(Kind::Text(Text::from_slice(alloc, inside(text))?)),
     }
 }
 
-/// The token with its text and its place.
-fn token_of(alloc: Global, file: &mut Places<'_>, kept: &Kept) -> Result<Token, AllocError>
+/// The token with its text and its position.
+fn token_of(alloc: Global, file: &mut Positions<'_>, kept: &Kept) -> Result<Token, AllocError>
     ensures { IfOk result (λ token. token ≡ token_of file.old kept.now) }
 {
     let kind = kind_in(alloc, kept.form, kept.text(file.bytes()))?;
@@ -51,7 +51,7 @@ fn token_of(alloc: Global, file: &mut Places<'_>, kept: &Kept) -> Result<Token, 
     let span = Span {
         start,
         end: kept.end as usize,
-        place: file.of(start),
+        position: file.of(start),
     };
     Ok(Token { kind, span })
 }
@@ -59,8 +59,8 @@ fn token_of(alloc: Global, file: &mut Places<'_>, kept: &Kept) -> Result<Token, 
 /// A file, and its tokens as they are kept, in order.
 #[derive(Drop)]
 pub struct Parts<'a> {
-    /// The bytes, and the places of tokens among them.
-    pub file: Places<'a>,
+    /// The bytes, and the positions of tokens among them.
+    pub file: Positions<'a>,
     /// What each token is, and where it begins and ends.
     pub kept: &'a [Kept],
 }
@@ -90,18 +90,18 @@ impl<'a> TokenList<'a> {
         ensures { tokens_of result.file result.kept.now ≡ self.now }
     {
         Parts {
-            file: Places::new(self.bytes),
+            file: Positions::new(self.bytes),
             kept: self.kept.as_slice(),
         }
     }
 
-    /// The place of the token with this index, counted from 0. It goes over the file up to the token.
-    pub fn place(&self, index: usize) -> Place
+    /// The position of the token with this index, counted from 0. It goes over the file up to the token.
+    pub fn position(&self, index: usize) -> Position
         requires { index < length self.now }
-        ensures { (token : Token) → slice_get self.now index ≡ Some token → result ≡ token.span.place }
+        ensures { (token : Token) → slice_get self.now index ≡ Some token → result ≡ token.span.position }
     {
         let kept = self.kept.as_slice();
-        Places::new(self.bytes).of(kept[index].start as usize)
+        Positions::new(self.bytes).of(kept[index].start as usize)
     }
 
     /// The token with this index, counted from 0, with its text, and none behind the last. It goes over the file up to the token. It
@@ -111,7 +111,7 @@ impl<'a> TokenList<'a> {
     {
         match self.kept.as_slice().get(index) {
             None => Ok(None),
-            Some(kept) => Ok(Some(token_of(alloc, &mut Places::new(self.bytes), kept)?)),
+            Some(kept) => Ok(Some(token_of(alloc, &mut Positions::new(self.bytes), kept)?)),
         }
     }
 }

@@ -5,7 +5,7 @@ ghost use Rattle.fzn_lexer.specs.Steps.{Reads};
 
 use crate::bytes::inside_len;
 use crate::fault::FaultKind;
-use crate::kept::Form;
+use crate::kept::TokenForm;
 use crate::lexeme::Lexeme;
 
 /// The string at the front of the bytes that are left, where a quote stands.
@@ -19,7 +19,7 @@ pub fn string(rest: &[u8]) -> Result<Lexeme, FaultKind>
         return Err(FaultKind::BadToken);
     };
     Ok(Lexeme {
-        form: Form::Text,
+        form: TokenForm::Text,
         len: len + 2,
     })
 }

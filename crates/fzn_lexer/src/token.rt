@@ -6,62 +6,62 @@ use fzn_list::Text;
 
 /// A line and a column, both from 1, the column in bytes.
 #[derive(Clone, Copy, Debug, PartialEq, Eq)]
-pub struct Place {
+pub struct Position {
     /// Counted from 1 by line feeds.
     pub line: u32,
     /// Counted from 1 in bytes.
     pub column: u32,
 }
 
-impl Place {
+impl Position {
     ghost use Rattle.std.specs.Prelude.{◌+◌, ◌<◌, ◌^◌, length, []};
     ghost use Rattle.fzn_lexer.specs.Steps.{Moves, stepped};
 
     /// Where a file begins.
-    pub const START: Place = Place { line: 1, column: 1 };
+    pub const START: Position = Position { line: 1, column: 1 };
 
-    /// The place behind this byte, which stands here.
-    fn behind_byte(self, byte: u8) -> Place
+    /// The position behind this byte, which stands here.
+    fn behind_byte(self, byte: u8) -> Position
         requires line { self.line + 1 < 2 ^ 32 }
         requires column { self.column + 1 < 2 ^ 32 }
         ensures { result ≡ stepped self byte }
     {
         if byte == b'\n' {
-            Place {
+            Position {
                 line: self.line + 1,
                 column: 1,
             }
         } else {
-            Place {
+            Position {
                 line: self.line,
                 column: self.column + 1,
             }
         }
     }
 
-    /// The place behind these bytes, which stand here.
-    pub fn behind(self, bytes: &[u8]) -> Place
+    /// The position behind these bytes, which stand here.
+    pub fn behind(self, bytes: &[u8]) -> Position
         requires line { self.line + length bytes.now < 2 ^ 32 }
         requires column { self.column + length bytes.now < 2 ^ 32 }
         ensures { Moves self bytes.now result }
     {
-        let mut place = self;
+        let mut position = self;
         for byte in bytes {
-            place = place.behind_byte(*byte);
+            position = position.behind_byte(*byte);
         }
-        place
+        position
     }
 }
 
-/// The bytes from `start` up to `end`, counted from 0, and the place of the first.
+/// The bytes from `start` up to `end`, counted from 0, and the position of the first.
 #[derive(Clone, Copy, Debug, PartialEq, Eq)]
 pub struct Span {
     /// The index of the first byte.
     pub start: usize,
     /// The index behind the last byte.
     pub end: usize,
-    /// The place of the first byte.
-    pub place: Place,
+    /// The position of the first byte.
+    pub position: Position,
 }
 
 /// A token that is spelled in one way alone: a reserved word, a sign or the end of the file. The words, `Array` to `Var`, are spelled as

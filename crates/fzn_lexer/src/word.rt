@@ -9,7 +9,7 @@ ghost use Rattle.fzn_lexer.specs.Steps.{Reads};
 
 use crate::bytes::Class;
 use crate::fault::FaultKind;
-use crate::kept::Form;
+use crate::kept::TokenForm;
 use crate::lexeme::Lexeme;
 use crate::token::Symbol;
 
@@ -51,8 +51,8 @@ pub fn word(rest: &[u8]) -> Result<Lexeme, FaultKind>
         return Err(FaultKind::Float);
     }
     let form = match reserved(text) {
-        Some(symbol) => Form::Symbol(symbol),
-        None => Form::Name,
+        Some(symbol) => TokenForm::Symbol(symbol),
+        None => TokenForm::Name,
     };
     Ok(Lexeme { form, len })
 }

@@ -141,7 +141,7 @@ fn is_refuted(constraint: &Constraint, sets: &Sets, rules: &[Rule]) -> bool
 
 /// How a constraint fares on one choice of sets.
 #[derive(Clone, Copy, Debug, PartialEq)]
-enum Outcome {
+enum Judgement {
     /// Values of the sets meet it, and no rule is met; or no values do, and no rule is met.
     Kept,
     /// No values of the sets meet it, and some rule is met.
@@ -156,17 +156,17 @@ fn judged(
     rules: &[Rule],
     has_values: bool,
     is_builtin: bool,
-) -> Outcome
+) -> Judgement
     requires constraint { IsWellFormedConstraint (length sets.now.present) constraint.now }
     requires nonempty { is_some_empty sets.now.present ≡ false }
 {
     let by_enum = refutes(constraint, sets, &Rule::Enum);
     match is_refuted(constraint, sets, rules) {
-        true if has_values => Outcome::Wrong,
-        false if has_values => Outcome::Kept,
-        _ if is_builtin && !by_enum => Outcome::Wrong,
-        true => Outcome::Refuted,
-        false => Outcome::Kept,
+        true if has_values => Judgement::Wrong,
+        false if has_values => Judgement::Kept,
+        _ if is_builtin && !by_enum => Judgement::Wrong,
+        true => Judgement::Refuted,
+        false => Judgement::Kept,
     }
 }
 
@@ -194,9 +194,9 @@ fn are_right(
         }
         let has_values = meeting.iter().any(|values| is_among(sets, values));
         match judged(constraint, sets, rules, has_values, is_builtin) {
-            Outcome::Kept => {}
-            Outcome::Refuted => refuted = true,
-            Outcome::Wrong => return Ok(false),
+            Judgement::Kept => {}
+            Judgement::Refuted => refuted = true,
+            Judgement::Wrong => return Ok(false),
         }
     }
     Ok(false)

@@ -18,7 +18,7 @@ use Rattle.fzn_names.specs.Outputs.{single_item, array_item, items_of, shown_fro
 use Rattle.fzn_meaning.specs.declared.model.OutputItem.{OutputItem}
 use Rattle.fzn_meaning.specs.WellFormed.{IsOutputItem}
 use Rattle.fzn_domain.specs.declared.literal.VarId.{VarId}
-use Rattle.fzn_lexer.specs.declared.token.Place.{Place}
+use Rattle.fzn_lexer.specs.declared.token.Position.{Position}
 use Rattle.fzn_tree.specs.declared.tree.Ann.{Ann}
 use Rattle.fzn_names.specs.Declarations.{declared_var, vars_faults, names_from, names_of, declaration_faults}
 use Rattle.fzn_names.specs.Faults.{set_types, wanted_of, added_by_entries, added_by, passes, array_faults, var_faults}
@@ -39,7 +39,7 @@ use Rattle.fzn_tree.specs.declared.tree.Var.TheVariants as vars
 use Rattle.fzn_registry.specs.declared.signature.Argument.TheVariants.{BooleanConstant}
 use Rattle.fzn_symbols.specs.Types.{repeated, fits, sets_in, unknown_in, wrong_literals, wrong_in}
 use Rattle.fzn_symbols.specs.Limits.{IsLiteralWithin, IsBasicWithin, IsParamValueWithin, IsParamWithin, IsVarWithin, AreDeclarationsWithin}
-use Rattle.fzn_symbols.specs.Places.{when, at, place_of_literal}
+use Rattle.fzn_symbols.specs.Positions.{when, at, position_of_literal}
 use Rattle.fzn_symbols.specs.Values.{NameList, literal_value, value_term, terms_of}
 use Rattle.fzn_symbols.specs.Variables.{kind_of, values_of, vars_of}
 use Rattle.fzn_symbols.specs.declared.names.Declared.{Declared}
@@ -49,11 +49,11 @@ use Rattle.fzn_symbols.proofs.CallerLemmas.{left_empty, right_empty, at-empty, b
 -- ---- parameters
 
 literal_boolean : (sets : List IntSet) (literal : Literal) → fits BooleanConstant (literal_value literal) ≡ true → IsBoolean sets (value_term (literal_value literal))
-literal_boolean sets (l.Bool true place) e = inr refl
-literal_boolean sets (l.Bool false place) e = inl refl
+literal_boolean sets (l.Bool true position) e = inr refl
+literal_boolean sets (l.Bool false position) e = inl refl
 literal_boolean sets (l.Int number) e = cc
 literal_boolean sets (l.Range r) e = cc
-literal_boolean sets (l.Set place xs) e = cc
+literal_boolean sets (l.Set position xs) e = cc
 
 abbrev literal_term : Literal → Term
 literal_term literal = value_term (literal_value literal)
@@ -62,7 +62,7 @@ literals_boolean : (sets : List IntSet) (entries : List Literal) → flat_map (w
 literals_boolean sets [] e = All-nil (IsBoolean sets)
 literals_boolean sets (x ∷ xs) e =
     All-cons (IsBoolean sets) (literal_term x) (map literal_term xs)
-    (literal_boolean sets x (when_not (fits BooleanConstant (literal_value x)) (place_of_literal x) (left_empty (wrong_literals BooleanConstant x) (flat_map (wrong_literals BooleanConstant) xs) e)))
+    (literal_boolean sets x (when_not (fits BooleanConstant (literal_value x)) (position_of_literal x) (left_empty (wrong_literals BooleanConstant x) (flat_map (wrong_literals BooleanConstant) xs) e)))
     (literals_boolean sets xs (right_empty (wrong_literals BooleanConstant x) (flat_map (wrong_literals BooleanConstant) xs) e))
 
 literals-within : (sets : List IntSet) (entries : List Literal) → All IsLiteralWithin entries → All (IsTerm (length sets)) (map literal_term entries)
@@ -71,17 +71,17 @@ literals-within sets (x ∷ xs) within =
     All-cons (IsTerm (length sets)) (literal_term x) (map literal_term xs)
     (literal_meaning sets x (All-head IsLiteralWithin x xs within)).term (literals-within sets xs (All-tail IsLiteralWithin x xs within))
 
-constants_boolean : (sets : List IntSet) (size : Option Size) (base : ParamBase) (place : Place) (entries : List Literal) → wrong_values size (wanted_by base) (v.Array place entries) ≡ []
+constants_boolean : (sets : List IntSet) (size : Option Size) (base : ParamBase) (position : Position) (entries : List Literal) → wrong_values size (wanted_by base) (v.Array position entries) ≡ []
     → kind_by base ≡ k.Boolean → All (IsBoolean sets) (map literal_term entries)
-constants_boolean sets None base place entries e kind = absurd cc
-constants_boolean sets (Some size) (p.Bool at) place entries e kind = literals_boolean sets entries e
-constants_boolean sets (Some size) (p.Int at) place entries e kind = absurd cc
-constants_boolean sets (Some size) (p.Set at) place entries e kind = absurd cc
+constants_boolean sets None base position entries e kind = absurd cc
+constants_boolean sets (Some size) (p.Bool at) position entries e kind = literals_boolean sets entries e
+constants_boolean sets (Some size) (p.Int at) position entries e kind = absurd cc
+constants_boolean sets (Some size) (p.Set at) position entries e kind = absurd cc
 
 written_meaning : (sets : List IntSet) (size : Option Size) (base : ParamBase) (value : ParamValue) → IsParamValueWithin value → wrong_values size (wanted_by base) value ≡ [] → IsMeaning sets (param_value base value)
 written_meaning sets size base (v.Literal literal) within e = literal_meaning sets literal within
-written_meaning sets size base (v.Array place entries) within e =
-    constants_meaning sets (kind_by base) (map literal_term entries) (literals-within sets entries within.0) (rw length-map within.1) (constants_boolean sets size base place entries e)
+written_meaning sets size base (v.Array position entries) within e =
+    constants_meaning sets (kind_by base) (map literal_term entries) (literals-within sets entries within.0) (rw length-map within.1) (constants_boolean sets size base position entries e)
 
 param_meaning : (sets : List IntSet) (earlier : NameList) (param : Param) → IsParamWithin param → param_faults earlier param ≡ [] → IsMeaning sets (param_value param.base param.value)
 unfolding param_faults
@@ -124,9 +124,9 @@ variable_meaning sets k.Boolean var within set = record {
 
 boolean_values : (base : Base) → kind_of base ≡ k.Boolean → values_of base ≡ range (pos 0) (pos 1)
 boolean_values bases.Bool e = refl
-boolean_values (bases.Int place) e = absurd cc
+boolean_values (bases.Int position) e = absurd cc
 boolean_values (bases.Values values) e = absurd cc
-boolean_values (bases.Set place values) e = absurd cc
+boolean_values (bases.Set position values) e = absurd cc
 
 single_meaning : (base : Base) (before after sets : List IntSet) → sets ≡ before ++ values_of base ∷ after → IsMeaning sets (d.Variable (kind_of base) (record { 0 = length before + 1 }))
 single_meaning base before after sets e =
@@ -140,8 +140,8 @@ wrong_entries earlier before var none =
     let names = at DuplicateName (repeated earlier var.name) in
     let unknown = at UnknownName (flat_map (unknown_in earlier) var.array.entries) in
     let wrong = at WrongType (flat_map (wrong_in earlier (wanted_of (kind_of var.base))) var.array.entries) in
-    let lengths = at Length (when (not (nat_eq (length var.array.entries) var.size.count)) var.array.place) in
-    let many = at TooMany (when (passes before (added_by_entries var.base var.array.entries)) var.name.place) in
+    let lengths = at Length (when (not (nat_eq (length var.array.entries) var.size.count)) var.array.position) in
+    let many = at TooMany (when (passes before (added_by_entries var.base var.array.entries)) var.name.position) in
     let marks = at OutputAnnotation (mark_faults (is_bad_array_mark (length var.array.entries)) var.anns) in
     let upto = refused ++ names ++ unknown in
     at-empty WrongType (flat_map (wrong_in earlier (wanted_of (kind_of var.base))) var.array.entries)

@@ -17,7 +17,7 @@ use Rattle.fzn_tree.specs.declared.tree.SingleVar.{SingleVar}
 use Rattle.fzn_tree.specs.declared.tree.Var.{Var}
 use Rattle.fzn_tree.specs.declared.tree.Var.TheVariants as vars
 use Rattle.fzn_symbols.specs.Types.{repeated, sets_in, unknown_in, wrong_in}
-use Rattle.fzn_symbols.specs.Places.{first, when, at}
+use Rattle.fzn_symbols.specs.Positions.{first, when, at}
 use Rattle.fzn_symbols.specs.Values.{NameList, meaning_of}
 use Rattle.fzn_symbols.specs.Variables.{kind_of, vars_of}
 use Rattle.fzn_symbols.specs.declared.names.Declared.{Declared}
@@ -48,7 +48,7 @@ unseen (Some x) e = cc
 new_name : (earlier : NameList) (name : Name) → at DuplicateName (repeated earlier name) ≡ [] → meaning_of earlier name.text ≡ None
 new_name earlier name e =
     unseen (meaning_of earlier name.text)
-    (when_false (is_some (meaning_of earlier name.text)) name.place (at-empty DuplicateName (repeated earlier name) e))
+    (when_false (is_some (meaning_of earlier name.text)) name.position (at-empty DuplicateName (repeated earlier name) e))
 
 -- a parameter without faults has a new name
 pub param_fresh : (earlier : NameList) (param : Param) → first (param_faults earlier param) ≡ None → meaning_of earlier param.name.text ≡ None
@@ -73,7 +73,7 @@ module _ (earlier : NameList) (before : ℕ) (var : SingleVar) (none : first (si
       ++ at WrongType (wrong_written earlier (wanted_of (kind_of var.base)) var.value)
 
   abbrev many : List Fault
-  many = at TooMany (when (passes before (added_by_value var.value)) var.name.place)
+  many = at TooMany (when (passes before (added_by_value var.value)) var.name.position)
 
   upto_many : middle ++ many ≡ []
   unfolding single_faults
@@ -89,7 +89,7 @@ module _ (earlier : NameList) (before : ℕ) (var : SingleVar) (none : first (si
   pub single_room : before ≤ longest → before + added_by_value var.value ≤ longest
   single_room room =
       few_more before (added_by_value var.value) room
-      (when_false (passes before (added_by_value var.value)) var.name.place (at-empty TooMany (when (passes before (added_by_value var.value)) var.name.place) (right_empty middle many upto_many)))
+      (when_false (passes before (added_by_value var.value)) var.name.position (at-empty TooMany (when (passes before (added_by_value var.value)) var.name.position) (right_empty middle many upto_many)))
 
 module _ (earlier : NameList) (before : ℕ) (var : ArrayVar) (none : first (array_faults earlier before var) ≡ None) where
   abbrev front_of : List Fault
@@ -98,10 +98,10 @@ module _ (earlier : NameList) (before : ℕ) (var : ArrayVar) (none : first (arr
   abbrev middle_of : List Fault
   middle_of = front_of ++ at DuplicateName (repeated earlier var.name) ++ at UnknownName (flat_map (unknown_in earlier) var.array.entries)
       ++ at WrongType (flat_map (wrong_in earlier (wanted_of (kind_of var.base))) var.array.entries)
-      ++ at Length (when (not (nat_eq (length var.array.entries) var.size.count)) var.array.place)
+      ++ at Length (when (not (nat_eq (length var.array.entries) var.size.count)) var.array.position)
 
   abbrev many_of : List Fault
-  many_of = at TooMany (when (passes before (added_by_entries var.base var.array.entries)) var.name.place)
+  many_of = at TooMany (when (passes before (added_by_entries var.base var.array.entries)) var.name.position)
 
   array_upto_many : middle_of ++ many_of ≡ []
   unfolding array_faults
@@ -114,15 +114,15 @@ module _ (earlier : NameList) (before : ℕ) (var : ArrayVar) (none : first (arr
       let names = at DuplicateName (repeated earlier var.name) in
       let unknown = at UnknownName (flat_map (unknown_in earlier) var.array.entries) in
       let wrong = at WrongType (flat_map (wrong_in earlier (wanted_of (kind_of var.base))) var.array.entries) in
-      let lengths = at Length (when (not (nat_eq (length var.array.entries) var.size.count)) var.array.place) in
+      let lengths = at Length (when (not (nat_eq (length var.array.entries) var.size.count)) var.array.position) in
       new_name earlier var.name
       (right_empty front_of names (left_empty (front_of ++ names) unknown (left_empty (front_of ++ names ++ unknown) wrong (left_empty (front_of ++ names ++ unknown ++ wrong) lengths (left_empty middle_of many_of array_upto_many)))))
 
   pub array_room : before ≤ longest → before + added_by_entries var.base var.array.entries ≤ longest
   array_room room =
       few_more before (added_by_entries var.base var.array.entries) room
-      (when_false (passes before (added_by_entries var.base var.array.entries)) var.name.place
-      (at-empty TooMany (when (passes before (added_by_entries var.base var.array.entries)) var.name.place) (right_empty middle_of many_of array_upto_many)))
+      (when_false (passes before (added_by_entries var.base var.array.entries)) var.name.position
+      (at-empty TooMany (when (passes before (added_by_entries var.base var.array.entries)) var.name.position) (right_empty middle_of many_of array_upto_many)))
 
 -- a declaration without faults has a new name, and leaves the constraints within their limit
 pub var_fresh : (earlier : NameList) (before : ℕ) (var : Var) → first (var_faults earlier before var) ≡ None → meaning_of earlier (name_of var) ≡ None

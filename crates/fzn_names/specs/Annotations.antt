@@ -2,7 +2,7 @@
 use Rattle.std.specs.Prelude.{ℕ, ◌*◌, Bool, true, false, not, ◌&&◌, ◌||◌, List, [], ◌∷◌, ◌++◌, Option, Some, None, map, filter, take, drop, length, nat_eq, nat_lt, is_some, bytes_eq, codes}
 use Rattle.std.specs.List.{list_any, list_all, filter_map}
 use Rattle.fzn_domain.specs.IntSet.{width}
-use Rattle.fzn_lexer.specs.declared.token.Place.{Place}
+use Rattle.fzn_lexer.specs.declared.token.Position.{Position}
 use Rattle.fzn_meaning.specs.declared.model.IndexRange.{IndexRange}
 use Rattle.fzn_tree.specs.declared.tree.Ann.{Ann, out-Ann}
 use Rattle.fzn_tree.specs.declared.tree.AnnArg.{AnnArg}
@@ -69,8 +69,8 @@ is_array_mark count ann = is_output_array ann && have_form count (listed_terms (
 
 -- ---- faults
 
-abbrev pub place_of_ann : Ann → Place
-place_of_ann ann = (out-Ann ann).name.place
+abbrev pub position_of_ann : Ann → Position
+position_of_ann ann = (out-Ann ann).name.position
 
 -- it is faulty by itself on a single variable, or on an array with this many entries
 abbrev pub is_bad_mark : Ann → Bool
@@ -80,5 +80,5 @@ abbrev pub is_bad_array_mark : ℕ → Ann → Bool
 is_bad_array_mark count ann = is_output ann && not (is_array_mark count ann)
 
 -- the first output annotation where it is faulty by itself, and each behind it
-abbrev pub mark_faults : (Ann → Bool) → List Ann → List Place
-mark_faults is_bad anns = map place_of_ann (filter is_bad (take 1 (filter is_output anns)) ++ drop 1 (filter is_output anns))
+abbrev pub mark_faults : (Ann → Bool) → List Ann → List Position
+mark_faults is_bad anns = map position_of_ann (filter is_bad (take 1 (filter is_output anns)) ++ drop 1 (filter is_output anns))

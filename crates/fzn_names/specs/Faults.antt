@@ -2,7 +2,7 @@
 use Rattle.std.specs.Prelude.{ℕ, ◌+◌, Bool, not, ◌&&◌, List, [], ◌∷◌, ◌++◌, Option, Some, None, flat_map, length, nat_eq, nat_lt}
 use Rattle.fzn_lexer.specs.declared.fault.Fault.{Fault}
 use Rattle.fzn_lexer.specs.declared.fault.FaultKind.TheVariants.{SetRefused, UnboundedInt, DuplicateName, UnknownName, «Type» as WrongType, Length, TooMany, OutputAnnotation}
-use Rattle.fzn_lexer.specs.declared.token.Place.{Place}
+use Rattle.fzn_lexer.specs.declared.token.Position.{Position}
 use Rattle.fzn_meaning.specs.Meaning.{longest}
 use Rattle.fzn_meaning.specs.declared.model.Kind.{Kind}
 use Rattle.fzn_meaning.specs.declared.model.Kind.TheVariants as k
@@ -16,17 +16,17 @@ use Rattle.fzn_tree.specs.declared.tree.Var.{Var}
 use Rattle.fzn_tree.specs.declared.tree.Var.TheVariants as vars
 use Rattle.fzn_registry.specs.declared.signature.Argument.{Argument}
 use Rattle.fzn_registry.specs.declared.signature.Argument.TheVariants.{Integer, Boolean}
-use Rattle.fzn_symbols.specs.Places.{when, at}
+use Rattle.fzn_symbols.specs.Positions.{when, at}
 use Rattle.fzn_symbols.specs.Types.{sets_in, unknown_in, wrong_in, repeated}
 use Rattle.fzn_symbols.specs.Values.{NameList}
 use Rattle.fzn_symbols.specs.Variables.{kind_of}
 
-abbrev pub set_types : Base → List Place
-set_types (bases.Set place values) = place ∷ []
+abbrev pub set_types : Base → List Position
+set_types (bases.Set position values) = position ∷ []
 set_types _ = []
 
-abbrev pub unbounded_types : Base → List Place
-unbounded_types (bases.Int place) = place ∷ []
+abbrev pub unbounded_types : Base → List Position
+unbounded_types (bases.Int position) = position ∷ []
 unbounded_types _ = []
 
 -- a variable of the type, or an entry, takes a constant or a variable
@@ -34,11 +34,11 @@ abbrev pub wanted_of : Kind → Argument
 wanted_of k.Integer = Integer
 wanted_of k.Boolean = Boolean
 
-abbrev pub unknown_values : NameList → Option Basic → List Place
+abbrev pub unknown_values : NameList → Option Basic → List Position
 unknown_values earlier None = []
 unknown_values earlier (Some value) = unknown_in earlier value
 
-abbrev pub wrong_written : NameList → Argument → Option Basic → List Place
+abbrev pub wrong_written : NameList → Argument → Option Basic → List Position
 wrong_written earlier wanted None = []
 wrong_written earlier wanted (Some value) = wrong_in earlier wanted value
 
@@ -67,7 +67,7 @@ single_faults earlier before var =
     ++ at DuplicateName (repeated earlier var.name)
     ++ at UnknownName (unknown_values earlier var.value)
     ++ at WrongType (wrong_written earlier (wanted_of (kind_of var.base)) var.value)
-    ++ at TooMany (when (passes before (added_by_value var.value)) var.name.place)
+    ++ at TooMany (when (passes before (added_by_value var.value)) var.name.position)
     ++ at OutputAnnotation (mark_faults is_bad_mark var.anns)
 
 unfoldable pub array_faults : NameList → ℕ → ArrayVar → List Fault
@@ -76,8 +76,8 @@ array_faults earlier before var =
     ++ at DuplicateName (repeated earlier var.name)
     ++ at UnknownName (flat_map (unknown_in earlier) var.array.entries)
     ++ at WrongType (flat_map (wrong_in earlier (wanted_of (kind_of var.base))) var.array.entries)
-    ++ at Length (when (not (nat_eq (length var.array.entries) var.size.count)) var.array.place)
-    ++ at TooMany (when (passes before (added_by_entries var.base var.array.entries)) var.name.place)
+    ++ at Length (when (not (nat_eq (length var.array.entries) var.size.count)) var.array.position)
+    ++ at TooMany (when (passes before (added_by_entries var.base var.array.entries)) var.name.position)
     ++ at OutputAnnotation (mark_faults (is_bad_array_mark (length var.array.entries)) var.anns)
 
 abbrev pub var_faults : NameList → ℕ → Var → List Fault

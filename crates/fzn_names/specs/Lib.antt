@@ -8,7 +8,7 @@ pub mod Outputs
 pub mod Params
 pub use Rattle.fzn_symbols.specs.Known
 pub use Rattle.fzn_symbols.specs.Limits
-pub use Rattle.fzn_symbols.specs.Places
+pub use Rattle.fzn_symbols.specs.Positions
 pub use Rattle.fzn_symbols.specs.Types
 pub use Rattle.fzn_symbols.specs.Values
 pub use Rattle.fzn_symbols.specs.Variables

@@ -12,7 +12,7 @@ use Rattle.fzn_tree.specs.declared.tree.ArrayVar.{ArrayVar}
 use Rattle.fzn_tree.specs.declared.tree.SingleVar.{SingleVar}
 use Rattle.fzn_tree.specs.declared.tree.Var.{Var}
 use Rattle.fzn_tree.specs.declared.tree.Var.TheVariants as vars
-use Rattle.fzn_symbols.specs.Places.{when}
+use Rattle.fzn_symbols.specs.Positions.{when}
 use Rattle.fzn_symbols.specs.Values.{NameList, terms_of}
 use Rattle.fzn_symbols.specs.Variables.{kind_of}
 

@@ -3,13 +3,13 @@ ghost use Rattle.std.specs.Prelude.{◌≡◌, ◌≤◌, ◌*◌, List, ◌∷�
 ghost use Rattle.std.specs.List.{list_all};
 ghost use Rattle.fzn_domain.specs.IntSet.{width};
 ghost use Rattle.fzn_meaning.specs.Meaning.{longest};
-ghost use Rattle.fzn_names.specs.Annotations.{has_no_args, is_output_var, is_output_array, is_output, is_mark, is_marked, is_bad_mark, range_of, ranges_in, size_of, have_form, listed_terms, is_array_mark, is_bad_array_mark, place_of_ann, mark_faults};
+ghost use Rattle.fzn_names.specs.Annotations.{has_no_args, is_output_var, is_output_array, is_output, is_mark, is_marked, is_bad_mark, range_of, ranges_in, size_of, have_form, listed_terms, is_array_mark, is_bad_array_mark, position_of_ann, mark_faults};
 ghost use Rattle.fzn_names.specs.Capped.{capped};
 ghost use Rattle.fzn_tree.specs.declared.tree.Ann.{Ann, out-Ann};
 ghost use Rattle.fzn_tree.specs.declared.tree.AnnTerm.{AnnTerm};
-ghost use Rattle.fzn_symbols.specs.Places.{first};
+ghost use Rattle.fzn_symbols.specs.Positions.{first};
 
-use fzn_lexer::Place;
+use fzn_lexer::Position;
 use fzn_list::Items;
 use fzn_meaning::IndexRange;
 use fzn_tree::{Ann, AnnArg, AnnTerm, Literal};
@@ -177,12 +177,12 @@ pub fn ranges_of(alloc: Global, ann: &Ann) -> Result<Items<IndexRange>, AllocErr
 
 // ---- faults
 
-fn first_output(mut anns: &[Ann]) -> Option<Place>
-    ensures { result ≡ first (map place_of_ann (filter is_output anns.now)) }
+fn first_output(mut anns: &[Ann]) -> Option<Position>
+    ensures { result ≡ first (map position_of_ann (filter is_output anns.now)) }
 {
     while let [ann, rest @ ..] = anns {
         if is_output(ann) {
-            return Some(ann.name.place);
+            return Some(ann.name.position);
         }
         anns = rest;
     }
@@ -190,7 +190,7 @@ fn first_output(mut anns: &[Ann]) -> Option<Place>
 }
 
 /// The first fault of the annotations of a single variable.
-pub fn mark_fault(mut anns: &[Ann]) -> Option<Place>
+pub fn mark_fault(mut anns: &[Ann]) -> Option<Position>
     ensures { result ≡ first (mark_faults is_bad_mark anns.now) }
 {
     while let [ann, rest @ ..] = anns {
@@ -198,7 +198,7 @@ pub fn mark_fault(mut anns: &[Ann]) -> Option<Place>
             if is_mark(ann) {
                 return first_output(rest);
             }
-            return Some(ann.name.place);
+            return Some(ann.name.position);
         }
         anns = rest;
     }
@@ -206,7 +206,7 @@ pub fn mark_fault(mut anns: &[Ann]) -> Option<Place>
 }
 
 /// The first fault of the annotations of an array with this many entries.
-pub fn array_mark_fault(count: usize, mut anns: &[Ann]) -> Option<Place>
+pub fn array_mark_fault(count: usize, mut anns: &[Ann]) -> Option<Position>
     requires { count ≤ longest }
     ensures { result ≡ first (mark_faults (is_bad_array_mark count) anns.now) }
 {
@@ -215,7 +215,7 @@ pub fn array_mark_fault(count: usize, mut anns: &[Ann]) -> Option<Place>
             if is_array_mark(count, ann) {
                 return first_output(rest);
             }
-            return Some(ann.name.place);
+            return Some(ann.name.position);
         }
         anns = rest;
     }

@@ -4,11 +4,11 @@ ghost use Rattle.fzn_meaning.specs.Meaning.{longest};
 ghost use Rattle.fzn_names.specs.Faults.{set_types, unbounded_types, wanted_of, unknown_values, wrong_written, added_by_value, added_by_entries, added_by, passes, single_faults, array_faults, var_faults};
 ghost use Rattle.fzn_symbols.specs.Known.{known};
 ghost use Rattle.fzn_symbols.specs.Limits.{IsVarWithin};
-ghost use Rattle.fzn_symbols.specs.Places.{first};
+ghost use Rattle.fzn_symbols.specs.Positions.{first};
 ghost use Rattle.fzn_symbols.specs.Types.{sets_in};
 
 use crate::annotation::{array_mark_fault, mark_fault};
-use fzn_lexer::{Fault, FaultKind, Place};
+use fzn_lexer::{Fault, FaultKind, Position};
 use fzn_list::LONGEST;
 use fzn_meaning::Kind;
 use fzn_registry::Argument;
@@ -26,20 +26,20 @@ fn wanted_of(kind: Kind) -> Argument
     }
 }
 
-fn set_type(base: &Base) -> Option<Place>
+fn set_type(base: &Base) -> Option<Position>
     ensures { result ≡ first (set_types base.now) }
 {
     match base {
-        Base::Set(place, _) => Some(*place),
+        Base::Set(position, _) => Some(*position),
         _ => None,
     }
 }
 
-fn unbounded_type(base: &Base) -> Option<Place>
+fn unbounded_type(base: &Base) -> Option<Position>
     ensures { result ≡ first (unbounded_types base.now) }
 {
     match base {
-        Base::Int(place) => Some(*place),
+        Base::Int(position) => Some(*position),
         _ => None,
     }
 }
@@ -55,7 +55,7 @@ fn passes(before: usize, more: usize) -> bool
 
 // ---- single variables
 
-fn unknown_value(earlier: &Names, value: &Option<Basic>) -> Option<Place>
+fn unknown_value(earlier: &Names, value: &Option<Basic>) -> Option<Position>
     ensures { result ≡ first (unknown_values (known earlier.now) value.now) }
 {
     match value {
@@ -64,7 +64,7 @@ fn unknown_value(earlier: &Names, value: &Option<Basic>) -> Option<Place>
     }
 }
 
-fn wrong_written(earlier: &Names, wanted: Argument, value: &Option<Basic>) -> Option<Place>
+fn wrong_written(earlier: &Names, wanted: Argument, value: &Option<Basic>) -> Option<Position>
     ensures { result ≡ first (wrong_written (known earlier.now) wanted value.now) }
 {
     match value {
@@ -89,46 +89,46 @@ fn single_fault(earlier: &Names, before: usize, var: &SingleVar) -> Option<Fault
     requires { before ≤ longest }
     ensures { result ≡ first (single_faults (known earlier.now) before var.now) }
 {
-    if let Some(place) = set_type(&var.base) {
+    if let Some(position) = set_type(&var.base) {
         return Some(Fault {
             kind: FaultKind::SetRefused,
-            place,
+            position,
         });
     }
-    if let Some(place) = unbounded_type(&var.base) {
+    if let Some(position) = unbounded_type(&var.base) {
         return Some(Fault {
             kind: FaultKind::UnboundedInt,
-            place,
+            position,
         });
     }
     if earlier.meaning(&var.name.text).is_some() {
         return Some(Fault {
             kind: FaultKind::DuplicateName,
-            place: var.name.place,
+            position: var.name.position,
         });
     }
-    if let Some(place) = unknown_value(earlier, &var.value) {
+    if let Some(position) = unknown_value(earlier, &var.value) {
         return Some(Fault {
             kind: FaultKind::UnknownName,
-            place,
+            position,
         });
     }
-    if let Some(place) = wrong_written(earlier, wanted_of(kind_of(&var.base)), &var.value) {
+    if let Some(position) = wrong_written(earlier, wanted_of(kind_of(&var.base)), &var.value) {
         return Some(Fault {
             kind: FaultKind::Type,
-            place,
+            position,
         });
     }
     if passes(before, added_by_value(&var.value)) {
         return Some(Fault {
             kind: FaultKind::TooMany,
-            place: var.name.place,
+            position: var.name.position,
         });
     }
     match mark_fault(var.anns.as_slice()) {
-        Some(place) => Some(Fault {
+        Some(position) => Some(Fault {
             kind: FaultKind::OutputAnnotation,
-            place,
+            position,
         }),
         None => None,
     }
@@ -137,11 +137,11 @@ fn single_fault(earlier: &Names, before: usize, var: &SingleVar) -> Option<Fault
 // ---- arrays
 
 #[tactic(auto, using(fzn_symbols::proofs::CallerLemmas::firsts))]
-fn refused_set(earlier: &Names, var: &ArrayVar) -> Option<Place>
+fn refused_set(earlier: &Names, var: &ArrayVar) -> Option<Position>
     ensures { result ≡ first (set_types var.now.base ++ flat_map (sets_in (known earlier.now)) var.now.array.entries) }
 {
     match set_type(&var.base) {
-        Some(place) => Some(place),
+        Some(position) => Some(position),
         None => first_set_in(earlier, var.array.entries.as_slice()),
     }
 }
@@ -164,46 +164,46 @@ fn array_fault(earlier: &Names, before: usize, var: &ArrayVar) -> Option<Fault>
     ensures { result ≡ first (array_faults (known earlier.now) before var.now) }
 {
     let entries = var.array.entries.as_slice();
-    if let Some(place) = refused_set(earlier, var) {
+    if let Some(position) = refused_set(earlier, var) {
         return Some(Fault {
             kind: FaultKind::SetRefused,
-            place,
+            position,
         });
     }
     if earlier.meaning(&var.name.text).is_some() {
         return Some(Fault {
             kind: FaultKind::DuplicateName,
-            place: var.name.place,
+            position: var.name.position,
         });
     }
-    if let Some(place) = first_unknown_in(earlier, entries) {
+    if let Some(position) = first_unknown_in(earlier, entries) {
         return Some(Fault {
             kind: FaultKind::UnknownName,
-            place,
+            position,
         });
     }
-    if let Some(place) = first_wrong_in(earlier, wanted_of(kind_of(&var.base)), entries) {
+    if let Some(position) = first_wrong_in(earlier, wanted_of(kind_of(&var.base)), entries) {
         return Some(Fault {
             kind: FaultKind::Type,
-            place,
+            position,
         });
     }
     if entries.len() != var.size.count {
         return Some(Fault {
             kind: FaultKind::Length,
-            place: var.array.place,
+            position: var.array.position,
         });
     }
     if passes(before, added_by_entries(&var.base, entries)) {
         return Some(Fault {
             kind: FaultKind::TooMany,
-            place: var.name.place,
+            position: var.name.position,
         });
     }
     match array_mark_fault(entries.len(), var.anns.as_slice()) {
-        Some(place) => Some(Fault {
+        Some(position) => Some(Fault {
             kind: FaultKind::OutputAnnotation,
-            place,
+            position,
         }),
         None => None,
     }

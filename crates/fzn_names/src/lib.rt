@@ -9,7 +9,7 @@ pub use declaration::names_of;
 pub use flag::outputs_of;
 pub use fzn_symbols::{
     Declared, Names, array_of, first_set_in, first_unknown_in, first_wrong_in, has_negative_entry,
-    is_negative, kind_of, list_of, no_values, place_of, set_of, term_of, terms_of, unknown_in,
+    is_negative, kind_of, list_of, no_values, position_of, set_of, term_of, terms_of, unknown_in,
     values_in, variable_of, vars_of, wrong_in,
 };
 pub use output::shown_of;

@@ -5,45 +5,45 @@ ghost use Rattle.fzn_names.specs.Given.{Gives};
 ghost use Rattle.fzn_names.specs.Params.{set_elements, set_values, wanted_by, wrong_values, wrong_lengths, param_faults, kind_by, param_value, params_faults, param_names};
 ghost use Rattle.fzn_symbols.specs.Known.{known};
 ghost use Rattle.fzn_symbols.specs.Limits.{IsLiteralWithin, IsParamWithin};
-ghost use Rattle.fzn_symbols.specs.Places.{first};
+ghost use Rattle.fzn_symbols.specs.Positions.{first};
 ghost use Rattle.fzn_symbols.specs.Types.{set_literals, wrong_literals};
 ghost use Rattle.fzn_symbols.specs.Values.{literal_value};
 
 use fzn_domain::Domain;
-use fzn_lexer::{Fault, FaultKind, Halt, Place};
+use fzn_lexer::{Fault, FaultKind, Halt, Position};
 use fzn_meaning::Kind;
 use fzn_registry::Argument;
 use fzn_symbols::{
-    Declared, NamedList, Names, literal_terms, place_of_literal, set_literal, wrong_literal,
+    Declared, NamedList, Names, literal_terms, position_of_literal, set_literal, wrong_literal,
 };
 use fzn_tree::{Literal, Param, ParamBase, ParamValue, Size};
 use std::alloc::{AllocError, Global};
 
 // ---- faults
 
-fn set_element(size: &Option<Size>, base: ParamBase) -> Option<Place>
+fn set_element(size: &Option<Size>, base: ParamBase) -> Option<Position>
     ensures { result ≡ first (set_elements size.now base) }
 {
     match (size, base) {
-        (Some(_), ParamBase::Set(place)) => Some(place),
+        (Some(_), ParamBase::Set(position)) => Some(position),
         _ => None,
     }
 }
 
 #[tactic(auto, using(fzn_symbols::proofs::CallerLemmas::firsts))]
-fn first_set_literal(mut literals: &[Literal]) -> Option<Place>
+fn first_set_literal(mut literals: &[Literal]) -> Option<Position>
     ensures { result ≡ first (flat_map set_literals literals.now) }
 {
     while let [literal, rest @ ..] = literals {
-        if let Some(place) = set_literal(literal) {
-            return Some(place);
+        if let Some(position) = set_literal(literal) {
+            return Some(position);
         }
         literals = rest;
     }
     None
 }
 
-fn set_value(value: &ParamValue) -> Option<Place>
+fn set_value(value: &ParamValue) -> Option<Position>
     ensures { result ≡ first (set_values value.now) }
 {
     match value {
@@ -53,11 +53,11 @@ fn set_value(value: &ParamValue) -> Option<Place>
 }
 
 #[tactic(auto, using(fzn_symbols::proofs::CallerLemmas::firsts))]
-fn refused_set(param: &Param) -> Option<Place>
+fn refused_set(param: &Param) -> Option<Position>
     ensures { result ≡ first (set_elements param.now.size param.now.base ++ set_values param.now.value) }
 {
     match set_element(&param.size, param.base) {
-        Some(place) => Some(place),
+        Some(position) => Some(position),
         None => set_value(&param.value),
     }
 }
@@ -73,35 +73,35 @@ fn wanted_by(base: ParamBase) -> Argument
 }
 
 #[tactic(auto, using(fzn_symbols::proofs::CallerLemmas::firsts))]
-fn first_wrong_literal(wanted: Argument, mut literals: &[Literal]) -> Option<Place>
+fn first_wrong_literal(wanted: Argument, mut literals: &[Literal]) -> Option<Position>
     ensures { result ≡ first (flat_map (wrong_literals wanted) literals.now) }
 {
     while let [literal, rest @ ..] = literals {
-        if let Some(place) = wrong_literal(wanted, literal) {
-            return Some(place);
+        if let Some(position) = wrong_literal(wanted, literal) {
+            return Some(position);
         }
         literals = rest;
     }
     None
 }
 
-fn wrong_value(size: &Option<Size>, wanted: Argument, value: &ParamValue) -> Option<Place>
+fn wrong_value(size: &Option<Size>, wanted: Argument, value: &ParamValue) -> Option<Position>
     ensures { result ≡ first (wrong_values size.now wanted value.now) }
 {
     match (size, value) {
         (None, ParamValue::Literal(literal)) => wrong_literal(wanted, literal),
-        (None, ParamValue::Array(place, _)) => Some(*place),
-        (Some(_), ParamValue::Literal(literal)) => Some(place_of_literal(literal)),
+        (None, ParamValue::Array(position, _)) => Some(*position),
+        (Some(_), ParamValue::Literal(literal)) => Some(position_of_literal(literal)),
         (Some(_), ParamValue::Array(_, entries)) => first_wrong_literal(wanted, entries.as_slice()),
     }
 }
 
-fn wrong_length(size: &Option<Size>, value: &ParamValue) -> Option<Place>
+fn wrong_length(size: &Option<Size>, value: &ParamValue) -> Option<Position>
     ensures { result ≡ first (wrong_lengths size.now value.now) }
 {
     match (size, value) {
-        (Some(size), ParamValue::Array(place, entries)) if entries.len() != size.count => {
-            Some(*place)
+        (Some(size), ParamValue::Array(position, entries)) if entries.len() != size.count => {
+            Some(*position)
         }
         _ => None,
     }
@@ -112,28 +112,28 @@ fn wrong_length(size: &Option<Size>, value: &ParamValue) -> Option<Place>
 fn param_fault(earlier: &Names, param: &Param) -> Option<Fault>
     ensures { result ≡ first (param_faults (known earlier.now) param.now) }
 {
-    if let Some(place) = refused_set(param) {
+    if let Some(position) = refused_set(param) {
         return Some(Fault {
             kind: FaultKind::SetRefused,
-            place,
+            position,
         });
     }
     if earlier.meaning(&param.name.text).is_some() {
         return Some(Fault {
             kind: FaultKind::DuplicateName,
-            place: param.name.place,
+            position: param.name.position,
         });
     }
-    if let Some(place) = wrong_value(&param.size, wanted_by(param.base), &param.value) {
+    if let Some(position) = wrong_value(&param.size, wanted_by(param.base), &param.value) {
         return Some(Fault {
             kind: FaultKind::Type,
-            place,
+            position,
         });
     }
     match wrong_length(&param.size, &param.value) {
-        Some(place) => Some(Fault {
+        Some(position) => Some(Fault {
             kind: FaultKind::Length,
-            place,
+            position,
         }),
         None => None,
     }

@@ -5,9 +5,9 @@ ghost use Rattle.fzn_domain.specs.IntSet.{width};
 ghost use Rattle.fzn_meaning.specs.Arithmetic.{IsArithmetic};
 ghost use Rattle.fzn_terms.specs.Intervals.{IsIn, IsLimitedInterval};
 ghost use Rattle.fzn_operations.specs.Excluded.{IsProductBeyond, IsAbsoluteBeyond, NoneGives, IsFew, AreFewPairs, IsExcluded};
-ghost use Rattle.fzn_fixed.specs.Outcome.{Admits};
+ghost use Rattle.fzn_fixed.specs.Image.{Admits};
 
-use fzn_fixed::{Outcome, of_operation};
+use fzn_fixed::{Image, of_operation};
 use fzn_meaning::Operation;
 use fzn_terms::Interval;
 
@@ -145,13 +145,13 @@ fn is_none_given_by(operation: Operation, left: &i64, right: Interval, of: Inter
     false
 }
 
-/// Whether the outcome may admit a number of the interval.
-fn admits_some(outcome: Outcome, of: Interval) -> bool
-    ensures { IsFalse result → (r : ℤ) → Admits outcome (Some r) → IsIn of r → ⊥ }
+/// Whether the image may admit a number of the interval.
+fn admits_some(image: Image, of: Interval) -> bool
+    ensures { IsFalse result → (r : ℤ) → Admits image (Some r) → IsIn of r → ⊥ }
 {
-    match outcome {
-        Outcome::Only(value) => of.low <= value && value <= of.high,
-        Outcome::AllBut(_) => true,
+    match image {
+        Image::Only(value) => of.low <= value && value <= of.high,
+        Image::AllBut(_) => true,
         _ => false,
     }
 }

@@ -33,33 +33,33 @@ struct Intervals {
 
 /// One of the places.
 #[derive(Clone, Copy)]
-enum Place {
+enum Argument {
     Left,
     Right,
     Result,
 }
 
 impl Intervals {
-    fn at(self, place: Place) -> Interval {
+    fn at(self, place: Argument) -> Interval {
         match place {
-            Place::Left => self.left,
-            Place::Right => self.right,
-            Place::Result => self.of,
+            Argument::Left => self.left,
+            Argument::Right => self.right,
+            Argument::Result => self.of,
         }
     }
 
     /// With another interval at the place.
-    fn with(self, place: Place, interval: Interval) -> Intervals {
+    fn with(self, place: Argument, interval: Interval) -> Intervals {
         match place {
-            Place::Left => Intervals {
+            Argument::Left => Intervals {
                 left: interval,
                 ..self
             },
-            Place::Right => Intervals {
+            Argument::Right => Intervals {
                 right: interval,
                 ..self
             },
-            Place::Result => Intervals {
+            Argument::Result => Intervals {
                 of: interval,
                 ..self
             },
@@ -120,9 +120,9 @@ fn all_excluded(alloc: Global, shape: Shape, now: Intervals) -> Result<Items<Int
         all.push(now)?;
         return Ok(all);
     }
-    add_excluded(shape, now, Place::Left, &mut all)?;
-    add_excluded(shape, now, Place::Right, &mut all)?;
-    add_excluded(shape, now, Place::Result, &mut all)?;
+    add_excluded(shape, now, Argument::Left, &mut all)?;
+    add_excluded(shape, now, Argument::Right, &mut all)?;
+    add_excluded(shape, now, Argument::Result, &mut all)?;
     Ok(all)
 }
 
@@ -130,7 +130,7 @@ fn all_excluded(alloc: Global, shape: Shape, now: Intervals) -> Result<Items<Int
 fn add_excluded(
     shape: Shape,
     now: Intervals,
-    place: Place,
+    place: Argument,
     all: &mut Items<Intervals>,
 ) -> Result<(), Memory> {
     let whole = now.at(place);
@@ -150,7 +150,7 @@ fn add_excluded(
 
 /// Whether the first place or the second has no number from its other end on that is nearer than FAR: it would take hundreds of steps to
 /// go there.
-fn is_far(shape: Shape, now: Intervals, place: Place, moving: End, other: &i64) -> bool {
+fn is_far(shape: Shape, now: Intervals, place: Argument, moving: End, other: &i64) -> bool {
     let whole = now.at(place);
     if whole.high.saturating_sub(whole.low) <= FAR {
         return false;
@@ -161,27 +161,27 @@ fn is_far(shape: Shape, now: Intervals, place: Place, moving: End, other: &i64) 
     };
     let part = moved(now, place, moving, number);
     match (shape, place) {
-        (_, Place::Result) => false,
-        (Shape::Remainder, Place::Right) => true, // No closed form tells which divisors leave a remainder.
+        (_, Argument::Result) => false,
+        (Shape::Remainder, Argument::Right) => true, // No closed form tells which divisors leave a remainder.
         _ => seem_beyond(shape, part.left, part.right, part.of),
     }
 }
 
 /// The intervals, each end moved towards the declared one as far as they are excluded.
 fn weakened(shape: Shape, found: Intervals, declared: Intervals) -> Intervals {
-    let first = weakened_at(shape, found, declared, Place::Left);
-    let second = weakened_at(shape, first, declared, Place::Right);
-    weakened_at(shape, second, declared, Place::Result)
+    let first = weakened_at(shape, found, declared, Argument::Left);
+    let second = weakened_at(shape, first, declared, Argument::Right);
+    weakened_at(shape, second, declared, Argument::Result)
 }
 
-fn weakened_at(shape: Shape, found: Intervals, declared: Intervals, place: Place) -> Intervals {
+fn weakened_at(shape: Shape, found: Intervals, declared: Intervals, place: Argument) -> Intervals {
     let far = declared.at(place);
     let lower = widened(shape, found, place, End::Low, far.low);
     widened(shape, lower, place, End::High, far.high)
 }
 
 /// The intervals with one end moved towards a number as far as they are excluded: where they are, so are all that are narrower.
-fn widened(shape: Shape, intervals: Intervals, place: Place, end: End, far: i64) -> Intervals {
+fn widened(shape: Shape, intervals: Intervals, place: Argument, end: End, far: i64) -> Intervals {
     let mut good = match end {
         End::Low => intervals.at(place).low,
         End::High => intervals.at(place).high,
@@ -206,7 +206,7 @@ fn widened(shape: Shape, intervals: Intervals, place: Place, end: End, far: i64)
 }
 
 /// The intervals with one end moved to a number.
-fn moved(intervals: Intervals, place: Place, end: End, number: i64) -> Intervals {
+fn moved(intervals: Intervals, place: Argument, end: End, number: i64) -> Intervals {
     let interval = intervals.at(place);
     let moved = match end {
         End::Low => Interval {

@@ -9,7 +9,7 @@ ghost use Rattle.fzn_operations.specs.Excluded.{shaped};
 use crate::excluded::{Shape, are_few};
 use crate::exclusion::{hand_over_outside, infer_ends};
 use fzn_domain::{Domain, GREATEST_VALUE, LEAST_VALUE, Lit, Memory, Op, VarId};
-use fzn_fixed::{Outcome, of_operation};
+use fzn_fixed::{Image, of_operation};
 use fzn_list::Items;
 use fzn_meaning::{Operation, Term};
 use fzn_propagator::Findings;
@@ -221,7 +221,7 @@ fn take_given(
     requires right { IsLimitedInterval right }
 {
     for number in right.low..right.high + 1 {
-        if let Outcome::Only(value) = outcome_at(operation, left, number)
+        if let Image::Only(value) = image_at(operation, left, number)
             && rest.contains(value)
         {
             rest.restrict(Lit {
@@ -235,13 +235,13 @@ fn take_given(
 }
 
 /// What the operation gives, where both are numbers of a domain.
-fn outcome_at(operation: Operation, left: i64, right: i64) -> Outcome {
+fn image_at(operation: Operation, left: i64, right: i64) -> Image {
     if left < LEAST_VALUE
         || GREATEST_VALUE < left
         || right < LEAST_VALUE
         || GREATEST_VALUE < right
     {
-        return Outcome::Fails;
+        return Image::Fails;
     }
     of_operation(operation, &left, &right)
 }

@@ -43,7 +43,7 @@ folded = fold-Ann pieces G.ann_layer
 term_mapped : (level : ℕ) (x : AnnTerm Ann) → G.ann_term level (shapes.former-Ann-args-at-4.map Ann pieces folded x) ≡ A.term level x
 unfolding G.ann
 term_mapped level (terms.Literal value) = refl
-term_mapped level (terms.Text text place) = refl
+term_mapped level (terms.Text text position) = refl
 term_mapped level (terms.Ann a) = refl
 
 arg_mapped : (level : ℕ) (x : AnnArg Ann) → G.ann_arg level (shapes.former-Ann-args-at-11.map Ann pieces folded x) ≡ A.arg level x
@@ -65,10 +65,10 @@ ann_opened level a = ap (G.ann level) (sym (roll-out-Ann a)) ∙ ann_rolled leve
 pub ann_next : (f : Kind → Bool) (b : Bool) → ((n : List ℕ) → f (k.Name n) ≡ b) → (level : ℕ) (a : Ann) (u v : List Token) → AreSpelled u (G.ann level a) → next_is (λ t. f t.kind) (u ++ v) ≡ b
 ann_next f b same level a u v spelled =
     let n = (out-Ann a).name in
-    next_kind f (piece_at (k.Name n.text) n.place) (optional level (out-Ann a).args) u v (subst (λ (z : List Piece). AreSpelled u z) (ann_opened level a) spelled) ∙ same n.text
+    next_kind f (piece_at (k.Name n.text) n.position) (optional level (out-Ann a).args) u v (subst (λ (z : List Piece). AreSpelled u z) (ann_opened level a) spelled) ∙ same n.text
 
 pub some_ann : Ann
-some_ann = roll-Ann (record { name = record { text = 97 ∷ []; place = record { line = 1; column = 1 } }; args = None })
+some_ann = roll-Ann (record { name = record { text = 97 ∷ []; position = record { line = 1; column = 1 } }; args = None })
 
 abbrev pub is_paren : Token → Bool
 is_paren = is s.OpenParen

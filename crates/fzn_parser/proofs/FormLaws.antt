@@ -4,7 +4,7 @@ use Rattle.std.specs.Prelude.{pos}
 use Rattle.fzn_lexer.specs.declared.fault.FaultKind.TheVariants.{Syntax, TooMany}
 use Rattle.fzn_lexer.specs.declared.halt.Halt.{Halt}
 use Rattle.fzn_lexer.specs.declared.token.Kind.{Kind}
-use Rattle.fzn_lexer.specs.declared.token.Place.{Place}
+use Rattle.fzn_lexer.specs.declared.token.Position.{Position}
 use Rattle.fzn_lexer.specs.declared.token.Symbol.{Symbol}
 use Rattle.fzn_lexer.specs.declared.token.Token.{Token}
 use Rattle.fzn_lexer.specs.declared.token.Kind.TheVariants as k
@@ -18,7 +18,7 @@ use Rattle.fzn_parser.specs.GoesOn.{never}
 use Rattle.fzn_parser.specs.Taken.{over, refusal}
 use Rattle.fzn_parser.proofs.SpelledLaws.{next_is-same}
 use Rattle.fzn_parser.proofs.Onward.{Parts, last, part}
-use Rattle.fzn_parser.proofs.TokenLaws.{some_place}
+use Rattle.fzn_parser.proofs.TokenLaws.{some_position}
 
 -- ---- tokens that agree up to the next one pass a test alike
 
@@ -31,10 +31,10 @@ clash' test ts w fails same passes = let e = next_is-same test w ts same in cc
 -- ---- parts of one token
 
 pub some_name : Name
-some_name = record { text = 97 ∷ []; place = some_place }
+some_name = record { text = 97 ∷ []; position = some_position }
 
 pub some_int : Int
-some_int = record { value = pos 0; place = some_place }
+some_int = record { value = pos 0; position = some_position }
 
 abbrev pub word : Symbol → Parts → Parts
 word x ps = part (λ (u : Unit {0}). sign x) never tt ps
@@ -43,10 +43,10 @@ abbrev pub last_word : Symbol → Parts
 last_word x = last (λ (u : Unit {0}). sign x) never tt
 
 abbrev pub placed_word : Symbol → Parts → Parts
-placed_word x ps = part (λ (at : Place). placed (k.Symbol x) at) never some_place ps
+placed_word x ps = part (λ (at : Position). placed (k.Symbol x) at) never some_position ps
 
 abbrev pub last_placed : Symbol → Parts
-last_placed x = last (λ (at : Place). placed (k.Symbol x) at) never some_place
+last_placed x = last (λ (at : Position). placed (k.Symbol x) at) never some_position
 
 abbrev pub named : Parts → Parts
 named ps = part G.name never some_name ps

@@ -2,7 +2,7 @@
 use Rattle.std.proofs.Common.{◌≡◌, Bool, true, false, List, [], ◌∷◌, ◌++◌, refl, ◌∙◌, inl, inr, ◌⊎◌}
 use Rattle.std.specs.Prelude.{ℤ, pos, nat_lt, ◌||◌, IfSome}
 use Rattle.fzn_lexer.specs.declared.token.Kind.{Kind}
-use Rattle.fzn_lexer.specs.declared.token.Place.{Place}
+use Rattle.fzn_lexer.specs.declared.token.Position.{Position}
 use Rattle.fzn_lexer.specs.declared.token.Symbol.{Symbol}
 use Rattle.fzn_lexer.specs.declared.token.Token.{Token}
 use Rattle.fzn_lexer.specs.Kinds.{is_symbol}
@@ -61,7 +61,7 @@ listed_values all = G.listed G.listed_value s.CloseBrace all
 
 pub values_next : (f : Kind → Bool) (b : Bool) → f (k.Symbol s.OpenBrace) ≡ b → ((z : ℤ) → f (k.Int z) ≡ b) → (x : Values) (u v : List Token) → AreSpelled u (G.values x) → next_is (λ t. f t.kind) (u ++ v) ≡ b
 values_next f b o i (values_are.Listed all) u v spelled = next_kind f (sign_piece s.OpenBrace) _ u v spelled ∙ o
-values_next f b o i (values_are.Range r) u v spelled = next_kind f (piece_at (k.Int r.low.value) r.low.place) _ u v spelled ∙ i r.low.value
+values_next f b o i (values_are.Range r) u v spelled = next_kind f (piece_at (k.Int r.low.value) r.low.position) _ u v spelled ∙ i r.low.value
 
 module _ (ts : List Token) where
   pub values_braced : next_is (is s.OpenBrace) ts ≡ true → IsForm G.values never ts (word s.OpenBrace (last listed_values never [])) (λ p. values_are.Listed p.1)
@@ -69,7 +69,7 @@ module _ (ts : List Token) where
     where
       onto : (x : Values) (u v : List Token) → AreSpelled u (G.values x) → Stops never v → SameNext (u ++ v) ts → (c : Unit {0} × List ℤ) × (values_are.Listed c.1 ≡ x)
       onto (values_are.Listed all) u v spelled stops same = ((tt, all), refl)
-      onto (values_are.Range r) u v spelled stops same = absurd (clash (is s.OpenBrace) ts (u ++ v) there same (next_kind (is_symbol s.OpenBrace) (piece_at (k.Int r.low.value) r.low.place) _ u v spelled))
+      onto (values_are.Range r) u v spelled stops same = absurd (clash (is s.OpenBrace) ts (u ++ v) there same (next_kind (is_symbol s.OpenBrace) (piece_at (k.Int r.low.value) r.low.position) _ u v spelled))
 
   pub values_range : next_is (is s.OpenBrace) ts ≡ false → IsForm G.values never ts (part G.int never some_int (word s.Dots (last G.number never (pos 0)))) (λ p. values_are.Range (record { low = p.0; high = p.1.1 }))
   values_range there = form (λ p. values_are.Range (record { low = p.0; high = p.1.1 })) (λ p. refl) onto (closed _ _, (closed _ _, closed_last never))
@@ -106,32 +106,32 @@ module _ (ts : List Token) where
   pub literal_true : next_is (is s.True) ts ≡ true → IsForm G.literal further ts (last_placed s.True) (λ at. l.Bool true at)
   literal_true there = form (λ at. l.Bool true at) (λ at. refl) onto (closed_last further)
     where
-      onto : (x : Literal) (u v : List Token) → AreSpelled u (G.literal x) → Stops further v → SameNext (u ++ v) ts → (c : Place) × (l.Bool true c ≡ x)
+      onto : (x : Literal) (u v : List Token) → AreSpelled u (G.literal x) → Stops further v → SameNext (u ++ v) ts → (c : Position) × (l.Bool true c ≡ x)
       onto (l.Bool true at) u v spelled stops same = (at, refl)
       onto (l.Bool false at) u v spelled stops same = absurd (clash (is s.True) ts (u ++ v) there same (next_kind (is_symbol s.True) (piece_at (k.Symbol s.False) at) [] u v spelled))
-      onto (l.Int i) u v spelled stops same = absurd (clash (is s.True) ts (u ++ v) there same (next_kind (is_symbol s.True) (piece_at (k.Int i.value) i.place) [] u v spelled))
-      onto (l.Range r) u v spelled stops same = absurd (clash (is s.True) ts (u ++ v) there same (next_kind (is_symbol s.True) (piece_at (k.Int r.low.value) r.low.place) _ u v spelled))
+      onto (l.Int i) u v spelled stops same = absurd (clash (is s.True) ts (u ++ v) there same (next_kind (is_symbol s.True) (piece_at (k.Int i.value) i.position) [] u v spelled))
+      onto (l.Range r) u v spelled stops same = absurd (clash (is s.True) ts (u ++ v) there same (next_kind (is_symbol s.True) (piece_at (k.Int r.low.value) r.low.position) _ u v spelled))
       onto (l.Set at all) u v spelled stops same = absurd (clash (is s.True) ts (u ++ v) there same (next_kind (is_symbol s.True) (piece_at (k.Symbol s.OpenBrace) at) _ u v spelled))
 
   pub literal_false : next_is (is s.False) ts ≡ true → IsForm G.literal further ts (last_placed s.False) (λ at. l.Bool false at)
   literal_false there = form (λ at. l.Bool false at) (λ at. refl) onto (closed_last further)
     where
-      onto : (x : Literal) (u v : List Token) → AreSpelled u (G.literal x) → Stops further v → SameNext (u ++ v) ts → (c : Place) × (l.Bool false c ≡ x)
+      onto : (x : Literal) (u v : List Token) → AreSpelled u (G.literal x) → Stops further v → SameNext (u ++ v) ts → (c : Position) × (l.Bool false c ≡ x)
       onto (l.Bool false at) u v spelled stops same = (at, refl)
       onto (l.Bool true at) u v spelled stops same = absurd (clash (is s.False) ts (u ++ v) there same (next_kind (is_symbol s.False) (piece_at (k.Symbol s.True) at) [] u v spelled))
-      onto (l.Int i) u v spelled stops same = absurd (clash (is s.False) ts (u ++ v) there same (next_kind (is_symbol s.False) (piece_at (k.Int i.value) i.place) [] u v spelled))
-      onto (l.Range r) u v spelled stops same = absurd (clash (is s.False) ts (u ++ v) there same (next_kind (is_symbol s.False) (piece_at (k.Int r.low.value) r.low.place) _ u v spelled))
+      onto (l.Int i) u v spelled stops same = absurd (clash (is s.False) ts (u ++ v) there same (next_kind (is_symbol s.False) (piece_at (k.Int i.value) i.position) [] u v spelled))
+      onto (l.Range r) u v spelled stops same = absurd (clash (is s.False) ts (u ++ v) there same (next_kind (is_symbol s.False) (piece_at (k.Int r.low.value) r.low.position) _ u v spelled))
       onto (l.Set at all) u v spelled stops same = absurd (clash (is s.False) ts (u ++ v) there same (next_kind (is_symbol s.False) (piece_at (k.Symbol s.OpenBrace) at) _ u v spelled))
 
   pub literal_set : next_is (is s.OpenBrace) ts ≡ true → IsForm G.literal further ts (placed_word s.OpenBrace (last listed_values never [])) (λ p. l.Set p.0 p.1)
   literal_set there = form (λ p. l.Set p.0 p.1) (λ p. refl) onto (closed _ _, closed_last further)
     where
-      onto : (x : Literal) (u v : List Token) → AreSpelled u (G.literal x) → Stops further v → SameNext (u ++ v) ts → (c : Place × List ℤ) × (l.Set c.0 c.1 ≡ x)
+      onto : (x : Literal) (u v : List Token) → AreSpelled u (G.literal x) → Stops further v → SameNext (u ++ v) ts → (c : Position × List ℤ) × (l.Set c.0 c.1 ≡ x)
       onto (l.Set at all) u v spelled stops same = ((at, all), refl)
       onto (l.Bool true at) u v spelled stops same = absurd (clash (is s.OpenBrace) ts (u ++ v) there same (next_kind (is_symbol s.OpenBrace) (piece_at (k.Symbol s.True) at) [] u v spelled))
       onto (l.Bool false at) u v spelled stops same = absurd (clash (is s.OpenBrace) ts (u ++ v) there same (next_kind (is_symbol s.OpenBrace) (piece_at (k.Symbol s.False) at) [] u v spelled))
-      onto (l.Int i) u v spelled stops same = absurd (clash (is s.OpenBrace) ts (u ++ v) there same (next_kind (is_symbol s.OpenBrace) (piece_at (k.Int i.value) i.place) [] u v spelled))
-      onto (l.Range r) u v spelled stops same = absurd (clash (is s.OpenBrace) ts (u ++ v) there same (next_kind (is_symbol s.OpenBrace) (piece_at (k.Int r.low.value) r.low.place) _ u v spelled))
+      onto (l.Int i) u v spelled stops same = absurd (clash (is s.OpenBrace) ts (u ++ v) there same (next_kind (is_symbol s.OpenBrace) (piece_at (k.Int i.value) i.position) [] u v spelled))
+      onto (l.Range r) u v spelled stops same = absurd (clash (is s.OpenBrace) ts (u ++ v) there same (next_kind (is_symbol s.OpenBrace) (piece_at (k.Int r.low.value) r.low.position) _ u v spelled))
 
   pub literal_number : next_is (is s.True) ts ≡ false → next_is (is s.False) ts ≡ false → next_is (is s.OpenBrace) ts ≡ false → IsForm G.literal further ts (part G.int never some_int (last tail further (inr tt))) numeric
   literal_number not_true not_false not_brace = form numeric numeric_same onto (closed _ _, λ v stops. stops)
@@ -162,25 +162,25 @@ module _ (ts : List Token) where
 pub literal_next : (f : Kind → Bool) (b : Bool) → f (k.Symbol s.True) ≡ b → f (k.Symbol s.False) ≡ b → f (k.Symbol s.OpenBrace) ≡ b → ((z : ℤ) → f (k.Int z) ≡ b) → (x : Literal) (u v : List Token) → AreSpelled u (G.literal x) → next_is (λ t. f t.kind) (u ++ v) ≡ b
 literal_next f b t e o i (l.Bool true at) u v spelled = next_kind f (piece_at (k.Symbol s.True) at) [] u v spelled ∙ t
 literal_next f b t e o i (l.Bool false at) u v spelled = next_kind f (piece_at (k.Symbol s.False) at) [] u v spelled ∙ e
-literal_next f b t e o i (l.Int n) u v spelled = next_kind f (piece_at (k.Int n.value) n.place) [] u v spelled ∙ i n.value
-literal_next f b t e o i (l.Range r) u v spelled = next_kind f (piece_at (k.Int r.low.value) r.low.place) _ u v spelled ∙ i r.low.value
+literal_next f b t e o i (l.Int n) u v spelled = next_kind f (piece_at (k.Int n.value) n.position) [] u v spelled ∙ i n.value
+literal_next f b t e o i (l.Range r) u v spelled = next_kind f (piece_at (k.Int r.low.value) r.low.position) _ u v spelled ∙ i r.low.value
 literal_next f b t e o i (l.Set at all) u v spelled = next_kind f (piece_at (k.Symbol s.OpenBrace) at) _ u v spelled ∙ o
 
--- a value that a token of this kind at this place begins
-abbrev pub FirstAt : {A : Type 0} → (A → List Piece) → Kind → Place → Type 0
-FirstAt {A} spell kind place = (x : A) × (p : Piece) × (ps : List Piece) × (spell x ≡ p ∷ ps) × ((kind ≡ p.kind) × IfSome p.place (λ at. place ≡ at))
+-- a value that a token of this kind at this position begins
+abbrev pub FirstAt : {A : Type 0} → (A → List Piece) → Kind → Position → Type 0
+FirstAt {A} spell kind position = (x : A) × (p : Piece) × (ps : List Piece) × (spell x ≡ p ∷ ps) × ((kind ≡ p.kind) × IfSome p.position (λ at. position ≡ at))
 
-sign_first : (x : Symbol) (place : Place) (a b c : Bool) → is_symbol s.True (k.Symbol x) ≡ a → is_symbol s.False (k.Symbol x) ≡ b → is_symbol s.OpenBrace (k.Symbol x) ≡ c → (a || b || c) ≡ true → FirstAt G.literal (k.Symbol x) place
-sign_first x place true b c t f o e = (l.Bool true place, _, _, refl, (is_symbol-true s.True (k.Symbol x) t, refl))
-sign_first x place false true c t f o e = (l.Bool false place, _, _, refl, (is_symbol-true s.False (k.Symbol x) f, refl))
-sign_first x place false false true t f o e = (l.Set place [], _, _, refl, (is_symbol-true s.OpenBrace (k.Symbol x) o, refl))
-sign_first x place false false false t f o e = absurd cc
+sign_first : (x : Symbol) (position : Position) (a b c : Bool) → is_symbol s.True (k.Symbol x) ≡ a → is_symbol s.False (k.Symbol x) ≡ b → is_symbol s.OpenBrace (k.Symbol x) ≡ c → (a || b || c) ≡ true → FirstAt G.literal (k.Symbol x) position
+sign_first x position true b c t f o e = (l.Bool true position, _, _, refl, (is_symbol-true s.True (k.Symbol x) t, refl))
+sign_first x position false true c t f o e = (l.Bool false position, _, _, refl, (is_symbol-true s.False (k.Symbol x) f, refl))
+sign_first x position false false true t f o e = (l.Set position [], _, _, refl, (is_symbol-true s.OpenBrace (k.Symbol x) o, refl))
+sign_first x position false false false t f o e = absurd cc
 
-pub literal_at : (x : Symbol) (place : Place) → literal_signs x ≡ true → FirstAt G.literal (k.Symbol x) place
-literal_at x place e = sign_first x place (is_symbol s.True (k.Symbol x)) (is_symbol s.False (k.Symbol x)) (is_symbol s.OpenBrace (k.Symbol x)) refl refl refl e
+pub literal_at : (x : Symbol) (position : Position) → literal_signs x ≡ true → FirstAt G.literal (k.Symbol x) position
+literal_at x position e = sign_first x position (is_symbol s.True (k.Symbol x)) (is_symbol s.False (k.Symbol x)) (is_symbol s.OpenBrace (k.Symbol x)) refl refl refl e
 
-pub literal_first : (kind : Kind) (place : Place) → starts w.Literal kind ≡ true → FirstAt G.literal kind place
-literal_first (k.Symbol x) place e = literal_at x place e
-literal_first (k.Name n) place e = absurd cc
-literal_first (k.Int z) place e = (l.Int (record { value = z; place = place }), _, _, refl, (refl, refl))
-literal_first (k.Text n) place e = absurd cc
+pub literal_first : (kind : Kind) (position : Position) → starts w.Literal kind ≡ true → FirstAt G.literal kind position
+literal_first (k.Symbol x) position e = literal_at x position e
+literal_first (k.Name n) position e = absurd cc
+literal_first (k.Int z) position e = (l.Int (record { value = z; position = position }), _, _, refl, (refl, refl))
+literal_first (k.Text n) position e = absurd cc

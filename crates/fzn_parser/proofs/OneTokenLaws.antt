@@ -3,7 +3,7 @@ use Rattle.std.proofs.Common.{◌≡◌, ◌≢◌, Bool, true, List, [], ◌∷
 use Rattle.std.specs.Result.{IsErrAnd}
 use Rattle.fzn_lexer.specs.declared.halt.Halt.{Halt}
 use Rattle.fzn_lexer.specs.declared.token.Kind.{Kind}
-use Rattle.fzn_lexer.specs.declared.token.Place.{Place}
+use Rattle.fzn_lexer.specs.declared.token.Position.{Position}
 use Rattle.fzn_lexer.specs.declared.token.Symbol.TheVariants.{End}
 use Rattle.fzn_lexer.specs.declared.token.Token.{Token}
 use Rattle.fzn_lexer.specs.declared.fault.FaultKind.{FaultKind}
@@ -39,10 +39,10 @@ nothing_read g ts = record {
 -- ---- one token
 
 -- what is made of a token, and its piece
-pub record IsToken {A : Type 0} (start : Start) (f : Kind × Place → A) (piece : A → Piece) : Type 0 where
+pub record IsToken {A : Type 0} (start : Start) (f : Kind × Position → A) (piece : A → Piece) : Type 0 where
   pub some : A
-  pub sound : (t : Token) → begins start t ≡ true → Fits t (piece (f (t.kind, t.span.place))) × (t.kind ≢ k.Symbol End)
-  pub complete : (t : Token) (a : A) → Fits t (piece a) → (begins start t ≡ true) × (f (t.kind, t.span.place) ≡ a)
+  pub sound : (t : Token) → begins start t ≡ true → Fits t (piece (f (t.kind, t.span.position))) × (t.kind ≢ k.Symbol End)
+  pub complete : (t : Token) (a : A) → Fits t (piece a) → (begins start t ≡ true) × (f (t.kind, t.span.position) ≡ a)
   pub within : (a : A) → (piece a).past ≡ None
 
 abbrev pub single : {A : Type 0} → (A → Piece) → A → List Piece
@@ -108,16 +108,16 @@ module _ {A : Type 0} (piece : A → Piece) (g : Token → Bool) where
     );
   }
 
-module _ {A : Type 0} {start : Start} {f : Kind × Place → A} {piece : A → Piece} (w : IsToken start f piece) (g : Token → Bool) where
-  taken_is : (before : List Token) (taken : Kind × Place) (rest : List Token) → IsTaken start before taken rest → IsRead (single piece) g before (f taken) rest
+module _ {A : Type 0} {start : Start} {f : Kind × Position → A} {piece : A → Piece} (w : IsToken start f piece) (g : Token → Bool) where
+  taken_is : (before : List Token) (taken : Kind × Position) (rest : List Token) → IsTaken start before taken rest → IsRead (single piece) g before (f taken) rest
   taken_is before taken rest p =
       let t = p.token in
-      let same = ap f (pair_is t.kind taken.0 t.span.place taken.1 (sym p.kind) (sym p.place)) in
+      let same = ap f (pair_is t.kind taken.0 t.span.position taken.1 (sym p.kind) (sym p.position)) in
       subst (λ (z : List Token). IsRead (single piece) g z (f taken) rest) (sym p.parts)
       (subst (λ (z : A). IsRead (single piece) g (t ∷ rest) z rest) same
-      (one_read piece g t rest (f (t.kind, t.span.place)) (w.sound t p.wanted) (w.within (f (t.kind, t.span.place))) (λ b fits. sym (w.complete t b fits).1)))
+      (one_read piece g t rest (f (t.kind, t.span.position)) (w.sound t p.wanted) (w.within (f (t.kind, t.span.position))) (λ b fits. sym (w.complete t b fits).1)))
 
-  pub token_read : {before : List Token} {taken : Kind × Place} {rest : List Token} → Takes start before (Ok taken) rest → Reads (single piece) g before (Ok (f taken)) rest
+  pub token_read : {before : List Token} {taken : Kind × Position} {rest : List Token} → Takes start before (Ok taken) rest → Reads (single piece) g before (Ok (f taken)) rest
   token_read {before} {taken} {rest} p = is_read (taken_is before taken rest (p.ok taken refl))
 
   other_is : (before : List Token) (e : Refusal) → IsOther start before e → IsRefused (single piece) g before e

@@ -3,7 +3,7 @@ use Rattle.std.proofs.Common.{◌≡◌, List, [], ◌∷◌, ◌++◌, Option, 
 use Rattle.fzn_lexer.specs.declared.fault.Fault.{Fault}
 use Rattle.fzn_lexer.specs.declared.fault.FaultKind.{FaultKind}
 use Rattle.fzn_lexer.specs.declared.fault.FaultKind.TheVariants.{Syntax}
-use Rattle.fzn_lexer.specs.declared.token.Place.{Place}
+use Rattle.fzn_lexer.specs.declared.token.Position.{Position}
 use Rattle.fzn_lexer.specs.declared.token.Symbol.TheVariants.{End}
 use Rattle.fzn_lexer.specs.declared.token.Token.{Token}
 use Rattle.fzn_tree.specs.declared.tree.Tree.{Tree}
@@ -140,23 +140,23 @@ said : (ts : List Token) (f : Fault) (x : IsFault ts f) → Said x.before x.toke
 unfolding Why
 said ts f x = record { begins = x.begins; why = x.why }
 
-fault_by : FaultKind → Place → Fault
-fault_by kind place = record { kind = kind; place = place }
+fault_by : FaultKind → Position → Fault
+fault_by kind position = record { kind = kind; position = position }
 
-fault_same : (f g : Fault) → f.kind ≡ g.kind → f.place ≡ g.place → f ≡ g
+fault_same : (f g : Fault) → f.kind ≡ g.kind → f.position ≡ g.position → f ≡ g
 unfolding fault_by
-fault_same f g kinds places = ap (λ (k : FaultKind). fault_by k f.place) kinds ∙ ap (fault_by g.kind) places
+fault_same f g kinds positions = ap (λ (k : FaultKind). fault_by k f.position) kinds ∙ ap (fault_by g.kind) positions
 
-same_place : (ts : List Token) (f g : Fault) (x : IsFault ts f) (y : IsFault ts g) → x.before ≡ y.before → x.token ≡ y.token → f ≡ g
-same_place ts f g x y befores tokens =
+same_position : (ts : List Token) (f g : Fault) (x : IsFault ts f) (y : IsFault ts g) → x.before ≡ y.before → x.token ≡ y.token → f ≡ g
+same_position ts f g x y befores tokens =
     let here = subst (λ (t : Token). Said y.before t f.kind) tokens (subst (λ (b : List Token). Said b x.token f.kind) befores (said ts f x)) in
     let there = said ts g y in
-    fault_same f g (kind_same y.before y.token f.kind g.kind here.begins there.begins here.why there.why) (x.place ∙ (ap (λ (t : Token). t.span.place) tokens ∙ sym y.place))
+    fault_same f g (kind_same y.before y.token f.kind g.kind here.begins there.begins here.why there.why) (x.position ∙ (ap (λ (t : Token). t.span.position) tokens ∙ sym y.position))
 
 one_fault : (ts : List Token) (f g : Fault) → IsFault ts f → IsFault ts g → f ≡ g
 unfolding Ends
 one_fault ts f g x y = elim (ends x.before x.after x.token y.before y.after y.token (sym x.parts ∙ y.parts)) [
-  | inl h ↦ same_place ts f g x y h.0 h.1
+  | inl h ↦ same_position ts f g x y h.0 h.1
   | inr (inl h) ↦ absurd (no_earlier ts f g x y h.0 h.1)
   | inr (inr h) ↦ absurd (no_earlier ts g f y x h.0 h.1)
 ]

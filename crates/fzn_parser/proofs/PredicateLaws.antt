@@ -111,11 +111,11 @@ params_listed = record {
 
 -- ---- predicates
 
-pub predicate_begun : (ts : List Token) → IsForm G.predicate never ts (placed_word s.Predicate (named (word s.OpenParen (part (G.listed (λ n. G.predicate_param) s.CloseParen) never [] (last_word s.Semicolon))))) (λ p. record { place = p.0; name = p.1.0; params = p.1.1.1.0 })
-predicate_begun ts = form (λ p. record { place = p.0; name = p.1.0; params = p.1.1.1.0 }) (λ p. refl) (λ x u v spelled stops same. ((x.place, (x.name, (tt, (x.params, tt)))), refl)) (closed _ _, (closed _ _, (closed _ _, (closed _ _, closed_last never))))
+pub predicate_begun : (ts : List Token) → IsForm G.predicate never ts (placed_word s.Predicate (named (word s.OpenParen (part (G.listed (λ n. G.predicate_param) s.CloseParen) never [] (last_word s.Semicolon))))) (λ p. record { position = p.0; name = p.1.0; params = p.1.1.1.0 })
+predicate_begun ts = form (λ p. record { position = p.0; name = p.1.0; params = p.1.1.1.0 }) (λ p. refl) (λ x u v spelled stops same. ((x.position, (x.name, (tt, (x.params, tt)))), refl)) (closed _ _, (closed _ _, (closed _ _, (closed _ _, closed_last never))))
 
 pub predicates_many : AreMany (λ n. G.predicate) never s.Predicate
 predicates_many = record {
-  starts = λ n p u v spelled. next_kind (is_symbol s.Predicate) (piece_at (k.Symbol s.Predicate) p.place) _ u v spelled;
+  starts = λ n p u v spelled. next_kind (is_symbol s.Predicate) (piece_at (k.Symbol s.Predicate) p.position) _ u v spelled;
   apart = λ v there. stops_never v;
 }

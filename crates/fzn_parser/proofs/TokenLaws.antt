@@ -5,7 +5,7 @@ use Rattle.std.proofs.lemmas.Bool.{le-leb, lt-leb, le-ltb}
 use lib.IntN.{nat_abs}
 use lib.Signed.{lt_z}
 use Rattle.fzn_lexer.specs.declared.token.Kind.{Kind}
-use Rattle.fzn_lexer.specs.declared.token.Place.{Place}
+use Rattle.fzn_lexer.specs.declared.token.Position.{Position}
 use Rattle.fzn_lexer.specs.declared.token.Symbol.{Symbol}
 use Rattle.fzn_lexer.specs.declared.token.Token.{Token}
 use Rattle.fzn_lexer.specs.Kinds.{is_symbol}
@@ -25,8 +25,8 @@ use Rattle.fzn_parser.proofs.SpelledLaws.{next_is-same}
 use Rattle.fzn_parser.proofs.NextLaws.{is_symbol-true, is_symbol-same}
 use Rattle.fzn_parser.proofs.OneTokenLaws.{IsToken, single, one_read, one_refused, one_over}
 
-pub some_place : Place
-some_place = record { line = 1; column = 1 }
+pub some_position : Position
+some_position = record { line = 1; column = 1 }
 
 pub symbol_token : (x : Symbol) → x ≢ s.End → IsToken (w.Sign x) (λ p. tt) (λ (u : Unit {0}). sign_piece x)
 symbol_token x apart = record {
@@ -36,9 +36,9 @@ symbol_token x apart = record {
   within = λ a. refl;
 }
 
-pub place_token : (x : Symbol) → x ≢ s.End → IsToken (w.Sign x) (λ p. p.1) (λ at. piece_at (k.Symbol x) at)
-place_token x apart = record {
-  some = some_place;
+pub position_token : (x : Symbol) → x ≢ s.End → IsToken (w.Sign x) (λ p. p.1) (λ at. piece_at (k.Symbol x) at)
+position_token x apart = record {
+  some = some_position;
   sound = λ t e. let is = is_symbol-true x t.kind e in ((is, refl), λ ends. apart cc);
   complete = λ t a fits. (ap (is_symbol x) fits.0 ∙ is_symbol-same x, fits.1);
   within = λ a. refl;
@@ -50,14 +50,14 @@ a_name (k.Name text) e = refl
 a_name (k.Int value) e = absurd cc
 a_name (k.Text text) e = absurd cc
 
-abbrev name_of : Kind × Place → Name
-name_of p = record { text = text_in p.0; place = p.1 }
+abbrev name_of : Kind × Position → Name
+name_of p = record { text = text_in p.0; position = p.1 }
 
-pub name_token : IsToken w.Name name_of (λ n. piece_at (k.Name n.text) n.place)
+pub name_token : IsToken w.Name name_of (λ n. piece_at (k.Name n.text) n.position)
 name_token = record {
-  some = record { text = 97 ∷ []; place = some_place };
+  some = record { text = 97 ∷ []; position = some_position };
   sound = λ t e. let is = a_name t.kind e in ((is, refl), λ ends. cc);
-  complete = λ t n fits. (ap (starts w.Name) fits.0, ap (λ (x : Kind). name_of (x, t.span.place)) fits.0 ∙ ap (λ (x : Place). name_of (k.Name n.text, x)) fits.1);
+  complete = λ t n fits. (ap (starts w.Name) fits.0, ap (λ (x : Kind). name_of (x, t.span.position)) fits.0 ∙ ap (λ (x : Position). name_of (k.Name n.text, x)) fits.1);
   within = λ a. refl;
 }
 
@@ -67,14 +67,14 @@ a_text (k.Name text) e = absurd cc
 a_text (k.Int value) e = absurd cc
 a_text (k.Text text) e = refl
 
-abbrev text_of : Kind × Place → List ℕ × Place
+abbrev text_of : Kind × Position → List ℕ × Position
 text_of p = (text_in p.0, p.1)
 
 pub text_token : IsToken w.Text text_of (λ n. piece_at (k.Text n.0) n.1)
 text_token = record {
-  some = ([], some_place);
+  some = ([], some_position);
   sound = λ t e. let is = a_text t.kind e in ((is, refl), λ ends. cc);
-  complete = λ t n fits. (ap (starts w.Text) fits.0, ap (λ (x : Kind). text_of (x, t.span.place)) fits.0 ∙ ap (λ (x : Place). text_of (k.Text n.0, x)) fits.1);
+  complete = λ t n fits. (ap (starts w.Text) fits.0, ap (λ (x : Kind). text_of (x, t.span.position)) fits.0 ∙ ap (λ (x : Position). text_of (k.Text n.0, x)) fits.1);
   within = λ a. refl;
 }
 
@@ -86,19 +86,19 @@ a_number (k.Name text) e = absurd cc
 a_number (k.Int value) e = refl
 a_number (k.Text text) e = absurd cc
 
-abbrev int_of : Kind × Place → Int
-int_of p = record { value = value_in p.0; place = p.1 }
+abbrev int_of : Kind × Position → Int
+int_of p = record { value = value_in p.0; position = p.1 }
 
-pub int_token : IsToken w.Int int_of (λ n. piece_at (k.Int n.value) n.place)
+pub int_token : IsToken w.Int int_of (λ n. piece_at (k.Int n.value) n.position)
 int_token = record {
-  some = record { value = pos 0; place = some_place };
+  some = record { value = pos 0; position = some_position };
   sound = λ t e. let is = a_number t.kind e in ((is, refl), λ ends. cc);
-  complete = λ t n fits. (ap (starts w.Int) fits.0, ap (λ (x : Kind). int_of (x, t.span.place)) fits.0 ∙ ap (λ (x : Place). int_of (k.Int n.value, x)) fits.1);
+  complete = λ t n fits. (ap (starts w.Int) fits.0, ap (λ (x : Kind). int_of (x, t.span.position)) fits.0 ∙ ap (λ (x : Position). int_of (k.Int n.value, x)) fits.1);
   within = λ a. refl;
 }
 
 abbrev pub number_piece : ℤ → Piece
-number_piece z = record { kind = k.Int z; place = None; past = None }
+number_piece z = record { kind = k.Int z; position = None; past = None }
 
 pub number_token : IsToken w.Int (λ p. value_in p.0) number_piece
 number_token = record {
@@ -110,25 +110,25 @@ number_token = record {
 
 -- ---- what is made of the same
 
-pub same_name : (a b : List ℕ) (p q : Place) → a ≡ b → p ≡ q → ◌≡◌ {A = Name} (record { text = a; place = p }) (record { text = b; place = q })
+pub same_name : (a b : List ℕ) (p q : Position) → a ≡ b → p ≡ q → ◌≡◌ {A = Name} (record { text = a; position = p }) (record { text = b; position = q })
 same_name a b p q e f = cc
 
-pub same_text : (a b : List ℕ) (p q : Place) → a ≡ b → p ≡ q → ◌≡◌ {A = List ℕ × Place} (a, p) (b, q)
+pub same_text : (a b : List ℕ) (p q : Position) → a ≡ b → p ≡ q → ◌≡◌ {A = List ℕ × Position} (a, p) (b, q)
 same_text a b p q e f = cc
 
-pub same_int : (a b : ℤ) (p q : Place) → a ≡ b → p ≡ q → ◌≡◌ {A = Int} (record { value = a; place = p }) (record { value = b; place = q })
+pub same_int : (a b : ℤ) (p q : Position) → a ≡ b → p ≡ q → ◌≡◌ {A = Int} (record { value = a; position = p }) (record { value = b; position = q })
 same_int a b p q e f = cc
 
 -- ---- the number 1, and the size of an array
 
-module _ (g : Token → Bool) (ts : List Token) (taken : Kind × Place) (rest : List Token) (p : IsTaken w.Int ts taken rest) where
+module _ (g : Token → Bool) (ts : List Token) (taken : Kind × Position) (rest : List Token) (p : IsTaken w.Int ts taken rest) where
   is_int : p.token.kind ≡ k.Int (value_in taken.0)
   is_int = a_number p.token.kind p.wanted ∙ ap (λ (z : Kind). k.Int (value_in z)) (sym p.kind)
 
-  taken_read : {A : Type 0} (piece : A → Piece) (a : A) → (piece a).kind ≡ k.Int (value_in taken.0) → (piece a).place ≡ None → (piece a).past ≡ None → ((b : A) → Fits p.token (piece b) → b ≡ a) → IsRead (single piece) g ts a rest
-  taken_read piece a kind place within one =
+  taken_read : {A : Type 0} (piece : A → Piece) (a : A) → (piece a).kind ≡ k.Int (value_in taken.0) → (piece a).position ≡ None → (piece a).past ≡ None → ((b : A) → Fits p.token (piece b) → b ≡ a) → IsRead (single piece) g ts a rest
+  taken_read piece a kind position within one =
       subst (λ (z : List Token). IsRead (single piece) g z a rest) (sym p.parts)
-      (one_read piece g p.token rest a ((is_int ∙ sym kind, rw place tt), λ ends. let i = is_int in cc) within one)
+      (one_read piece g p.token rest a ((is_int ∙ sym kind, rw position tt), λ ends. let i = is_int in cc) within one)
 
   taken_other : {A : Type 0} (piece : A → Piece) (some : A) → ((b : A) → Fits p.token (piece b) → ⊥) → IsRefused (single piece) g ts (refusal Syntax ts)
   taken_other piece some none = one_refused piece g some ts (λ b y ys fits next. none b (subst (λ (z : Token). Fits z (piece b)) (subst (λ (z : List Token). SameNext (y ∷ ys) z) p.parts next) fits))
@@ -140,7 +140,7 @@ module _ (g : Token → Bool) (ts : List Token) (taken : Kind × Place) (rest : 
   not_one other = taken_other (λ u. number_piece (pos 1)) tt (λ b fits. other (ap value_in (sym is_int ∙ fits.0)))
 
   abbrev size_piece : ℕ → Piece
-  size_piece n = record { kind = k.Int (pos n); place = None; past = cond (nat_le n G.most) None (Some TooMany) }
+  size_piece n = record { kind = k.Int (pos n); position = None; past = cond (nat_le n G.most) None (Some TooMany) }
 
   one_size : (n : ℕ) → value_in taken.0 ≡ pos n → (b : ℕ) → Fits p.token (size_piece b) → b ≡ n
   one_size n e b fits = let i = is_int in let j = fits.0 in cc
@@ -179,4 +179,4 @@ module _ (g : Token → Bool) (ts : List Token) (e : Refusal) (p : IsOther w.Int
   one_none = none_taken (λ (u : Unit {0}). number_piece (pos 1)) tt (λ b. (pos 1, refl))
 
   pub size_none : IsRefused G.size g ts e
-  size_none = none_taken (λ n. record { kind = k.Int (pos n); place = None; past = cond (nat_le n G.most) None (Some TooMany) }) 0 (λ b. (pos b, refl))
+  size_none = none_taken (λ n. record { kind = k.Int (pos n); position = None; past = cond (nat_le n G.most) None (Some TooMany) }) 0 (λ b. (pos b, refl))

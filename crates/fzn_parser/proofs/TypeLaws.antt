@@ -2,7 +2,7 @@
 use Rattle.std.proofs.Common.{◌≡◌, Bool, true, false, List, [], ◌++◌, Option, Some, None, refl, ◌∙◌}
 use Rattle.std.specs.Prelude.{ℤ}
 use Rattle.fzn_lexer.specs.declared.token.Kind.{Kind}
-use Rattle.fzn_lexer.specs.declared.token.Place.{Place}
+use Rattle.fzn_lexer.specs.declared.token.Position.{Position}
 use Rattle.fzn_lexer.specs.declared.token.Token.{Token}
 use Rattle.fzn_lexer.specs.Kinds.{is_symbol}
 use Rattle.fzn_lexer.specs.declared.token.Kind.TheVariants as k
@@ -55,7 +55,7 @@ module _ (ts : List Token) where
   pub base_int : next_is (is s.Int) ts ≡ true → IsForm G.base never ts (last_placed s.Int) (λ at. bases.Int at)
   base_int there = form (λ at. bases.Int at) (λ at. refl) onto (closed_last never)
     where
-      onto : (x : Base) (u v : List Token) → AreSpelled u (G.base x) → Stops never v → SameNext (u ++ v) ts → (c : Place) × (bases.Int c ≡ x)
+      onto : (x : Base) (u v : List Token) → AreSpelled u (G.base x) → Stops never v → SameNext (u ++ v) ts → (c : Position) × (bases.Int c ≡ x)
       onto (bases.Int at) u v spelled stops same = (at, refl)
       onto bases.Bool u v spelled stops same = absurd (clash (is s.Int) ts (u ++ v) there same (next_kind (is_symbol s.Int) (sign_piece s.Bool) [] u v spelled))
       onto (bases.Set at x) u v spelled stops same = absurd (clash (is s.Int) ts (u ++ v) there same (next_kind (is_symbol s.Int) (piece_at (k.Symbol s.Set) at) _ u v spelled))
@@ -64,7 +64,7 @@ module _ (ts : List Token) where
   pub base_set : next_is (is s.Set) ts ≡ true → IsForm G.base never ts (placed_word s.Set (word s.Of (last G.elements never None))) (λ p. bases.Set p.0 p.1.1)
   base_set there = form (λ p. bases.Set p.0 p.1.1) (λ p. refl) onto (closed _ _, (closed _ _, closed_last never))
     where
-      onto : (x : Base) (u v : List Token) → AreSpelled u (G.base x) → Stops never v → SameNext (u ++ v) ts → (c : Place × (Unit {0} × Option Values)) × (bases.Set c.0 c.1.1 ≡ x)
+      onto : (x : Base) (u v : List Token) → AreSpelled u (G.base x) → Stops never v → SameNext (u ++ v) ts → (c : Position × (Unit {0} × Option Values)) × (bases.Set c.0 c.1.1 ≡ x)
       onto (bases.Set at x) u v spelled stops same = ((at, (tt, x)), refl)
       onto bases.Bool u v spelled stops same = absurd (clash (is s.Set) ts (u ++ v) there same (next_kind (is_symbol s.Set) (sign_piece s.Bool) [] u v spelled))
       onto (bases.Int at) u v spelled stops same = absurd (clash (is s.Set) ts (u ++ v) there same (next_kind (is_symbol s.Set) (piece_at (k.Symbol s.Int) at) [] u v spelled))
@@ -88,5 +88,5 @@ base_next f b p i q o n (bases.Values x) u v spelled = values_next f b o n x u v
 pub index_of : (ts : List Token) → IsForm G.index never ts (part one never tt (word s.Dots (last G.size never 0))) (λ p. p.1.1)
 index_of ts = form (λ p. p.1.1) (λ p. refl) (λ n u v spelled stops same. ((tt, (tt, n)), refl)) (closed _ _, (closed _ _, closed_last never))
 
-pub array_size : (ts : List Token) → IsForm G.array_of never ts (placed_word s.Array (word s.OpenBracket (part G.index never 0 (word s.CloseBracket (last_word s.Of))))) (λ p. record { place = p.0; count = p.1.1.0 })
-array_size ts = form (λ p. record { place = p.0; count = p.1.1.0 }) (λ p. refl) (λ size u v spelled stops same. ((size.place, (tt, (size.count, (tt, tt)))), refl)) (closed _ _, (closed _ _, (closed _ _, (closed _ _, closed_last never))))
+pub array_size : (ts : List Token) → IsForm G.array_of never ts (placed_word s.Array (word s.OpenBracket (part G.index never 0 (word s.CloseBracket (last_word s.Of))))) (λ p. record { position = p.0; count = p.1.1.0 })
+array_size ts = form (λ p. record { position = p.0; count = p.1.1.0 }) (λ p. refl) (λ size u v spelled stops same. ((size.position, (tt, (size.count, (tt, tt)))), refl)) (closed _ _, (closed _ _, (closed _ _, (closed _ _, closed_last never))))

@@ -13,7 +13,7 @@ use Rattle.fzn_tree.specs.Grammar as grammar
 -- literal | STRING | annotation
 abbrev pub term : ℕ → AnnTerm Ann → List Piece
 term level (terms.Literal value) = grammar.literal value
-term level (terms.Text text place) = placed (k.Text text) place
+term level (terms.Text text position) = placed (k.Text text) position
 term level (terms.Ann a) = grammar.ann level a
 
 abbrev pub entry : ℕ → ℕ → AnnTerm Ann → List Piece

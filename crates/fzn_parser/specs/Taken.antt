@@ -2,7 +2,7 @@
 use Rattle.std.specs.Prelude.{◌≡◌, ℕ, Bool, true, false, List, [], ◌∷◌, length, ℤ, pos, Result, Ok, Err}
 use Rattle.fzn_lexer.specs.declared.halt.Halt.{Halt}
 use Rattle.fzn_lexer.specs.declared.token.Kind.{Kind}
-use Rattle.fzn_lexer.specs.declared.token.Place.{Place}
+use Rattle.fzn_lexer.specs.declared.token.Position.{Position}
 use Rattle.fzn_lexer.specs.declared.token.Symbol.{Symbol}
 use Rattle.fzn_lexer.specs.declared.token.Token.{Token}
 use Rattle.fzn_lexer.specs.declared.fault.FaultKind.{FaultKind}
@@ -43,20 +43,20 @@ over true ts = refusal TooMany ts
 over false ts = refusal Syntax ts
 
 -- the next token, which is one of these
-pub record IsTaken (start : Start) (before : List Token) (taken : Kind × Place) (after : List Token) : Type 0 where
+pub record IsTaken (start : Start) (before : List Token) (taken : Kind × Position) (after : List Token) : Type 0 where
   pub token : Token
   pub parts : before ≡ token ∷ after
   pub wanted : begins start token ≡ true
   pub kind : taken.0 ≡ token.kind
-  pub place : taken.1 ≡ token.span.place
+  pub position : taken.1 ≡ token.span.position
 
 -- the next token is none of these
 pub record IsOther (start : Start) (before : List Token) (found : Refusal) : Type 0 where
   pub is : found ≡ refusal Syntax before
   pub other : next_is (begins start) before ≡ false
 
-pub record Takes (start : Start) (before : List Token) (result : Result (Kind × Place) (Halt Refusal)) (after : List Token) : Type 0 where
-  pub ok : (taken : Kind × Place) → result ≡ Ok taken → IsTaken start before taken after
+pub record Takes (start : Start) (before : List Token) (result : Result (Kind × Position) (Halt Refusal)) (after : List Token) : Type 0 where
+  pub ok : (taken : Kind × Position) → result ≡ Ok taken → IsTaken start before taken after
   pub err : (found : Refusal) → result ≡ Err (halts.Fault found) → IsOther start before found
 
 -- ---- what one token says
@@ -66,5 +66,5 @@ abbrev pub one : Unit {0} → List Piece
 one u = number (pos 1)
 
 -- what stands between quotes
-abbrev pub text : List ℕ × Place → List Piece
+abbrev pub text : List ℕ × Position → List Piece
 text p = placed (k.Text p.0) p.1

@@ -137,8 +137,8 @@ fn ann_term(alloc: Global, tokens: &mut Tokens<'_>, levels: usize) -> Result<Ann
     ensures never_longer { OnOk result (length tokens.new ≤ length tokens.old) }
 {
     if tokens.sees(Start::Text) {
-        let (text, place) = tokens.text(alloc)?;
-        return Ok(AnnTerm::Text(text, place));
+        let (text, position) = tokens.text(alloc)?;
+        return Ok(AnnTerm::Text(text, position));
     }
     if tokens.sees(Start::Name) {
         return Ok(AnnTerm::Ann(ann(alloc, tokens, levels)?));

@@ -5,7 +5,7 @@ ghost use Rattle.fzn_lexer.specs.Kept.{kind_in};
 ghost use Rattle.fzn_parser.specs.Begins.{literal_signs, starts};
 ghost use Rattle.fzn_parser.specs.Taken.{value_in, text_in};
 
-use fzn_lexer::{FaultKind, Form, Halt, Kept, Place, Places, Symbol, TokenList, inside};
+use fzn_lexer::{FaultKind, Halt, Kept, Position, Positions, Symbol, TokenForm, TokenList, inside};
 use fzn_list::{LONGEST, Text};
 use fzn_tree::{Int, Name};
 use std::alloc::Global;
@@ -49,27 +49,27 @@ fn begins_literal(symbol: Symbol) -> bool
 
 impl Start {
     /// Whether a token of this form is one of these.
-    fn fits(self, form: Form) -> bool
+    fn fits(self, form: TokenForm) -> bool
         ensures { (text : List ℕ) → result ≡ starts self (kind_in form text) }
     {
         match self {
             Start::Sign(symbol) => form.is(symbol),
-            Start::Name => matches!(form, Form::Name),
-            Start::Int => matches!(form, Form::Int(_)),
-            Start::Text => matches!(form, Form::Text),
+            Start::Name => matches!(form, TokenForm::Name),
+            Start::Int => matches!(form, TokenForm::Int(_)),
+            Start::Text => matches!(form, TokenForm::Text),
             Start::Literal => match form {
-                Form::Symbol(symbol) => begins_literal(symbol),
-                Form::Int(_) => true,
-                Form::Name | Form::Text => false,
+                TokenForm::Symbol(symbol) => begins_literal(symbol),
+                TokenForm::Int(_) => true,
+                TokenForm::Name | TokenForm::Text => false,
             },
             Start::Basic => match form {
-                Form::Symbol(symbol) => begins_literal(symbol),
-                Form::Name | Form::Int(_) => true,
-                Form::Text => false,
+                TokenForm::Symbol(symbol) => begins_literal(symbol),
+                TokenForm::Name | TokenForm::Int(_) => true,
+                TokenForm::Text => false,
             },
             Start::Term => match form {
-                Form::Symbol(symbol) => begins_literal(symbol),
-                Form::Name | Form::Int(_) | Form::Text => true,
+                TokenForm::Symbol(symbol) => begins_literal(symbol),
+                TokenForm::Name | TokenForm::Int(_) | TokenForm::Text => true,
             },
             Start::Declaration => {
                 form.is(Symbol::Array)
@@ -82,22 +82,22 @@ impl Start {
     }
 }
 
-/// A token that was read, with its bytes and its place.
+/// A token that was read, with its bytes and its position.
 #[derive(Drop)]
 struct Taken<'a> {
-    form: Form,
+    form: TokenForm,
     bytes: &'a [u8],
-    place: Place,
+    position: Position,
 }
 
 impl<'a> Model for Taken<'a> {
     ghost use Rattle.fzn_lexer.specs.declared.token.Kind.{Kind};
-    ghost use Rattle.fzn_lexer.specs.declared.token.Place.{Place};
+    ghost use Rattle.fzn_lexer.specs.declared.token.Position.{Position};
     ghost use Rattle.fzn_lexer.specs.Kept.{kind_in};
 
-    ghost Value = { Kind × Place };
+    ghost Value = { Kind × Position };
 
-    ghost view = { λ t. (kind_in t.form t.bytes.now, t.place) };
+    ghost view = { λ t. (kind_in t.form t.bytes.now, t.position) };
 }
 
 impl<'a> Taken<'a> {
@@ -106,8 +106,8 @@ impl<'a> Taken<'a> {
         ensures { result ≡ value_in self.now.0 }
     {
         match self.form {
-            Form::Int(value) => i64::from(value),
-            Form::Symbol(_) | Form::Name | Form::Text => 0,
+            TokenForm::Int(value) => i64::from(value),
+            TokenForm::Symbol(_) | TokenForm::Name | TokenForm::Text => 0,
         }
     }
 
@@ -116,9 +116,9 @@ impl<'a> Taken<'a> {
         ensures { result.now ≡ text_in self.now.0 }
     {
         match self.form {
-            Form::Name => self.bytes,
-            Form::Text => inside(self.bytes),
-            Form::Symbol(_) | Form::Int(_) => &self.bytes[..0],
+            TokenForm::Name => self.bytes,
+            TokenForm::Text => inside(self.bytes),
+            TokenForm::Symbol(_) | TokenForm::Int(_) => &self.bytes[..0],
         }
     }
 }
@@ -126,7 +126,7 @@ impl<'a> Taken<'a> {
 /// The tokens that are left.
 #[derive(Drop)]
 pub struct Tokens<'a> {
-    file: Places<'a>,
+    file: Positions<'a>,
     rest: &'a [Kept],
 }
 
@@ -206,12 +206,12 @@ impl<'a> Tokens<'a> {
             return Err(self.refuse(FaultKind::Syntax));
         }
         let bytes = token.text(self.file.bytes());
-        let place = self.file.of(token.start as usize);
+        let position = self.file.of(token.start as usize);
         self.rest = rest;
         Ok(Taken {
             form: token.form,
             bytes,
-            place,
+            position,
         })
     }
 
@@ -234,17 +234,17 @@ impl<'a> Tokens<'a> {
         Ok(())
     }
 
-    /// Past this symbol, with its place. A syntax fault where the next token is another.
-    pub fn symbol_place(&mut self, symbol: Symbol) -> Result<Place, Stop>
+    /// Past this symbol, with its position. A syntax fault where the next token is another.
+    pub fn symbol_position(&mut self, symbol: Symbol) -> Result<Position, Stop>
         requires not_end { symbol ≢ End }
         ensures reads { Reads (λ at. placed (kinds.Symbol symbol) at) never self.old result self.new }
         ensures shorter { OnOk result (length self.new < length self.old) }
     {
         let token = self.take_if(Start::Sign(symbol))?;
-        Ok(token.place)
+        Ok(token.position)
     }
 
-    /// The name that is next, with its place. A syntax fault where the next token is none.
+    /// The name that is next, with its position. A syntax fault where the next token is none.
     pub fn name(&mut self, alloc: Global) -> Result<Name, Stop>
         ensures reads { Reads grammar.name never self.old result self.new }
         ensures shorter { OnOk result (length self.new < length self.old) }
@@ -252,21 +252,21 @@ impl<'a> Tokens<'a> {
         let token = self.take_if(Start::Name)?;
         Ok(Name {
             text: Text::from_slice(alloc, token.text())?,
-            place: token.place,
+            position: token.position,
         })
     }
 
-    /// The text that is next, without its quotes, and its place. A syntax fault where the next token is none.
-    pub fn text(&mut self, alloc: Global) -> Result<(Text, Place), Stop>
+    /// The text that is next, without its quotes, and its position. A syntax fault where the next token is none.
+    pub fn text(&mut self, alloc: Global) -> Result<(Text, Position), Stop>
         ensures reads { Reads text never self.old result self.new }
         ensures shorter { OnOk result (length self.new < length self.old) }
     {
         let token = self.take_if(Start::Text)?;
         let text = Text::from_slice(alloc, token.text())?;
-        Ok((text, token.place))
+        Ok((text, token.position))
     }
 
-    /// The number that is next, with its place. A syntax fault where the next token is none.
+    /// The number that is next, with its position. A syntax fault where the next token is none.
     pub fn int(&mut self) -> Result<Int, Stop>
         ensures reads { Reads grammar.int never self.old result self.new }
         ensures shorter { OnOk result (length self.new < length self.old) }
@@ -274,11 +274,11 @@ impl<'a> Tokens<'a> {
         let token = self.take_if(Start::Int)?;
         Ok(Int {
             value: token.value(),
-            place: token.place,
+            position: token.position,
         })
     }
 
-    /// A number, where its place is not wanted. A syntax fault where the next token is none.
+    /// A number, where its position is not wanted. A syntax fault where the next token is none.
     pub fn number(&mut self) -> Result<i64, Stop>
         ensures reads { Reads grammar.number never self.old result self.new }
         ensures shorter { OnOk result (length self.new < length self.old) }

@@ -26,15 +26,15 @@ fn param_base(tokens: &mut Tokens<'_>) -> Result<ParamBase, Stop>
     ensures shorter { OnOk result (length tokens.new < length tokens.old) }
 {
     if tokens.sees(Sign(Symbol::Bool)) {
-        return Ok(ParamBase::Bool(tokens.symbol_place(Symbol::Bool)?));
+        return Ok(ParamBase::Bool(tokens.symbol_position(Symbol::Bool)?));
     }
     if tokens.sees(Sign(Symbol::Int)) {
-        return Ok(ParamBase::Int(tokens.symbol_place(Symbol::Int)?));
+        return Ok(ParamBase::Int(tokens.symbol_position(Symbol::Int)?));
     }
-    let place = tokens.symbol_place(Symbol::Set)?;
+    let position = tokens.symbol_position(Symbol::Set)?;
     tokens.symbol(Symbol::Of)?;
     tokens.symbol(Symbol::Int)?;
-    Ok(ParamBase::Set(place))
+    Ok(ParamBase::Set(position))
 }
 
 fn param_value(alloc: Global, tokens: &mut Tokens<'_>) -> Result<ParamValue, Stop>
@@ -44,9 +44,9 @@ fn param_value(alloc: Global, tokens: &mut Tokens<'_>) -> Result<ParamValue, Sto
     if !tokens.sees(Sign(Symbol::OpenBracket)) {
         return Ok(ParamValue::Literal(literal(alloc, tokens)?));
     }
-    let place = tokens.symbol_place(Symbol::OpenBracket)?;
+    let position = tokens.symbol_position(Symbol::OpenBracket)?;
     let entries: Items<Literal> = listed(alloc, tokens, Symbol::CloseBracket)?;
-    Ok(ParamValue::Array(place, entries))
+    Ok(ParamValue::Array(position, entries))
 }
 
 /// A parameter from its type on.
@@ -103,14 +103,14 @@ fn single_var(alloc: Global, tokens: &mut Tokens<'_>) -> Result<SingleVar, Stop>
     ensures reads { Reads grammar.single_var never tokens.old result tokens.new }
     ensures shorter { OnOk result (length tokens.new < length tokens.old) }
 {
-    let place = tokens.symbol_place(Symbol::Var)?;
+    let position = tokens.symbol_position(Symbol::Var)?;
     let base = base(alloc, tokens)?;
     tokens.symbol(Symbol::Colon)?;
     let name = tokens.name(alloc)?;
     let anns = anns(alloc, tokens)?;
     let value = given(alloc, tokens)?;
     Ok(SingleVar {
-        place,
+        position,
         base,
         name,
         anns,

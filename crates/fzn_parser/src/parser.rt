@@ -16,11 +16,11 @@ fn fault_of(tokens: &TokenList<'_>, refusal: Refusal) -> Fault
     requires some { 0 < refusal.left }
     requires in_range { refusal.left ≤ length tokens.now }
     ensures kind { result.kind ≡ refusal.kind }
-    ensures place { (token : Token) → slice_get tokens.now (length tokens.now - refusal.left) ≡ Some token → result.place ≡ token.span.place }
+    ensures position { (token : Token) → slice_get tokens.now (length tokens.now - refusal.left) ≡ Some token → result.position ≡ token.span.position }
 {
     Fault {
         kind: refusal.kind,
-        place: tokens.place(tokens.len() - refusal.left),
+        position: tokens.position(tokens.len() - refusal.left),
     }
 }
 

@@ -85,13 +85,13 @@ impl Part for Predicate {
     ghost goes_on = { never };
 
     fn read(alloc: Global, tokens: &mut Tokens<'_>, _number: usize) -> Result<Predicate, Stop> {
-        let place = tokens.symbol_place(Symbol::Predicate)?;
+        let position = tokens.symbol_position(Symbol::Predicate)?;
         let name = tokens.name(alloc)?;
         tokens.symbol(Symbol::OpenParen)?;
         let params: Items<PredicateParam> = listed(alloc, tokens, Symbol::CloseParen)?;
         tokens.symbol(Symbol::Semicolon)?;
         Ok(Predicate {
-            place,
+            position,
             name,
             params,
         })

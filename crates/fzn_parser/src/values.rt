@@ -61,15 +61,15 @@ pub fn literal(alloc: Global, tokens: &mut Tokens<'_>) -> Result<Literal, Stop>
     ensures shorter { OnOk result (length tokens.new < length tokens.old) }
 {
     if tokens.sees(Sign(Symbol::True)) {
-        return Ok(Literal::Bool(true, tokens.symbol_place(Symbol::True)?));
+        return Ok(Literal::Bool(true, tokens.symbol_position(Symbol::True)?));
     }
     if tokens.sees(Sign(Symbol::False)) {
-        return Ok(Literal::Bool(false, tokens.symbol_place(Symbol::False)?));
+        return Ok(Literal::Bool(false, tokens.symbol_position(Symbol::False)?));
     }
     if tokens.sees(Sign(Symbol::OpenBrace)) {
-        let place = tokens.symbol_place(Symbol::OpenBrace)?;
+        let position = tokens.symbol_position(Symbol::OpenBrace)?;
         let values = listed_values(alloc, tokens)?;
-        return Ok(Literal::Set(place, Listed::new(alloc, values)?));
+        return Ok(Literal::Set(position, Listed::new(alloc, values)?));
     }
     let low = tokens.int()?;
     if tokens.sees(Sign(Symbol::Dots)) {
@@ -112,9 +112,9 @@ pub fn array(alloc: Global, tokens: &mut Tokens<'_>) -> Result<Array, Stop>
     ensures reads { Reads grammar.array never tokens.old result tokens.new }
     ensures shorter { OnOk result (length tokens.new < length tokens.old) }
 {
-    let place = tokens.symbol_place(Symbol::OpenBracket)?;
+    let position = tokens.symbol_position(Symbol::OpenBracket)?;
     let entries: Items<Basic> = listed(alloc, tokens, Symbol::CloseBracket)?;
-    Ok(Array { place, entries })
+    Ok(Array { position, entries })
 }
 
 fn arg(alloc: Global, tokens: &mut Tokens<'_>) -> Result<Arg, Stop>

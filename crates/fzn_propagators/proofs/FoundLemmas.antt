@@ -1,18 +1,18 @@
 -- What a propagator finds is what the search wants, and so is it where none finds anything.
-use Rattle.std.proofs.Common.{◌≡◌, ℕ, ◌+◌, ◌-◌, ◌<◌, ◌≤◌, ℤ, pos, List, length, get_or, slice_get, Option, None, Some, IfSome, ◌⊎◌, sym, ap, ◌∙◌, subst, inl, inr, arith}
+use Rattle.std.proofs.Common.{◌≡◌, ℕ, ◌+◌, ◌-◌, ◌<◌, ◌≤◌, ℤ, pos, List, length, get_or, slice_get, Option, Some, IfSome, ◌⊎◌, sym, ap, ◌∙◌, subst, arith}
 use Rattle.std.specs.List.{All, AllWithin, HoldsAt}
 use Rattle.std.proofs.lemmas.List.{length-map, get_or_default}
 use Rattle.std.proofs.lemmas.Option.{slice_get-get_or}
 use Rattle.fzn_domain.specs.declared.literal.Lit.{Lit}
 use Rattle.fzn_domain.specs.IntSet.{IntSet}
-use Rattle.fzn_domain.specs.Narrow.{IsClauseOver, IsWithin, denied}
+use Rattle.fzn_domain.specs.Narrow.{IsClauseOver, IsWithin}
 use Rattle.fzn_meaning.specs.declared.constraint.Constraint.{Constraint}
 use Rattle.fzn_meaning.specs.declared.model.Var.{Var}
 use Rattle.fzn_meaning.specs.declared.model.Model.{Model}
 use Rattle.fzn_meaning.specs.Meaning.{HasBooleanSets}
 use Rattle.fzn_meaning.specs.Solutions.{declared_sets}
 use Rattle.fzn_rules.specs.declared.rule.Rule.{Rule}
-use Rattle.fzn_rules.specs.Rules.{IsMet, IsAcceptedBy}
+use Rattle.fzn_rules.specs.Rules.{IsAcceptedBy}
 use Rattle.fzn_cert.specs.Accepted.{IsJustifiedBy}
 use Rattle.fzn_trail.specs.Levels.{Levels, IsNarrower}
 use Rattle.fzn_kinds.specs.declared.kinds.AnyPropagator.{AnyPropagator}

@@ -122,17 +122,17 @@ values_within (values_are.Range r) f = range_within r f
 values_within (values_are.Listed all) f = listed_within all f.1
 
 literal_within : (literal : Literal) → AreFine (G.literal literal) → IsLiteralWithin literal
-literal_within (l.Bool b place) f = tt
+literal_within (l.Bool b position) f = tt
 literal_within (l.Int i) f = limited i.value f.0.0
 literal_within (l.Range r) f = range_within r f
-literal_within (l.Set place all) f = listed_within all f.1
+literal_within (l.Set position all) f = listed_within all f.1
 
 literal_has : (literal : Literal) → HasPiece (G.literal literal)
 literal_has (l.Int i) = tt
-literal_has (l.Bool true place) = tt
-literal_has (l.Bool false place) = tt
+literal_has (l.Bool true position) = tt
+literal_has (l.Bool false position) = tt
 literal_has (l.Range r) = tt
-literal_has (l.Set place all) = tt
+literal_has (l.Set position all) = tt
 
 basic_within : (basic : Basic) → AreFine (G.basic basic) → IsBasicWithin basic
 basic_within (basics.Literal literal) f = literal_within literal f
@@ -152,7 +152,7 @@ array_within a f = (
 
 param_value_within : (value : ParamValue) → AreFine (G.param_value value) → IsParamValueWithin value
 param_value_within (param_values.Literal literal) f = literal_within literal f
-param_value_within (param_values.Array place all) f = (
+param_value_within (param_values.Array position all) f = (
   listed_all IsLiteralWithin G.param_entry s.CloseBracket (λ n literal g. literal_within literal (fine_marked (nat_lt n G.most) (G.literal literal) g)) all f.1,
   listed_few G.literal s.CloseBracket literal_has all f.1,
 )
@@ -165,9 +165,9 @@ param_within param f =
 
 base_within : (base : Base) → AreFine (G.base base) → IsBaseWithin base
 base_within bases.Bool f = tt
-base_within (bases.Int place) f = tt
+base_within (bases.Int position) f = tt
 base_within (bases.Values values) f = values_within values f
-base_within (bases.Set place v) f = tt
+base_within (bases.Set position v) f = tt
 
 given_within : (value : Option Basic) → AreFine (G.given value) → IsValueWithin value
 given_within None f = tt

@@ -16,7 +16,7 @@ pub enum ModelFault {
     #[error("fault 20 Read")]
     Read,
     /// The first fault of the file.
-    #[error("line {line} column {column}: fault {number} {kind:?}", line = .0.place.line, column = .0.place.column, number = number_of(.0.kind), kind = .0.kind)]
+    #[error("line {line} column {column}: fault {number} {kind:?}", line = .0.position.line, column = .0.position.column, number = number_of(.0.kind), kind = .0.kind)]
     File(Fault),
 }
 

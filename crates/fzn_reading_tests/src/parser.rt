@@ -1,5 +1,5 @@
 // The tree of a file.
-use fzn_lexer::{Place, tokens};
+use fzn_lexer::{Position, tokens};
 use fzn_list::Items;
 use fzn_parser::{
     Arg, Basic, Con, Int, Listed, Literal, Param, ParamValue, Tree, one_reading, parse,
@@ -13,7 +13,7 @@ const FILE: &str =
 /// Whether the parameter is `k = -3` in line 2.
 fn is_k(param: &Param) -> bool {
     param.name.text.as_slice() == b"k".as_slice()
-        && param.name.place == Place { line: 2, column: 6 }
+        && param.name.position == Position { line: 2, column: 6 }
         && matches!(
             &param.value,
             ParamValue::Literal(Literal::Int(Int { value: -3, .. }))
@@ -23,14 +23,14 @@ fn is_k(param: &Param) -> bool {
 /// Whether the constraint is on the set of 4, in line 4, and an array.
 fn is_p(con: &Con) -> bool {
     let [
-        Arg::Basic(Basic::Literal(Literal::Set(place, listed))),
+        Arg::Basic(Basic::Literal(Literal::Set(position, listed))),
         Arg::Array(_),
     ] = con.args.as_slice()
     else {
         return false;
     };
-    *place
-        == Place {
+    *position
+        == Position {
             line: 4,
             column: 14,
         }

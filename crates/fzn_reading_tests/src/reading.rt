@@ -1,5 +1,5 @@
 // Reading a file from a reader that gives its bytes in pieces or fails.
-use fzn_lexer::{Fault, FaultKind, Place};
+use fzn_lexer::{Fault, FaultKind, Position};
 use fzn_reading::{ModelFault, one_model, read_model};
 use fzn_streams::TrackedReader;
 use std::alloc::{AllocError, Global};
@@ -47,7 +47,7 @@ fn fault_of(
 fn has_float(alloc: Global, most: usize) -> bool {
     let float = Fault {
         kind: FaultKind::Float,
-        place: Place { line: 2, column: 2 },
+        position: Position { line: 2, column: 2 },
     };
     match fault_of(alloc, "satisfy solve\n 1e5", most, None) {
         Some(ModelFault::File(fault)) => fault == float,

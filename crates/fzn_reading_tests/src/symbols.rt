@@ -1,15 +1,15 @@
 // What names and values stand for, and where they are faulty.
 use crate::names::tree_of;
 use fzn_domain::{Domain, VarId};
-use fzn_lexer::Place;
+use fzn_lexer::Position;
 use fzn_list::{Items, Text};
 use fzn_meaning::{Kind, Term};
 use fzn_registry::Argument;
 use fzn_symbols::{
     Declared, NamedList, Names, array_of, first_set_in, first_unknown_in, first_wrong_in,
-    has_negative_entry, is_negative, kind_of, list_of, literal_terms, no_values, place_of,
-    place_of_literal, set_literal, set_of, term_of, terms_of, unknown_in, values_in, variable_of,
-    wrong_in, wrong_literal,
+    has_negative_entry, is_negative, kind_of, list_of, literal_terms, no_values, position_of,
+    position_of_literal, set_literal, set_of, term_of, terms_of, unknown_in, values_in,
+    variable_of, wrong_in, wrong_literal,
 };
 use fzn_tree::{Arg, Base, Basic, Int, Literal, ParamValue, Range, Tree, Values};
 use std::alloc::{AllocError, Global};
@@ -19,8 +19,8 @@ const X: Term = Term::Variable(VarId(2));
 
 const LIST: [Term; 2] = [Term::Constant(1), Term::Constant(-2)];
 
-fn at(line: u32, column: u32) -> Option<Place> {
-    Some(Place { line, column })
+fn at(line: u32, column: u32) -> Option<Position> {
+    Some(Position { line, column })
 }
 
 fn list(alloc: Global) -> Result<NamedList, AllocError> {
@@ -57,8 +57,8 @@ fn entries(tree: &Tree) -> Option<&[Basic]> {
 const VALUES: &str = "constraint p(\n[7, x, c,\n s, {4}, zzz]);\nsolve satisfy;";
 
 /// Whether the value is right as an integer, and this term.
-fn is_integer(names: &Names, value: &Basic, place: Option<Place>, term: Term) -> bool {
-    Some(place_of(value)) == place
+fn is_integer(names: &Names, value: &Basic, position: Option<Position>, term: Term) -> bool {
+    Some(position_of(value)) == position
         && unknown_in(names, value).is_none()
         && wrong_in(names, Argument::Integer, value).is_none()
         && term_of(names, value) == term
@@ -87,7 +87,7 @@ fn is_set(alloc: Global, names: &Names, value: &Basic) -> Result<bool, AllocErro
 }
 
 /// Whether the first set, the first name that is not declared and the first value that is no integer constant are found.
-fn are_places_told(names: &Names, values: &[Basic]) -> bool {
+fn are_positions_told(names: &Names, values: &[Basic]) -> bool {
     first_set_in(names, values) == at(3, 2)
         && first_unknown_in(names, values) == at(3, 10)
         && first_wrong_in(names, Argument::IntegerConstant, values) == at(2, 5)
@@ -118,7 +118,7 @@ fn are_told(alloc: Global, names: &Names, values: &[Basic]) -> Result<bool, Allo
             && unknown_in(names, unknown) == at(3, 10)
             && is_list(alloc, names, c)?
             && is_set(alloc, names, s)?
-            && are_places_told(names, values)
+            && are_positions_told(names, values)
             && are_terms(alloc, names, values)?,
     )
 }
@@ -154,7 +154,7 @@ fn are_literals(alloc: Global, literals: &[Literal]) -> Result<bool, AllocError>
     let terms = literal_terms(alloc, literals)?;
     let want = [Term::Constant(7), Term::Constant(1), Term::Constant(0)];
     Ok(
-        Some(place_of_literal(seven)) == at(2, 1)
+        Some(position_of_literal(seven)) == at(2, 1)
             && wrong_literal(Argument::Boolean, seven) == at(2, 1)
             && wrong_literal(Argument::Boolean, truth).is_none()
             && set_literal(truth).is_none()
@@ -195,7 +195,7 @@ fn a_named_list(rt: HostRuntime) -> Result<(), Fail> {
 fn is_range(alloc: Global) -> Result<bool, AllocError> {
     let low = Int {
         value: 2,
-        place: Place::START,
+        position: Position::START,
     };
     let range = values_in(alloc, &Values::Range(Range { low, high: 5 }))?;
     let none = no_values(alloc)?;
@@ -214,7 +214,7 @@ fn is_listed(alloc: Global) -> Result<bool, AllocError> {
 fn values_of_types(rt: HostRuntime) -> Result<(), Fail> {
     assert!(rt; is_range(rt.alloc())?);
     assert!(rt; is_listed(rt.alloc())?);
-    let integer = Base::Int(Place::START);
+    let integer = Base::Int(Position::START);
     assert!(rt; kind_of(&Base::Bool) == Kind::Boolean && kind_of(&integer) == Kind::Integer);
     Ok(())
 }

@@ -1,4 +1,4 @@
--- What the calls do to the sets and to the list of steps.
+-- What the calls do to the sets and to the list of narrowings.
 use Rattle.std.proofs.Common.{◌≡◌, ℕ, ◌+◌, ◌-◌, ◌<◌, ◌≤◌, Bool, true, false, cond, not, List, [], ◌∷◌, ◌++◌, length, length-append, take, drop, take-append-drop, get_or, set, Some, slice_get, refl, sym, ap, ap₂, ◌∙◌, subst, inl, inr, arith}
 use Rattle.std.proofs.lemmas.Bool.{cases_lt}
 use Rattle.std.proofs.lemmas.List.{map-append, length-map, set-set, set-get_or, get_or_default, get_or_append_left, get_or_push, take-append-le, take_all, get_or-map}
@@ -10,11 +10,11 @@ use Rattle.fzn_domain.specs.declared.literal.Lit.{Lit}
 use Rattle.fzn_domain.specs.IntSet.{IntSet, no_values, kept, is_possible}
 use Rattle.fzn_domain.specs.Narrow.{IsVariable, set_of, narrowed, possible_in}
 use Rattle.fzn_domain.proofs.NarrowLemmas.{length-narrowed}
-use Rattle.fzn_sets.specs.declared.sets.Step.{Step}
+use Rattle.fzn_sets.specs.declared.sets.Narrowing.{Narrowing}
 use Rattle.fzn_sets.specs.declared.sets.Possible.{Possible}
 use Rattle.fzn_sets.specs.declared.sets.Possible.TheVariants.{Nothing, One, Several}
 use Rattle.fzn_sets.specs.Sets.{Narrowed, replayed, narrowed_by, undone, IsPossibleIn}
-use Rattle.fzn_sets.specs.Inside.{lits_of, IsStep, AllSteps, IsSets}
+use Rattle.fzn_sets.specs.Inside.{lits_of, IsNarrowing, AllNarrowings, IsSets}
 
 -- ---- the sets
 
@@ -39,132 +39,132 @@ narrowed_back sets lit was is =
     ∙ ap (λ (s : IntSet). set sets (lit.var.0 - 1) s) is
     ∙ set-get_or sets (lit.var.0 - 1) no_values
 
--- ---- the steps
+-- ---- the narrowings
 
-module _ (steps : List Step) (s : Step) where
-  pub lits_of-push : lits_of (steps ++ s ∷ []) ≡ lits_of steps ++ s.lit ∷ []
-  lits_of-push = map-append (λ (step : Step). step.lit) steps (s ∷ [])
+module _ (narrowings : List Narrowing) (s : Narrowing) where
+  pub lits_of-push : lits_of (narrowings ++ s ∷ []) ≡ lits_of narrowings ++ s.lit ∷ []
+  lits_of-push = map-append (λ (narrowing : Narrowing). narrowing.lit) narrowings (s ∷ [])
 
-  -- the literals before a place among the steps that stood
-  earlier_same : (i : ℕ) → i ≤ length steps → take i (lits_of (steps ++ s ∷ [])) ≡ take i (lits_of steps)
+  -- the literals before a place among the narrowings that stood
+  earlier_same : (i : ℕ) → i ≤ length narrowings → take i (lits_of (narrowings ++ s ∷ [])) ≡ take i (lits_of narrowings)
   earlier_same i h =
-      let len = length-map steps (λ (step : Step). step.lit) in
-      ap (λ (lits : List Lit). take i lits) lits_of-push ∙ take-append-le i (lits_of steps) (s.lit ∷ []) (omega arith)
+      let len = length-map narrowings (λ (narrowing : Narrowing). narrowing.lit) in
+      ap (λ (lits : List Lit). take i lits) lits_of-push ∙ take-append-le i (lits_of narrowings) (s.lit ∷ []) (omega arith)
 
-  earlier_all : take (length steps) (lits_of steps) ≡ lits_of steps
-  earlier_all = let len = length-map steps (λ (step : Step). step.lit) in take_all (length steps) (lits_of steps) (omega arith)
+  earlier_all : take (length narrowings) (lits_of narrowings) ≡ lits_of narrowings
+  earlier_all = let len = length-map narrowings (λ (narrowing : Narrowing). narrowing.lit) in take_all (length narrowings) (lits_of narrowings) (omega arith)
 
-  -- without the last step the literals are those before it
-  pub lits-front : take (length (lits_of (steps ++ s ∷ [])) - 1) (lits_of (steps ++ s ∷ [])) ≡ lits_of steps
+  -- without the last narrowing the literals are those before it
+  pub lits-front : take (length (lits_of (narrowings ++ s ∷ [])) - 1) (lits_of (narrowings ++ s ∷ [])) ≡ lits_of narrowings
   lits-front =
-      let len : length (lits_of (steps ++ s ∷ [])) - 1 ≡ length steps = omega (arith, length-map (steps ++ s ∷ []) (λ (step : Step). step.lit), length-append steps (s ∷ [])) in
-      ap (λ (n : ℕ). take n (lits_of (steps ++ s ∷ []))) len ∙ earlier_same (length steps) (omega arith) ∙ earlier_all
+      let len : length (lits_of (narrowings ++ s ∷ [])) - 1 ≡ length narrowings = omega (arith, length-map (narrowings ++ s ∷ []) (λ (narrowing : Narrowing). narrowing.lit), length-append narrowings (s ∷ [])) in
+      ap (λ (n : ℕ). take n (lits_of (narrowings ++ s ∷ []))) len ∙ earlier_same (length narrowings) (omega arith) ∙ earlier_all
 
-  AllSteps-push : (declared : List IntSet) → AllSteps declared steps → IsStep declared (lits_of steps) s → AllSteps declared (steps ++ s ∷ [])
-  AllSteps-push declared all here = λ i d h. elim (cases_lt i (length steps)) [
+  AllNarrowings-push : (declared : List IntSet) → AllNarrowings declared narrowings → IsNarrowing declared (lits_of narrowings) s → AllNarrowings declared (narrowings ++ s ∷ [])
+  AllNarrowings-push declared all here = λ i d h. elim (cases_lt i (length narrowings)) [
     | inl lt ↦
-        subst (λ (lits : List Lit). IsStep declared lits (get_or (steps ++ s ∷ []) i d)) (sym (earlier_same i (omega arith)))
-        (subst (λ (step : Step). IsStep declared (take i (lits_of steps)) step) (sym (get_or_append_left steps (s ∷ []) d i lt)) (all i d lt))
+        subst (λ (lits : List Lit). IsNarrowing declared lits (get_or (narrowings ++ s ∷ []) i d)) (sym (earlier_same i (omega arith)))
+        (subst (λ (narrowing : Narrowing). IsNarrowing declared (take i (lits_of narrowings)) narrowing) (sym (get_or_append_left narrowings (s ∷ []) d i lt)) (all i d lt))
     | inr ge ↦
-        let same : length steps ≡ i = omega (arith, length-append steps (s ∷ [])) in
-        let lits : lits_of steps ≡ take i (lits_of (steps ++ s ∷ [])) =
-        sym earlier_all ∙ ap (λ (j : ℕ). take j (lits_of steps)) same ∙ sym (earlier_same i (omega arith)) in
-        subst (λ (xs : List Lit). IsStep declared xs (get_or (steps ++ s ∷ []) i d)) lits
-        (subst (λ (step : Step). IsStep declared (lits_of steps) step) (sym (get_or_push steps s d i same)) here)
+        let same : length narrowings ≡ i = omega (arith, length-append narrowings (s ∷ [])) in
+        let lits : lits_of narrowings ≡ take i (lits_of (narrowings ++ s ∷ [])) =
+        sym earlier_all ∙ ap (λ (j : ℕ). take j (lits_of narrowings)) same ∙ sym (earlier_same i (omega arith)) in
+        subst (λ (xs : List Lit). IsNarrowing declared xs (get_or (narrowings ++ s ∷ []) i d)) lits
+        (subst (λ (narrowing : Narrowing). IsNarrowing declared (lits_of narrowings) narrowing) (sym (get_or_push narrowings s d i same)) here)
   ]
 
-  AllSteps-front : (declared : List IntSet) → AllSteps declared (steps ++ s ∷ []) → AllSteps declared steps
-  AllSteps-front declared all = λ i d h.
-      subst (λ (lits : List Lit). IsStep declared lits (get_or steps i d)) (earlier_same i (omega arith))
-      (subst (λ (step : Step). IsStep declared (take i (lits_of (steps ++ s ∷ []))) step) (get_or_append_left steps (s ∷ []) d i h)
-      (all i d (omega (arith, length-append steps (s ∷ [])))))
+  AllNarrowings-front : (declared : List IntSet) → AllNarrowings declared (narrowings ++ s ∷ []) → AllNarrowings declared narrowings
+  AllNarrowings-front declared all = λ i d h.
+      subst (λ (lits : List Lit). IsNarrowing declared lits (get_or narrowings i d)) (earlier_same i (omega arith))
+      (subst (λ (narrowing : Narrowing). IsNarrowing declared (take i (lits_of (narrowings ++ s ∷ []))) narrowing) (get_or_append_left narrowings (s ∷ []) d i h)
+      (all i d (omega (arith, length-append narrowings (s ∷ [])))))
 
-  IsStep-last : (declared : List IntSet) → AllSteps declared (steps ++ s ∷ []) → IsStep declared (lits_of steps) s
-  IsStep-last declared all =
-      subst (λ (lits : List Lit). IsStep declared lits s) (earlier_same (length steps) (omega arith) ∙ earlier_all)
-      (subst (λ (step : Step). IsStep declared (take (length steps) (lits_of (steps ++ s ∷ []))) step) (get_or_push steps s s (length steps) refl)
-      (all (length steps) s (omega (arith, length-append steps (s ∷ [])))))
+  IsNarrowing-last : (declared : List IntSet) → AllNarrowings declared (narrowings ++ s ∷ []) → IsNarrowing declared (lits_of narrowings) s
+  IsNarrowing-last declared all =
+      subst (λ (lits : List Lit). IsNarrowing declared lits s) (earlier_same (length narrowings) (omega arith) ∙ earlier_all)
+      (subst (λ (narrowing : Narrowing). IsNarrowing declared (take (length narrowings) (lits_of (narrowings ++ s ∷ []))) narrowing) (get_or_push narrowings s s (length narrowings) refl)
+      (all (length narrowings) s (omega (arith, length-append narrowings (s ∷ [])))))
 
 -- ---- the whole
 
--- no step
-pub IsSets-new : (declared present : List IntSet) (steps : List Step) → present ≡ declared → steps ≡ [] → IsSets declared present steps
-IsSets-new declared present steps present_is none = record {
-  present_is = present_is ∙ ap (λ (xs : List Step). replayed declared (lits_of xs)) (sym none);
-  all_steps = λ i d h. absurd (omega (arith, ap (λ (xs : List Step). length xs) none));
+-- no narrowing
+pub IsSets-new : (declared present : List IntSet) (narrowings : List Narrowing) → present ≡ declared → narrowings ≡ [] → IsSets declared present narrowings
+IsSets-new declared present narrowings present_is none = record {
+  present_is = present_is ∙ ap (λ (xs : List Narrowing). replayed declared (lits_of xs)) (sym none);
+  all_narrowings = λ i d h. absurd (omega (arith, ap (λ (xs : List Narrowing). length xs) none));
 }
 
-pub length-present : (declared present : List IntSet) (steps : List Step) → IsSets declared present steps → length present ≡ length declared
-length-present declared present steps it = ap (λ (xs : List IntSet). length xs) it.present_is ∙ length-replayed declared (lits_of steps)
+pub length-present : (declared present : List IntSet) (narrowings : List Narrowing) → IsSets declared present narrowings → length present ≡ length declared
+length-present declared present narrowings it = ap (λ (xs : List IntSet). length xs) it.present_is ∙ length-replayed declared (lits_of narrowings)
 
--- the last step is dropped
-module _ (declared present : List IntSet) (steps : List Step) (s : Step) (all : List Step) (is : all ≡ steps ++ s ∷ []) (whole : IsSets declared present all) where
-  it : IsSets declared present (steps ++ s ∷ [])
-  it = subst (λ (xs : List Step). IsSets declared present xs) is whole
+-- the last narrowing is dropped
+module _ (declared present : List IntSet) (narrowings : List Narrowing) (s : Narrowing) (all : List Narrowing) (is : all ≡ narrowings ++ s ∷ []) (whole : IsSets declared present all) where
+  it : IsSets declared present (narrowings ++ s ∷ [])
+  it = subst (λ (xs : List Narrowing). IsSets declared present xs) is whole
 
   pub back_in_present : s.lit.var.0 - 1 < length present
   back_in_present =
-      let var = (IsStep-last steps s declared it.all_steps).variable in
-      omega (arith, length-present declared present (steps ++ s ∷ []) it)
+      let var = (IsNarrowing-last narrowings s declared it.all_narrowings).variable in
+      omega (arith, length-present declared present (narrowings ++ s ∷ []) it)
 
-  pub present-back : set present (s.lit.var.0 - 1) s.before ≡ replayed declared (lits_of steps)
+  pub present-back : set present (s.lit.var.0 - 1) s.before ≡ replayed declared (lits_of narrowings)
   present-back =
-      let step = IsStep-last steps s declared it.all_steps in
+      let narrowing = IsNarrowing-last narrowings s declared it.all_narrowings in
       ap (λ (xs : List IntSet). set xs (s.lit.var.0 - 1) s.before)
-      (it.present_is ∙ ap (λ (lits : List Lit). replayed declared lits) (lits_of-push steps s) ∙ replayed-push declared (lits_of steps) s.lit)
-      ∙ narrowed_back (replayed declared (lits_of steps)) s.lit s.before step.set
+      (it.present_is ∙ ap (λ (lits : List Lit). replayed declared lits) (lits_of-push narrowings s) ∙ replayed-push declared (lits_of narrowings) s.lit)
+      ∙ narrowed_back (replayed declared (lits_of narrowings)) s.lit s.before narrowing.set
 
-  pub IsSets-back : (new : List IntSet) → new ≡ set present (s.lit.var.0 - 1) s.before → IsSets declared new steps
+  pub IsSets-back : (new : List IntSet) → new ≡ set present (s.lit.var.0 - 1) s.before → IsSets declared new narrowings
   IsSets-back new new_is = record {
     present_is = new_is ∙ present-back;
-    all_steps = AllSteps-front steps s declared it.all_steps;
+    all_narrowings = AllNarrowings-front narrowings s declared it.all_narrowings;
   }
 
-  pub undone_is : (new : List IntSet) → new ≡ set present (s.lit.var.0 - 1) s.before → (sets : Narrowed) → record { declared = declared; present = present; lits = lits_of all } ≡ sets → record { declared = declared; present = new; lits = lits_of steps } ≡ undone sets
+  pub undone_is : (new : List IntSet) → new ≡ set present (s.lit.var.0 - 1) s.before → (sets : Narrowed) → record { declared = declared; present = present; lits = lits_of all } ≡ sets → record { declared = declared; present = new; lits = lits_of narrowings } ≡ undone sets
   undone_is new new_is sets sets_is =
-      let lits : lits_of steps ≡ take (length (lits_of all) - 1) (lits_of all) =
-      sym (ap (λ (xs : List Step). take (length (lits_of xs) - 1) (lits_of xs)) is ∙ lits-front steps s) in
+      let lits : lits_of narrowings ≡ take (length (lits_of all) - 1) (lits_of all) =
+      sym (ap (λ (xs : List Narrowing). take (length (lits_of xs) - 1) (lits_of xs)) is ∙ lits-front narrowings s) in
       ap₂ (λ (p : List IntSet) (xs : List Lit). record { declared = declared; present = p; lits = xs }) (new_is ∙ present-back ∙ ap (λ (xs : List Lit). replayed declared xs) lits) lits
       ∙ ap undone sets_is
 
--- a step is pushed
-module _ (declared present : List IntSet) (steps : List Step) (it : IsSets declared present steps) where
-  pub IsSets-push : (lit : Lit) (before now new : IntSet) → IsVariable (length present) lit.var → before ≡ now → now ≡ get_or present (lit.var.0 - 1) now → new ≡ kept now lit → (more : List Step) → more ≡ steps ++ record { lit = lit; before = before } ∷ [] → IsSets declared (set present (lit.var.0 - 1) new) more
+-- a narrowing is pushed
+module _ (declared present : List IntSet) (narrowings : List Narrowing) (it : IsSets declared present narrowings) where
+  pub IsSets-push : (lit : Lit) (before now new : IntSet) → IsVariable (length present) lit.var → before ≡ now → now ≡ get_or present (lit.var.0 - 1) now → new ≡ kept now lit → (more : List Narrowing) → more ≡ narrowings ++ record { lit = lit; before = before } ∷ [] → IsSets declared (set present (lit.var.0 - 1) new) more
   IsSets-push lit before now new var copied is new_is more more_is =
-      let s : Step = record { lit = lit; before = before } in
-      let len = length-present declared present steps it in
-      let at : before ≡ set_of (replayed declared (lits_of steps)) lit.var =
+      let s : Narrowing = record { lit = lit; before = before } in
+      let len = length-present declared present narrowings it in
+      let at : before ≡ set_of (replayed declared (lits_of narrowings)) lit.var =
       copied ∙ is ∙ get_or_default present (lit.var.0 - 1) now no_values (omega arith)
       ∙ ap (λ (xs : List IntSet). get_or xs (lit.var.0 - 1) no_values) it.present_is in
-      subst (λ (xs : List Step). IsSets declared (set present (lit.var.0 - 1) new) xs) (sym more_is)
+      subst (λ (xs : List Narrowing). IsSets declared (set present (lit.var.0 - 1) new) xs) (sym more_is)
       (record {
         present_is =
             set_narrowed present lit now new var is new_is
             ∙ ap (λ (xs : List IntSet). narrowed xs lit) it.present_is
-            ∙ sym (replayed-push declared (lits_of steps) lit)
-            ∙ ap (λ (lits : List Lit). replayed declared lits) (sym (lits_of-push steps s));
-        all_steps = AllSteps-push steps s declared it.all_steps (record { variable = omega arith; set = at });
+            ∙ sym (replayed-push declared (lits_of narrowings) lit)
+            ∙ ap (λ (lits : List Lit). replayed declared lits) (sym (lits_of-push narrowings s));
+        all_narrowings = AllNarrowings-push narrowings s declared it.all_narrowings (record { variable = omega arith; set = at });
       })
 
   -- the sets as callers see them
-  pub pushed_is : (lit : Lit) (before now new : IntSet) → IsVariable (length present) lit.var → now ≡ get_or present (lit.var.0 - 1) now → new ≡ kept now lit → (more : List Step) → more ≡ steps ++ record { lit = lit; before = before } ∷ [] → (sets : Narrowed) → record { declared = declared; present = present; lits = lits_of steps } ≡ sets → record { declared = declared; present = set present (lit.var.0 - 1) new; lits = lits_of more } ≡ narrowed_by lit sets
+  pub pushed_is : (lit : Lit) (before now new : IntSet) → IsVariable (length present) lit.var → now ≡ get_or present (lit.var.0 - 1) now → new ≡ kept now lit → (more : List Narrowing) → more ≡ narrowings ++ record { lit = lit; before = before } ∷ [] → (sets : Narrowed) → record { declared = declared; present = present; lits = lits_of narrowings } ≡ sets → record { declared = declared; present = set present (lit.var.0 - 1) new; lits = lits_of more } ≡ narrowed_by lit sets
   pushed_is lit before now new var is new_is more more_is sets sets_is =
       ap₂ (λ (p : List IntSet) (xs : List Lit). record { declared = declared; present = p; lits = xs })
       (set_narrowed present lit now new var is new_is)
-      (ap (λ (xs : List Step). lits_of xs) more_is ∙ lits_of-push steps (record { lit = lit; before = before }))
+      (ap (λ (xs : List Narrowing). lits_of xs) more_is ∙ lits_of-push narrowings (record { lit = lit; before = before }))
       ∙ ap (narrowed_by lit) sets_is
 
--- what a step says to callers
-pub set_at : (declared : List IntSet) (steps : List Step) → AllSteps declared steps → (i : ℕ) (step : Step) (lit : Lit) → i < length (lits_of steps) → step ≡ get_or steps i step → slice_get (lits_of steps) i ≡ Some lit → step.before ≡ set_of (replayed declared (take i (lits_of steps))) lit.var
-set_at declared steps all i step lit inside is found =
-    let len = length-map steps (λ (s : Step). s.lit) in
-    let below : i < length steps = omega arith in
-    let here : IsStep declared (take i (lits_of steps)) step = subst (λ (s : Step). IsStep declared (take i (lits_of steps)) s) (sym is) (all i step below) in
-    let same : step.lit ≡ lit =
-    ap (λ (s : Step). s.lit) is
-    ∙ sym (get_or-map (λ (s : Step). s.lit) steps i step lit below)
-    ∙ get_or_from_slice_get (lits_of steps) i lit lit found in
-    here.set ∙ ap (λ (l : Lit). set_of (replayed declared (take i (lits_of steps))) l.var) same
+-- what a narrowing says to callers
+pub set_at : (declared : List IntSet) (narrowings : List Narrowing) → AllNarrowings declared narrowings → (i : ℕ) (narrowing : Narrowing) (lit : Lit) → i < length (lits_of narrowings) → narrowing ≡ get_or narrowings i narrowing → slice_get (lits_of narrowings) i ≡ Some lit → narrowing.before ≡ set_of (replayed declared (take i (lits_of narrowings))) lit.var
+set_at declared narrowings all i narrowing lit inside is found =
+    let len = length-map narrowings (λ (s : Narrowing). s.lit) in
+    let below : i < length narrowings = omega arith in
+    let here : IsNarrowing declared (take i (lits_of narrowings)) narrowing = subst (λ (s : Narrowing). IsNarrowing declared (take i (lits_of narrowings)) s) (sym is) (all i narrowing below) in
+    let same : narrowing.lit ≡ lit =
+    ap (λ (s : Narrowing). s.lit) is
+    ∙ sym (get_or-map (λ (s : Narrowing). s.lit) narrowings i narrowing lit below)
+    ∙ get_or_from_slice_get (lits_of narrowings) i lit lit found in
+    here.set ∙ ap (λ (l : Lit). set_of (replayed declared (take i (lits_of narrowings))) l.var) same
 
 -- ---- possible literals
 

@@ -3,25 +3,25 @@ use Rattle.std.specs.Prelude.{◌≡◌, ℕ, ◌<◌, List, length, map, take, 
 use Rattle.fzn_domain.specs.declared.literal.Lit.{Lit}
 use Rattle.fzn_domain.specs.IntSet.{IntSet}
 use Rattle.fzn_domain.specs.Narrow.{IsVariable, set_of}
-use Rattle.fzn_sets.specs.declared.sets.Step.{Step}
+use Rattle.fzn_sets.specs.declared.sets.Narrowing.{Narrowing}
 use Rattle.fzn_sets.specs.declared.sets.Sets.TheInside.{Inside}
 use Rattle.fzn_sets.specs.Sets.{Narrowed, replayed}
 
-abbrev pub lits_of : List Step → List Lit
-lits_of steps = map (λ (step : Step). step.lit) steps
+abbrev pub lits_of : List Narrowing → List Lit
+lits_of narrowings = map (λ (narrowing : Narrowing). narrowing.lit) narrowings
 
 abbrev pub narrowed_of : Inside → Narrowed
-narrowed_of it = record { declared = it.declared.items; present = it.present.items; lits = lits_of it.steps.items }
+narrowed_of it = record { declared = it.declared.items; present = it.present.items; lits = lits_of it.narrowings.items }
 
--- what a step keeps of what stood before it
-pub record IsStep (declared : List IntSet) (earlier : List Lit) (step : Step) : Type 0 where
-  pub variable : IsVariable (length declared) step.lit.var
-  pub set : step.before ≡ set_of (replayed declared earlier) step.lit.var
+-- what a narrowing keeps of what stood before it
+pub record IsNarrowing (declared : List IntSet) (earlier : List Lit) (narrowing : Narrowing) : Type 0 where
+  pub variable : IsVariable (length declared) narrowing.lit.var
+  pub set : narrowing.before ≡ set_of (replayed declared earlier) narrowing.lit.var
 
-abbrev pub AllSteps : List IntSet → List Step → Type 0
-AllSteps declared steps =
-    (i : ℕ) (d : Step) → i < length steps → IsStep declared (take i (lits_of steps)) (slice_index_or steps i d)
+abbrev pub AllNarrowings : List IntSet → List Narrowing → Type 0
+AllNarrowings declared narrowings =
+    (i : ℕ) (d : Narrowing) → i < length narrowings → IsNarrowing declared (take i (lits_of narrowings)) (slice_index_or narrowings i d)
 
-pub record IsSets (declared present : List IntSet) (steps : List Step) : Type 0 where
-  pub present_is : present ≡ replayed declared (lits_of steps)
-  pub all_steps : AllSteps declared steps
+pub record IsSets (declared present : List IntSet) (narrowings : List Narrowing) : Type 0 where
+  pub present_is : present ≡ replayed declared (lits_of narrowings)
+  pub all_narrowings : AllNarrowings declared narrowings

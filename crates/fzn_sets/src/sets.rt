@@ -11,7 +11,7 @@ use std::marker::Model;
 
 /// A narrowing, and what it takes to undo it.
 #[derive(Drop)]
-struct Step {
+struct Narrowing {
     lit: Lit,
     /// The set of its variable before it.
     before: Domain,
@@ -22,7 +22,7 @@ struct Step {
 pub struct Sets {
     declared: Vec<Domain>,
     present: Vec<Domain>,
-    steps: Vec<Step>,
+    narrowings: Vec<Narrowing>,
 }
 
 /// How many literals of a clause some value of their variables' sets makes true.
@@ -49,7 +49,7 @@ impl Model for Sets {
 
     ghost view = { narrowed_of };
 
-    ghost invariant = { λ it. IsSets it.declared.items it.present.items it.steps.items };
+    ghost invariant = { λ it. IsSets it.declared.items it.present.items it.narrowings.items };
 }
 
 impl Sets {
@@ -61,7 +61,7 @@ impl Sets {
         Ok(Sets {
             declared,
             present,
-            steps: Vec::new(alloc),
+            narrowings: Vec::new(alloc),
         })
     }
 
@@ -106,11 +106,11 @@ impl Sets {
     {
         let k = lit.var.0 - 1;
         let before = self.present[k].copy()?;
-        self.steps.push(Step { lit, before })?;
+        self.narrowings.push(Narrowing { lit, before })?;
         match self.present[k].restrict(lit) {
             Ok(left) => Ok(left),
             Err(memory) => {
-                self.steps.pop();
+                self.narrowings.pop();
                 Err(memory)
             }
         }
@@ -120,8 +120,8 @@ impl Sets {
     pub fn undo(&mut self)
         ensures { self.new ≡ undone self.old }
     {
-        if let Some(step) = self.steps.pop() {
-            put(&mut self.present, step.lit.var.0 - 1, step.before);
+        if let Some(narrowing) = self.narrowings.pop() {
+            put(&mut self.present, narrowing.lit.var.0 - 1, narrowing.before);
         }
     }
 
@@ -129,7 +129,7 @@ impl Sets {
     pub fn restore(&mut self)
         ensures { self.new ≡ start self.old.declared }
     {
-        while !self.steps.is_empty() {
+        while !self.narrowings.is_empty() {
             self.undo();
         }
     }
@@ -139,7 +139,7 @@ impl Sets {
         requires { i < length self.now.lits }
         ensures { (lit : Lit) → slice_get self.now.lits i ≡ Some lit → result.now ≡ stood_before self.now i lit.var }
     {
-        &self.steps[i].before
+        &self.narrowings[i].before
     }
 
     /// Which literals of the clause are possible.

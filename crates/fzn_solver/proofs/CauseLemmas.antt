@@ -21,7 +21,7 @@ use Rattle.fzn_solver.specs.Run.{States, IsDue}
 use Rattle.fzn_solver.specs.declared.fault.RunFault.{RunFault}
 use Rattle.fzn_solver.specs.declared.fault.RunFault.TheVariants as run
 use Rattle.fzn_solver.specs.Writers.{taken, IsKept, IsLineTaken, IsLineRefused}
-use Rattle.fzn_solver.specs.declared.history.History.{History}
+use Rattle.fzn_solver.specs.declared.ghost_list.GhostList.{GhostList}
 
 -- a fault of the line of a step
 pub line-cause : {C : Type 0} (certs : C → Bool) (step : Step) (count : ℕ) (cert : StepWriter C) (fault : FaultKind) → IsStepFault count step fault → (fault ≡ faults.Write → cert_failed certs cert ≡ true)
@@ -81,8 +81,8 @@ line-taken outs certs outs_failed certs_failed model step old new (Ok v) accepte
 line-taken outs certs outs_failed certs_failed model step old new (Err e) accepted kept opened line refused cause =
     (tt, step-cause outs_failed certs_failed model step (taken old) (step_count old.cert) new e accepted (kept.cert_in_step opened.0).counted (ap items_of refused.taken) cause, refused.same_rest.out)
   where
-    items_of : History Step → List Step
-    items_of history = history.items
+    items_of : GhostList Step → List Step
+    items_of list = list.items
 
 -- ---- the whole run
 

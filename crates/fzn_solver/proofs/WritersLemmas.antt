@@ -24,7 +24,7 @@ use Rattle.fzn_printer.specs.declared.printer.Printer.{Printer}
 use Rattle.fzn_printer.specs.Printer.{contents_of as out_contents, out_name, is_open, has_printed}
 use Rattle.fzn_printer.specs.Shown.{shown}
 use Rattle.fzn_solver.specs.Standing.{found_by, early, shown_all, IsCertInStep, IsOutInStep}
-use Rattle.fzn_solver.specs.declared.history.History.{History}
+use Rattle.fzn_solver.specs.declared.ghost_list.GhostList.{GhostList}
 use Rattle.fzn_solver.specs.declared.writers.Writers.{Writers}
 use Rattle.fzn_solver.specs.Writers.{taken, at_first, origin, IsLogged, IsKeptBy, IsKept, IsFresh, IsLineTaken, IsLineRefused, IsRestSame, IsAllSame, IsPrinted}
 use Rattle.fzn_solver.proofs.StandingLemmas.{cert-push, found-solution, found-infer, last-accepted, out-held, out-printed, standing-in_step, standing-refused, front-kept, front-found, front-printed, Appends-kept}
@@ -133,8 +133,8 @@ module _ {W C : Type 0} (outs : W → Option (List ℕ)) (certs : C → Option (
       let F : W × C → Type 0 = λ x. IsKeptBy outs certs model cert out' alone' last' steps' x in
       subst F (sym i) (subst S (sym h) (subst L (sym g) (subst A (sym f) (subst O (sym e) kept))))
 
-  abbrev taken_by : History Step → List Step
-  taken_by history = history.items
+  abbrev taken_by : GhostList Step → List Step
+  taken_by list = list.items
 
   pub refused-kept : (step : Step) (old new : Writers W C) → IsKept outs certs model old → IsLineRefused certs step old new → IsKept outs certs model new
   refused-kept step old new kept refused =

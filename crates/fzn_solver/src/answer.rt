@@ -13,7 +13,7 @@ ghost use Rattle.fzn_solver.specs.Run.{IsRun, IsRunFault, IsDue};
 
 use crate::choice::choice_for;
 use crate::fault::RunFault;
-use crate::history::{History, Initial};
+use crate::ghost_list::{GhostList, Initial};
 use crate::progress::{Observer, solve_observed};
 use crate::writers::{Writers, is_alone};
 use fzn_cert::StepWriter;
@@ -110,7 +110,7 @@ fn answer<W: TrackedWrite, C: TrackedWrite, P: Observer>(
         alone: is_alone(model.goal, options.all),
         last: &mut last,
         stopped: None,
-        taken: History::new(),
+        taken: GhostList::new(),
         first_out,
         first_cert,
     };

@@ -14,6 +14,6 @@ pub use progress::{Observer, Progress, Unobserved};
 mod answer;
 mod choice;
 mod fault;
-mod history;
+mod ghost_list;
 mod progress;
 mod writers;

@@ -19,7 +19,7 @@ ghost use Rattle.fzn_solver.specs.FaultsFrom.{fault_of_certificate};
 ghost use Rattle.fzn_solver.specs.Standing.{is_alone, shown_all};
 ghost use Rattle.fzn_solver.specs.Writers.{taken, origin, IsFresh, IsKept, IsLineTaken, IsLineRefused, IsLogged, IsRestSame, IsAllSame, IsPrinted, IsLastShown, IsClosed, IsUnbegun, IsUnprinted, IsUnclosed};
 
-use crate::history::{History, Initial};
+use crate::ghost_list::{GhostList, Initial};
 use fzn_cert::{FaultKind, Step, StepWriter, Version};
 use fzn_engine::{Fault, Sink};
 use fzn_list::Items;
@@ -39,7 +39,7 @@ pub struct Writers<'o, 'c, 'l, W: TrackedWrite, C: TrackedWrite> {
     /// The fault that stopped it, after which it takes nothing more.
     pub stopped: Option<Fault>,
     /// The steps whose lines stand.
-    pub taken: History<Step>,
+    pub taken: GhostList<Step>,
     /// Both writers as they were at first.
     pub first_out: Initial<W>,
     pub first_cert: Initial<C>,

@@ -1,8 +1,8 @@
 -- The first of a list of faults, part by part.
 use Rattle.std.proofs.Common.{◌≡◌, List, [], ◌∷◌, ◌++◌, Some, None, refl}
 use Rattle.fzn_lexer.specs.declared.fault.FaultKind.{FaultKind}
-use Rattle.fzn_lexer.specs.declared.token.Place.{Place}
-use Rattle.fzn_symbols.specs.Places.{first, at}
+use Rattle.fzn_lexer.specs.declared.token.Position.{Position}
+use Rattle.fzn_symbols.specs.Positions.{first, at}
 
 module _ {A : Type 0} where
   -- behind a list without a first one, the rest decides
@@ -27,16 +27,16 @@ module _ {A : Type 0} where
   right_empty [] ys e = e
   right_empty (x ∷ xs) ys e = cc
 
-pub first-at_none : (kind : FaultKind) (places : List Place) → first places ≡ None → first (at kind places) ≡ None
+pub first-at_none : (kind : FaultKind) (positions : List Position) → first positions ≡ None → first (at kind positions) ≡ None
 first-at_none kind [] none = refl
-first-at_none kind (place ∷ places) none = cc
+first-at_none kind (position ∷ positions) none = cc
 
-pub first-at_some : (kind : FaultKind) (places : List Place) (place : Place) → first places ≡ Some place → first (at kind places) ≡ Some (record { kind = kind; place = place })
-first-at_some kind [] place some = cc
-first-at_some kind (other ∷ places) place some = let same : other ≡ place = cc in rw same refl
+pub first-at_some : (kind : FaultKind) (positions : List Position) (position : Position) → first positions ≡ Some position → first (at kind positions) ≡ Some (record { kind = kind; position = position })
+first-at_some kind [] position some = cc
+first-at_some kind (other ∷ positions) position some = let same : other ≡ position = cc in rw same refl
 
-pub at-empty : (kind : FaultKind) (places : List Place) → at kind places ≡ [] → places ≡ []
+pub at-empty : (kind : FaultKind) (positions : List Position) → at kind positions ≡ [] → positions ≡ []
 at-empty kind [] e = refl
-at-empty kind (place ∷ places) e = cc
+at-empty kind (position ∷ positions) e = cc
 
 pub ruleset firsts = (first-append_none, first-append_some, empty-first, first-at_none, first-at_some)

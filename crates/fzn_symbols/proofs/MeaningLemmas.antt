@@ -12,7 +12,7 @@ use Rattle.fzn_meaning.specs.Meaning.{IsBit, IsBoolean, longest}
 use Rattle.fzn_meaning.specs.Term.{IsTerm}
 use Rattle.fzn_symbols.specs.Types.{fits, is_wanted, wrong_in}
 use Rattle.fzn_symbols.specs.Limits.{IsLiteralWithin, IsBasicWithin}
-use Rattle.fzn_symbols.specs.Places.{when, place_of}
+use Rattle.fzn_symbols.specs.Positions.{when, position_of}
 use Rattle.fzn_symbols.specs.Values.{NameList, listed, literal_value, value_of, value_term, term_in, term_of, terms_of, value_terms, value_set}
 use Rattle.fzn_symbols.specs.declared.names.Declared.{Declared}
 use Rattle.fzn_symbols.specs.declared.names.Declared.TheVariants as d
@@ -53,11 +53,11 @@ array_meaning sets k.Integer xs within few booleans = record { term = zero_in_li
 array_meaning sets k.Boolean xs within few booleans = record { term = zero_in_limits; terms = within; few = few; set = none_limited; boolean = λ e. cc; booleans = λ e. booleans refl }
 
 pub literal_meaning : (sets : List IntSet) (literal : Literal) → IsLiteralWithin literal → IsMeaning sets (literal_value literal)
-literal_meaning sets (l.Bool true place) within = constant_meaning sets k.Boolean (pos 1) one_in_limits (λ e. inr refl)
-literal_meaning sets (l.Bool false place) within = constant_meaning sets k.Boolean (pos 0) zero_in_limits (λ e. inl refl)
+literal_meaning sets (l.Bool true position) within = constant_meaning sets k.Boolean (pos 1) one_in_limits (λ e. inr refl)
+literal_meaning sets (l.Bool false position) within = constant_meaning sets k.Boolean (pos 0) zero_in_limits (λ e. inl refl)
 literal_meaning sets (l.Int number) within = constant_meaning sets k.Integer number.value within (λ e. cc)
 literal_meaning sets (l.Range r) within = set_meaning sets (range r.low.value r.high) (range-limited r.low.value r.high within.0 within.1)
-literal_meaning sets (l.Set place xs) within = set_meaning sets (listed xs) (listed-limited xs within)
+literal_meaning sets (l.Set position xs) within = set_meaning sets (listed xs) (listed-limited xs within)
 
 -- ---- names that are declared
 
@@ -102,5 +102,5 @@ module _ (sets : List IntSet) (names : NameList) (known : AreMeanings sets names
   boolean_terms [] within e = All-nil (IsBoolean sets)
   boolean_terms (b ∷ bs) within e =
       All-cons (IsBoolean sets) (term_of names b) (terms_of names bs)
-      (boolean_term b (All-head IsBasicWithin b bs within) (when_not (is_wanted Boolean (value_of names b)) (place_of b) (left_empty (wrong_in names Boolean b) (flat_map (wrong_in names Boolean) bs) e)))
+      (boolean_term b (All-head IsBasicWithin b bs within) (when_not (is_wanted Boolean (value_of names b)) (position_of b) (left_empty (wrong_in names Boolean b) (flat_map (wrong_in names Boolean) bs) e)))
       (boolean_terms bs (All-tail IsBasicWithin b bs within) (right_empty (wrong_in names Boolean b) (flat_map (wrong_in names Boolean) bs) e))

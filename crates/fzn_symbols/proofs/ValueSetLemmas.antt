@@ -66,9 +66,9 @@ values_in-limited (values_are.Listed xs) within = listed-limited xs within
 
 pub values-limited : (base : Base) → IsBaseWithin base → IsLimited (values_of base)
 values-limited bases.Bool within = range-limited (pos 0) (pos 1) zero_in_limits one_in_limits
-values-limited (bases.Int place) within = none_limited
+values-limited (bases.Int position) within = none_limited
 values-limited (bases.Values values) within = values_in-limited values within
-values-limited (bases.Set place values) within = none_limited
+values-limited (bases.Set position values) within = none_limited
 
 pub sets-limited : (all : List Var) → All IsVarWithin all → All IsLimited (declared_sets (vars_of all))
 sets-limited [] within = All-nil IsLimited

@@ -1,6 +1,6 @@
 pub mod Known
 pub mod Limits
-pub mod Places
+pub mod Positions
 pub mod Signs
 pub mod Types
 pub mod Values

@@ -24,10 +24,10 @@ abbrev pub IsRangeWithin : Range → Type 0
 IsRangeWithin r = IsInLimits r.low.value × IsInLimits r.high
 
 abbrev pub IsLiteralWithin : Literal → Type 0
-IsLiteralWithin (l.Bool value place) = Unit {0}
+IsLiteralWithin (l.Bool value position) = Unit {0}
 IsLiteralWithin (l.Int number) = IsInLimits number.value
 IsLiteralWithin (l.Range r) = IsRangeWithin r
-IsLiteralWithin (l.Set place values) = All IsInLimits values
+IsLiteralWithin (l.Set position values) = All IsInLimits values
 
 abbrev pub AreValuesWithin : Values → Type 0
 AreValuesWithin (values_are.Range r) = IsRangeWithin r
@@ -50,7 +50,7 @@ AreEntriesWithin entries = All IsBasicWithin entries × (length entries ≤ long
 
 abbrev pub IsParamValueWithin : ParamValue → Type 0
 IsParamValueWithin (v.Literal literal) = IsLiteralWithin literal
-IsParamValueWithin (v.Array place entries) = All IsLiteralWithin entries × (length entries ≤ longest)
+IsParamValueWithin (v.Array position entries) = All IsLiteralWithin entries × (length entries ≤ longest)
 
 abbrev pub IsParamWithin : Param → Type 0
 IsParamWithin param = IsParamValueWithin param.value

@@ -1,10 +1,10 @@
 -- Which values are of the type that is wanted.
 use Rattle.std.specs.Prelude.{Bool, true, false, not, List, Option, Some, None, is_some, is_none}
-use Rattle.fzn_lexer.specs.declared.token.Place.{Place}
+use Rattle.fzn_lexer.specs.declared.token.Position.{Position}
 use Rattle.fzn_meaning.specs.declared.model.Kind.TheVariants as k
 use Rattle.fzn_symbols.specs.declared.names.Declared.{Declared}
 use Rattle.fzn_symbols.specs.declared.names.Declared.TheVariants as d
-use Rattle.fzn_symbols.specs.Places.{when, place_of, place_of_literal}
+use Rattle.fzn_symbols.specs.Positions.{when, position_of, position_of_literal}
 use Rattle.fzn_symbols.specs.Values.{NameList, meaning_of, literal_value, value_of}
 use Rattle.fzn_tree.specs.declared.tree.Basic.{Basic}
 use Rattle.fzn_tree.specs.declared.tree.Literal.{Literal}
@@ -40,23 +40,23 @@ is_set _ = false
 -- ---- where a value is faulty
 
 -- a set
-abbrev pub set_literals : Literal → List Place
-set_literals literal = when (is_set (Some (literal_value literal))) (place_of_literal literal)
+abbrev pub set_literals : Literal → List Position
+set_literals literal = when (is_set (Some (literal_value literal))) (position_of_literal literal)
 
-abbrev pub sets_in : NameList → Basic → List Place
-sets_in names basic = when (is_set (value_of names basic)) (place_of basic)
+abbrev pub sets_in : NameList → Basic → List Position
+sets_in names basic = when (is_set (value_of names basic)) (position_of basic)
 
 -- a name that is not declared
-abbrev pub unknown_in : NameList → Basic → List Place
-unknown_in names basic = when (is_none (value_of names basic)) (place_of basic)
+abbrev pub unknown_in : NameList → Basic → List Position
+unknown_in names basic = when (is_none (value_of names basic)) (position_of basic)
 
 -- a value of another type than is wanted
-abbrev pub wrong_literals : Argument → Literal → List Place
-wrong_literals wanted literal = when (not (fits wanted (literal_value literal))) (place_of_literal literal)
+abbrev pub wrong_literals : Argument → Literal → List Position
+wrong_literals wanted literal = when (not (fits wanted (literal_value literal))) (position_of_literal literal)
 
-abbrev pub wrong_in : NameList → Argument → Basic → List Place
-wrong_in names wanted basic = when (not (is_wanted wanted (value_of names basic))) (place_of basic)
+abbrev pub wrong_in : NameList → Argument → Basic → List Position
+wrong_in names wanted basic = when (not (is_wanted wanted (value_of names basic))) (position_of basic)
 
 -- an earlier name is declared once more
-abbrev pub repeated : NameList → Name → List Place
-repeated earlier name = when (is_some (meaning_of earlier name.text)) name.place
+abbrev pub repeated : NameList → Name → List Position
+repeated earlier name = when (is_some (meaning_of earlier name.text)) name.position

@@ -25,11 +25,11 @@ abbrev pub listed : List ℤ → IntSet
 listed values = set.from_list values
 
 abbrev pub literal_value : Literal → Declared
-literal_value (l.Bool true place) = Constant Boolean (pos 1)
-literal_value (l.Bool false place) = Constant Boolean (pos 0)
+literal_value (l.Bool true position) = Constant Boolean (pos 1)
+literal_value (l.Bool false position) = Constant Boolean (pos 0)
 literal_value (l.Int number) = Constant Integer number.value
 literal_value (l.Range r) = Set (range r.low.value r.high)
-literal_value (l.Set place values) = Set (listed values)
+literal_value (l.Set position values) = Set (listed values)
 
 -- none where the name is not declared
 abbrev pub value_of : NameList → Basic → Option Declared

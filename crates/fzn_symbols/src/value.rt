@@ -2,13 +2,13 @@
 ghost use Rattle.std.specs.Prelude.{◌≡◌, map, Some, IfOk};
 ghost use Rattle.std.specs.List.{list_any};
 ghost use Rattle.fzn_symbols.specs.Known.{known};
-ghost use Rattle.fzn_symbols.specs.Places.{first, place_of_literal, place_of};
+ghost use Rattle.fzn_symbols.specs.Positions.{first, position_of_literal, position_of};
 ghost use Rattle.fzn_symbols.specs.Signs.{is_negative};
 ghost use Rattle.fzn_symbols.specs.Types.{fits, is_wanted, is_set, set_literals, sets_in, unknown_in, wrong_literals, wrong_in};
 ghost use Rattle.fzn_symbols.specs.Values.{literal_value, value_of, value_term, term_of, terms_of, term_in, terms_in, meaning_of};
 
 use crate::names::{Declared, Names};
-use fzn_lexer::Place;
+use fzn_lexer::Position;
 use fzn_list::{Items, Shared};
 use fzn_meaning::{Kind, Term};
 use fzn_registry::Argument;
@@ -16,24 +16,24 @@ use fzn_tree::{Basic, Literal, Name};
 use std::alloc::{AllocError, Global};
 
 /// Where the literal begins.
-pub fn place_of_literal(literal: &Literal) -> Place
-    ensures { result ≡ place_of_literal literal.now }
+pub fn position_of_literal(literal: &Literal) -> Position
+    ensures { result ≡ position_of_literal literal.now }
 {
     match literal {
-        Literal::Bool(_, place) => *place,
-        Literal::Int(number) => number.place,
-        Literal::Range(range) => range.low.place,
-        Literal::Set(place, _) => *place,
+        Literal::Bool(_, position) => *position,
+        Literal::Int(number) => number.position,
+        Literal::Range(range) => range.low.position,
+        Literal::Set(position, _) => *position,
     }
 }
 
 /// Where the value begins.
-pub fn place_of(basic: &Basic) -> Place
-    ensures { result ≡ place_of basic.now }
+pub fn position_of(basic: &Basic) -> Position
+    ensures { result ≡ position_of basic.now }
 {
     match basic {
-        Basic::Literal(literal) => place_of_literal(literal),
-        Basic::Name(name) => name.place,
+        Basic::Literal(literal) => position_of_literal(literal),
+        Basic::Name(name) => name.position,
     }
 }
 
@@ -140,60 +140,60 @@ fn is_set(names: &Names, basic: &Basic) -> bool
 
 // ---- faults
 
-/// The place of a literal that is a set, and none of another.
-pub fn set_literal(literal: &Literal) -> Option<Place>
+/// The position of a literal that is a set, and none of another.
+pub fn set_literal(literal: &Literal) -> Option<Position>
     ensures { result ≡ first (set_literals literal.now) }
 {
     if is_set_literal(literal) {
-        Some(place_of_literal(literal))
+        Some(position_of_literal(literal))
     } else {
         None
     }
 }
 
-/// The place of a value that is a set.
-pub fn set_in(names: &Names, basic: &Basic) -> Option<Place>
+/// The position of a value that is a set.
+pub fn set_in(names: &Names, basic: &Basic) -> Option<Position>
     ensures { result ≡ first (sets_in (known names.now) basic.now) }
 {
     if is_set(names, basic) {
-        Some(place_of(basic))
+        Some(position_of(basic))
     } else {
         None
     }
 }
 
-/// The place of a name that is not declared, and none of another value.
-pub fn unknown_in(names: &Names, basic: &Basic) -> Option<Place>
+/// The position of a name that is not declared, and none of another value.
+pub fn unknown_in(names: &Names, basic: &Basic) -> Option<Position>
     ensures { result ≡ first (unknown_in (known names.now) basic.now) }
 {
     match basic {
         Basic::Literal(_) => None,
         Basic::Name(name) => match names.meaning(&name.text) {
-            None => Some(name.place),
+            None => Some(name.position),
             Some(_) => None,
         },
     }
 }
 
-/// The place of a literal of another type than is wanted, and none of one that fits.
-pub fn wrong_literal(wanted: Argument, literal: &Literal) -> Option<Place>
+/// The position of a literal of another type than is wanted, and none of one that fits.
+pub fn wrong_literal(wanted: Argument, literal: &Literal) -> Option<Position>
     ensures { result ≡ first (wrong_literals wanted literal.now) }
 {
     if literal_fits(wanted, literal) {
         None
     } else {
-        Some(place_of_literal(literal))
+        Some(position_of_literal(literal))
     }
 }
 
-/// The place of a value of another type than is wanted, and none of one that fits.
-pub fn wrong_in(names: &Names, wanted: Argument, basic: &Basic) -> Option<Place>
+/// The position of a value of another type than is wanted, and none of one that fits.
+pub fn wrong_in(names: &Names, wanted: Argument, basic: &Basic) -> Option<Position>
     ensures { result ≡ first (wrong_in (known names.now) wanted basic.now) }
 {
     if is_wanted(names, wanted, basic) {
         None
     } else {
-        Some(place_of(basic))
+        Some(position_of(basic))
     }
 }
 

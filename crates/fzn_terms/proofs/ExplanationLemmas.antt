@@ -1,5 +1,5 @@
 -- Clauses that grow claim by claim, claims that are true of no declared value, and claims of which one is true.
-use Rattle.std.proofs.Common.{◌≡◌, ◌↔◌, ◌+◌, ℕ, ◌<◌, Bool, false, not, IsTrue, List, [], ◌∷◌, ◌++◌, length, take, get_or, refl, sym, ap, subst, ◌∙◌, inl, inr, ℤ, Option, Some, None, Result, Ok, Err, All, IfOk, IfSome}
+use Rattle.std.proofs.Common.{◌≡◌, ◌↔◌, ◌+◌, ℕ, ◌<◌, Bool, false, not, IsTrue, List, [], ◌∷◌, ◌++◌, length, take, get_or, sym, ap, subst, ◌∙◌, inl, inr, ℤ, Option, Some, None, Result, Ok, Err, All, IfOk, IfSome}
 use Rattle.std.proofs.lemmas.Bool.{cases_Bool, true≢false, not-true, not_from_false}
 use Rattle.std.proofs.lemmas.List.Elements.{All-push, All-more}
 use Rattle.fzn_domain.specs.declared.literal.VarId.{VarId}

@@ -304,7 +304,7 @@ fn is_same(tested: &Tested, plain: &Plain) -> bool
 
 /// What both come to.
 #[derive(Clone, Copy, PartialEq, Eq)]
-enum Outcome {
+enum Agreement {
     /// A clause is false.
     Conflict,
     /// No clause forces a literal, and the sets are the same.
@@ -313,14 +313,14 @@ enum Outcome {
     Apart,
 }
 
-fn propagate(tested: &mut Tested, plain: &mut Plain) -> Result<Outcome, Memory>
+fn propagate(tested: &mut Tested, plain: &mut Plain) -> Result<Agreement, Memory>
     requires { IsCarried tested.old.clauses tested.old.trail }
     ensures { OnOk result (IsCarried tested.new.clauses tested.new.trail) }
 {
     match (tested.is_refuted()?, plain.is_refuted()?) {
-        (true, true) => Ok(Outcome::Conflict),
-        (false, false) if is_same(tested, plain) => Ok(Outcome::Fixpoint),
-        _ => Ok(Outcome::Apart),
+        (true, true) => Ok(Agreement::Conflict),
+        (false, false) if is_same(tested, plain) => Ok(Agreement::Fixpoint),
+        _ => Ok(Agreement::Apart),
     }
 }
 
@@ -358,12 +358,12 @@ fn step(
     numbers: &mut Numbers,
     tested: &mut Tested,
     plain: &mut Plain,
-    last: Outcome,
+    last: Agreement,
 ) -> Result<bool, Memory>
     requires { IsCarried tested.old.clauses tested.old.trail }
     ensures { OnOk result (IsCarried tested.new.clauses tested.new.trail) }
 {
-    let is_back = last != Outcome::Fixpoint || numbers.below(16) == 0 && tested.trail.level() > 0;
+    let is_back = last != Agreement::Fixpoint || numbers.below(16) == 0 && tested.trail.level() > 0;
     match open_lit(numbers, plain) {
         Some(lit) if !is_back => {
             plain.decide(alloc, lit)?;
@@ -387,17 +387,17 @@ fn walk(
     let (mut conflicts, mut fixpoints): (usize, usize) = (0, 0);
     let mut last = propagate(tested, plain)?;
     for _ in 0..TURNS {
-        if last == Outcome::Apart || !step(alloc, numbers, tested, plain, last)? {
+        if last == Agreement::Apart || !step(alloc, numbers, tested, plain, last)? {
             break;
         }
         last = propagate(tested, plain)?;
         match last {
-            Outcome::Conflict => conflicts = conflicts.saturating_add(1),
-            Outcome::Fixpoint => fixpoints = fixpoints.saturating_add(1),
-            Outcome::Apart => {}
+            Agreement::Conflict => conflicts = conflicts.saturating_add(1),
+            Agreement::Fixpoint => fixpoints = fixpoints.saturating_add(1),
+            Agreement::Apart => {}
         }
     }
-    Ok(if last == Outcome::Apart {
+    Ok(if last == Agreement::Apart {
         None
     } else {
         Some((conflicts, fixpoints))

@@ -1,7 +1,7 @@
--- What a tree wants at each place of a text, and which tokens are so spelled.
+-- What a tree wants at each position of a text, and which tokens are so spelled.
 use Rattle.std.specs.Prelude.{◌≡◌, ℕ, suc, Bool, true, false, List, [], ◌∷◌, ◌++◌, Option, Some, None, IfSome}
 use Rattle.fzn_lexer.specs.declared.token.Kind.{Kind}
-use Rattle.fzn_lexer.specs.declared.token.Place.{Place}
+use Rattle.fzn_lexer.specs.declared.token.Position.{Position}
 use Rattle.fzn_lexer.specs.declared.token.Symbol.{Symbol}
 use Rattle.fzn_lexer.specs.declared.token.Token.{Token}
 use Rattle.fzn_lexer.specs.declared.fault.FaultKind.{FaultKind}
@@ -12,12 +12,12 @@ use Rattle.fzn_lexer.specs.declared.token.Kind.TheVariants as k
 pub record Piece : Type 0 where
   pub kind : Kind
   -- where it stands, if the tree says so
-  pub place : Option Place
+  pub position : Option Position
   -- the limit that the tree passes at this token
   pub past : Option FaultKind
 
 abbrev pub Fits : Token → Piece → Type 0
-Fits token piece = (token.kind ≡ piece.kind) × IfSome piece.place (λ at. token.span.place ≡ at)
+Fits token piece = (token.kind ≡ piece.kind) × IfSome piece.position (λ at. token.span.position ≡ at)
 
 -- the tokens are these pieces, one by one
 abbrev pub AreSpelled : List Token → List Piece → Type 0
@@ -39,17 +39,17 @@ ps and qs = ps ++ qs
 
 -- a token without a value
 abbrev pub sign_piece : Symbol → Piece
-sign_piece s = record { kind = k.Symbol s; place = None; past = None }
+sign_piece s = record { kind = k.Symbol s; position = None; past = None }
 
 abbrev pub sign : Symbol → List Piece
 sign s = sign_piece s ∷ []
 
--- a token of this kind at this place
-abbrev pub piece_at : Kind → Place → Piece
-piece_at kind place = record { kind = kind; place = Some place; past = None }
+-- a token of this kind at this position
+abbrev pub piece_at : Kind → Position → Piece
+piece_at kind position = record { kind = kind; position = Some position; past = None }
 
-abbrev pub placed : Kind → Place → List Piece
-placed kind place = piece_at kind place ∷ []
+abbrev pub placed : Kind → Position → List Piece
+placed kind position = piece_at kind position ∷ []
 
 -- one after another, where each may depend on a count that goes on by the one before
 abbrev pub each_by : {A : Type 0} → (ℕ → A → ℕ) → (ℕ → A → List Piece) → ℕ → List A → List Piece

@@ -1,31 +1,31 @@
-//! What a file says, by the cases of the grammar. A part has the place of its first token where a fault may stand there.
+//! What a file says, by the cases of the grammar. A part has the position of its first token where a fault may stand there.
 
 use crate::listed::Listed;
-use fzn_lexer::Place;
+use fzn_lexer::Position;
 use fzn_list::{Items, Text};
 
-/// A name as it is written, from this place.
+/// A name as it is written, from this position.
 #[derive(Debug, Drop)]
 pub struct Name {
     /// The bytes of the name.
     pub text: Text,
-    /// The place of its first byte.
-    pub place: Place,
+    /// The position of its first byte.
+    pub position: Position,
 }
 
-/// A number from -10^9 to 10^9, from this place.
+/// A number from -10^9 to 10^9, from this position.
 #[derive(Clone, Copy, Debug)]
 pub struct Int {
     /// The number.
     pub value: i64,
-    /// The place of its first byte.
-    pub place: Place,
+    /// The position of its first byte.
+    pub position: Position,
 }
 
 /// All numbers from the first to the second, none if the second is below the first. Both lie from -10^9 to 10^9.
 #[derive(Clone, Copy, Debug)]
 pub struct Range {
-    /// The first, with its place.
+    /// The first, with its position.
     pub low: Int,
     /// The second.
     pub high: i64,
@@ -35,14 +35,14 @@ pub struct Range {
 /// values.
 #[derive(Debug, Drop)]
 pub enum Literal {
-    /// `true` or `false`, from this place.
-    Bool(bool, Place),
+    /// `true` or `false`, from this position.
+    Bool(bool, Position),
     /// A number.
     Int(Int),
     /// The set of all numbers of a range.
     Range(Range),
-    /// A set of listed values, from the place of its brace.
-    Set(Place, Listed),
+    /// A set of listed values, from the position of its brace.
+    Set(Position, Listed),
 }
 
 /// A literal or a name, which stands for a parameter or a variable.
@@ -54,11 +54,11 @@ pub enum Basic {
     Name(Name),
 }
 
-/// At most 100,000 entries in brackets, from the place of the first bracket.
+/// At most 100,000 entries in brackets, from the position of the first bracket.
 #[derive(Debug, Drop)]
 pub struct Array {
-    /// The place of the first bracket.
-    pub place: Place,
+    /// The position of the first bracket.
+    pub position: Position,
     /// The entries in order.
     pub entries: Items<Basic>,
 }
@@ -90,13 +90,13 @@ pub enum AnnArg<A> {
     List(Items<AnnTerm<A>>),
 }
 
-/// A term of an annotation: a literal, a text without its quotes from this place, or an annotation.
+/// A term of an annotation: a literal, a text without its quotes from this position, or an annotation.
 #[derive(Drop)]
 pub enum AnnTerm<A> {
     /// A literal.
     Literal(Literal),
     /// The bytes between the quotes.
-    Text(Text, Place),
+    Text(Text, Position),
     /// An annotation, or a name alone.
     Ann(A),
 }
@@ -115,12 +115,12 @@ pub enum Values {
 pub enum Base {
     /// `bool`
     Bool,
-    /// `int`, from this place.
-    Int(Place),
+    /// `int`, from this position.
+    Int(Position),
     /// Numbers among these values.
     Values(Values),
-    /// Sets, from the place of `set`, of these values or of any number.
-    Set(Place, Option<Values>),
+    /// Sets, from the position of `set`, of these values or of any number.
+    Set(Position, Option<Values>),
 }
 
 /// The index set of an array in a predicate: any, or from 1 to this number.
@@ -148,32 +148,32 @@ pub struct PredicateParam {
 /// A predicate item, with its parameters in order.
 #[derive(Debug, Drop)]
 pub struct Predicate {
-    /// The place of `predicate`.
-    pub place: Place,
+    /// The position of `predicate`.
+    pub position: Position,
     /// The name that it declares.
     pub name: Name,
     /// The parameters in order.
     pub params: Items<PredicateParam>,
 }
 
-/// The size of an array whose indices begin at 1, from the place of `array`.
+/// The size of an array whose indices begin at 1, from the position of `array`.
 #[derive(Clone, Copy, Debug)]
 pub struct Size {
-    /// The place of `array`.
-    pub place: Place,
+    /// The position of `array`.
+    pub position: Position,
     /// The upper end of its index set, 0 to 100,000.
     pub count: usize,
 }
 
-/// The type of a parameter's values, from the place of its first word.
+/// The type of a parameter's values, from the position of its first word.
 #[derive(Clone, Copy, Debug)]
 pub enum ParamBase {
     /// `bool`
-    Bool(Place),
+    Bool(Position),
     /// `int`
-    Int(Place),
+    Int(Position),
     /// `set of int`
-    Set(Place),
+    Set(Position),
 }
 
 /// What a parameter is given: a literal, or the entries of an array in order.
@@ -181,8 +181,8 @@ pub enum ParamBase {
 pub enum ParamValue {
     /// One value.
     Literal(Literal),
-    /// The entries of an array, from the place of its bracket.
-    Array(Place, Items<Literal>),
+    /// The entries of an array, from the position of its bracket.
+    Array(Position, Items<Literal>),
 }
 
 /// A parameter, an array of entries from 1 where a size is given.
@@ -201,8 +201,8 @@ pub struct Param {
 /// A variable of this type, with its annotations in order, and the value that it is declared with if there is one.
 #[derive(Drop)]
 pub struct SingleVar {
-    /// The place of `var`.
-    pub place: Place,
+    /// The position of `var`.
+    pub position: Position,
     /// The type.
     pub base: Base,
     /// The name.

@@ -10,7 +10,7 @@ use Rattle.fzn_meaning.specs.declared.term.Term.{Term}
 use Rattle.fzn_meaning.specs.declared.term.Term.TheVariants as terms
 use Rattle.fzn_meaning.specs.Meaning.{IsBoolean, AreTerms}
 use Rattle.fzn_meaning.specs.Term.{number_in, weighted, IsTerm, IsPlace}
-use Rattle.fzn_names.specs.Places.{place_of}
+use Rattle.fzn_names.specs.Positions.{position_of}
 use Rattle.fzn_names.specs.Types.{is_wanted}
 use Rattle.fzn_symbols.specs.Signs.{is_negative}
 use Rattle.fzn_names.specs.Values.{NameList, value_of, terms_in, set_in}
@@ -102,10 +102,10 @@ module _ (sets : List IntSet) (names : NameList) (known : AreMeanings sets names
   set-within (Some (args.Array array)) within = none_limited
 
   pub boolean-given : (arg : Arg) → IsArgWithin arg → wrong_values names Boolean arg ≡ [] → IsBoolean sets (term_given names (Some arg))
-  boolean-given (args.Basic b) within e = boolean_term sets names known b within (when_not (is_wanted Boolean (value_of names b)) (place_of b) e)
+  boolean-given (args.Basic b) within e = boolean_term sets names known b within (when_not (is_wanted Boolean (value_of names b)) (position_of b) e)
   boolean-given (args.Array array) within e = absurd cc
 
   pub booleans-given : (arg : Arg) → IsArgWithin arg → wrong_values names BooleanList arg ≡ [] → All (IsBoolean sets) (terms_given names (Some arg))
   booleans-given (args.Basic b) within e =
-      array-boolean (value_of names b) (λ value f. value-meaning sets names known b value within f) (when_not (is_wanted BooleanList (value_of names b)) (place_of b) e)
+      array-boolean (value_of names b) (λ value f. value-meaning sets names known b value within f) (when_not (is_wanted BooleanList (value_of names b)) (position_of b) e)
   booleans-given (args.Array array) within e = boolean_terms sets names known array.entries within.0 e

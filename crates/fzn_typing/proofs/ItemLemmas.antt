@@ -1,6 +1,6 @@
 -- One item after another.
 use Rattle.std.proofs.Common.{◌≡◌, List, ◌∷◌, ◌++◌, Some, None, flat_map, sym, append_assoc}
-use Rattle.fzn_names.specs.Places.{first}
+use Rattle.fzn_names.specs.Positions.{first}
 use Rattle.fzn_names.proofs.FirstLemmas.{first-append_none, first-append_some}
 
 module _ {X Y : Type 0} (f : X → List Y) (xs ys : List X) (x : X) (all : xs ≡ x ∷ ys) where

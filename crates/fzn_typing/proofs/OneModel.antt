@@ -10,7 +10,7 @@ use Rattle.fzn_meaning.specs.declared.model.Model.{Model}
 use Rattle.fzn_meaning.specs.declared.model.OutputItem.{OutputItem}
 use Rattle.fzn_meaning.specs.declared.model.Var.{Var}
 use Rattle.fzn_names.specs.Outputs.{IsShown}
-use Rattle.fzn_names.specs.Places.{first}
+use Rattle.fzn_names.specs.Positions.{first}
 use Rattle.fzn_tree.specs.declared.tree.Tree.{Tree}
 use Rattle.fzn_typing.specs.Faults.{faults_of}
 use Rattle.fzn_typing.specs.Models.{IsModelOf}

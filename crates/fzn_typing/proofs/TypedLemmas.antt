@@ -1,7 +1,7 @@
 -- Where the types of arguments are right, each name is declared, and no entry is a set.
 use Rattle.std.proofs.Common.{◌≡◌, true, false, List, [], ◌∷◌, Option, Some, None, is_none, flat_map, length, nat_eq, eqb-true, refl, arith}
 use Rattle.std.proofs.lemmas.Bool.{and_parts}
-use Rattle.fzn_names.specs.Places.{first, place_of}
+use Rattle.fzn_names.specs.Positions.{first, position_of}
 use Rattle.fzn_names.specs.Types.{is_wanted, is_set, sets_in, unknown_in, wrong_in}
 use Rattle.fzn_names.specs.Values.{NameList, value_of}
 use Rattle.fzn_names.proofs.FirstLemmas.{empty-first, left_empty, right_empty}
@@ -40,7 +40,7 @@ module _ (names : NameList) where
   entries_right : (wanted entry : Argument) (bs : List Basic) → entry_of wanted ≡ Some entry → flat_map (wrong_in names entry) bs ≡ [] → (flat_map (sets_in names) bs ≡ []) × (flat_map (unknown_in names) bs ≡ [])
   entries_right wanted entry [] is right = (refl, refl)
   entries_right wanted entry (b ∷ bs) is right =
-      let fit = when_not (is_wanted entry (value_of names b)) (place_of b) (left_empty (wrong_in names entry b) (flat_map (wrong_in names entry) bs) right) in
+      let fit = when_not (is_wanted entry (value_of names b)) (position_of b) (left_empty (wrong_in names entry b) (flat_map (wrong_in names entry) bs) right) in
       let more = entries_right wanted entry bs is (right_empty (wrong_in names entry b) (flat_map (wrong_in names entry) bs) right) in
       (rw (not_a_set wanted entry (value_of names b) is fit) more.0, rw (declared entry (value_of names b) fit) more.1)
 
@@ -49,7 +49,7 @@ module _ (names : NameList) where
   array_right wanted (Some entry) array is right = entries_right wanted entry array.entries is right
 
   argument_right : (wanted : Argument) (arg : Arg) → wrong_values names wanted arg ≡ [] → (set_entries names arg ≡ []) × (unknown_names names arg ≡ [])
-  argument_right wanted (args.Basic b) right = (refl, rw (declared wanted (value_of names b) (when_not (is_wanted wanted (value_of names b)) (place_of b) right)) refl)
+  argument_right wanted (args.Basic b) right = (refl, rw (declared wanted (value_of names b) (when_not (is_wanted wanted (value_of names b)) (position_of b) right)) refl)
   argument_right wanted (args.Array array) right = array_right wanted (entry_of wanted) array refl right
 
   arguments_right : (wanted : List Argument) (all : List Arg) → length all ≡ length wanted → wrong_arguments names wanted all ≡ []

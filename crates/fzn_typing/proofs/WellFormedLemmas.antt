@@ -18,7 +18,7 @@ use Rattle.fzn_meaning.specs.Meaning.{HasBooleanSets, IsBoolean, booleans_of, lo
 use Rattle.fzn_meaning.specs.WellFormed.{IsGoal}
 use Rattle.fzn_names.specs.Declarations.{added_by_value, added_by_entries, added_by, var_faults, declared_var, number_after, vars_faults}
 use Rattle.fzn_names.specs.Limits.{IsBasicWithin, IsValueWithin, IsBaseWithin, IsVarWithin}
-use Rattle.fzn_names.specs.Places.{first, when, at}
+use Rattle.fzn_names.specs.Positions.{first, when, at}
 use Rattle.fzn_names.specs.Values.{NameList, value_of, term_of}
 use Rattle.fzn_names.specs.Variables.{kind_of, values_in}
 use Rattle.fzn_symbols.specs.declared.names.Declared.{Declared}
@@ -73,9 +73,9 @@ length-equalities names var (Some value) = refl
 
 length-domains : (names : NameList) (base : Base) (entries : List Basic) → length (element_domains names base entries) ≡ added_by_entries base entries
 length-domains names bases.Bool entries = refl
-length-domains names (bases.Int place) entries = refl
+length-domains names (bases.Int position) entries = refl
 length-domains names (bases.Values values) entries = length-map entries (λ entry. SetIn (term_of names entry) (values_in values) None)
-length-domains names (bases.Set place values) entries = refl
+length-domains names (bases.Set position values) entries = refl
 
 length-written : (names : NameList) (var : Var) → length (written names var) ≡ added_by var
 length-written names (vars.Single var) = length-equalities names var var.value
@@ -101,16 +101,16 @@ module _ (sets : List IntSet) (names : NameList) (known : AreMeanings sets names
   named_good : (con : Con) (found : Option Name) → All IsArgWithin con.args → named_faults names con found ≡ [] → All IsGood (named names con.args found)
   named_good con None within right = All-nil IsGood
   named_good con (Some name) within right =
-      let arity = at Arity (when (not (nat_eq (length con.args) (length (arguments_of name)))) con.name.place) in
+      let arity = at Arity (when (not (nat_eq (length con.args) (length (arguments_of name)))) con.name.position) in
       let wrong = at WrongType (wrong_arguments names (arguments_of name) con.args) in
-      let lengths = at Length (when (not (has_lengths names (lengths_of name) con.args)) con.name.place) in
-      let signs = at Argument (when (list_any (has_negative names con.args) (non_negative_of name)) con.name.place) in
+      let lengths = at Length (when (not (has_lengths names (lengths_of name) con.args)) con.name.position) in
+      let signs = at Argument (when (list_any (has_negative names con.args) (non_negative_of name)) con.name.position) in
       let values = right_empty (arity ++ wrong) (lengths ++ signs) right in
       let types = at-empty WrongType (wrong_arguments names (arguments_of name) con.args) (right_empty arity wrong (left_empty (arity ++ wrong) (lengths ++ signs) right)) in
-      let fit = when_not (has_lengths names (lengths_of name) con.args) con.name.place
-      (at-empty Length (when (not (has_lengths names (lengths_of name) con.args)) con.name.place) (left_empty lengths signs values)) in
-      let above = when_false (list_any (has_negative names con.args) (non_negative_of name)) con.name.place
-      (at-empty Argument (when (list_any (has_negative names con.args) (non_negative_of name)) con.name.place) (right_empty lengths signs values)) in
+      let fit = when_not (has_lengths names (lengths_of name) con.args) con.name.position
+      (at-empty Length (when (not (has_lengths names (lengths_of name) con.args)) con.name.position) (left_empty lengths signs values)) in
+      let above = when_false (list_any (has_negative names con.args) (non_negative_of name)) con.name.position
+      (at-empty Argument (when (list_any (has_negative names con.args) (non_negative_of name)) con.name.position) (right_empty lengths signs values)) in
       All-cons IsGood (constraint_for names con.args name) [] (made_right sets names known con.args within name types fit above) (All-nil IsGood)
 
   stated_good : (con : Con) → All IsArgWithin con.args → constraint_faults names con ≡ [] → All IsGood (stated names con)
@@ -151,9 +151,9 @@ module _ (sets : List IntSet) (names : NameList) (known : AreMeanings sets names
 
   element_domains_good : (base : Base) (entries : List Basic) → IsBaseWithin base → All IsBasicWithin entries → All IsGood (element_domains names base entries)
   element_domains_good bases.Bool entries base within = All-nil IsGood
-  element_domains_good (bases.Int place) entries base within = All-nil IsGood
+  element_domains_good (bases.Int position) entries base within = All-nil IsGood
   element_domains_good (bases.Values values) entries base within = domains_good values entries base within
-  element_domains_good (bases.Set place values) entries base within = All-nil IsGood
+  element_domains_good (bases.Set position values) entries base within = All-nil IsGood
 
   written_good : (var : Var) → IsVarWithin var → All IsGood (written names var)
   written_good (vars.Single var) within = equalities_good var var.value within.1
@@ -177,11 +177,11 @@ module _ (sets : List IntSet) (names : NameList) (known : AreMeanings sets names
   integer_within (Some (d.Array kind xs)) var h e = cc
 
   objective-within : (basic : Basic) (var : VarId) → objective_of names basic ≡ Some var → IsVariable (length sets) var
-  objective-within (basics.Literal (l.Bool true place)) var e = cc
-  objective-within (basics.Literal (l.Bool false place)) var e = cc
+  objective-within (basics.Literal (l.Bool true position)) var e = cc
+  objective-within (basics.Literal (l.Bool false position)) var e = cc
   objective-within (basics.Literal (l.Int number)) var e = cc
   objective-within (basics.Literal (l.Range range)) var e = cc
-  objective-within (basics.Literal (l.Set place values)) var e = cc
+  objective-within (basics.Literal (l.Set position values)) var e = cc
   objective-within (basics.Name name) var e = integer_within (value_of names (basics.Name name)) var (λ value found. lookup-meaning sets (bytes_eq name.text) names value known found) e
 
   minimized : (found : Option VarId) (goal : Goal) → ((var : VarId) → found ≡ Some var → IsVariable (length sets) var) → option_map Minimize found ≡ Some goal → IsGoal (length sets) goal

@@ -2,11 +2,11 @@
 use Rattle.std.specs.Prelude.{ℕ, ◌%◌, Bool, true, ◌&&◌, ◌||◌, ℤ, pos, List, [], ◌∷◌, ◌++◌, Option, Some, None, flat_map, length, slice_get, nat_eq, nat_lt, is_none}
 use Rattle.std.specs.List.{list_any}
 use Rattle.fzn_domain.specs.IntSet.{IntSet, no_values}
-use Rattle.fzn_lexer.specs.declared.token.Place.{Place}
+use Rattle.fzn_lexer.specs.declared.token.Position.{Position}
 use Rattle.fzn_meaning.specs.declared.term.Term.{Term}
 use Rattle.fzn_meaning.specs.declared.term.Term.TheVariants as terms
 use Rattle.fzn_meaning.specs.Term.{number_in, numbers_in}
-use Rattle.fzn_names.specs.Places.{first}
+use Rattle.fzn_names.specs.Positions.{first}
 use Rattle.fzn_names.specs.Types.{sets_in, unknown_in, wrong_in}
 use Rattle.fzn_names.specs.Values.{NameList, value_of, term_of, terms_of, terms_in, set_in}
 use Rattle.fzn_symbols.specs.Signs.{is_negative}
@@ -21,12 +21,12 @@ use Rattle.fzn_registry.specs.declared.signature.Lengths.TheVariants.{Free, Same
 -- ---- where arguments are faulty, in the order in which they are written
 
 -- at an entry that is a set
-abbrev pub set_entries : NameList → Arg → List Place
+abbrev pub set_entries : NameList → Arg → List Position
 set_entries names (args.Basic basic) = []
 set_entries names (args.Array array) = flat_map (sets_in names) array.entries
 
 -- at a name that is not declared
-abbrev pub unknown_names : NameList → Arg → List Place
+abbrev pub unknown_names : NameList → Arg → List Position
 unknown_names names (args.Basic basic) = unknown_in names basic
 unknown_names names (args.Array array) = flat_map (unknown_in names) array.entries
 
@@ -39,15 +39,15 @@ entry_of BooleanConstantList = Some BooleanConstant
 entry_of _ = None
 
 -- at entries of another type than is wanted, or at the bracket where no list is wanted
-abbrev pub wrong_entries : NameList → Option Argument → Array → List Place
-wrong_entries names None array = array.place ∷ []
+abbrev pub wrong_entries : NameList → Option Argument → Array → List Position
+wrong_entries names None array = array.position ∷ []
 wrong_entries names (Some wanted) array = flat_map (wrong_in names wanted) array.entries
 
-abbrev pub wrong_values : NameList → Argument → Arg → List Place
+abbrev pub wrong_values : NameList → Argument → Arg → List Position
 wrong_values names wanted (args.Basic basic) = wrong_in names wanted basic
 wrong_values names wanted (args.Array array) = wrong_entries names (entry_of wanted) array
 
-abbrev pub wrong_arguments : NameList → List Argument → List Arg → List Place
+abbrev pub wrong_arguments : NameList → List Argument → List Arg → List Position
 wrong_arguments names (wanted ∷ more) (arg ∷ others) = wrong_values names wanted arg ++ wrong_arguments names more others
 wrong_arguments names _ _ = []
 

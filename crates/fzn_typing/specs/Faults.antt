@@ -6,7 +6,7 @@ use Rattle.fzn_lexer.specs.declared.fault.Fault.{Fault}
 use Rattle.fzn_lexer.specs.declared.fault.FaultKind.TheVariants.{SetRefused, UnknownName, UnknownConstraint, Arity, «Type» as WrongType, Length, Argument}
 use Rattle.fzn_meaning.specs.declared.model.Kind.TheVariants.{Integer}
 use Rattle.fzn_names.specs.Declarations.{names_of, declaration_faults}
-use Rattle.fzn_names.specs.Places.{when, at, place_of}
+use Rattle.fzn_names.specs.Positions.{when, at, position_of}
 use Rattle.fzn_names.specs.Types.{unknown_in}
 use Rattle.fzn_names.specs.Values.{NameList, value_of}
 use Rattle.fzn_symbols.specs.declared.names.Declared.{Declared}
@@ -25,14 +25,14 @@ use Rattle.fzn_typing.specs.Arguments.{set_entries, unknown_names, wrong_argumen
 -- the faults of lengths and signs
 abbrev pub value_faults : NameList → Con → Name → List Fault
 value_faults names con name =
-    at Length (when (not (has_lengths names (lengths_of name) con.args)) con.name.place)
-    ++ at Argument (when (list_any (has_negative names con.args) (non_negative_of name)) con.name.place)
+    at Length (when (not (has_lengths names (lengths_of name) con.args)) con.name.position)
+    ++ at Argument (when (list_any (has_negative names con.args) (non_negative_of name)) con.name.position)
 
 -- the faults of a constraint by its name
 abbrev pub named_faults : NameList → Con → Option Name → List Fault
-named_faults names con None = at UnknownConstraint (con.name.place ∷ [])
+named_faults names con None = at UnknownConstraint (con.name.position ∷ [])
 named_faults names con (Some name) =
-    at Arity (when (not (nat_eq (length con.args) (length (arguments_of name)))) con.name.place)
+    at Arity (when (not (nat_eq (length con.args) (length (arguments_of name)))) con.name.position)
     ++ at WrongType (wrong_arguments names (arguments_of name) con.args)
     ++ value_faults names con name
 
@@ -53,7 +53,7 @@ abbrev pub objective_of : NameList → Basic → Option VarId
 objective_of names basic = integer_variable (value_of names basic)
 
 abbrev pub objective_faults : NameList → Basic → List Fault
-objective_faults names basic = at UnknownName (unknown_in names basic) ++ at WrongType (when (is_none (objective_of names basic)) (place_of basic))
+objective_faults names basic = at UnknownName (unknown_in names basic) ++ at WrongType (when (is_none (objective_of names basic)) (position_of basic))
 
 abbrev pub goal_faults : NameList → Goal → List Fault
 goal_faults names goals.Satisfy = []

@@ -3,7 +3,7 @@ ghost use Rattle.std.specs.Prelude.{◌≡◌, ◌++◌, Some, flat_map, OnOk};
 ghost use Rattle.std.specs.List.{All};
 ghost use Rattle.fzn_names.specs.Given.{Gives};
 ghost use Rattle.fzn_names.specs.Known.{known};
-ghost use Rattle.fzn_names.specs.Places.{first};
+ghost use Rattle.fzn_names.specs.Positions.{first};
 ghost use Rattle.fzn_registry.specs.Registry.{IsRow};
 ghost use Rattle.fzn_typing.specs.Arguments.{has_types};
 ghost use Rattle.fzn_typing.specs.Faults.{value_faults, named_faults, constraint_faults};
@@ -31,13 +31,13 @@ fn value_fault(names: &Names, con: &Con, signature: &Signature) -> Option<Fault>
     if !has_lengths(names, signature.lengths, args) {
         return Some(Fault {
             kind: FaultKind::Length,
-            place: con.name.place,
+            position: con.name.position,
         });
     }
     if has_negatives(names, args, signature.non_negative) {
         return Some(Fault {
             kind: FaultKind::Argument,
-            place: con.name.place,
+            position: con.name.position,
         });
     }
     None
@@ -52,13 +52,13 @@ fn named_fault(names: &Names, con: &Con, signature: &Signature) -> Option<Fault>
     if args.len() != signature.arguments.len() {
         return Some(Fault {
             kind: FaultKind::Arity,
-            place: con.name.place,
+            position: con.name.position,
         });
     }
-    if let Some(place) = first_wrong(names, signature.arguments, args) {
+    if let Some(position) = first_wrong(names, signature.arguments, args) {
         return Some(Fault {
             kind: FaultKind::Type,
-            place,
+            position,
         });
     }
     value_fault(names, con, signature)
@@ -70,22 +70,22 @@ fn any_fault(names: &Names, con: &Con) -> Option<Fault>
     ensures { result ≡ first (constraint_faults (known names.now) con.now) }
 {
     let args = con.args.as_slice();
-    if let Some(place) = first_set(names, args) {
+    if let Some(position) = first_set(names, args) {
         return Some(Fault {
             kind: FaultKind::SetRefused,
-            place,
+            position,
         });
     }
-    if let Some(place) = first_unknown(names, args) {
+    if let Some(position) = first_unknown(names, args) {
         return Some(Fault {
             kind: FaultKind::UnknownName,
-            place,
+            position,
         });
     }
     match lookup_bytes(con.name.text.as_slice()) {
         None => Some(Fault {
             kind: FaultKind::UnknownConstraint,
-            place: con.name.place,
+            position: con.name.position,
         }),
         Some(signature) => named_fault(names, con, &signature),
     }

@@ -8,7 +8,7 @@ ghost use Rattle.fzn_typing.specs.Models.{goal_of};
 use fzn_domain::VarId;
 use fzn_lexer::{Fault, FaultKind, Halt};
 use fzn_meaning::Kind;
-use fzn_names::{Declared, Names, place_of};
+use fzn_names::{Declared, Names, position_of};
 use fzn_tree::{Basic, Goal};
 
 /// The integer variable that is named.
@@ -19,17 +19,17 @@ fn objective_of(names: &Names, basic: &Basic) -> Result<VarId, Halt<Fault>>
     match basic {
         Basic::Literal(_) => Err(Halt::Fault(Fault {
             kind: FaultKind::Type,
-            place: place_of(basic),
+            position: position_of(basic),
         })),
         Basic::Name(name) => match names.meaning(&name.text) {
             None => Err(Halt::Fault(Fault {
                 kind: FaultKind::UnknownName,
-                place: name.place,
+                position: name.position,
             })),
             Some(Declared::Variable(Kind::Integer, var)) => Ok(*var),
             Some(_) => Err(Halt::Fault(Fault {
                 kind: FaultKind::Type,
-                place: name.place,
+                position: name.position,
             })),
         },
     }

@@ -1,5 +1,5 @@
 use super::{TWO_BOOLEANS, options_of, solve};
-use fzn_lexer::{Fault, FaultKind, Place};
+use fzn_lexer::{Fault, FaultKind, Position};
 use fzn_solver::{RunFault, Unobserved};
 use fzn_words::Options;
 use std::alloc::{AllocError, Global};
@@ -80,7 +80,7 @@ fn are_told(alloc: Global, float: Fault) -> Result<bool, AllocError> {
 fn messages(rt: HostRuntime) -> Result<(), Fail> {
     let float = Fault {
         kind: FaultKind::Float,
-        place: Place { line: 1, column: 5 },
+        position: Position { line: 1, column: 5 },
     };
     assert!(rt; are_told(rt.alloc(), float)?);
     Ok(())

@@ -14,12 +14,12 @@ use Rattle.fzn_tree.specs.declared.tree.AnnArg.TheVariants as inner_args
 use Rattle.fzn_tree.specs.declared.tree.AnnTerm.TheVariants as terms
 
 abbrev pub opened : Symbol → ℕ → List Piece
-opened bracket level = record { kind = k.Symbol bracket; place = None; past = if nat_lt level deepest then None else Some TooDeep } ∷ []
+opened bracket level = record { kind = k.Symbol bracket; position = None; past = if nat_lt level deepest then None else Some TooDeep } ∷ []
 
 -- literal | STRING | annotation
 abbrev pub ann_term : ℕ → AnnTerm (ℕ → List Piece) → List Piece
 ann_term level (terms.Literal value) = literal value
-ann_term level (terms.Text text place) = placed (k.Text text) place
+ann_term level (terms.Text text position) = placed (k.Text text) position
 ann_term level (terms.Ann inner) = inner level
 
 abbrev pub ann_entry : ℕ → ℕ → AnnTerm (ℕ → List Piece) → List Piece

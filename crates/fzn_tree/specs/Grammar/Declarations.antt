@@ -24,9 +24,9 @@ use Rattle.fzn_tree.specs.declared.tree.Var.TheVariants as vars
 
 -- "bool" | "int" | "set" "of" "int"
 abbrev pub param_base : ParamBase → List Piece
-param_base (param_bases.Bool place) = placed (k.Symbol s.Bool) place
-param_base (param_bases.Int place) = placed (k.Symbol s.Int) place
-param_base (param_bases.Set place) = placed (k.Symbol s.Set) place and sign s.Of and sign s.Int
+param_base (param_bases.Bool position) = placed (k.Symbol s.Bool) position
+param_base (param_bases.Int position) = placed (k.Symbol s.Int) position
+param_base (param_bases.Set position) = placed (k.Symbol s.Set) position and sign s.Of and sign s.Int
 
 abbrev pub param_entry : ℕ → Literal → List Piece
 param_entry n value = marked (nat_lt n most) (literal value)
@@ -34,7 +34,7 @@ param_entry n value = marked (nat_lt n most) (literal value)
 -- literal | "[" [ literal { "," literal } ] "]"
 abbrev pub param_value : ParamValue → List Piece
 param_value (param_values.Literal value) = literal value
-param_value (param_values.Array place all) = placed (k.Symbol s.OpenBracket) place and listed param_entry s.CloseBracket all
+param_value (param_values.Array position all) = placed (k.Symbol s.OpenBracket) position and listed param_entry s.CloseBracket all
 
 -- [ "array" "[" index "]" "of" ]
 abbrev pub param_array : Option Size → List Piece
@@ -54,7 +54,7 @@ given (Some value) = sign s.Equals and basic value
 
 -- "var" base ":" NAME annotations [ "=" basic ] ";"
 abbrev pub single_var : SingleVar → List Piece
-single_var v = placed (k.Symbol s.Var) v.place and base v.base and sign s.Colon and name v.name and anns v.anns and given v.value and sign s.Semicolon
+single_var v = placed (k.Symbol s.Var) v.position and base v.base and sign s.Colon and name v.name and anns v.anns and given v.value and sign s.Semicolon
 
 -- "array" "[" index "]" "of" "var" base ":" NAME annotations "=" array ";"
 abbrev pub array_var : ArrayVar → List Piece

@@ -31,4 +31,4 @@ predicate_param p = predicate_array p.array and optional_var p.is_var and base p
 
 -- "predicate" NAME "(" [ predicate_param { "," predicate_param } ] ")" ";"
 abbrev pub predicate : Predicate → List Piece
-predicate p = placed (k.Symbol s.Predicate) p.place and name p.name and sign s.OpenParen and listed (λ n. predicate_param) s.CloseParen p.params and sign s.Semicolon
+predicate p = placed (k.Symbol s.Predicate) p.position and name p.name and sign s.OpenParen and listed (λ n. predicate_param) s.CloseParen p.params and sign s.Semicolon

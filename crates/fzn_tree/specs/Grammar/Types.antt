@@ -19,13 +19,13 @@ elements (Some v) = values v
 -- "bool" | "int" | range | "{" [ INT { "," INT } ] "}" | "set" "of" elements
 abbrev pub base : Base → List Piece
 base bases.Bool = sign s.Bool
-base (bases.Int place) = placed (k.Symbol s.Int) place
+base (bases.Int position) = placed (k.Symbol s.Int) position
 base (bases.Values v) = values v
-base (bases.Set place v) = placed (k.Symbol s.Set) place and sign s.Of and elements v
+base (bases.Set position v) = placed (k.Symbol s.Set) position and sign s.Of and elements v
 
 -- an INT that is not below 0, the number of an array's entries
 abbrev pub size : ℕ → List Piece
-size n = record { kind = k.Int (pos n); place = None; past = if nat_le n most then None else Some TooMany } ∷ []
+size n = record { kind = k.Int (pos n); position = None; past = if nat_le n most then None else Some TooMany } ∷ []
 
 -- 1 ".." size
 abbrev pub index : ℕ → List Piece
@@ -33,4 +33,4 @@ index n = number (pos 1) and sign s.Dots and size n
 
 -- "array" "[" index "]" "of"
 abbrev pub array_of : Size → List Piece
-array_of size = placed (k.Symbol s.Array) size.place and sign s.OpenBracket and index size.count and sign s.CloseBracket and sign s.Of
+array_of size = placed (k.Symbol s.Array) size.position and sign s.OpenBracket and index size.count and sign s.CloseBracket and sign s.Of

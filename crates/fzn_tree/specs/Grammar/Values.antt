@@ -24,16 +24,16 @@ listed part close [] = sign close
 listed part close (first ∷ more) = part 0 first and each (λ n x. sign s.Comma and part n x) 1 more and sign close
 
 abbrev pub name : Name → List Piece
-name n = placed (k.Name n.text) n.place
+name n = placed (k.Name n.text) n.position
 
 -- ---- numbers and sets of them
 
 abbrev pub int : Int → List Piece
-int i = placed (k.Int i.value) i.place
+int i = placed (k.Int i.value) i.position
 
--- an INT whose place the tree does not say
+-- an INT whose position the tree does not say
 abbrev pub number : ℤ → List Piece
-number z = record { kind = k.Int z; place = None; past = None } ∷ []
+number z = record { kind = k.Int z; position = None; past = None } ∷ []
 
 -- INT ".." INT
 abbrev pub range : Range → List Piece
@@ -51,11 +51,11 @@ values (values_are.Listed all) = sign s.OpenBrace and listed listed_value s.Clos
 
 -- "true" | "false" | INT | range | "{" [ INT { "," INT } ] "}"
 abbrev pub literal : Literal → List Piece
-literal (l.Bool true place) = placed (k.Symbol s.True) place
-literal (l.Bool false place) = placed (k.Symbol s.False) place
+literal (l.Bool true position) = placed (k.Symbol s.True) position
+literal (l.Bool false position) = placed (k.Symbol s.False) position
 literal (l.Int i) = int i
 literal (l.Range r) = range r
-literal (l.Set place all) = placed (k.Symbol s.OpenBrace) place and listed listed_value s.CloseBrace all
+literal (l.Set position all) = placed (k.Symbol s.OpenBrace) position and listed listed_value s.CloseBrace all
 
 -- literal | NAME
 abbrev pub basic : Basic → List Piece
@@ -67,7 +67,7 @@ entry n value = marked (nat_lt n most) (basic value)
 
 -- "[" [ basic { "," basic } ] "]"
 abbrev pub array : Array → List Piece
-array a = placed (k.Symbol s.OpenBracket) a.place and listed entry s.CloseBracket a.entries
+array a = placed (k.Symbol s.OpenBracket) a.position and listed entry s.CloseBracket a.entries
 
 -- basic | array
 abbrev pub arg : Arg → List Piece

@@ -17,4 +17,4 @@ returns-in-Constant c =
     let limits : IsInLimits k = subst (λ (t : Term). IsTerm (length declared) t) c.in-Constant.is fits in
     let passed : to_z w64 (of_z w64 k) ≡ k = omega (arith, ints, limits.0, limits.1) in
     rw (c.in-Some.is, c.in-Constant.is)
-    (subst (λ (x : ℤ). IsDemand declared (Some (Constant x)) c.args.outcome c.of_constant.result) passed (c.of_constant.ensures declared))
+    (subst (λ (x : ℤ). IsDemand declared (Some (Constant x)) c.args.image c.of_constant.result) passed (c.of_constant.ensures declared))

@@ -1,4 +1,4 @@
--- Where the inputs are fixed, what their outcome asks of the result.
+-- Where the inputs are fixed, what their image asks of the result.
 use Rattle.std.proofs.Common.{◌≡◌, List, length, map, sym, ap, subst, ◌∙◌, ℤ, All}
 use Rattle.std.proofs.lemmas.Bool.{false≢true}
 use Rattle.std.proofs.lemmas.Option.{IfSome_then}
@@ -9,7 +9,7 @@ use Rattle.fzn_sets.specs.Terms.{least_value}
 use Rattle.fzn_terms.specs.Claims.{IsFixed}
 use Rattle.fzn_fixed.specs.Denial.{IsDenial, IsDenialOr, IsTrueOn}
 use Rattle.fzn_propagator.specs.Inference.{HoldsWhereFixed}
-use Rattle.fzn_fixed.specs.Outcome.{IsOutcome}
+use Rattle.fzn_fixed.specs.Image.{IsImage}
 use Rattle.fzn_fixed.proofs.FixedLemmas.{values_on, fixed_denied, fixed_forced, none_then}
 use Rattle.fzn_fixed.proofs.MeaningLemmas.{inputs_fit, result_fits, holds_of_each, holds_of_literal, holds_of_wide}
 use Rattle.fzn_fixed.proofs.fixed.refute_fixed.Goals as goal
@@ -45,16 +45,16 @@ returns-in-Nothing-clause-none c =
     let trail = c.args.trail.now in
     let parts = c.args.parts.now in
     let values : c.as_slice-chosen.result.now ≡ values_on trail parts.inputs = c.as_slice-chosen.ensures ∙ c.in_ok-values.ensures.values ∙ ap (map (least_value trail.sets)) c.as_slice-inputs.ensures in
-    let is = subst (λ (xs : List ℤ). IsOutcome parts.constraint xs c.outcome_of-outcome.result) values c.outcome_of-outcome.ensures in
-    holds_of_each trail parts c.outcome_of-outcome.result c.requires.ready (inputs_fit (length trail.declared) parts c.requires.ready) is (result_fits (length trail.declared) parts c.requires.ready) c.in-Nothing.ensures
+    let is = subst (λ (xs : List ℤ). IsImage parts.constraint xs c.image_of-image.result) values c.image_of-image.ensures in
+    holds_of_each trail parts c.image_of-image.result c.requires.ready (inputs_fit (length trail.declared) parts c.requires.ready) is (result_fits (length trail.declared) parts c.requires.ready) c.in-Nothing.ensures
 
 pub returns-in-Impossible-clause-found : goal.returns-in-Impossible-clause-found
 returns-in-Impossible-clause-found c =
     let trail = c.args.trail.now in
     let parts = c.args.parts.now in
     let values : c.as_slice-chosen.result.now ≡ values_on trail parts.inputs = c.as_slice-chosen.ensures ∙ c.in_ok-values.ensures.values ∙ ap (map (least_value trail.sets)) c.as_slice-inputs.ensures in
-    let is = subst (λ (xs : List ℤ). IsOutcome parts.constraint xs c.outcome_of-outcome.result) values c.outcome_of-outcome.ensures in
-    fixed_denied trail parts c.outcome_of-outcome.result c.in_ok-clause-in-Impossible.clause c.requires.ready (inputs_fit (length trail.declared) parts c.requires.ready) is c.in-Impossible.ensures
+    let is = subst (λ (xs : List ℤ). IsImage parts.constraint xs c.image_of-image.result) values c.image_of-image.ensures in
+    fixed_denied trail parts c.image_of-image.result c.in_ok-clause-in-Impossible.clause c.requires.ready (inputs_fit (length trail.declared) parts c.requires.ready) is c.in-Impossible.ensures
     (subst (λ (ts : List Term). IsDenial trail ts c.in_ok-clause-in-Impossible.clause) c.as_slice-inputs.ensures c.in_ok-clause-in-Impossible.ensures)
 
 pub returns-clause-found : goal.returns-clause-found
@@ -62,9 +62,9 @@ returns-clause-found c =
     let trail = c.args.trail.now in
     let parts = c.args.parts.now in
     let values : c.as_slice-chosen.result.now ≡ values_on trail parts.inputs = c.as_slice-chosen.ensures ∙ c.in_ok-values.ensures.values ∙ ap (map (least_value trail.sets)) c.as_slice-inputs.ensures in
-    let is = subst (λ (xs : List ℤ). IsOutcome parts.constraint xs c.outcome_of-outcome.result) values c.outcome_of-outcome.ensures in
+    let is = subst (λ (xs : List ℤ). IsImage parts.constraint xs c.image_of-image.result) values c.image_of-image.ensures in
     IfOk-weaker c.force.result _ _ (λ found h. IfSome_then found h (λ clause forcing.
-    fixed_forced trail parts c.outcome_of-outcome.result clause c.requires.ready (inputs_fit (length trail.declared) parts c.requires.ready) is c.in-Literal.lit c.in-Literal.ensures
+    fixed_forced trail parts c.image_of-image.result clause c.requires.ready (inputs_fit (length trail.declared) parts c.requires.ready) is c.in-Literal.lit c.in-Literal.ensures
     (subst (λ (ts : List Term). IsDenialOr trail ts c.in-Literal.lit clause) c.as_slice-inputs.ensures forcing)))
     c.force.ensures.found
 
@@ -73,7 +73,7 @@ returns-clause-none c =
     let trail = c.args.trail.now in
     let parts = c.args.parts.now in
     let values : c.as_slice-chosen.result.now ≡ values_on trail parts.inputs = c.as_slice-chosen.ensures ∙ c.in_ok-values.ensures.values ∙ ap (map (least_value trail.sets)) c.as_slice-inputs.ensures in
-    let is = subst (λ (xs : List ℤ). IsOutcome parts.constraint xs c.outcome_of-outcome.result) values c.outcome_of-outcome.ensures in
+    let is = subst (λ (xs : List ℤ). IsImage parts.constraint xs c.image_of-image.result) values c.image_of-image.ensures in
     IfOk-weaker c.force.result _ _ (λ found h. none_then found (IsTrueOn trail.sets c.in-Literal.lit) (HoldsWhereFixed trail parts.constraint) h
-    (λ holds. holds_of_literal trail parts c.outcome_of-outcome.result c.requires.ready (inputs_fit (length trail.declared) parts c.requires.ready) is c.in-Literal.lit c.in-Literal.ensures holds))
+    (λ holds. holds_of_literal trail parts c.image_of-image.result c.requires.ready (inputs_fit (length trail.declared) parts c.requires.ready) is c.in-Literal.lit c.in-Literal.ensures holds))
     c.force.ensures.none

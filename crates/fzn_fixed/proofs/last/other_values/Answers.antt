@@ -45,5 +45,5 @@ returns c =
     subst (λ (n : ℕ). AreOthers count parts.inputs c.args.values.now c.loop-k.claims n) end
     (subst (λ (ts : List Term). AreOthers count ts c.args.values.now c.loop-k.claims c.loop-k.k) c.as_slice-inputs.ensures c.loop-k.invariant) in
     justified_found c.explanation_of.result c.args.trail.now (c.loop-k.claims ++ c.in-Some.claim ∷ []) parts.constraint rule.Fixed
-    (refuted_others count parts c.args.values.now c.outcome_of-outcome.result c.loop-k.claims c.in-Some.claim c.requires.ready c.requires.one_each c.outcome_of-outcome.ensures others c.in-Some.ensures.none)
+    (refuted_others count parts c.args.values.now c.image_of-image.result c.loop-k.claims c.in-Some.claim c.requires.ready c.requires.one_each c.image_of-image.ensures others c.in-Some.ensures.none)
     (subst (λ (xs : List Claim). IfOk c.explanation_of.result (λ o. IfSome o (IsExplanation c.args.trail.now xs))) all c.explanation_of.ensures)

@@ -3,7 +3,7 @@ use Rattle.std.specs.List.{All}
 use Rattle.fzn_names.specs.Declarations.{vars_faults, names_from}
 use Rattle.fzn_symbols.specs.Known.{known}
 use Rattle.fzn_symbols.specs.Limits.{IsVarWithin}
-use Rattle.fzn_symbols.specs.Places.{first}
+use Rattle.fzn_symbols.specs.Positions.{first}
 use Rattle.fzn_symbols.specs.Variables.{vars_of}
 use Rattle.fzn_names.proofs.declaration.var_names.Given as goal
 

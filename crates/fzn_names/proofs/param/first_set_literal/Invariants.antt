@@ -1,5 +1,5 @@
 use Rattle.std.proofs.Common.{◌≡◌, length, flat_map}
-use Rattle.fzn_symbols.specs.Places.{first}
+use Rattle.fzn_symbols.specs.Positions.{first}
 use Rattle.fzn_symbols.specs.Types.{set_literals}
 use Rattle.fzn_names.proofs.param.first_set_literal.Given as goal
 

@@ -1,5 +1,5 @@
 use Rattle.std.proofs.Common.{◌≡◌, length, flat_map}
-use Rattle.fzn_symbols.specs.Places.{first}
+use Rattle.fzn_symbols.specs.Positions.{first}
 use Rattle.fzn_symbols.specs.Types.{wrong_literals}
 use Rattle.fzn_names.proofs.param.first_wrong_literal.Given as goal
 

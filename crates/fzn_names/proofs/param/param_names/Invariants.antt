@@ -3,7 +3,7 @@ use Rattle.std.specs.List.{All}
 use Rattle.fzn_names.specs.Params.{params_faults, param_names}
 use Rattle.fzn_symbols.specs.Known.{known}
 use Rattle.fzn_symbols.specs.Limits.{IsParamWithin}
-use Rattle.fzn_symbols.specs.Places.{first}
+use Rattle.fzn_symbols.specs.Positions.{first}
 use Rattle.fzn_names.proofs.param.param_names.Given as goal
 
 -- the faults to come, and the names so far with those to come

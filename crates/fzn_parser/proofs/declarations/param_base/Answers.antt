@@ -4,26 +4,26 @@ use Rattle.fzn_parser.proofs.ParamLaws.{base_is_bool, base_is_int, base_is_set}
 use Rattle.fzn_parser.proofs.Onward.{begin, ◌then◌, stop, stop_last, done}
 use Rattle.fzn_parser.proofs.declarations.param_base.Goals as goal
 
-pub returns-in_err-symbol_place-clause-reads : goal.returns-in_err-symbol_place-clause-reads
-returns-in_err-symbol_place-clause-reads c = stop_last (begin (base_is_bool _ (sym c.sees.ensures ∙ c.if-sees.true))) c.in_err-symbol_place.ensures.reads c.from_residual.ensures.1
+pub returns-in_err-symbol_position-clause-reads : goal.returns-in_err-symbol_position-clause-reads
+returns-in_err-symbol_position-clause-reads c = stop_last (begin (base_is_bool _ (sym c.sees.ensures ∙ c.if-sees.true))) c.in_err-symbol_position.ensures.reads c.from_residual.ensures.1
 
 pub returns-then-sees-clause-reads : goal.returns-then-sees-clause-reads
-returns-then-sees-clause-reads c = done (begin (base_is_bool _ (sym c.sees.ensures ∙ c.if-sees.true))) c.in_ok-symbol_place.ensures.reads
+returns-then-sees-clause-reads c = done (begin (base_is_bool _ (sym c.sees.ensures ∙ c.if-sees.true))) c.in_ok-symbol_position.ensures.reads
 
-pub returns-in_err-symbol_place-2-clause-reads : goal.returns-in_err-symbol_place-2-clause-reads
-returns-in_err-symbol_place-2-clause-reads c = stop_last (begin (base_is_int _ (sym c.sees-2.ensures ∙ c.if-sees-2.true))) c.in_err-symbol_place-2.ensures.reads c.from_residual-in_err-symbol_place-2.ensures.1
+pub returns-in_err-symbol_position-2-clause-reads : goal.returns-in_err-symbol_position-2-clause-reads
+returns-in_err-symbol_position-2-clause-reads c = stop_last (begin (base_is_int _ (sym c.sees-2.ensures ∙ c.if-sees-2.true))) c.in_err-symbol_position-2.ensures.reads c.from_residual-in_err-symbol_position-2.ensures.1
 
 pub returns-then-sees-2-clause-reads : goal.returns-then-sees-2-clause-reads
-returns-then-sees-2-clause-reads c = done (begin (base_is_int _ (sym c.sees-2.ensures ∙ c.if-sees-2.true))) c.in_ok-symbol_place-2.ensures.reads
+returns-then-sees-2-clause-reads c = done (begin (base_is_int _ (sym c.sees-2.ensures ∙ c.if-sees-2.true))) c.in_ok-symbol_position-2.ensures.reads
 
-pub returns-in_err-place-clause-reads : goal.returns-in_err-place-clause-reads
-returns-in_err-place-clause-reads c = stop (begin (base_is_set _ (sym c.sees.ensures ∙ c.if-sees.false) (sym c.sees-2.ensures ∙ c.if-sees-2.false))) c.in_err-place.ensures.reads c.from_residual-in_err-place.ensures.1
+pub returns-in_err-position-clause-reads : goal.returns-in_err-position-clause-reads
+returns-in_err-position-clause-reads c = stop (begin (base_is_set _ (sym c.sees.ensures ∙ c.if-sees.false) (sym c.sees-2.ensures ∙ c.if-sees-2.false))) c.in_err-position.ensures.reads c.from_residual-in_err-position.ensures.1
 
 pub returns-in_err-symbol-clause-reads : goal.returns-in_err-symbol-clause-reads
-returns-in_err-symbol-clause-reads c = stop (begin (base_is_set _ (sym c.sees.ensures ∙ c.if-sees.false) (sym c.sees-2.ensures ∙ c.if-sees-2.false)) then c.in_ok-place.ensures.reads) c.in_err-symbol.ensures.reads c.from_residual-in_err-symbol.ensures.1
+returns-in_err-symbol-clause-reads c = stop (begin (base_is_set _ (sym c.sees.ensures ∙ c.if-sees.false) (sym c.sees-2.ensures ∙ c.if-sees-2.false)) then c.in_ok-position.ensures.reads) c.in_err-symbol.ensures.reads c.from_residual-in_err-symbol.ensures.1
 
 pub returns-in_err-symbol-2-clause-reads : goal.returns-in_err-symbol-2-clause-reads
-returns-in_err-symbol-2-clause-reads c = stop_last (begin (base_is_set _ (sym c.sees.ensures ∙ c.if-sees.false) (sym c.sees-2.ensures ∙ c.if-sees-2.false)) then c.in_ok-place.ensures.reads then c.in_ok-symbol.ensures.reads) c.in_err-symbol-2.ensures.reads c.from_residual-in_err-symbol-2.ensures.1
+returns-in_err-symbol-2-clause-reads c = stop_last (begin (base_is_set _ (sym c.sees.ensures ∙ c.if-sees.false) (sym c.sees-2.ensures ∙ c.if-sees-2.false)) then c.in_ok-position.ensures.reads then c.in_ok-symbol.ensures.reads) c.in_err-symbol-2.ensures.reads c.from_residual-in_err-symbol-2.ensures.1
 
 pub returns-clause-reads : goal.returns-clause-reads
-returns-clause-reads c = done (begin (base_is_set _ (sym c.sees.ensures ∙ c.if-sees.false) (sym c.sees-2.ensures ∙ c.if-sees-2.false)) then c.in_ok-place.ensures.reads then c.in_ok-symbol.ensures.reads) c.in_ok-symbol-2.ensures.reads
+returns-clause-reads c = done (begin (base_is_set _ (sym c.sees.ensures ∙ c.if-sees.false) (sym c.sees-2.ensures ∙ c.if-sees-2.false)) then c.in_ok-position.ensures.reads then c.in_ok-symbol.ensures.reads) c.in_ok-symbol-2.ensures.reads

@@ -14,11 +14,11 @@ returns-then-not-sees-clause-reads c = done (begin (value_literal _ (sym c.sees.
 pub listed-requires : goal.listed-requires
 listed-requires c = record { listed = param_entries_listed }
 
-pub returns-in_err-place-clause-reads : goal.returns-in_err-place-clause-reads
-returns-in_err-place-clause-reads c = stop (begin (value_array _ (sym c.sees.ensures ∙ c.if-not-sees.false))) c.in_err-place.ensures.reads c.from_residual-in_err-place.ensures.1
+pub returns-in_err-position-clause-reads : goal.returns-in_err-position-clause-reads
+returns-in_err-position-clause-reads c = stop (begin (value_array _ (sym c.sees.ensures ∙ c.if-not-sees.false))) c.in_err-position.ensures.reads c.from_residual-in_err-position.ensures.1
 
 pub returns-in_err-entries-clause-reads : goal.returns-in_err-entries-clause-reads
-returns-in_err-entries-clause-reads c = stop_last (begin (value_array _ (sym c.sees.ensures ∙ c.if-not-sees.false)) then c.in_ok-place.ensures.reads) c.in_err-entries.ensures.reads c.from_residual-in_err-entries.ensures.1
+returns-in_err-entries-clause-reads c = stop_last (begin (value_array _ (sym c.sees.ensures ∙ c.if-not-sees.false)) then c.in_ok-position.ensures.reads) c.in_err-entries.ensures.reads c.from_residual-in_err-entries.ensures.1
 
 pub returns-clause-reads : goal.returns-clause-reads
-returns-clause-reads c = done (begin (value_array _ (sym c.sees.ensures ∙ c.if-not-sees.false)) then c.in_ok-place.ensures.reads) c.in_ok-entries.ensures.reads
+returns-clause-reads c = done (begin (value_array _ (sym c.sees.ensures ∙ c.if-not-sees.false)) then c.in_ok-position.ensures.reads) c.in_ok-entries.ensures.reads

@@ -1,9 +1,9 @@
 -- What the propagator at this place finds.
-use Rattle.std.proofs.Common.{◌≡◌, List, get_or, ap, ◌∙◌}
+use Rattle.std.proofs.Common.{◌≡◌, get_or, ap, ◌∙◌}
 use Rattle.fzn_propagator.specs.declared.propagator.Inference.{Inference}
-use Rattle.fzn_propagator.specs.Inference.{IsInferenceOf, AreExhausted}
+use Rattle.fzn_propagator.specs.Inference.{AreExhausted}
 use Rattle.fzn_propagator.specs.Constraints.{IsInference, IsJustified}
-use Rattle.fzn_kinds.specs.AnyCrate.{any_number, AnyIsFor}
+use Rattle.fzn_kinds.specs.AnyCrate.{AnyIsFor}
 use Rattle.fzn_propagators.proofs.FoundLemmas.{HoldsAt-item, fits-trail, all-found, all-justified}
 use Rattle.fzn_propagators.proofs.TakenLemmas.{first-taken, others-left, none-taken}
 use Rattle.fzn_propagators.proofs.propagators.ask.Goals as goal

@@ -1,6 +1,6 @@
 use Rattle.std.proofs.Common.{◌≡◌, length, flat_map}
 use Rattle.fzn_symbols.specs.Known.{known}
-use Rattle.fzn_symbols.specs.Places.{first}
+use Rattle.fzn_symbols.specs.Positions.{first}
 use Rattle.fzn_symbols.specs.Types.{wrong_in}
 use Rattle.fzn_symbols.proofs.entry.first_wrong_in.Given as goal
 

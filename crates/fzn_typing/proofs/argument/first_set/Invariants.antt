@@ -1,6 +1,6 @@
 use Rattle.std.proofs.Common.{◌≡◌, length, flat_map}
 use Rattle.fzn_names.specs.Known.{known}
-use Rattle.fzn_names.specs.Places.{first}
+use Rattle.fzn_names.specs.Positions.{first}
 use Rattle.fzn_typing.specs.Arguments.{set_entries}
 use Rattle.fzn_typing.proofs.argument.first_set.Given as goal
 

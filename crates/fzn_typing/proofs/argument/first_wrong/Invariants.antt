@@ -1,6 +1,6 @@
 use Rattle.std.proofs.Common.{◌≡◌, length}
 use Rattle.fzn_names.specs.Known.{known}
-use Rattle.fzn_names.specs.Places.{first}
+use Rattle.fzn_names.specs.Positions.{first}
 use Rattle.fzn_typing.specs.Arguments.{wrong_arguments}
 use Rattle.fzn_typing.proofs.argument.first_wrong.Given as goal
 

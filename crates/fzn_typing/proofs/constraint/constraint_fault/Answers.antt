@@ -1,6 +1,6 @@
 use Rattle.std.proofs.Common.{◌≡◌, sym, ◌∙◌, ap, true, Some, option_map}
 use Rattle.fzn_names.specs.Known.{known}
-use Rattle.fzn_names.specs.Places.{first}
+use Rattle.fzn_names.specs.Positions.{first}
 use Rattle.fzn_registry.specs.Registry.{name_spelled, arguments_of, IsRow}
 use Rattle.fzn_registry.specs.declared.signature.Signature.{Signature}
 use Rattle.fzn_typing.specs.Arguments.{has_types}

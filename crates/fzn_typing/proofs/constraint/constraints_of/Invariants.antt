@@ -1,7 +1,7 @@
 use Rattle.std.proofs.Common.{◌≡◌, ◌++◌, length, flat_map}
 use Rattle.std.specs.List.{All}
 use Rattle.fzn_names.specs.Known.{known}
-use Rattle.fzn_names.specs.Places.{first}
+use Rattle.fzn_names.specs.Positions.{first}
 use Rattle.fzn_typing.specs.Faults.{constraint_faults}
 use Rattle.fzn_typing.specs.Limits.{IsConWithin}
 use Rattle.fzn_typing.specs.Models.{stated}

@@ -13,6 +13,6 @@ returns-clause-ok c =
     on_ok_weaker c.assert.result
     (λ is.
     ap (λ (p : Past). levels p.declared p.entries inside.saved.items inside.mark) is
-    ∙ asserted_is inside.history.declared inside.history.entries inside.saved.items inside.mark c.len.result c.args.lit c.args.reason c.self.invariant.counts level
+    ∙ asserted_is inside.assertions.declared inside.assertions.entries inside.saved.items inside.mark c.len.result c.args.lit c.args.reason c.self.invariant.counts level
     ∙ ap (λ (t : Levels). asserted c.args.lit c.args.reason t) c.self.view_is)
     c.assert.ensures.ok
