@@ -2,12 +2,13 @@
 ghost use Rattle.std.specs.Prelude.{◌≡◌, ◌∷◌, [], ◌++◌, List, ℕ, ℤ, map, codes, OnOk, string_bytes};
 ghost use Rattle.std.specs.List.{flat_map};
 ghost use Rattle.std.specs.Fmt.{decimal, signed_decimal};
-ghost use Rattle.fzn_cert.specs.Spelling.{rule_name, hints, literal_text, step_words, step_text};
+ghost use Rattle.fzn_cert.specs.Spelling.{op_text, rule_name, hints, literal_text, step_words, step_text};
 ghost use Rattle.fzn_cert.specs.Parts.{after_space, after_spaces, step_parts};
 
 use crate::step::Step;
 use fzn_domain::{Lit, Memory, Op};
 use fzn_rules::Rule;
+use itoa::Buffer;
 
 /// Appends the text of a step, without a line feed. It answers `Err` where memory runs out, and nothing is known of the text then.
 #[tactic(auto, using(crate::proofs::SpaceLaws::step_text_is))]
@@ -81,22 +82,31 @@ fn push_literals(text: &mut String, clause: &[Lit]) -> Result<(), Memory>
 fn push_literal(text: &mut String, lit: &Lit) -> Result<(), Memory>
     ensures { OnOk result (string_bytes text.new ≡ string_bytes text.old ++ after_space (literal_text lit.now)) }
 {
-    let var = lit.var.0;
-    let value = lit.value;
-    match lit.op {
-        Op::AtMost => write!(text, " {var}<={value}")?,
-        Op::AtLeast => write!(text, " {var}>={value}")?,
-        Op::Equal => write!(text, " {var}=={value}")?,
-        Op::NotEqual => write!(text, " {var}!={value}")?,
-    }
+    text.push_str(" ")?;
+    text.push_str(Buffer::new().format(lit.var.0))?;
+    text.push_str(sign_of(lit.op))?;
+    text.push_str(Buffer::new().format(lit.value))?;
     Ok(())
+}
+
+/// How the operator is spelled.
+fn sign_of(op: Op) -> &'static str
+    ensures { result.now ≡ op_text op }
+{
+    match op {
+        Op::AtMost => "<=",
+        Op::AtLeast => ">=",
+        Op::Equal => "==",
+        Op::NotEqual => "!=",
+    }
 }
 
 fn push_integers(text: &mut String, integers: &[i64]) -> Result<(), Memory>
     ensures { OnOk result (string_bytes text.new ≡ string_bytes text.old ++ after_spaces (map signed_decimal integers.now)) }
 {
     for integer in integers {
-        write!(text, " {integer}")?;
+        text.push_str(" ")?;
+        text.push_str(Buffer::new().format(*integer))?;
     }
     Ok(())
 }
@@ -105,7 +115,8 @@ fn push_ids(text: &mut String, ids: &[u64]) -> Result<(), Memory>
     ensures { OnOk result (string_bytes text.new ≡ string_bytes text.old ++ after_spaces (map decimal ids.now)) }
 {
     for id in ids {
-        write!(text, " {id}")?;
+        text.push_str(" ")?;
+        text.push_str(Buffer::new().format(*id))?;
     }
     Ok(())
 }

@@ -8,7 +8,7 @@ ghost use Rattle.fzn_cert.specs.Spelling.{step_line, IsSpelled, HasRoom, version
 ghost use Rattle.fzn_cert.specs.Writer.{contents_of, stream_of, has_failed_in, out_name, version_of, step_count, stage_of, Leaves, IsLineFault, IsStepFault};
 
 use crate::fault::FaultKind;
-use crate::limits::{LAST_STEP, LINE_LIMIT};
+use crate::limits::{LAST_STEP, LINE_LIMIT, USUAL_LINE};
 use crate::line::push_step;
 use crate::step::{Step, Version};
 use fzn_streams::{TrackedWrite, WriteFailed, put};
@@ -144,7 +144,7 @@ impl<'w, W: TrackedWrite> StepWriter<'w, W> {
         if self.steps >= LAST_STEP {
             return Err(FaultKind::StepTooLong);
         }
-        let mut line = String::new(alloc);
+        let mut line = String::with_capacity(alloc, USUAL_LINE)?;
         push_step(&mut line, step)?;
         if line.len() > LINE_LIMIT {
             return Err(FaultKind::StepTooLong);

@@ -1,4 +1,5 @@
 // Numbers by their activity, or by another measure.
+ghost use Rattle.std.specs.Prelude.{◌≤◌};
 
 use crate::pool::Pool;
 use fzn_domain::Memory;
@@ -11,6 +12,20 @@ const DECAY: f64 = 0.95;
 const MOST: f64 = 1e100;
 
 const SMALLER: f64 = 1e-100;
+
+/// What a number is chosen by.
+#[derive(Clone, Copy, Debug)]
+struct Rank {
+    activity: f64,
+    tie: u64,
+}
+
+impl Rank {
+    fn precedes(self, other: Rank) -> bool {
+        self.activity > other.activity
+            || (self.activity == other.activity && self.tie < other.tie)
+    }
+}
 
 /// Numbers from 0 up, each of which is in or out. Of those that are in the most active one is at hand, and of several the one with the
 /// least tie.
@@ -121,44 +136,59 @@ impl Heap {
         self.sink(place);
     }
 
+    /// Moves the number at this place up to where it belongs.
     fn rise(&mut self, place: usize) {
+        let Some(rising) = self.pool.at(place) else {
+            return;
+        };
+        let rank = self.rank(rising);
         let mut at = place;
         while at > 0 {
             let parent = (at - 1) / 2;
-            if !self.precedes(at, parent) {
-                return;
+            match self.pool.at(parent) {
+                Some(above) if rank.precedes(self.rank(above)) => self.pool.stand(above, at),
+                _ => break,
             }
-            self.pool.swap(at, parent);
             at = parent;
         }
+        self.pool.stand(rising, at);
     }
 
+    /// Moves the number at this place down to where it belongs.
     fn sink(&mut self, place: usize) {
+        let Some(sinking) = self.pool.at(place) else {
+            return;
+        };
+        let rank = self.rank(sinking);
         let count = self.pool.len();
         let mut at = place;
         while at < count / 2 {
-            let left = 2 * at + 1;
-            let right = left + 1;
-            let child = if right < count && self.precedes(right, left) {
-                right
-            } else {
-                left
-            };
-            if !self.precedes(child, at) {
-                return;
+            let child = self.first_of(2 * at + 1);
+            match self.pool.at(child) {
+                Some(below) if self.rank(below).precedes(rank) => self.pool.stand(below, at),
+                _ => break,
             }
-            self.pool.swap(child, at);
             at = child;
+        }
+        self.pool.stand(sinking, at);
+    }
+
+    /// The place of that child which comes before the other; the first of the two stands at this place.
+    fn first_of(&self, left: usize) -> usize
+        ensures { left ≤ result }
+    {
+        let right = left.saturating_add(1);
+        match (self.pool.at(left), self.pool.at(right)) {
+            (Some(one), Some(other)) if self.rank(other).precedes(self.rank(one)) => right,
+            _ => left,
         }
     }
 
-    /// Whether the number at the first place comes before that at the second one.
-    fn precedes(&self, first: usize, second: usize) -> bool {
-        let (Some(one), Some(other)) = (self.pool.at(first), self.pool.at(second)) else {
-            return false;
-        };
-        let (active, less) = (self.activity(one), self.activity(other));
-        active > less || (active == less && self.tie(one) < self.tie(other))
+    fn rank(&self, number: usize) -> Rank {
+        Rank {
+            activity: self.activity(number),
+            tie: self.tie(number),
+        }
     }
 
     fn activity(&self, number: usize) -> f64 {

@@ -84,7 +84,8 @@ impl Pool {
         }
     }
 
-    fn stand(&mut self, number: usize, place: usize) {
+    /// The number stands at this place. One that stands nowhere else is to follow.
+    pub fn stand(&mut self, number: usize, place: usize) {
         if number < self.places.len() && place < self.order.len() {
             self.places[number] = place;
             self.order[place] = number;
