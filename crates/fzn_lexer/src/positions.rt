@@ -71,8 +71,8 @@ impl<'a> Positions<'a> {
         }
     }
 
-    /// The position of the byte with this index, counted from 0, or that behind the last. It goes on from the position asked for before, and over
-    /// the file from its start where that lies behind.
+    /// The position of the byte with this index, counted from 0, or that behind the last. It goes on from the position asked for before, and
+    /// over the file from its start where that lies behind.
     pub fn of(&mut self, index: usize) -> Position
         ensures position { result ≡ position_after (take index self.old) }
         ensures same { self.new ≡ self.old }

@@ -1,8 +1,8 @@
 //! From a reader of bytes to the model that a FlatZinc file states.
 //!
 //! In: a reader. Out: the model, and the search annotations where they are asked for, or the first fault of the file with its number and
-//! position. Proved against `specs/Reads.antt`: the model, or the fault of the lexer, else of the parser, else of the types, on the bytes that
-//! the reader had left.
+//! position. Proved against `specs/Reads.antt`: the model, or the fault of the lexer, else of the parser, else of the types, on the bytes
+//! that the reader had left.
 #![tactic(auto)]
 
 mod annotated;
