@@ -31,7 +31,7 @@ pub fn first_uip(
     let clause = widest(alloc, graph, marks, &kept)?;
     Ok(Learned {
         clause: denied(alloc, graph, marks, &clause)?,
-        antecedents: antecedents_of(alloc, graph, units, &replaced, marks.cited_gaps(), conflict)?,
+        antecedents: antecedents_of(alloc, graph, units.as_slice(), &replaced, marks.cited_gaps(), conflict)?,
         level: second_level(graph, &clause),
         block_distance: block_distance_of(graph, &clause),
         marked: marked_literals(alloc, graph, marks)?,
@@ -199,7 +199,7 @@ fn denied(
     marks: &Marks,
     clause: &[usize],
 ) -> Result<Items<Lit>, Memory> {
-    let mut items = Items::new(alloc);
+    let mut items = Items::with_capacity(alloc, clause.len())?;
     for place in clause {
         if let Some(need) = marks.need(*place)
             && let Some(declared) = graph.declared(need.var)
@@ -215,12 +215,12 @@ fn denied(
 fn antecedents_of(
     alloc: Global,
     graph: Implications,
-    units: Items<Reason>,
+    units: &[Reason],
     replaced: &[usize],
     gaps: &[(usize, ClauseId)],
     conflict: Reason,
 ) -> Result<Items<Reason>, Memory> {
-    let mut ordered = Vec::new(alloc);
+    let mut ordered = Vec::with_capacity(alloc, replaced.len().saturating_add(gaps.len()))?;
     for place in replaced {
         ordered.push((*place, 0, 0))?;
     }
@@ -229,7 +229,11 @@ fn antecedents_of(
         ordered.push((place, i.saturating_add(1), id.0))?;
     }
     ordered.sort_unstable();
-    let mut antecedents = units;
+    let count = units.len().saturating_add(ordered.len()).saturating_add(1);
+    let mut antecedents = Items::with_capacity(alloc, count)?;
+    for unit in units {
+        antecedents.push(*unit)?;
+    }
     for (place, order, id) in &ordered {
         if *order > 0 {
             antecedents.push(Reason::Clause(ClauseId(*id)))?;
@@ -247,7 +251,8 @@ fn marked_literals(
     graph: Implications,
     marks: &Marks,
 ) -> Result<Items<Lit>, Memory> {
-    let mut items = Items::new(alloc);
+    let count = marks.places().len().saturating_add(marks.equations().len());
+    let mut items = Items::with_capacity(alloc, count)?;
     for place in marks.places() {
         if let Some(entry) = graph.entry(*place)
             && 0 < entry.level

@@ -37,7 +37,7 @@ impl Solver {
         ensures numbers { IfOk result (λ numbers. GiveAntecedents (past_of model.now (S.written sink.new)) (known_in (stock_of self.old)) numbers antecedents.now) }
         ensures left { IsLeft model.now (S.written sink.new) (S.keeps model.now sink.new) (S.origin sink.new ≡ S.origin sink.old) }
     {
-        let mut numbers = Items::new(alloc);
+        let mut numbers = Items::with_capacity(alloc, antecedents.len())?;
         for antecedent in antecedents {
             let number = self.write_antecedent(alloc, model, sink, *antecedent)?;
             numbers.push(number)?;

@@ -396,7 +396,7 @@ fn extremum_or_entries(
     requires claim { claim.term ≡ of }
     ensures { IfOk result (λ found. IfSome found (IsJustified trail.now (constraint.Extremum extreme entries.now of) rule.Rows)) }
 {
-    let mut claims = Items::new(alloc);
+    let mut claims = Items::with_capacity(alloc, entries.len().saturating_add(1))?;
     claims.push(claim)?;
     for k in 0..entries.len() {
         let Some(entry) = claim.opposite(entries[k]) else {

@@ -17,6 +17,9 @@ use fzn_meaning::{Place, Term};
 use fzn_trail::Trail;
 use std::alloc::Global;
 
+/// How many literals there is room for, at most, where a clause or a list is begun. It grows from there.
+const ROOM: usize = 32;
+
 /// The literal that says that the place gave no less, where its declared set does not say so.
 fn floor(trail: &Trail, place: Place) -> Option<Lit>
     requires place { IsPlace (length trail.now.declared) place }
@@ -123,7 +126,7 @@ fn explain(
     requires filled { NoneEmpty trail.now.sets }
     ensures { IfOk result (IsExplanation trail.now places.now (length places.now) except) }
 {
-    let mut clause = Items::new(alloc);
+    let mut clause = Items::with_capacity(alloc, places.len().min(ROOM))?;
     for i in 0..places.len() {
         if i != except {
             if let Some(lit) = floor(trail, places[i]) {
@@ -151,7 +154,7 @@ pub fn floors_of(
     requires filled { NoneEmpty trail.now.sets }
     ensures { IfOk result (AreFloors trail.now places.now (length places.now)) }
 {
-    let mut floors = Items::new(alloc);
+    let mut floors = Items::with_capacity(alloc, places.len().min(ROOM))?;
     for i in 0..places.len() {
         if let Some(lit) = floor(trail, places[i]) {
             floors.push(PlaceFloor { place: i, lit })?;
@@ -202,7 +205,7 @@ pub fn refute_place(
     let Some(lit) = force(trail, places[place], slack) else {
         return Ok(None);
     };
-    let mut clause = Items::new(alloc);
+    let mut clause = Items::with_capacity(alloc, floors.len().saturating_add(1))?;
     for i in 0..floors.len() {
         if floors[i].place != place {
             clause.push(floors[i].lit)?;

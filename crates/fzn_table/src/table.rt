@@ -367,7 +367,7 @@ fn bar_claim(
     ensures some { IfOk result (λ barred. IsTrue barred → found.new ≢ []) }
     ensures none { IfOk result (λ barred. barred ≡ false → HasSupportAgainst trail.now.sets places.now (numbers_in rows.now) p op bound.now) }
 {
-    let mut clause = Items::new(alloc);
+    let mut clause = Items::with_capacity(alloc, places.len())?;
     if !explain_claim(trail, places, rows, p, op, bound, &mut clause)? {
         return Ok(false);
     }

@@ -24,7 +24,7 @@ pub fn explanation_of(
     requires { All (λ claim. IsTerm (length trail.now.declared) claim.term) claims.now }
     ensures { IfOk result (λ found. IfSome found (IsExplanation trail.now claims.now)) }
 {
-    let mut clause = Items::new(alloc);
+    let mut clause = Items::with_capacity(alloc, claims.len())?;
     for claim in claims {
         if !say(trail, *claim, &mut clause)? {
             return Ok(None);
