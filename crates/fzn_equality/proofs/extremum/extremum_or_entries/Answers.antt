@@ -11,7 +11,7 @@ use Rattle.fzn_equality.proofs.extremum.extremum_or_entries.Goals as goal
 pub loop-k-init : goal.loop-k-init
 loop-k-init c =
     let count = length c.args.trail.now.declared in
-    let first : c.push.new.self ≡ c.args.claim ∷ [] = c.in_ok-push.ensures.ok ∙ ap (λ (xs : List Claim). xs ++ c.args.claim ∷ []) c.new-claims.ensures in
+    let first : c.push.new.self ≡ c.args.claim ∷ [] = c.in_ok-push.ensures.ok ∙ ap (λ (xs : List Claim). xs ++ c.args.claim ∷ []) c.in_ok-claims.ensures in
     subst (λ (xs : List Claim). IsAgainstEach count c.args.entries.now c.args.of c.args.claim xs 0) (sym first)
     (each_none count c.args.entries.now c.args.of c.args.claim (subst (IsTerm count) (sym c.requires.claim) c.requires.of))
 

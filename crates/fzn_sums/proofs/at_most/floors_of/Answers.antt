@@ -1,4 +1,4 @@
-use Rattle.std.proofs.Common.{◌+◌, List, sym, subst, ◌∙◌, pos}
+use Rattle.std.proofs.Common.{◌+◌, ℕ, List, sym, subst, ◌∙◌, pos, arith}
 use Rattle.fzn_meaning.specs.declared.term.Place.{Place}
 use Rattle.fzn_meaning.specs.declared.term.Term.TheVariants.{Constant}
 use Rattle.fzn_sums.specs.declared.at_most.PlaceFloor.{PlaceFloor}
@@ -9,7 +9,7 @@ use Rattle.fzn_sums.proofs.at_most.floors_of.Goals.{in-Some+in_ok-push, in_defau
 
 pub loop-i-init : goal.loop-i-init
 loop-i-init c =
-    subst (λ (fs : List PlaceFloor). AreFloors c.args.trail.now c.args.places.now 0 fs) (sym c.new-floors.ensures) (floors_none c.args.trail.now c.args.places.now)
+    subst (λ (fs : List PlaceFloor). AreFloors c.args.trail.now c.args.places.now 0 fs) (sym c.in_ok-floors.ensures) (floors_none c.args.trail.now c.args.places.now)
 
 pub loop-i-preserved : goal.loop-i-preserved
 loop-i-preserved c =
@@ -22,3 +22,7 @@ loop-i-preserved c =
           subst (λ (fs : List PlaceFloor). AreFloors c.args.trail.now c.args.places.now (c.loop-i.i + 1) fs) (sym w.floors-is)
           (floors_same c.args.trail.now c.args.places.now c.loop-i.i c.loop-i.floors at c.loop-i-test.true c.loop-i.invariant w.in_default.ensures.none)
     ]
+
+pub returns : goal.returns
+returns c =
+    subst (λ (n : ℕ). AreFloors c.args.trail.now c.args.places.now n c.loop-i.floors) (omega arith) c.loop-i.invariant

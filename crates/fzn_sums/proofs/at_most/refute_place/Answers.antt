@@ -20,7 +20,7 @@ any = record { place = 0; lit = record { var = record { 0 = 0 }; op = op.AtMost;
 
 pub loop-i-init : goal.loop-i-init
 loop-i-init c =
-    subst (λ (xs : List Lit). HasFloors c.args.trail.now c.args.places.now c.args.floors.now 0 c.args.place xs) (sym c.new-clause.ensures) (has_none c.args.trail.now c.args.places.now c.args.floors.now c.args.place)
+    subst (λ (xs : List Lit). HasFloors c.args.trail.now c.args.places.now c.args.floors.now 0 c.args.place xs) (sym c.in_ok-clause.ensures) (has_none c.args.trail.now c.args.places.now c.args.floors.now c.args.place)
 
 pub loop-i-preserved : goal.loop-i-preserved
 unfolding any
