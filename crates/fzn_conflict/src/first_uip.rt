@@ -31,7 +31,14 @@ pub fn first_uip(
     let clause = widest(alloc, graph, marks, &kept)?;
     Ok(Learned {
         clause: denied(alloc, graph, marks, &clause)?,
-        antecedents: antecedents_of(alloc, graph, units.as_slice(), &replaced, marks.cited_gaps(), conflict)?,
+        antecedents: antecedents_of(
+            alloc,
+            graph,
+            units.as_slice(),
+            &replaced,
+            marks.cited_gaps(),
+            conflict,
+        )?,
         level: second_level(graph, &clause),
         block_distance: block_distance_of(graph, &clause),
         marked: marked_literals(alloc, graph, marks)?,

@@ -22,8 +22,7 @@ struct Rank {
 
 impl Rank {
     fn precedes(self, other: Rank) -> bool {
-        self.activity > other.activity
-            || (self.activity == other.activity && self.tie < other.tie)
+        self.activity > other.activity || (self.activity == other.activity && self.tie < other.tie)
     }
 }
 
