@@ -89,8 +89,8 @@ closed-refuted model learn limits steps nodes SolutionLimit truly closed = cc
 
 -- ---- all of it
 
-module _ {W C : Type 0} (outs : W → Option (List ℕ)) (certs : C → Option (List ℕ)) (model : Model) (options : Options) where
-  pub answer-of : IsWellFormed model → (before searched after : Writers W C) (limits : Limits) (nodes n : ℕ) (ending : Ending) → IsFresh outs certs before → before.alone ≡ is_alone model.goal options.all → origin searched ≡ origin before → limits.nodes ≡ options.nodes → limits.solutions ≡ wanted options.all options.limit
+module _ {W C P : Type 0} (outs : W → Option (List ℕ)) (certs : C → Option (List ℕ)) (model : Model) (options : Options) where
+  pub answer-of : IsWellFormed model → (before searched after : Writers W C P) (limits : Limits) (nodes n : ℕ) (ending : Ending) → IsFresh outs certs before → before.alone ≡ is_alone model.goal options.all → origin searched ≡ origin before → limits.nodes ≡ options.nodes → limits.solutions ≡ wanted options.all options.limit
       → AllAccepted model (taken searched) → IsOutcome model options.learn limits (taken searched) nodes ending → n ≡ length (found_by model (taken searched)) → IsClosed outs certs model (is_closed ending) searched after
       → IsAnswer model options (out_contents outs before.out) (out_contents outs after.out) (cert_contents certs before.cert) (cert_contents certs after.cert) (record { solutions = n; nodes = nodes; ending = ending })
   answer-of formed before searched after limits nodes n ending fresh alone same limit_is most all_accepted outcome count closed =

@@ -37,9 +37,9 @@ line-cause certs step count cert faults.Trailing is due = absurd is
 line-cause certs step count cert faults.LineTooLong is due = absurd is
 line-cause certs step count cert faults.Failed is due = absurd is
 
-module _ {W C : Type 0} (outs : W → Bool) (certs : C → Bool) (model : Model) where
+module _ {W C P : Type 0} (outs : W → Bool) (certs : C → Bool) (model : Model) where
   -- a fault of the first two lines
-  pub begin-cause : (now : Writers W C) (fault : FaultKind) → IsLineFault fault → (fault ≡ faults.Write → cert_failed certs now.cert ≡ true) → IsCause outs certs model now (fault_of_certificate fault)
+  pub begin-cause : (now : Writers W C P) (fault : FaultKind) → IsLineFault fault → (fault ≡ faults.Write → cert_failed certs now.cert ≡ true) → IsCause outs certs model now (fault_of_certificate fault)
   begin-cause now faults.Memory is due = tt
   begin-cause now faults.Write is due = due refl
   begin-cause now faults.StepTooLong is due = absurd is
@@ -52,7 +52,7 @@ module _ {W C : Type 0} (outs : W → Bool) (certs : C → Bool) (model : Model)
   begin-cause now faults.Failed is due = absurd is
 
   -- the fault of the line of a step that is accepted after those that were taken
-  pub step-cause : (step : Step) (steps : List Step) (count : ℕ) (now : Writers W C) (fault : Fault) → AllAccepted model (steps ++ step ∷ []) → count ≡ length steps → taken now ≡ steps → IsLineCause certs step count now.cert fault → IsCause outs certs model now fault
+  pub step-cause : (step : Step) (steps : List Step) (count : ℕ) (now : Writers W C P) (fault : Fault) → AllAccepted model (steps ++ step ∷ []) → count ≡ length steps → taken now ≡ steps → IsLineCause certs step count now.cert fault → IsCause outs certs model now fault
   step-cause step steps count now engine.Memory accepted counted same cause = tt
   step-cause step steps count now engine.WriteOutput accepted counted same cause = absurd cause
   step-cause step steps count now engine.WriteCert accepted counted same cause = cause
@@ -60,7 +60,7 @@ module _ {W C : Type 0} (outs : W → Bool) (certs : C → Bool) (model : Model)
       subst (IsTooLong model) (sym same) (record { step = step; accepted = accepted; long = subst (λ (n : ℕ). ¬ HasRoom n step) counted cause })
 
   -- as a fault of the run
-  pub run-cause : (now : Writers W C) (fault : Fault) (cert_old cert_new : Option (List ℕ)) → HasLines model (taken now) cert_old cert_new → IsCause outs certs model now fault
+  pub run-cause : (now : Writers W C P) (fault : Fault) (cert_old cert_new : Option (List ℕ)) → HasLines model (taken now) cert_old cert_new → IsCause outs certs model now fault
       → HasCause (out_failed outs now.out) (cert_failed certs now.cert) model cert_old cert_new (fault_of_engine fault)
   unfolding HasCause
   run-cause now engine.Memory cert_old cert_new lines cause = tt
@@ -69,12 +69,12 @@ module _ {W C : Type 0} (outs : W → Bool) (certs : C → Bool) (model : Model)
   run-cause now engine.StepTooLong cert_old cert_new lines cause = (taken now, lines, cause)
 
   -- what stopped it, or want of memory
-  pub fault-cause : (now : Writers W C) (stopped : Option Fault) → IfSome stopped (IsCause outs certs model now) → IsCause outs certs model now (unwrap_or stopped engine.Memory)
+  pub fault-cause : (now : Writers W C P) (stopped : Option Fault) → IfSome stopped (IsCause outs certs model now) → IsCause outs certs model now (unwrap_or stopped engine.Memory)
   fault-cause now None cause = tt
   fault-cause now (Some fault) cause = cause
 
 -- the line of a step that is no solution, taken or not
-pub line-taken : {W C : Type 0} (outs : W → Option (List ℕ)) (certs : C → Option (List ℕ)) (outs_failed : W → Bool) (certs_failed : C → Bool) (model : Model) (step : Step) (old new : Writers W C) (result : Result Unit Fault) → AllAccepted model (taken old ++ step ∷ []) → IsKept outs certs model old → AreOpen old
+pub line-taken : {W C P : Type 0} (outs : W → Option (List ℕ)) (certs : C → Option (List ℕ)) (outs_failed : W → Bool) (certs_failed : C → Bool) (model : Model) (step : Step) (old new : Writers W C P) (result : Result Unit Fault) → AllAccepted model (taken old ++ step ∷ []) → IsKept outs certs model old → AreOpen old
     → OnOk result (IsLineTaken certs step old new) → OnErr result (IsLineRefused certs step old new) → IfErr result (IsLineCause certs_failed step (step_count old.cert) new.cert)
     → OnOk result (AreOpen new) × IfErr result (IsCause outs_failed certs_failed model new) × (new.out ≡ old.out)
 line-taken outs certs outs_failed certs_failed model step old new (Ok v) accepted kept opened line refused cause = ((line.stays_open, ap is_open line.same_rest.out ∙ opened.1), tt, line.same_rest.out)

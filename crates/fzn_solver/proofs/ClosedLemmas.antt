@@ -115,8 +115,8 @@ leaves-front text old new faults.Trailing h = front-none old new text h
 leaves-front text old new faults.LineTooLong h = front-none old new text h
 leaves-front text old new faults.Failed h = front-none old new text h
 
-module _ {W C : Type 0} (outs : W → Option (List ℕ)) (certs : C → Option (List ℕ)) (model : Model) (closed : Bool) where
-  pub closed-by : (old mid new : Writers W C) (finished : Result Unit FaultKind) (ended : Result Unit PrintFault) (v w : Unit) {K : Type 0} → IsKept outs certs model old
+module _ {W C P : Type 0} (outs : W → Option (List ℕ)) (certs : C → Option (List ℕ)) (model : Model) (closed : Bool) where
+  pub closed-by : (old mid new : Writers W C P) (finished : Result Unit FaultKind) (ended : Result Unit PrintFault) (v w : Unit) {K : Type 0} → IsKept outs certs model old
       → (¬ (stage_of old.cert ≡ Open) → finished ≡ Err Failed) → finished ≡ Ok v → (is_open mid.out ≡ false → (ended ≡ Err NoMore) × K) → ended ≡ Ok w
       → Appends (cert_contents certs old.cert) (cert_contents certs new.cert) (end_line closed)
       → IsLastShown outs model old.last.now old.out mid.out → Appends (out_contents outs mid.out) (out_contents outs new.out) (ending_text closed (has_printed mid.out))
@@ -132,7 +132,7 @@ module _ {W C : Type 0} (outs : W → Option (List ℕ)) (certs : C → Option (
       }
 
   -- the end of the certificate stands, but not that of the answer
-  pub cut-off : (old mid new : Writers W C) (finished : Result Unit FaultKind) (ended : Result Unit PrintFault) (v : Unit) → (¬ (stage_of old.cert ≡ Open) → finished ≡ Err Failed) → finished ≡ Ok v
+  pub cut-off : (old mid new : Writers W C P) (finished : Result Unit FaultKind) (ended : Result Unit PrintFault) (v : Unit) → (¬ (stage_of old.cert ≡ Open) → finished ≡ Err Failed) → finished ≡ Ok v
       → (is_open mid.out ≡ false → (ended ≡ Err NoMore) × Keeps (out_contents outs mid.out) (out_contents outs new.out))
       → Appends (cert_contents certs old.cert) (cert_contents certs new.cert) (end_line closed) → IsLastShown outs model old.last.now old.out mid.out → AppendsFront (out_contents outs mid.out) (out_contents outs new.out) (ending_text closed (has_printed mid.out))
       → IsCutOff outs certs model closed old new

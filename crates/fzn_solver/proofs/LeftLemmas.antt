@@ -86,12 +86,12 @@ stopped-by model all alone steps cert_first cert_old cert_new out_first out_old 
       shown = subst A is (subst O out_is standing.shown);
     }
 
-module _ {W C : Type 0} (outs : W → Option (List ℕ)) (certs : C → Option (List ℕ)) (model : Model) (all : Bool) where
-  abbrev Left : Writers W C → Writers W C → Fault → Type 0
+module _ {W C P : Type 0} (outs : W → Option (List ℕ)) (certs : C → Option (List ℕ)) (model : Model) (all : Bool) where
+  abbrev Left : Writers W C P → Writers W C P → Fault → Type 0
   Left before after fault = IsLeft model all (out_contents outs before.out) (out_contents outs after.out) (cert_contents certs before.cert) (cert_contents certs after.cert) (fault_of_engine fault)
 
   -- before the first step
-  pub left-unbegun : (before after : Writers W C) (fault : Fault) → IsWellFormed model → IsUnbegun certs model before after → Left before after fault
+  pub left-unbegun : (before after : Writers W C P) (fault : Fault) → IsWellFormed model → IsUnbegun certs model before after → Left before after fault
   left-unbegun before after fault formed unbegun =
       let O : Printer W → Type 0 = λ p. AppendsFront (out_contents outs before.out) (out_contents outs p) (shown_all model (early (is_alone model.goal all) [])) in (
         later fault,
@@ -103,22 +103,22 @@ module _ {W C : Type 0} (outs : W → Option (List ℕ)) (certs : C → Option (
         }),
       )
 
-  certs-first : (before now : Writers W C) (fresh : IsFresh outs certs before) → origin now ≡ origin before → certs (at_first now).1 ≡ cert_contents certs before.cert
+  certs-first : (before now : Writers W C P) (fresh : IsFresh outs certs before) → origin now ≡ origin before → certs (at_first now).1 ≡ cert_contents certs before.cert
   certs-first before now fresh same =
       ap (λ (o : (W × C) × Bool × GName × GName). certs o.0.1) same ∙ sym fresh.same_cert
 
-  outs-first : (before now : Writers W C) (fresh : IsFresh outs certs before) → origin now ≡ origin before → outs (at_first now).0 ≡ out_contents outs before.out
+  outs-first : (before now : Writers W C P) (fresh : IsFresh outs certs before) → origin now ≡ origin before → outs (at_first now).0 ≡ out_contents outs before.out
   outs-first before now fresh same =
       ap (λ (o : (W × C) × Bool × GName × GName). outs o.0.0) same ∙ sym fresh.same_out
 
   -- the lines of the steps stand
-  pub lines-kept : (before now : Writers W C) → IsFresh outs certs before → origin now ≡ origin before → IsKept outs certs model now → HasLines model (taken now) (cert_contents certs before.cert) (cert_contents certs now.cert)
+  pub lines-kept : (before now : Writers W C P) → IsFresh outs certs before → origin now ≡ origin before → IsKept outs certs model now → HasLines model (taken now) (cert_contents certs before.cert) (cert_contents certs now.cert)
   lines-kept before now fresh same kept =
       let K : Option (List ℕ) → Type 0 = λ o. Appends o (cert_contents certs now.cert) (begun_certificate model (taken now) ++ kept.standing.more) in
       inr (kept.standing.more, subst K (certs-first before now fresh same) kept.standing.lines)
 
   -- and after a fault at the end
-  pub lines-unclosed : (before now after : Writers W C) (closed : Bool) (fault : Fault) → IsFresh outs certs before → origin now ≡ origin before → IsKept outs certs model now → taken after ≡ taken now → IsUnclosed outs certs model closed now after fault
+  pub lines-unclosed : (before now after : Writers W C P) (closed : Bool) (fault : Fault) → IsFresh outs certs before → origin now ≡ origin before → IsKept outs certs model now → taken after ≡ taken now → IsUnclosed outs certs model closed now after fault
       → HasLines model (taken after) (cert_contents certs before.cert) (cert_contents certs after.cert)
   lines-unclosed before now after closed fault fresh same kept same_taken (inl unfinished) =
       let L : List Step → Type 0 = λ steps. HasLines model steps (cert_contents certs before.cert) (cert_contents certs after.cert) in
@@ -132,7 +132,7 @@ module _ {W C : Type 0} (outs : W → Option (List ℕ)) (certs : C → Option (
       subst L (sym same_taken) (inr (end_line closed, subst K (certs-first before now fresh same) (Appends-then (certs (at_first now).1) (cert_contents certs now.cert) (cert_contents certs after.cert) (begun_certificate model (taken now)) (end_line closed) in_step.lines cut.end)))
 
   -- on the way
-  pub left-on_way : (before now : Writers W C) (fault : Fault) → IsWellFormed model → IsFresh outs certs before → before.alone ≡ is_alone model.goal all → origin now ≡ origin before → AllAccepted model (taken now) → IsKept outs certs model now → Left before now fault
+  pub left-on_way : (before now : Writers W C P) (fault : Fault) → IsWellFormed model → IsFresh outs certs before → before.alone ≡ is_alone model.goal all → origin now ≡ origin before → AllAccepted model (taken now) → IsKept outs certs model now → Left before now fault
   left-on_way before now fault formed fresh alone same all_accepted kept = (
     later fault,
     inl (stopped-by model all now.alone (taken now) (certs (at_first now).1) (cert_contents certs before.cert) (cert_contents certs now.cert) (outs (at_first now).0) (out_contents outs before.out) (out_contents outs now.out) formed all_accepted
@@ -140,7 +140,7 @@ module _ {W C : Type 0} (outs : W → Option (List ℕ)) (certs : C → Option (
   )
 
   -- at the end
-  pub left-at_end : (before now after : Writers W C) (fault : Fault) (learn : Learn) (limits : Limits) (nodes : ℕ) (ending : Ending) → IsWellFormed model → IsFresh outs certs before → before.alone ≡ is_alone model.goal all → origin now ≡ origin before → AllAccepted model (taken now)
+  pub left-at_end : (before now after : Writers W C P) (fault : Fault) (learn : Learn) (limits : Limits) (nodes : ℕ) (ending : Ending) → IsWellFormed model → IsFresh outs certs before → before.alone ≡ is_alone model.goal all → origin now ≡ origin before → AllAccepted model (taken now)
       → IsOutcome model learn limits (taken now) nodes ending → IsKept outs certs model now → IsUnclosed outs certs model (is_closed ending) now after fault → Left before after fault
   left-at_end before now after fault learn limits nodes ending formed fresh alone same all_accepted outcome kept (inl unfinished) =
       let O : Printer W → Type 0 = λ p. IsStanding model now.alone (taken now) (certs (at_first now).1) (cert_contents certs after.cert) (outs (at_first now).0) (out_contents outs p) in (

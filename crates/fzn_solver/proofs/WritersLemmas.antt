@@ -44,6 +44,9 @@ pub Keeps-same : (o : Option (List ℕ)) → Keeps o o
 Keeps-same None = tt
 Keeps-same (Some xs) = refl
 
+abbrev taken_by : GhostList Step → List Step
+taken_by list = list.items
+
 module _ {W C : Type 0} (outs : W → Option (List ℕ)) (certs : C → Option (List ℕ)) (model : Model) where
   -- the first two lines
   pub kept-begun : (old new : StepWriter C) (out : Printer W) (alone : Bool) (first : W × C) → cert_contents certs old ≡ certs first.1 → out_contents outs out ≡ outs first.0
@@ -133,63 +136,8 @@ module _ {W C : Type 0} (outs : W → Option (List ℕ)) (certs : C → Option (
       let F : W × C → Type 0 = λ x. IsKeptBy outs certs model cert out' alone' last' steps' x in
       subst F (sym i) (subst S (sym h) (subst L (sym g) (subst A (sym f) (subst O (sym e) kept))))
 
-  abbrev taken_by : GhostList Step → List Step
-  taken_by list = list.items
-
-  pub refused-kept : (step : Step) (old new : Writers W C) → IsKept outs certs model old → IsLineRefused certs step old new → IsKept outs certs model new
-  refused-kept step old new kept refused =
-      moved new.cert old.out new.out old.alone new.alone old.last.now new.last.now (taken old) (taken new) (at_first old) (at_first new)
-      refused.same_rest.out refused.same_rest.alone (ap (λ (l : MutBor (Option (List ℤ))). l.now) refused.same_rest.last) (ap taken_by refused.taken) refused.same_rest.first
-      (kept-refused old.cert new.cert old.out old.alone old.last.now (taken old) (at_first old) (step_line step) kept refused.same_version refused.shut refused.front)
-
-  pub line-kept : (step : Step) (old new : Writers W C) → ((values : List ℤ) → step ≢ Solution values) → IsSpelled Two step → IsKept outs certs model old → IsLineTaken certs step old new → IsKept outs certs model new
-  line-kept step old new other spelled kept line =
-      moved new.cert old.out new.out old.alone new.alone old.last.now new.last.now (taken old ++ step ∷ []) (taken new) (at_first old) (at_first new)
-      line.same_rest.out line.same_rest.alone (ap (λ (l : MutBor (Option (List ℤ))). l.now) line.same_rest.last) line.taken line.same_rest.first
-      (kept-line old.cert new.cert old.out old.alone old.last.now (taken old) (at_first old) step kept other spelled line.same_version line.was_open line.counted line.room line.line)
-
-  -- the steps that were taken are few
-  pub line-few : (step : Step) (old new : Writers W C) → IsKept outs certs model old → IsLineTaken certs step old new → length (taken new) < 10 ^ 18
-  line-few step old new kept line =
-      let count = (kept.cert_in_step line.was_open).counted in
-      let more = ap length line.taken in
-      omega (arith, line.room.1, length-append (taken old) (step ∷ []))
-
   pub assignment-of : (steps : List Step) (values : List ℤ) → AllAccepted model (steps ++ Solution values ∷ []) → IsAssignment model values
   assignment-of steps values accepted = (last-accepted model start steps (Solution values) accepted).0.0
-
-  -- a solution that waits for the end, its line flushed
-  pub held-kept : (values : List ℤ) (old mid new : Writers W C) → old.alone ≡ true → IsAssignment model values → IsSpelled Two (Solution values) → IsKept outs certs model old → IsLineTaken certs (Solution values) old mid
-      → Keeps (cert_contents certs mid.cert) (cert_contents certs new.cert) → (stage_of new.cert ≡ Open → step_count new.cert ≡ step_count mid.cert) → version_of new.cert ≡ version_of mid.cert
-      → new.out ≡ mid.out → new.alone ≡ mid.alone → new.last.now ≡ Some values → at_first new ≡ at_first mid → new.taken ≡ mid.taken → IsKept outs certs model new
-  held-kept values old mid new alone assignment spelled kept line nothing counted version out_is alone_is last_is first_is taken_is =
-      let A : Bool → Type 0 = λ b. IsKeptBy outs certs model old.cert old.out b old.last.now (taken old) (at_first old) in
-      moved new.cert old.out new.out true new.alone (Some values) new.last.now (taken old ++ Solution values ∷ []) (taken new) (at_first old) (at_first new)
-      (out_is ∙ line.same_rest.out) (alone_is ∙ line.same_rest.alone ∙ alone) last_is (ap taken_by taken_is ∙ line.taken) (first_is ∙ line.same_rest.first)
-      (kept-solution old.cert new.cert old.out old.out true old.last.now (Some values) (taken old) (at_first old) values (subst A alone kept) spelled (version ∙ line.same_version) line.was_open
-      (λ stays. counted stays ∙ line.counted) line.room (Appends-kept (cert_contents certs old.cert) (cert_contents certs mid.cert) (cert_contents certs new.cert) (step_line (Solution values)) line.line nothing) assignment
-      (λ o front _. front) (λ o _ opened step. out-held model (found_by model (taken old)) values o (out_contents outs old.out) (has_printed old.out) old.last.now (step opened)))
-
-  -- a solution that is printed, its line flushed
-  pub printed-kept : (values : List ℤ) (old mid new : Writers W C) → old.alone ≡ false → IsSpelled Two (Solution values) → IsKept outs certs model old → IsLineTaken certs (Solution values) old mid
-      → Keeps (cert_contents certs mid.cert) (cert_contents certs new.cert) → (stage_of new.cert ≡ Open → step_count new.cert ≡ step_count mid.cert) → version_of new.cert ≡ version_of mid.cert
-      → IsPrinted outs model values (stage_of new.cert ≡ Open) mid.out new.out → new.alone ≡ mid.alone → new.last ≡ mid.last → at_first new ≡ at_first mid → new.taken ≡ mid.taken → IsKept outs certs model new
-  printed-kept values old mid new alone spelled kept line nothing counted version printed alone_is last_is first_is taken_is =
-      let A : Bool → Type 0 = λ b. IsKeptBy outs certs model old.cert old.out b old.last.now (taken old) (at_first old) in
-      let P : Printer W → Type 0 = λ p. IsPrinted outs model values (stage_of new.cert ≡ Open) p new.out in
-      let behind : IsPrinted outs model values (stage_of new.cert ≡ Open) old.out new.out = subst P line.same_rest.out printed in
-      moved new.cert new.out new.out false new.alone old.last.now new.last.now (taken old ++ Solution values ∷ []) (taken new) (at_first old) (at_first new)
-      refl (alone_is ∙ line.same_rest.alone ∙ alone) (ap (λ (l : MutBor (Option (List ℤ))). l.now) last_is ∙ (ap (λ (l : MutBor (Option (List ℤ))). l.now) line.same_rest.last)) (ap taken_by taken_is ∙ line.taken) (first_is ∙ line.same_rest.first)
-      (kept-solution old.cert new.cert old.out new.out false old.last.now old.last.now (taken old) (at_first old) values (subst A alone kept) spelled (version ∙ line.same_version) line.was_open
-      (λ is_so. counted is_so ∙ line.counted) line.room (Appends-kept (cert_contents certs old.cert) (cert_contents certs mid.cert) (cert_contents certs new.cert) (step_line (Solution values)) line.line nothing) kept.assignment
-      (λ o front whole. elim (cases_Bool (is_open old.out)) [
-        | inl opened ↦ front-printed model (found_by model (taken old)) values o (out_contents outs old.out) (out_contents outs new.out) (whole opened) behind.front
-        | inr closed ↦ front-found model false (found_by model (taken old)) values o (out_contents outs new.out) (front-kept o (out_contents outs old.out) (out_contents outs new.out) (shown_all model (found_by model (taken old))) front (behind.nothing closed))
-      ])
-      (λ o is_so opened step.
-      let known = behind.whole is_so opened in
-      let B : Bool → Type 0 = λ b. IsOutInStep model false (found_by model (taken old) ++ values ∷ []) o (out_contents outs new.out) b old.last.now in
-      subst B (sym known.2) (out-printed model (found_by model (taken old)) values o (out_contents outs old.out) (out_contents outs new.out) (has_printed old.out) old.last.now (step known.0) known.1)))
 
   -- nothing was printed yet, and nothing more is
   pub IsPrinted-none : (values : List ℤ) (goes : Type 0) (old new : Printer W) → new ≡ old → (goes → ⊥) → IsPrinted outs model values goes old new
@@ -202,52 +150,105 @@ module _ {W C : Type 0} (outs : W → Option (List ℕ)) (certs : C → Option (
         whole = λ goes_on _. absurd (stops goes_on);
       })
 
-  -- the text stands, and the output was not flushed
-  pub printed-cut : (values : List ℤ) (goes : Type 0) (old mid new : Printer W) → out_name mid ≡ out_name old → out_name new ≡ out_name mid → is_open old ≡ true → Appends (out_contents outs old) (out_contents outs mid) (shown model values) → Keeps (out_contents outs mid) (out_contents outs new) → is_open new ≡ false
+  -- the text stands, whether or not the output was flushed
+  pub printed-flushed : (values : List ℤ) (goes : Type 0) (old mid new : Printer W) → out_name mid ≡ out_name old → out_name new ≡ out_name mid → is_open old ≡ true → Appends (out_contents outs old) (out_contents outs mid) (shown model values) → Keeps (out_contents outs mid) (out_contents outs new) → (is_open new ≡ true → has_printed new ≡ true)
       → IsPrinted outs model values goes old new
-  printed-cut values goes old mid new first second opened text kept shut =
+  printed-flushed values goes old mid new first second opened text kept printed =
       let whole = Appends-kept (out_contents outs old) (out_contents outs mid) (out_contents outs new) (shown model values) text kept in record {
         same = second ∙ first;
         front = subst (AppendsFront (out_contents outs old) (out_contents outs new)) (append-nil (shown model values)) (front-then (out_contents outs old) (out_contents outs new) (out_contents outs new) (shown model values) [] whole (front-none (out_contents outs new) (out_contents outs new) [] (Keeps-same (out_contents outs new))));
         nothing = λ was. absurd (false_true (sym was ∙ opened));
-        whole = λ _ is. absurd (false_true (sym shut ∙ is));
+        whole = λ _ stays. (opened, whole, printed stays);
       }
 
+module _ {W C P : Type 0} (outs : W → Option (List ℕ)) (certs : C → Option (List ℕ)) (model : Model) where
+  pub refused-kept : (step : Step) (old new : Writers W C P) → IsKept outs certs model old → IsLineRefused certs step old new → IsKept outs certs model new
+  refused-kept step old new kept refused =
+      moved outs certs model new.cert old.out new.out old.alone new.alone old.last.now new.last.now (taken old) (taken new) (at_first old) (at_first new)
+      refused.same_rest.out refused.same_rest.alone (ap (λ (l : MutBor (Option (List ℤ))). l.now) refused.same_rest.last) (ap taken_by refused.taken) refused.same_rest.first
+      (kept-refused outs certs model old.cert new.cert old.out old.alone old.last.now (taken old) (at_first old) (step_line step) kept refused.same_version refused.shut refused.front)
+
+  pub line-kept : (step : Step) (old new : Writers W C P) → ((values : List ℤ) → step ≢ Solution values) → IsSpelled Two step → IsKept outs certs model old → IsLineTaken certs step old new → IsKept outs certs model new
+  line-kept step old new other spelled kept line =
+      moved outs certs model new.cert old.out new.out old.alone new.alone old.last.now new.last.now (taken old ++ step ∷ []) (taken new) (at_first old) (at_first new)
+      line.same_rest.out line.same_rest.alone (ap (λ (l : MutBor (Option (List ℤ))). l.now) line.same_rest.last) line.taken line.same_rest.first
+      (kept-line outs certs model old.cert new.cert old.out old.alone old.last.now (taken old) (at_first old) step kept other spelled line.same_version line.was_open line.counted line.room line.line)
+
+  -- the steps that were taken are few
+  pub line-few : (step : Step) (old new : Writers W C P) → IsKept outs certs model old → IsLineTaken certs step old new → length (taken new) < 10 ^ 18
+  line-few step old new kept line =
+      let count = (kept.cert_in_step line.was_open).counted in
+      let more = ap length line.taken in
+      omega (arith, line.room.1, length-append (taken old) (step ∷ []))
+
+  -- a solution that waits for the end, its line flushed
+  pub held-kept : (values : List ℤ) (old mid new : Writers W C P) → old.alone ≡ true → IsAssignment model values → IsSpelled Two (Solution values) → IsKept outs certs model old → IsLineTaken certs (Solution values) old mid
+      → Keeps (cert_contents certs mid.cert) (cert_contents certs new.cert) → (stage_of new.cert ≡ Open → step_count new.cert ≡ step_count mid.cert) → version_of new.cert ≡ version_of mid.cert
+      → new.out ≡ mid.out → new.alone ≡ mid.alone → new.last.now ≡ Some values → at_first new ≡ at_first mid → new.taken ≡ mid.taken → IsKept outs certs model new
+  held-kept values old mid new alone assignment spelled kept line nothing counted version out_is alone_is last_is first_is taken_is =
+      let A : Bool → Type 0 = λ b. IsKeptBy outs certs model old.cert old.out b old.last.now (taken old) (at_first old) in
+      moved outs certs model new.cert old.out new.out true new.alone (Some values) new.last.now (taken old ++ Solution values ∷ []) (taken new) (at_first old) (at_first new)
+      (out_is ∙ line.same_rest.out) (alone_is ∙ line.same_rest.alone ∙ alone) last_is (ap taken_by taken_is ∙ line.taken) (first_is ∙ line.same_rest.first)
+      (kept-solution outs certs model old.cert new.cert old.out old.out true old.last.now (Some values) (taken old) (at_first old) values (subst A alone kept) spelled (version ∙ line.same_version) line.was_open
+      (λ stays. counted stays ∙ line.counted) line.room (Appends-kept (cert_contents certs old.cert) (cert_contents certs mid.cert) (cert_contents certs new.cert) (step_line (Solution values)) line.line nothing) assignment
+      (λ o front _. front) (λ o _ opened step. out-held model (found_by model (taken old)) values o (out_contents outs old.out) (has_printed old.out) old.last.now (step opened)))
+
+  -- a solution that is printed, its line flushed
+  pub printed-kept : (values : List ℤ) (old mid new : Writers W C P) → old.alone ≡ false → IsSpelled Two (Solution values) → IsKept outs certs model old → IsLineTaken certs (Solution values) old mid
+      → Keeps (cert_contents certs mid.cert) (cert_contents certs new.cert) → (stage_of new.cert ≡ Open → step_count new.cert ≡ step_count mid.cert) → version_of new.cert ≡ version_of mid.cert
+      → IsPrinted outs model values (stage_of new.cert ≡ Open) mid.out new.out → new.alone ≡ mid.alone → new.last ≡ mid.last → at_first new ≡ at_first mid → new.taken ≡ mid.taken → IsKept outs certs model new
+  printed-kept values old mid new alone spelled kept line nothing counted version printed alone_is last_is first_is taken_is =
+      let A : Bool → Type 0 = λ b. IsKeptBy outs certs model old.cert old.out b old.last.now (taken old) (at_first old) in
+      let O : Printer W → Type 0 = λ p. IsPrinted outs model values (stage_of new.cert ≡ Open) p new.out in
+      let behind : IsPrinted outs model values (stage_of new.cert ≡ Open) old.out new.out = subst O line.same_rest.out printed in
+      moved outs certs model new.cert new.out new.out false new.alone old.last.now new.last.now (taken old ++ Solution values ∷ []) (taken new) (at_first old) (at_first new)
+      refl (alone_is ∙ line.same_rest.alone ∙ alone) (ap (λ (l : MutBor (Option (List ℤ))). l.now) last_is ∙ (ap (λ (l : MutBor (Option (List ℤ))). l.now) line.same_rest.last)) (ap taken_by taken_is ∙ line.taken) (first_is ∙ line.same_rest.first)
+      (kept-solution outs certs model old.cert new.cert old.out new.out false old.last.now old.last.now (taken old) (at_first old) values (subst A alone kept) spelled (version ∙ line.same_version) line.was_open
+      (λ is_so. counted is_so ∙ line.counted) line.room (Appends-kept (cert_contents certs old.cert) (cert_contents certs mid.cert) (cert_contents certs new.cert) (step_line (Solution values)) line.line nothing) kept.assignment
+      (λ o front whole. elim (cases_Bool (is_open old.out)) [
+        | inl opened ↦ front-printed model (found_by model (taken old)) values o (out_contents outs old.out) (out_contents outs new.out) (whole opened) behind.front
+        | inr closed ↦ front-found model false (found_by model (taken old)) values o (out_contents outs new.out) (front-kept o (out_contents outs old.out) (out_contents outs new.out) (shown_all model (found_by model (taken old))) front (behind.nothing closed))
+      ])
+      (λ o is_so opened step.
+      let known = behind.whole is_so opened in
+      let B : Bool → Type 0 = λ b. IsOutInStep model false (found_by model (taken old) ++ values ∷ []) o (out_contents outs new.out) b old.last.now in
+      subst B (sym known.2) (out-printed model (found_by model (taken old)) values o (out_contents outs old.out) (out_contents outs new.out) (has_printed old.out) old.last.now (step known.0) known.1)))
+
   -- the first two lines stand
-  pub begun-kept : (cert : StepWriter C) (old : Writers W C) → IsFresh outs certs old → version_of cert ≡ Two → step_count cert ≡ 0
+  pub begun-kept : (cert : StepWriter C) (old : Writers W C P) → IsFresh outs certs old → version_of cert ≡ Two → step_count cert ≡ 0
       → Appends (cert_contents certs old.cert) (cert_contents certs cert) (header_text Two (length model.vars) (length model.constraints)) → IsKept outs certs model (record old { cert = cert })
   begun-kept cert old fresh version none header =
-      moved cert old.out old.out old.alone old.alone None old.last.now [] (taken old) (at_first old) (at_first old)
+      moved outs certs model cert old.out old.out old.alone old.alone None old.last.now [] (taken old) (at_first old) (at_first old)
       refl refl fresh.none_waits fresh.none_taken refl
-      (kept-begun old.cert cert old.out old.alone (at_first old) fresh.same_cert fresh.same_out fresh.none_shown version none header)
+      (kept-begun outs certs model old.cert cert old.out old.alone (at_first old) fresh.same_cert fresh.same_out fresh.none_shown version none header)
 
   -- a solution that waits for the end, whether or not its line was flushed
-  pub flushed-held : (step : Step) (values : List ℤ) (old mid waiting new : Writers W C) → step ≡ Solution values → old.alone ≡ true → AllAccepted model (taken old ++ step ∷ []) → IsSpelled Two step → IsKept outs certs model old → IsLineTaken certs step old mid
+  pub flushed-held : (step : Step) (values : List ℤ) (old mid waiting new : Writers W C P) → step ≡ Solution values → old.alone ≡ true → AllAccepted model (taken old ++ step ∷ []) → IsSpelled Two step → IsKept outs certs model old → IsLineTaken certs step old mid
       → (waiting ≡ record mid { last = waiting.last }) × (waiting.last.now ≡ Some values) → Keeps (cert_contents certs waiting.cert) (cert_contents certs new.cert) → (stage_of new.cert ≡ Open → step_count new.cert ≡ step_count waiting.cert)
       → (cert_name new.cert ≡ cert_name waiting.cert) × (version_of new.cert ≡ version_of waiting.cert) → IsRestSame waiting new × (new.taken ≡ waiting.taken) → IsKept outs certs model new
   flushed-held step values old mid waiting new is alone accepted spelled kept line waits nothing counted same rest =
       let A : Step → Type 0 = λ s. AllAccepted model (taken old ++ s ∷ []) in
       let S : Step → Type 0 = λ s. IsSpelled Two s in
       let L : Step → Type 0 = λ s. IsLineTaken certs s old mid in
-      let cert : waiting.cert ≡ mid.cert = ap (λ (w : Writers W C). w.cert) waits.0 in
+      let cert : waiting.cert ≡ mid.cert = ap (λ (w : Writers W C P). w.cert) waits.0 in
       let K : StepWriter C → Type 0 = λ w. Keeps (cert_contents certs w) (cert_contents certs new.cert) in
-      held-kept values old mid new alone (assignment-of (taken old) values (subst A is accepted)) (subst S is spelled) kept (subst L is line)
+      held-kept values old mid new alone (assignment-of outs certs model (taken old) values (subst A is accepted)) (subst S is spelled) kept (subst L is line)
       (subst K cert nothing) (λ stays. counted stays ∙ ap step_count cert) (same.1 ∙ ap version_of cert)
-      (rest.0.out ∙ ap (λ (w : Writers W C). w.out) waits.0) (rest.0.alone ∙ ap (λ (w : Writers W C). w.alone) waits.0) (ap (λ (l : MutBor (Option (List ℤ))). l.now) rest.0.last ∙ waits.1)
-      (rest.0.first ∙ ap (λ (w : Writers W C). at_first w) waits.0) (rest.1 ∙ ap (λ (w : Writers W C). w.taken) waits.0)
+      (rest.0.out ∙ ap (λ (w : Writers W C P). w.out) waits.0) (rest.0.alone ∙ ap (λ (w : Writers W C P). w.alone) waits.0) (ap (λ (l : MutBor (Option (List ℤ))). l.now) rest.0.last ∙ waits.1)
+      (rest.0.first ∙ ap (λ (w : Writers W C P). at_first w) waits.0) (rest.1 ∙ ap (λ (w : Writers W C P). w.taken) waits.0)
 
   -- a solution whose line could not be flushed
-  pub unflushed-kept : (step : Step) (values : List ℤ) (old mid new : Writers W C) → step ≡ Solution values → old.alone ≡ false → IsSpelled Two step → IsKept outs certs model old → IsLineTaken certs step old mid
+  pub unflushed-kept : (step : Step) (values : List ℤ) (old mid new : Writers W C P) → step ≡ Solution values → old.alone ≡ false → IsSpelled Two step → IsKept outs certs model old → IsLineTaken certs step old mid
       → Keeps (cert_contents certs mid.cert) (cert_contents certs new.cert) → stage_of new.cert ≡ Shut
       → (cert_name new.cert ≡ cert_name mid.cert) × (version_of new.cert ≡ version_of mid.cert) → IsRestSame mid new × (new.taken ≡ mid.taken) → IsKept outs certs model new
   unflushed-kept step values old mid new is alone spelled kept line nothing shut same rest =
       let S : Step → Type 0 = λ s. IsSpelled Two s in
       let L : Step → Type 0 = λ s. IsLineTaken certs s old mid in
       printed-kept values old mid new alone (subst S is spelled) kept (subst L is line) nothing (λ stays. absurd (shut_open (sym shut ∙ stays))) same.1
-      (IsPrinted-none values (stage_of new.cert ≡ Open) mid.out new.out rest.0.out (λ stays. shut_open (sym shut ∙ stays))) rest.0.alone rest.0.last rest.0.first rest.1
+      (IsPrinted-none outs certs model values (stage_of new.cert ≡ Open) mid.out new.out rest.0.out (λ stays. shut_open (sym shut ∙ stays))) rest.0.alone rest.0.last rest.0.first rest.1
 
   -- a solution that was printed, or a beginning of it
-  pub shown-kept : (step : Step) (values : List ℤ) (old mid flushed new : Writers W C) → step ≡ Solution values → old.alone ≡ false → IsSpelled Two step → IsKept outs certs model old → IsLineTaken certs step old mid
+  pub shown-kept : (step : Step) (values : List ℤ) (old mid flushed new : Writers W C P) → step ≡ Solution values → old.alone ≡ false → IsSpelled Two step → IsKept outs certs model old → IsLineTaken certs step old mid
       → Keeps (cert_contents certs mid.cert) (cert_contents certs flushed.cert) → step_count flushed.cert ≡ step_count mid.cert
       → (cert_name flushed.cert ≡ cert_name mid.cert) × (version_of flushed.cert ≡ version_of mid.cert) → IsRestSame mid flushed × (flushed.taken ≡ mid.taken)
       → (new.cert ≡ flushed.cert) × IsAllSame flushed new → IsPrinted outs model values ⊤ flushed.out new.out → IsKept outs certs model new
@@ -255,16 +256,16 @@ module _ {W C : Type 0} (outs : W → Option (List ℕ)) (certs : C → Option (
       let S : Step → Type 0 = λ s. IsSpelled Two s in
       let L : Step → Type 0 = λ s. IsLineTaken certs s old mid in
       let K : StepWriter C → Type 0 = λ w. Keeps (cert_contents certs mid.cert) (cert_contents certs w) in
-      let P : Printer W → Type 0 = λ p. IsPrinted outs model values (stage_of new.cert ≡ Open) p new.out in
+      let O : Printer W → Type 0 = λ p. IsPrinted outs model values (stage_of new.cert ≡ Open) p new.out in
       let behind : IsPrinted outs model values (stage_of new.cert ≡ Open) flushed.out new.out = record { same = printed.same; front = printed.front; nothing = printed.nothing; whole = λ _ opened. printed.whole tt opened } in
       printed-kept values old mid new alone (subst S is spelled) kept (subst L is line) (subst K (sym still.0) nothing) (λ _. ap step_count still.0 ∙ counted) (ap version_of still.0 ∙ same.1)
-      (subst P rest.0.out behind) (still.1.alone ∙ rest.0.alone) (still.1.last ∙ rest.0.last) (still.1.first ∙ rest.0.first) (still.1.taken ∙ rest.1)
+      (subst O rest.0.out behind) (still.1.alone ∙ rest.0.alone) (still.1.last ∙ rest.0.last) (still.1.first ∙ rest.0.first) (still.1.taken ∙ rest.1)
 
-  same_origin : (old new : Writers W C) → IsRestSame old new → cert_name new.cert ≡ cert_name old.cert → origin new ≡ origin old
+  same_origin : (old new : Writers W C P) → IsRestSame old new → cert_name new.cert ≡ cert_name old.cert → origin new ≡ origin old
   same_origin old new rest name = rw (rest.first, rest.alone, rest.out, name) refl
 
   -- the line of a step that is no solution, taken or not
-  pub line-step : (step : Step) (old new : Writers W C) (result : Result Unit Fault) → ((values : List ℤ) → step ≢ Solution values) → IsSpelled Two step → IsKept outs certs model old
+  pub line-step : (step : Step) (old new : Writers W C P) (result : Result Unit Fault) → ((values : List ℤ) → step ≢ Solution values) → IsSpelled Two step → IsKept outs certs model old
       → OnOk result (IsLineTaken certs step old new) → OnErr result (IsLineRefused certs step old new)
       → IsLogged step old new × OnOk result (taken new ≡ taken old ++ step ∷ []) × OnOk result (length (taken new) < 10 ^ 18) × IsKept outs certs model new × (origin new ≡ origin old)
   line-step step old new (Ok v) other spelled kept line refused = (inr line.taken, line.taken, line-few step old new kept line, line-kept step old new other spelled kept line, same_origin old new line.same_rest line.same_cert)

@@ -32,7 +32,7 @@ HasCause out cert model cert_old cert_new _ = Unit {0}
 
 -- ---- on the way
 
-abbrev pub IsCause : {W C : Type 0} → (W → Bool) → (C → Bool) → Model → Writers W C → Fault → Type 0
+abbrev pub IsCause : {W C P : Type 0} → (W → Bool) → (C → Bool) → Model → Writers W C P → Fault → Type 0
 IsCause outs certs model now engine.Memory = Unit {0}
 IsCause outs certs model now engine.WriteOutput = out_failed outs now.out ≡ true
 IsCause outs certs model now engine.WriteCert = cert_failed certs now.cert ≡ true
@@ -46,18 +46,18 @@ IsLineCause certs step count cert engine.WriteCert = cert_failed certs cert ≡ 
 IsLineCause certs step count cert engine.StepTooLong = ¬ HasRoom count step
 
 -- both writers can go on
-abbrev pub AreOpen : {W C : Type 0} → Writers W C → Type 0
+abbrev pub AreOpen : {W C P : Type 0} → Writers W C P → Type 0
 AreOpen now = (stage_of now.cert ≡ Open) × (is_open now.out ≡ true)
 
 -- both writers can go on, unless a fault stopped them, which has its cause
-pub record IsUnderWay {W C : Type 0} (outs : W → Bool) (certs : C → Bool) (model : Model) (now : Writers W C) : Type 0 where
+pub record IsUnderWay {W C P : Type 0} (outs : W → Bool) (certs : C → Bool) (model : Model) (now : Writers W C P) : Type 0 where
   pub goes_on : now.stopped ≡ None → AreOpen now
   pub cause : IfSome now.stopped (IsCause outs certs model now)
 
 -- both write to the same streams
-abbrev pub AreSameStreams : {W C S T : Type 0} → (W → S) → (C → T) → Writers W C → Writers W C → Type 0
+abbrev pub AreSameStreams : {W C P S T : Type 0} → (W → S) → (C → T) → Writers W C P → Writers W C P → Type 0
 AreSameStreams outs certs old new = (out_stream outs new.out ≡ out_stream outs old.out) × (cert_stream certs new.cert ≡ cert_stream certs old.cert)
 
 -- both write to the streams on which they began
-abbrev pub AreStreamsAsAtFirst : {W C S T : Type 0} → (W → S) → (C → T) → Writers W C → Type 0
+abbrev pub AreStreamsAsAtFirst : {W C P S T : Type 0} → (W → S) → (C → T) → Writers W C P → Type 0
 AreStreamsAsAtFirst outs certs now = (out_stream outs now.out ≡ outs (at_first now).0) × (cert_stream certs now.cert ≡ certs (at_first now).1)

@@ -22,19 +22,19 @@ use Rattle.fzn_solver.specs.declared.writers.Writers.{Writers}
 use Rattle.fzn_solver.specs.Standing.{certificate, shown_all, early, late, found_by, IsStanding, IsCertInStep, IsOutInStep}
 
 -- the steps that were taken
-abbrev pub taken : {W C : Type 0} → Writers W C → List Step
+abbrev pub taken : {W C P : Type 0} → Writers W C P → List Step
 taken writers = writers.taken.items
 
 -- the output and the certificate as they were at first
-abbrev pub at_first : {W C : Type 0} → Writers W C → W × C
+abbrev pub at_first : {W C P : Type 0} → Writers W C P → W × C
 at_first writers = (writers.first_out.value, writers.first_cert.value)
 
 -- both as they were at first, whether the last solution alone is printed, and the names by which a caller knows the writers
-abbrev pub origin : {W C : Type 0} → Writers W C → (W × C) × Bool × GName × GName
+abbrev pub origin : {W C P : Type 0} → Writers W C P → (W × C) × Bool × GName × GName
 origin writers = (at_first writers, writers.alone, cert_name writers.cert, out_name writers.out)
 
 -- nothing was written
-pub record IsFresh {W C : Type 0} (outs : W → Option (List ℕ)) (certs : C → Option (List ℕ)) (now : Writers W C) : Type 0 where
+pub record IsFresh {W C P : Type 0} (outs : W → Option (List ℕ)) (certs : C → Option (List ℕ)) (now : Writers W C P) : Type 0 where
   pub same_cert : cert_contents certs now.cert ≡ certs now.first_cert.value
   pub same_out : out_contents outs now.out ≡ outs now.first_out.value
   pub stage : stage_of now.cert ≡ Fresh
@@ -52,18 +52,18 @@ pub record IsKeptBy {W C : Type 0} (outs : W → Option (List ℕ)) (certs : C �
   pub cert_in_step : stage_of cert ≡ Open → IsCertInStep model steps (certs first.1) (cert_contents certs cert) (step_count cert)
   pub out_in_step : stage_of cert ≡ Open → is_open out ≡ true → IsOutInStep model alone (found_by model steps) (outs first.0) (out_contents outs out) (has_printed out) last
 
-abbrev pub IsKept : {W C : Type 0} → (W → Option (List ℕ)) → (C → Option (List ℕ)) → Model → Writers W C → Type 0
+abbrev pub IsKept : {W C P : Type 0} → (W → Option (List ℕ)) → (C → Option (List ℕ)) → Model → Writers W C P → Type 0
 IsKept outs certs model now = IsKeptBy outs certs model now.cert now.out now.alone now.last.now (taken now) (at_first now)
 
 -- all but the certificate and the steps
-pub record IsRestSame {W C : Type 0} (old new : Writers W C) : Type 0 where
+pub record IsRestSame {W C P : Type 0} (old new : Writers W C P) : Type 0 where
   pub out : new.out ≡ old.out
   pub alone : new.alone ≡ old.alone
   pub last : new.last ≡ old.last
   pub first : at_first new ≡ at_first old
 
 -- the line of one more step stands
-pub record IsLineTaken {W C : Type 0} (certs : C → Option (List ℕ)) (step : Step) (old new : Writers W C) : Type 0 where
+pub record IsLineTaken {W C P : Type 0} (certs : C → Option (List ℕ)) (step : Step) (old new : Writers W C P) : Type 0 where
   pub taken : taken new ≡ taken old ++ step ∷ []
   pub line : Appends (cert_contents certs old.cert) (cert_contents certs new.cert) (step_line step)
   pub room : HasRoom (step_count old.cert) step
@@ -75,7 +75,7 @@ pub record IsLineTaken {W C : Type 0} (certs : C → Option (List ℕ)) (step : 
   pub same_rest : IsRestSame old new
 
 -- the line was not taken: a beginning of it stands after a failed write, and nothing more is
-pub record IsLineRefused {W C : Type 0} (certs : C → Option (List ℕ)) (step : Step) (old new : Writers W C) : Type 0 where
+pub record IsLineRefused {W C P : Type 0} (certs : C → Option (List ℕ)) (step : Step) (old new : Writers W C P) : Type 0 where
   pub taken : new.taken ≡ old.taken
   pub front : AppendsFront (cert_contents certs old.cert) (cert_contents certs new.cert) (step_line step)
   pub shut : stage_of new.cert ≡ Shut
@@ -84,7 +84,7 @@ pub record IsLineRefused {W C : Type 0} (certs : C → Option (List ℕ)) (step 
   pub same_rest : IsRestSame old new
 
 -- the step was taken, or was not
-abbrev pub IsLogged : {W C : Type 0} → Step → Writers W C → Writers W C → Type 0
+abbrev pub IsLogged : {W C P : Type 0} → Step → Writers W C P → Writers W C P → Type 0
 IsLogged step old new = (taken new ≡ taken old) ⊎ (taken new ≡ taken old ++ step ∷ [])
 
 -- A solution was printed: its text stands where the output can go on and something else does, else a beginning of it.
@@ -95,14 +95,14 @@ pub record IsPrinted {W : Type 0} (outs : W → Option (List ℕ)) (model : Mode
   pub whole : goes → is_open new ≡ true → (is_open old ≡ true) × Appends (out_contents outs old) (out_contents outs new) (shown model values) × (has_printed new ≡ true)
 
 -- all but the writers
-pub record IsAllSame {W C : Type 0} (old new : Writers W C) : Type 0 where
+pub record IsAllSame {W C P : Type 0} (old new : Writers W C P) : Type 0 where
   pub alone : new.alone ≡ old.alone
   pub last : new.last ≡ old.last
   pub taken : new.taken ≡ old.taken
   pub first : at_first new ≡ at_first old
 
 -- the first two lines do not stand, perhaps a beginning of them
-pub record IsUnbegun {W C : Type 0} (certs : C → Option (List ℕ)) (model : Model) (old new : Writers W C) : Type 0 where
+pub record IsUnbegun {W C P : Type 0} (certs : C → Option (List ℕ)) (model : Model) (old new : Writers W C P) : Type 0 where
   pub front : AppendsFront (cert_contents certs old.cert) (cert_contents certs new.cert) (header_text Two (length model.vars) (length model.constraints))
   pub out : new.out ≡ old.out
 
@@ -120,7 +120,7 @@ pub record IsLastShown {W : Type 0} (outs : W → Option (List ℕ)) (model : Mo
   pub nothing : is_open old ≡ false → Keeps (out_contents outs old) (out_contents outs new)
 
 -- the end of the certificate stands, and the whole answer
-pub record IsClosed {W C : Type 0} (outs : W → Option (List ℕ)) (certs : C → Option (List ℕ)) (model : Model) (closed : Bool) (old new : Writers W C) : Type 0 where
+pub record IsClosed {W C P : Type 0} (outs : W → Option (List ℕ)) (certs : C → Option (List ℕ)) (model : Model) (closed : Bool) (old new : Writers W C P) : Type 0 where
   pub have_lines : AllHaveLines Two 0 (taken old)
   pub cert : Appends (certs (at_first old).1) (cert_contents certs new.cert) (certificate model (taken old) closed)
   pub out :
@@ -128,16 +128,16 @@ pub record IsClosed {W C : Type 0} (outs : W → Option (List ℕ)) (certs : C �
       (shown_all model (early old.alone (found_by model (taken old)) ++ late old.alone (found_by model (taken old))) ++ ending_text closed (not (length (found_by model (taken old)) == 0)))
 
 -- the end of the certificate does not stand, perhaps a beginning of it, and the output is as it was
-pub record IsUnfinished {W C : Type 0} (certs : C → Option (List ℕ)) (closed : Bool) (old new : Writers W C) : Type 0 where
+pub record IsUnfinished {W C P : Type 0} (certs : C → Option (List ℕ)) (closed : Bool) (old new : Writers W C P) : Type 0 where
   pub front : AppendsFront (cert_contents certs old.cert) (cert_contents certs new.cert) (end_line closed)
   pub out : new.out ≡ old.out
 
 -- the end of the certificate stands, and a beginning of what was left of the answer
-pub record IsCutOff {W C : Type 0} (outs : W → Option (List ℕ)) (certs : C → Option (List ℕ)) (model : Model) (closed : Bool) (old new : Writers W C) : Type 0 where
+pub record IsCutOff {W C P : Type 0} (outs : W → Option (List ℕ)) (certs : C → Option (List ℕ)) (model : Model) (closed : Bool) (old new : Writers W C P) : Type 0 where
   pub was_open : stage_of old.cert ≡ Open
   pub end : Appends (cert_contents certs old.cert) (cert_contents certs new.cert) (end_line closed)
   pub out : IsUnprinted outs (shown_all model (option_to_list old.last.now) ++ ending_text closed (has_printed old.out || is_some old.last.now)) old.out new.out
 
 -- what a fault at the end leaves
-abbrev pub IsUnclosed : {W C : Type 0} → (W → Option (List ℕ)) → (C → Option (List ℕ)) → Model → Bool → Writers W C → Writers W C → Fault → Type 0
+abbrev pub IsUnclosed : {W C P : Type 0} → (W → Option (List ℕ)) → (C → Option (List ℕ)) → Model → Bool → Writers W C P → Writers W C P → Fault → Type 0
 IsUnclosed outs certs model closed old new fault = IsUnfinished certs closed old new ⊎ ((fault ≡ WriteOutput) × IsCutOff outs certs model closed old new)

@@ -14,10 +14,10 @@ ghost use Rattle.fzn_solver.specs.Run.{IsRun, IsRunFault, IsDue};
 use crate::choice::choice_for;
 use crate::fault::RunFault;
 use crate::ghost_list::{GhostList, Initial};
-use crate::progress::{Observer, solve_observed};
+use crate::progress::{Observer, Progress};
 use crate::writers::{Writers, is_alone};
 use fzn_cert::StepWriter;
-use fzn_engine::{Limits, Report};
+use fzn_engine::{Limits, Report, solve};
 use fzn_meaning::Model;
 use fzn_printer::Printer;
 use fzn_propagators::Propagators;
@@ -71,36 +71,6 @@ pub fn run_tracked<R: TrackedRead, W: TrackedWrite, C: TrackedWrite, P: Observer
     let read = read_annotated(alloc, input)?;
     let model = read.model;
     let mut propagators = Propagators::new(alloc, &model)?;
-    answer(
-        alloc,
-        &model,
-        read.annotations.as_slice(),
-        &mut propagators,
-        options,
-        out,
-        cert,
-        observer,
-    )
-}
-
-/// Searches a model for its answer, by its annotations.
-fn answer<W: TrackedWrite, C: TrackedWrite, P: Observer>(
-    alloc: Global,
-    model: &Model,
-    annotations: &[Annotation],
-    propagators: &mut Propagators,
-    options: &Options,
-    out: &mut W,
-    cert: &mut C,
-    observer: &mut P,
-) -> Result<Report, RunFault>
-    requires model { IsWellFormed model.now }
-    requires propagators { StandFor propagators.old model.now }
-    ensures answer { IfOk result (IsAnswer model.now options.now (W.contents out.old) (W.contents out.new) (C.contents cert.old) (C.contents cert.new)) }
-    ensures left { IfErr result (IsLeft model.now options.now.all (W.contents out.old) (W.contents out.new) (C.contents cert.old) (C.contents cert.new)) }
-    ensures cause { IfErr result (HasCause (W.has_failed out.new) (C.has_failed cert.new) model.now (C.contents cert.old) (C.contents cert.new)) }
-    ensures same_streams { (W.stream out.new ≡ W.stream out.old) × (C.stream cert.new ≡ C.stream cert.old) }
-{
     let mut last = None;
     let first_out = Initial::of(&*out);
     let first_cert = Initial::of(&*cert);
@@ -113,15 +83,16 @@ fn answer<W: TrackedWrite, C: TrackedWrite, P: Observer>(
         taken: GhostList::new(),
         first_out,
         first_cert,
+        observer,
+        progress: Progress::default(),
     };
     search(
         alloc,
-        model,
-        annotations,
-        propagators,
+        &model,
+        read.annotations.as_slice(),
+        &mut propagators,
         options,
         &mut writers,
-        observer,
     )
 }
 
@@ -132,8 +103,7 @@ fn search<W: TrackedWrite, C: TrackedWrite, P: Observer>(
     annotations: &[Annotation],
     propagators: &mut Propagators,
     options: &Options,
-    writers: &mut Writers<'_, '_, '_, W, C>,
-    observer: &mut P,
+    writers: &mut Writers<'_, '_, '_, '_, W, C, P>,
 ) -> Result<Report, RunFault>
     requires model { IsWellFormed model.now }
     requires propagators { StandFor propagators.old model.now }
@@ -152,7 +122,7 @@ fn search<W: TrackedWrite, C: TrackedWrite, P: Observer>(
         nodes: options.nodes,
         solutions: wanted(options.all, options.limit),
     };
-    let report = match solve_observed(
+    let report = match solve(
         alloc,
         model,
         limits,
@@ -161,7 +131,6 @@ fn search<W: TrackedWrite, C: TrackedWrite, P: Observer>(
         annotations,
         propagators,
         writers,
-        observer,
     ) {
         Ok(report) => report,
         Err(_) => return Err(writers.fault().into()),

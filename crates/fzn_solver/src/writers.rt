@@ -20,6 +20,7 @@ ghost use Rattle.fzn_solver.specs.Standing.{is_alone, shown_all};
 ghost use Rattle.fzn_solver.specs.Writers.{taken, origin, IsFresh, IsKept, IsLineTaken, IsLineRefused, IsLogged, IsRestSame, IsAllSame, IsPrinted, IsLastShown, IsClosed, IsUnbegun, IsUnprinted, IsUnclosed};
 
 use crate::ghost_list::{GhostList, Initial};
+use crate::progress::{Observer, Progress, with_solution};
 use fzn_cert::{FaultKind, Step, StepWriter, Version};
 use fzn_engine::{Fault, Sink};
 use fzn_list::Items;
@@ -29,9 +30,9 @@ use fzn_streams::TrackedWrite;
 use std::alloc::Global;
 
 /// Writes each step on the certificate, and its solution on the output once its line was written and flushed. Where the last solution
-/// alone is printed, it waits for the end.
+/// alone is printed, it waits for the end. The observer is told how far the run has come.
 #[derive(Drop)]
-pub struct Writers<'o, 'c, 'l, W: TrackedWrite, C: TrackedWrite> {
+pub struct Writers<'o, 'c, 'l, 'p, W: TrackedWrite, C: TrackedWrite, P: Observer> {
     pub cert: StepWriter<'c, C>,
     pub out: Printer<'o, W>,
     pub alone: bool,
@@ -43,9 +44,12 @@ pub struct Writers<'o, 'c, 'l, W: TrackedWrite, C: TrackedWrite> {
     /// Both writers as they were at first.
     pub first_out: Initial<W>,
     pub first_cert: Initial<C>,
+    pub observer: &'p mut P,
+    /// What the observer was told last.
+    pub progress: Progress,
 }
 
-impl<'o, 'c, 'l, W: TrackedWrite, C: TrackedWrite> Writers<'o, 'c, 'l, W, C> {
+impl<W: TrackedWrite, C: TrackedWrite, P: Observer> Writers<'_, '_, '_, '_, W, C, P> {
     /// Writes the first two lines of the certificate.
     pub fn begin(&mut self, alloc: Global, model: &Model) -> Result<(), Fault>
         requires model { IsWellFormed model.now }
@@ -89,7 +93,7 @@ impl<'o, 'c, 'l, W: TrackedWrite, C: TrackedWrite> Writers<'o, 'c, 'l, W, C> {
     }
 }
 
-impl<'o, 'c, 'l, W: TrackedWrite, C: TrackedWrite> Writers<'o, 'c, 'l, W, C> {
+impl<W: TrackedWrite, C: TrackedWrite, P: Observer> Writers<'_, '_, '_, '_, W, C, P> {
     /// Writes the line of a solution, which waits for the end.
     fn hold_back(
         &mut self,
@@ -268,7 +272,7 @@ impl<'o, 'c, 'l, W: TrackedWrite, C: TrackedWrite> Writers<'o, 'c, 'l, W, C> {
     }
 }
 
-impl<'o, 'c, 'l, W: TrackedWrite, C: TrackedWrite> Sink for Writers<'o, 'c, 'l, W, C> {
+impl<W: TrackedWrite, C: TrackedWrite, P: Observer> Sink for Writers<'_, '_, '_, '_, W, C, P> {
     ghost written = { λ writers. taken writers };
 
     ghost Origin = { (W × C) × Bool × GName × GName };
@@ -284,12 +288,31 @@ impl<'o, 'c, 'l, W: TrackedWrite, C: TrackedWrite> Sink for Writers<'o, 'c, 'l, 
             return Err(fault);
         }
         match self.take(alloc, model, step) {
-            Ok(()) => Ok(()),
+            Ok(()) => {}
             Err(fault) => {
                 self.stopped = Some(fault);
-                Err(fault)
+                return Err(fault);
             }
         }
+        if let Step::Solution(values) = step {
+            self.progress = with_solution(self.progress, model.goal, values.as_slice());
+            self.observer.tell(self.progress);
+        }
+        Ok(())
+    }
+
+    fn tell(&mut self, nodes: u64, conflicts: u64, inferences: u64) {
+        let told = self.progress;
+        if nodes == told.nodes && conflicts == told.conflicts {
+            return;
+        }
+        self.progress = Progress {
+            nodes,
+            conflicts,
+            inferences,
+            ..told
+        };
+        self.observer.tell(self.progress);
     }
 }
 

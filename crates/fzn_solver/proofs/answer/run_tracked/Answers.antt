@@ -1,4 +1,6 @@
 -- The fault of the file, or what the search left.
+use Rattle.std.proofs.Common.{rules}
+use Rattle.fzn_printer.specs.Printer.{contents_of as out_contents}
 use Rattle.fzn_solver.specs.FaultsFrom.{fault_of_model}
 use Rattle.fzn_solver.specs.Run.{IsRunFault, IsDue}
 use Rattle.fzn_solver.specs.declared.fault.RunFault.TheVariants.{Memory}
@@ -13,12 +15,11 @@ returns-in_err-read-clause-fault g c =
 
 pub returns-clause-fault : goal.returns-clause-fault
 returns-clause-fault g c =
-    each-fault c.answer.result (g.R.Read.remaining c.args.input.now) c.args.options.now.all (g.W.Write.contents c.args.out.now) (g.W.Write.contents c.answer.new.out) (g.C.Write.contents c.args.cert.now) (g.C.Write.contents c.answer.new.cert) c.in_ok-read.read.model c.in_ok-read.ensures.right c.answer.ensures.left
+    each-fault _ _ _ _ _ _ _ c.in_ok-read.read.model c.in_ok-read.ensures.right (search rules)
 
 pub returns-clause-due : goal.returns-clause-due
 returns-clause-due g c =
-    each-due c.answer.result c.args.options.now.all (g.R.TrackedRead.has_failed c.read_annotated.new.input) (g.W.TrackedWrite.has_failed c.answer.new.out) (g.C.TrackedWrite.has_failed c.answer.new.cert) (g.R.Read.remaining c.args.input.now) (g.W.Write.contents c.args.out.now) (g.W.Write.contents c.answer.new.out) (g.C.Write.contents c.args.cert.now) (g.C.Write.contents c.answer.new.cert)
-    c.in_ok-read.read.model c.in_ok-read.ensures.right c.answer.ensures.left c.answer.ensures.cause
+    each-due _ c.args.options.now.all _ _ _ _ (g.W.Write.contents c.args.out.now) (out_contents g.W.Write.contents c.search.new.writers.out) _ _ c.in_ok-read.read.model c.in_ok-read.ensures.right (search rules) (search rules)
 
 pub returns-in_err-read-clause-due : goal.returns-in_err-read-clause-due
 returns-in_err-read-clause-due g c =

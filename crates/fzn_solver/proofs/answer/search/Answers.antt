@@ -13,16 +13,16 @@ use Rattle.fzn_solver.proofs.CauseLemmas.{run-cause, fault-cause}
 use Rattle.fzn_solver.proofs.AnswerLemmas.{answer-of, room-at_first}
 use Rattle.fzn_solver.proofs.answer.search.Goals as goal
 
-pub solve_observed-requires-clause-room : goal.solve_observed-requires-clause-room
-solve_observed-requires-clause-room g c =
+pub solve-requires-clause-room : goal.solve-requires-clause-room
+solve-requires-clause-room g c =
     let H : Option ℕ → Type 0 = λ most. HasRoom c.args.model.now.goal most 0 in
     subst H (sym c.wanted.ensures) (room-at_first c.args.model.now.goal c.args.options.now.all c.args.options.now.limit)
 
 pub returns-clause-answer : goal.returns-clause-answer
 returns-clause-answer g c =
     let limits : Limits = record { nodes = c.args.options.now.nodes; solutions = c.wanted.result } in
-    answer-of g.W.Write.contents g.C.Write.contents c.args.model.now c.args.options.now c.requires.model c.args.writers.now c.solve_observed.new.sink c.close.new.self limits c.in-Ok.report.nodes c.in-Ok.report.solutions c.in-Ok.report.ending
-    c.requires.fresh c.requires.alone (c.solve_observed.ensures.kept.1 ∙ c.begin.ensures.same) refl c.wanted.ensures c.solve_observed.ensures.accepted c.in-Ok.ensures.outcome c.in-Ok.ensures.solutions c.in_ok-close.ensures.closed
+    answer-of g.W.Write.contents g.C.Write.contents c.args.model.now c.args.options.now c.requires.model c.args.writers.now c.solve.new.sink c.close.new.self limits c.in-Ok.report.nodes c.in-Ok.report.solutions c.in-Ok.report.ending
+    c.requires.fresh c.requires.alone (c.solve.ensures.kept.1 ∙ c.begin.ensures.same) refl c.wanted.ensures c.solve.ensures.accepted c.in-Ok.ensures.outcome c.in-Ok.ensures.solutions c.in_ok-close.ensures.closed
 
 pub returns-in_err-begin-clause-left : goal.returns-in_err-begin-clause-left
 returns-in_err-begin-clause-left g c =
@@ -32,8 +32,8 @@ returns-in_err-begin-clause-left g c =
 pub returns-in_err-close-clause-left : goal.returns-in_err-close-clause-left
 returns-in_err-close-clause-left g c =
     error-is c.from_residual-in_err-close.result (fault_of_engine c.in_err-close.field-0.0) (IsLeft c.args.model.now c.args.options.now.all (out_contents g.W.Write.contents c.args.writers.now.out) (out_contents g.W.Write.contents c.close.new.self.out) (cert_contents g.C.Write.contents c.args.writers.now.cert) (cert_contents g.C.Write.contents c.close.new.self.cert)) c.from_residual-in_err-close.ensures.1
-    (left-at_end g.W.Write.contents g.C.Write.contents c.args.model.now c.args.options.now.all c.args.writers.now c.solve_observed.new.sink c.close.new.self c.in_err-close.field-0.0 _ _ c.in-Ok.report.nodes c.in-Ok.report.ending
-    c.requires.model c.requires.fresh c.requires.alone (c.solve_observed.ensures.kept.1 ∙ c.begin.ensures.same) c.solve_observed.ensures.accepted c.in-Ok.ensures.outcome c.solve_observed.ensures.kept.0.0 c.in_err-close.ensures.err)
+    (left-at_end g.W.Write.contents g.C.Write.contents c.args.model.now c.args.options.now.all c.args.writers.now c.solve.new.sink c.close.new.self c.in_err-close.field-0.0 _ _ c.in-Ok.report.nodes c.in-Ok.report.ending
+    c.requires.model c.requires.fresh c.requires.alone (c.solve.ensures.kept.1 ∙ c.begin.ensures.same) c.solve.ensures.accepted c.in-Ok.ensures.outcome c.solve.ensures.kept.0.0 c.in_err-close.ensures.err)
 
 pub returns-in_err-begin-clause-cause : goal.returns-in_err-begin-clause-cause
 returns-in_err-begin-clause-cause g c =
@@ -43,23 +43,23 @@ returns-in_err-begin-clause-cause g c =
 
 pub returns-in-Err-clause-left : goal.returns-in-Err-clause-left
 returns-in-Err-clause-left g c =
-    subst (IsLeft c.args.model.now c.args.options.now.all (out_contents g.W.Write.contents c.args.writers.now.out) (out_contents g.W.Write.contents c.solve_observed.new.sink.out) (cert_contents g.C.Write.contents c.args.writers.now.cert) (cert_contents g.C.Write.contents c.solve_observed.new.sink.cert)) (sym c.into.ensures)
-    (left-on_way g.W.Write.contents g.C.Write.contents c.args.model.now c.args.options.now.all c.args.writers.now c.solve_observed.new.sink c.fault.result c.requires.model c.requires.fresh c.requires.alone
-    (c.solve_observed.ensures.kept.1 ∙ c.begin.ensures.same) c.solve_observed.ensures.accepted c.solve_observed.ensures.kept.0.0)
+    subst (IsLeft c.args.model.now c.args.options.now.all (out_contents g.W.Write.contents c.args.writers.now.out) (out_contents g.W.Write.contents c.solve.new.sink.out) (cert_contents g.C.Write.contents c.args.writers.now.cert) (cert_contents g.C.Write.contents c.solve.new.sink.cert)) (sym c.into.ensures)
+    (left-on_way g.W.Write.contents g.C.Write.contents c.args.model.now c.args.options.now.all c.args.writers.now c.solve.new.sink c.fault.result c.requires.model c.requires.fresh c.requires.alone
+    (c.solve.ensures.kept.1 ∙ c.begin.ensures.same) c.solve.ensures.accepted c.solve.ensures.kept.0.0)
 
 pub returns-in-Err-clause-cause : goal.returns-in-Err-clause-cause
 returns-in-Err-clause-cause g c =
-    let now = c.solve_observed.new.sink in
+    let now = c.solve.new.sink in
     subst (HasCause (out_failed g.W.TrackedWrite.has_failed now.out) (cert_failed g.C.TrackedWrite.has_failed now.cert) c.args.model.now (cert_contents g.C.Write.contents c.args.writers.now.cert) (cert_contents g.C.Write.contents now.cert)) (sym c.into.ensures)
     (run-cause g.W.TrackedWrite.has_failed g.C.TrackedWrite.has_failed c.args.model.now now c.fault.result (cert_contents g.C.Write.contents c.args.writers.now.cert) (cert_contents g.C.Write.contents now.cert)
-    (lines-kept g.W.Write.contents g.C.Write.contents c.args.model.now c.args.options.now.all c.args.writers.now now c.requires.fresh (c.solve_observed.ensures.kept.1 ∙ c.begin.ensures.same) c.solve_observed.ensures.kept.0.0)
-    (subst (IsCause g.W.TrackedWrite.has_failed g.C.TrackedWrite.has_failed c.args.model.now now) (sym c.fault.ensures) (fault-cause g.W.TrackedWrite.has_failed g.C.TrackedWrite.has_failed c.args.model.now now now.stopped c.solve_observed.ensures.kept.0.1.cause)))
+    (lines-kept g.W.Write.contents g.C.Write.contents c.args.model.now c.args.options.now.all c.args.writers.now now c.requires.fresh (c.solve.ensures.kept.1 ∙ c.begin.ensures.same) c.solve.ensures.kept.0.0)
+    (subst (IsCause g.W.TrackedWrite.has_failed g.C.TrackedWrite.has_failed c.args.model.now now) (sym c.fault.ensures) (fault-cause g.W.TrackedWrite.has_failed g.C.TrackedWrite.has_failed c.args.model.now now now.stopped c.solve.ensures.kept.0.1.cause)))
 
 pub returns-in_err-close-clause-cause : goal.returns-in_err-close-clause-cause
 returns-in_err-close-clause-cause g c =
-    let now = c.solve_observed.new.sink in
+    let now = c.solve.new.sink in
     let after = c.close.new.self in
     error-is c.from_residual-in_err-close.result (fault_of_engine c.in_err-close.field-0.0) (HasCause (out_failed g.W.TrackedWrite.has_failed after.out) (cert_failed g.C.TrackedWrite.has_failed after.cert) c.args.model.now (cert_contents g.C.Write.contents c.args.writers.now.cert) (cert_contents g.C.Write.contents after.cert)) c.from_residual-in_err-close.ensures.1
     (run-cause g.W.TrackedWrite.has_failed g.C.TrackedWrite.has_failed c.args.model.now after c.in_err-close.field-0.0 (cert_contents g.C.Write.contents c.args.writers.now.cert) (cert_contents g.C.Write.contents after.cert)
-    (lines-unclosed g.W.Write.contents g.C.Write.contents c.args.model.now c.args.options.now.all c.args.writers.now now after (is_closed c.in-Ok.report.ending) c.in_err-close.field-0.0 c.requires.fresh (c.solve_observed.ensures.kept.1 ∙ c.begin.ensures.same) c.solve_observed.ensures.kept.0.0 c.close.ensures.same_taken c.in_err-close.ensures.err)
+    (lines-unclosed g.W.Write.contents g.C.Write.contents c.args.model.now c.args.options.now.all c.args.writers.now now after (is_closed c.in-Ok.report.ending) c.in_err-close.field-0.0 c.requires.fresh (c.solve.ensures.kept.1 ∙ c.begin.ensures.same) c.solve.ensures.kept.0.0 c.close.ensures.same_taken c.in_err-close.ensures.err)
     c.in_err-close.ensures.cause)
