@@ -1,5 +1,5 @@
 // The calls of `check`, of `trim` and of `core`.
-use super::{CASES, Case, Outcome, case_of, outcome_of};
+use super::{CASES, Case, Trial, case_of, trial_of};
 use fzn_checker::{CheckFault, check};
 use fzn_checker_tests::{Calls, Flaw, Sink, Source};
 use fzn_core::core;
@@ -141,7 +141,7 @@ fn is_right_for_reads(
 }
 
 /// A call in which one call of the writer goes wrong.
-fn with_out(alloc: Global, question: &Question, flaw: Flaw, at: u64) -> Outcome {
+fn with_out(alloc: Global, question: &Question, flaw: Flaw, at: u64) -> Trial {
     let (calls, sound) = (Calls::with(flaw, at), Calls::sound());
     let streams = Streams {
         file: &sound,
@@ -152,7 +152,7 @@ fn with_out(alloc: Global, question: &Question, flaw: Flaw, at: u64) -> Outcome 
     let mut printed: Vec<u8> = Vec::new(alloc);
     let fault = fault_over(alloc, question, &streams, &mut printed);
     let is_promised = !calls.is_late() && is_right_for_out(question, &calls, fault, &printed);
-    outcome_of(calls.is_reached(), is_promised)
+    trial_of(calls.is_reached(), is_promised)
 }
 
 /// A call in which one read of the file, or else of the certificate, goes wrong.
@@ -163,7 +163,7 @@ fn with_read(
     is_of_file: bool,
     flaw: Flaw,
     at: u64,
-) -> Outcome {
+) -> Trial {
     let (calls, sound, writes) = (Calls::with(flaw, at), Calls::sound(), Calls::sound());
     let streams = Streams {
         file: if is_of_file { &calls } else { &sound },
@@ -174,16 +174,16 @@ fn with_read(
     let mut printed: Vec<u8> = Vec::new(alloc);
     let fault = fault_over(alloc, question, &streams, &mut printed);
     let is_right = is_right_for_reads(question, &calls, fault, &printed, writes.count());
-    outcome_of(calls.is_reached(), !calls.is_late() && is_right)
+    trial_of(calls.is_reached(), !calls.is_late() && is_right)
 }
 
 /// Whether all is as promised, whichever call of the writer goes wrong.
 fn is_promised_for_out(alloc: Global, question: &Question, flaw: Flaw) -> bool {
     for at in 0..10_000 {
         match with_out(alloc, question, flaw, at) {
-            Outcome::AsPromised => {}
-            Outcome::Otherwise => return false,
-            Outcome::NoSuchCall => return at > 0,
+            Trial::AsPromised => {}
+            Trial::Otherwise => return false,
+            Trial::NoSuchCall => return at > 0,
         }
     }
     false
@@ -199,9 +199,9 @@ fn is_promised_for_reads(
 ) -> bool {
     for at in 0..10_000 {
         match with_read(alloc, question, most, is_of_file, flaw, at) {
-            Outcome::AsPromised => {}
-            Outcome::Otherwise => return false,
-            Outcome::NoSuchCall => return at > 0,
+            Trial::AsPromised => {}
+            Trial::Otherwise => return false,
+            Trial::NoSuchCall => return at > 0,
         }
     }
     false

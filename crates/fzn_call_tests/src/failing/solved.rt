@@ -1,5 +1,5 @@
 // The calls of `run`.
-use super::{CASES, Case, Outcome, begun, case_of, fault_of, given, outcome_of};
+use super::{CASES, Case, Trial, begun, case_of, fault_of, given, trial_of};
 use fzn_checker_tests::{Calls, Flaw, Sink, Source};
 use fzn_solver::RunFault;
 use std::alloc::Global;
@@ -64,7 +64,7 @@ fn fault_over(
 }
 
 /// A run in which one call of the writer of the answer goes wrong.
-fn with_out(alloc: Global, case: &Case, flaw: Flaw, at: u64) -> Outcome {
+fn with_out(alloc: Global, case: &Case, flaw: Flaw, at: u64) -> Trial {
     let (calls, sound) = (Calls::with(flaw, at), Calls::sound());
     let mut out = Sink::new(alloc, usize::MAX, &calls);
     let mut cert = Sink::new(alloc, usize::MAX, &sound);
@@ -74,11 +74,11 @@ fn with_out(alloc: Global, case: &Case, flaw: Flaw, at: u64) -> Outcome {
         cert: &cert.taken,
     };
     let is_promised = !calls.is_late() && is_right_for_out(case, &calls, &ran);
-    outcome_of(calls.is_reached(), is_promised)
+    trial_of(calls.is_reached(), is_promised)
 }
 
 /// A run in which one call of the writer of the certificate goes wrong.
-fn with_cert(alloc: Global, case: &Case, flaw: Flaw, at: u64) -> Outcome {
+fn with_cert(alloc: Global, case: &Case, flaw: Flaw, at: u64) -> Trial {
     let (calls, sound) = (Calls::with(flaw, at), Calls::sound());
     let mut out = Sink::new(alloc, usize::MAX, &sound);
     let mut cert = Sink::new(alloc, usize::MAX, &calls);
@@ -88,16 +88,16 @@ fn with_cert(alloc: Global, case: &Case, flaw: Flaw, at: u64) -> Outcome {
         cert: &cert.taken,
     };
     let is_promised = !calls.is_late() && is_right_for_cert(case, &calls, &ran);
-    outcome_of(calls.is_reached(), is_promised)
+    trial_of(calls.is_reached(), is_promised)
 }
 
 /// Whether all is as promised, whichever call of the writer of the answer goes wrong.
 fn is_promised_for_out(alloc: Global, case: &Case, flaw: Flaw) -> bool {
     for at in 0..10_000 {
         match with_out(alloc, case, flaw, at) {
-            Outcome::AsPromised => {}
-            Outcome::Otherwise => return false,
-            Outcome::NoSuchCall => return at > 0,
+            Trial::AsPromised => {}
+            Trial::Otherwise => return false,
+            Trial::NoSuchCall => return at > 0,
         }
     }
     false
@@ -107,9 +107,9 @@ fn is_promised_for_out(alloc: Global, case: &Case, flaw: Flaw) -> bool {
 fn is_promised_for_cert(alloc: Global, case: &Case, flaw: Flaw) -> bool {
     for at in 0..10_000 {
         match with_cert(alloc, case, flaw, at) {
-            Outcome::AsPromised => {}
-            Outcome::Otherwise => return false,
-            Outcome::NoSuchCall => return at > 0,
+            Trial::AsPromised => {}
+            Trial::Otherwise => return false,
+            Trial::NoSuchCall => return at > 0,
         }
     }
     false
@@ -155,7 +155,7 @@ fn is_right_for_file(case: &Case, calls: &Calls, written: u64, ran: &Ran<'_>) ->
 }
 
 /// A run in which one read of the file, each of so many bytes at most, goes wrong.
-fn with_file(alloc: Global, case: &Case, most: usize, flaw: Flaw, at: u64) -> Outcome {
+fn with_file(alloc: Global, case: &Case, most: usize, flaw: Flaw, at: u64) -> Trial {
     let (calls, sound) = (Calls::with(flaw, at), Calls::sound());
     let mut out = Sink::new(alloc, usize::MAX, &sound);
     let mut cert = Sink::new(alloc, usize::MAX, &sound);
@@ -166,16 +166,16 @@ fn with_file(alloc: Global, case: &Case, most: usize, flaw: Flaw, at: u64) -> Ou
         cert: &cert.taken,
     };
     let is_promised = !calls.is_late() && is_right_for_file(case, &calls, sound.count(), &ran);
-    outcome_of(calls.is_reached(), is_promised)
+    trial_of(calls.is_reached(), is_promised)
 }
 
 /// Whether all is as promised, whichever read of the file goes wrong.
 fn is_promised_for_file(alloc: Global, case: &Case, most: usize, flaw: Flaw) -> bool {
     for at in 0..10_000 {
         match with_file(alloc, case, most, flaw, at) {
-            Outcome::AsPromised => {}
-            Outcome::Otherwise => return false,
-            Outcome::NoSuchCall => return at > 0,
+            Trial::AsPromised => {}
+            Trial::Otherwise => return false,
+            Trial::NoSuchCall => return at > 0,
         }
     }
     false
