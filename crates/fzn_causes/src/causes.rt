@@ -67,8 +67,8 @@ impl Causes {
         }
     }
 
-    /// Begins an analysis: nothing is found, and nothing is marked.
-    pub fn begin(&mut self) {
+    /// Begins an analysis: nothing is found, and nothing is marked. It answers `Err` where memory runs out, and may be asked all the same.
+    pub fn begin(&mut self, graph: Implications) -> Result<(), Memory> {
         for place in &self.places {
             if *place < self.crossings.len() {
                 self.crossings[*place] = None;
@@ -77,6 +77,12 @@ impl Causes {
         self.places.clear();
         self.cited.clear();
         self.clear();
+        self.orders.take_in(graph)
+    }
+
+    /// Of the trail's entries only the first so many are sure to stand.
+    pub fn rewind(&mut self, entries: usize) {
+        self.orders.rewind(entries);
     }
 
     /// Another trail is to come: nothing is known of its entries, and of the gaps what was known before.

@@ -10,6 +10,7 @@ pub use gaps::{Gap, Gaps};
 pub use implications::Implications;
 pub use implied::{canonical, implies, opposite};
 
+mod bounds;
 mod causes;
 mod gaps;
 mod implications;

@@ -1,5 +1,6 @@
 // The entries on each variable in order, among which one is found by halves.
 
+use crate::bounds::AllBounds;
 use crate::implications::Implications;
 use crate::implied::is_true_on;
 use fzn_domain::{Domain, Lit, Memory, VarId};
@@ -25,6 +26,7 @@ pub struct Orders {
     orders: Vec<Vec<usize>>,
     /// The places that are not in their order yet, last to first.
     fresh: Vec<usize>,
+    bounds: AllBounds,
 }
 
 impl Orders {
@@ -34,12 +36,24 @@ impl Orders {
             alloc,
             orders: Vec::new(alloc),
             fresh: Vec::new(alloc),
+            bounds: AllBounds::new(alloc),
         }
     }
 
     /// No place is known any more.
     pub fn clear(&mut self) {
         self.orders.clear();
+        self.bounds.rewind(0);
+    }
+
+    /// Only the first so many entries are sure to stand.
+    pub fn rewind(&mut self, entries: usize) {
+        self.bounds.rewind(entries);
+    }
+
+    /// Takes in the entries that are new. It answers `Err` where memory runs out, and what is known stays fit for use.
+    pub fn take_in(&mut self, graph: Implications) -> Result<(), Memory> {
+        self.bounds.follow(graph)
     }
 
     /// The earliest of the entries on the literal's variable, from this one down, after which the literal is true, as it is after this
@@ -56,7 +70,7 @@ impl Orders {
         let mut near = last;
         let mut most = NEAR;
         for _ in 0..2 {
-            match walk_back(graph, truth, near, most) {
+            match self.walk_back(graph, truth, near, most) {
                 Walk::Found(found) => return Ok(found),
                 Walk::Open(at) => near = at,
             }
@@ -66,6 +80,31 @@ impl Orders {
             most = graph.trail.len();
         }
         Ok(Some(near))
+    }
+
+    /// Goes back over the entries on a variable, in at most so many steps, to the earliest after which the literal is true. From a bound that
+    /// shows it the way leads to the entry that moved this bound.
+    fn walk_back(&self, graph: Implications, truth: Lit, last: usize, most: usize) -> Walk {
+        let mut at = last;
+        for _ in 0..most {
+            let Some(bounds) = self.bounds.before(at) else {
+                return Walk::Open(at);
+            };
+            let moved_by = if bounds.are_above(truth) {
+                bounds.raised_by
+            } else if bounds.are_below(truth) {
+                bounds.lowered_by
+            } else if is_true_before(graph, at, truth) {
+                return walk_to(graph, truth, at, most);
+            } else {
+                return Walk::Found(Some(at));
+            };
+            match moved_by {
+                Some(older) => at = older,
+                None => return Walk::Found(None),
+            }
+        }
+        Walk::Open(at)
     }
 
     /// The same by halves alone; none too where it isn't found in that way.
@@ -193,16 +232,16 @@ fn ends_in(order: &[usize], known: usize, place: usize, before: Option<usize>) -
     older == before
 }
 
-/// Goes back over the entries on a variable, at most so many, to the earliest after which the literal is true.
-fn walk_back(graph: Implications, truth: Lit, last: usize, most: usize) -> Walk {
+/// Goes back over the entries on a variable, at most so many, to the one that took out the value of the literal.
+fn walk_to(graph: Implications, truth: Lit, last: usize, most: usize) -> Walk {
     let mut at = last;
     for _ in 0..most {
-        if at >= graph.trail.len() || !is_true_on(graph.trail.domain_before(at), truth) {
-            return Walk::Found(Some(at));
-        }
-        match graph.trail.before(at) {
+        match graph.before(at) {
             Some(older) => at = older,
             None => return Walk::Found(None),
+        }
+        if graph.is_at(at, truth) {
+            return Walk::Found(Some(at));
         }
     }
     Walk::Open(at)

@@ -8,6 +8,9 @@ use fzn_list::Items;
 use fzn_trail::{ClauseId, Reason};
 use std::alloc::Global;
 
+/// For how many entries an analysis has room at once; few need more.
+const USUAL: usize = 128;
+
 /// A clause with the antecedents that it follows from, if it does.
 pub fn first_uip(
     alloc: Global,
@@ -15,11 +18,11 @@ pub fn first_uip(
     marks: &mut Marks,
     conflict: Reason,
 ) -> Result<Learned, Memory> {
-    marks.begin(graph.trail.len())?;
+    marks.begin(graph)?;
     marks.explain(graph, conflict)?;
     let level = marks.find_level(graph);
-    let mut replaced = Vec::new(alloc);
-    let mut kept = Vec::new(alloc);
+    let mut replaced = Vec::with_capacity(alloc, USUAL)?;
+    let mut kept = Vec::with_capacity(alloc, USUAL)?;
     if level > 0 {
         if let Some(point) = narrow_down(graph, marks, level, &mut replaced)? {
             kept.push(point)?;
@@ -134,14 +137,14 @@ fn widest(
     marks: &Marks,
     kept: &[usize],
 ) -> Result<Vec<usize>, Memory> {
-    let mut by_variable = Vec::new(alloc);
+    let mut by_variable = Vec::with_capacity(alloc, kept.len())?;
     for place in kept {
         if let Some(entry) = graph.entry(*place) {
             by_variable.push((entry.lit.var.0, *place))?;
         }
     }
     by_variable.sort_unstable();
-    let mut clause = Vec::new(alloc);
+    let mut clause = Vec::with_capacity(alloc, kept.len())?;
     for i in 0..by_variable.len() {
         if !says_less(marks, &by_variable[i..]) {
             clause.push(by_variable[i].1)?;

@@ -48,8 +48,8 @@ impl Marks {
         }
     }
 
-    /// Takes all marks away, and makes room for so many entries.
-    pub fn begin(&mut self, len: usize) -> Result<(), Memory> {
+    /// Takes all marks away, and makes room for the entries.
+    pub fn begin(&mut self, graph: Implications) -> Result<(), Memory> {
         for i in 0..self.marked.len() {
             if let Some(place) = self.marked_at(i) {
                 self.set_need(place, None);
@@ -57,13 +57,18 @@ impl Marks {
         }
         self.marked.clear();
         self.equations.clear();
-        self.causes.begin();
+        self.causes.begin(graph)?;
         self.level = None;
         self.open = 0;
-        for _ in self.needs.len()..len {
+        for _ in self.needs.len()..graph.trail.len() {
             self.needs.push(None)?;
         }
         Ok(())
+    }
+
+    /// Of the trail's entries only the first so many are sure to stand.
+    pub fn rewind(&mut self, entries: usize) {
+        self.causes.rewind(entries);
     }
 
     /// The literal that is needed of a marked entry.
@@ -307,7 +312,7 @@ impl Marks {
         graph: Implications,
         entry: Entry,
     ) -> Result<Items<Reason>, Memory> {
-        self.causes.begin();
+        self.causes.begin(graph)?;
         graph.find_causes(&mut self.causes, entry.reason, Some(entry.lit))?;
         let mut places = Vec::new(alloc);
         for i in 0..self.causes.len() {

@@ -68,7 +68,9 @@ impl Solver {
         requires reasoned { IsReasoned (known_in (stock_of self.old)) self.old.trail }
         ensures { IsBackAt level self.old self.new }
     {
-        self.search.undo(&self.trail, self.trail.count_at(level));
+        let entries = self.trail.count_at(level);
+        self.search.undo(&self.trail, entries);
+        self.notes.marks.rewind(entries);
         self.trail.back_to(level);
         self.cut();
     }
