@@ -82,30 +82,32 @@ fn push_literals(text: &mut String, clause: &[Lit]) -> Result<(), Memory>
 fn push_literal(text: &mut String, lit: &Lit) -> Result<(), Memory>
     ensures { OnOk result (string_bytes text.new ≡ string_bytes text.old ++ after_space (literal_text lit.now)) }
 {
-    text.push_str(" ")?;
+    text.push(' ')?;
     text.push_str(Buffer::new().format(lit.var.0))?;
-    text.push_str(sign_of(lit.op))?;
+    push_sign(text, lit.op)?;
     text.push_str(Buffer::new().format(lit.value))?;
     Ok(())
 }
 
-/// How the operator is spelled.
-fn sign_of(op: Op) -> &'static str
-    ensures { result.now ≡ op_text op }
+fn push_sign(text: &mut String, op: Op) -> Result<(), Memory>
+    ensures { OnOk result (string_bytes text.new ≡ string_bytes text.old ++ op_text op) }
 {
-    match op {
-        Op::AtMost => "<=",
-        Op::AtLeast => ">=",
-        Op::Equal => "==",
-        Op::NotEqual => "!=",
-    }
+    let first = match op {
+        Op::AtMost => '<',
+        Op::AtLeast => '>',
+        Op::Equal => '=',
+        Op::NotEqual => '!',
+    };
+    text.push(first)?;
+    text.push('=')?;
+    Ok(())
 }
 
 fn push_integers(text: &mut String, integers: &[i64]) -> Result<(), Memory>
     ensures { OnOk result (string_bytes text.new ≡ string_bytes text.old ++ after_spaces (map signed_decimal integers.now)) }
 {
     for integer in integers {
-        text.push_str(" ")?;
+        text.push(' ')?;
         text.push_str(Buffer::new().format(*integer))?;
     }
     Ok(())
@@ -115,7 +117,7 @@ fn push_ids(text: &mut String, ids: &[u64]) -> Result<(), Memory>
     ensures { OnOk result (string_bytes text.new ≡ string_bytes text.old ++ after_spaces (map decimal ids.now)) }
 {
     for id in ids {
-        text.push_str(" ")?;
+        text.push(' ')?;
         text.push_str(Buffer::new().format(*id))?;
     }
     Ok(())
