@@ -18,11 +18,11 @@ ghost use Rattle.fzn_terms.specs.Denied.{that, IsDenied};
 ghost use Rattle.fzn_propagator.specs.Clause.{IsFalseClause, IsJustified};
 ghost use Rattle.fzn_circuit.specs.Circuits.{IsWay, IsAtEnd, HasNoShortWay};
 
-use fzn_domain::{Lit, Memory, Op};
+use fzn_domain::{Lit, Memory};
 use fzn_list::Items;
 use fzn_meaning::Term;
 use fzn_sets::{is_index, term_at};
-use fzn_terms::{explain, force, greatest_of, least_of};
+use fzn_terms::{Claim, explain, force, greatest_of, least_of};
 use fzn_trail::Trail;
 use std::alloc::Global;
 
@@ -40,7 +40,7 @@ pub fn explain_below(
     ensures { IfOk result (λ found. MatchBool found (IsJustified trail.now (constraint.Circuit successors.now) rule.Rows clause.new) ((default : Term) → IsDenied trail.now.sets (that (slice_index_or successors.now k default) op.AtMost (pos 0)))) }
 {
     clause.clear();
-    force(trail, successors[k], Op::AtMost, 0, clause)
+    force(trail, Claim::at_most(successors[k], 0), clause)
 }
 
 /// `true`: the clause, emptied first, is an inference by `rows`, that the successor at place k, counted from 0, is no more than there are.
@@ -57,13 +57,8 @@ pub fn explain_above(
     ensures { IfOk result (λ found. MatchBool found (IsJustified trail.now (constraint.Circuit successors.now) rule.Rows clause.new) ((default : Term) → IsDenied trail.now.sets (that (slice_index_or successors.now k default) op.AtLeast (pos (length successors.now + 1))))) }
 {
     clause.clear();
-    force(
-        trail,
-        successors[k],
-        Op::AtLeast,
-        successors.len() as i64 + 1,
-        clause,
-    )
+    let beyond = successors.len() as i64 + 1;
+    force(trail, Claim::at_least(successors[k], beyond), clause)
 }
 
 /// `true`: the clause, emptied first, is an inference by `hall`, that the successors at places i and j, counted from 0, of which the
@@ -86,8 +81,8 @@ pub fn explain_same(
     ensures { IfOk result (λ found. MatchBool found (IsJustified trail.now (constraint.Circuit successors.now) (rule.Hall value value) clause.new) ((default : Term) → IsDenied trail.now.sets (that (slice_index_or successors.now j default) op.Equal value))) }
 {
     clause.clear();
-    explain(trail, successors[i], Op::Equal, value, clause)?;
-    force(trail, successors[j], Op::Equal, value, clause)
+    explain(trail, Claim::equal(successors[i], value), clause)?;
+    force(trail, Claim::equal(successors[j], value), clause)
 }
 
 /// The one place that the successor of a place can be, where the set holds no other number.
@@ -133,7 +128,8 @@ fn follow(
         if next == start {
             return Ok(last);
         }
-        explain(trail, term_at(successors, &last), Op::Equal, next, clause)?;
+        let leads = Claim::equal(term_at(successors, &last), next);
+        explain(trail, leads, clause)?;
         places.push(next)?;
         last = next;
     }
@@ -183,7 +179,8 @@ pub fn explain_cut(
     }
     way.sort_unstable();
     let places = rising(alloc, &way)?;
-    if force(trail, term_at(successors, &last), Op::Equal, start, clause)? {
+    let back = Claim::equal(term_at(successors, &last), start);
+    if force(trail, back, clause)? {
         Ok(Some(places))
     } else {
         Ok(None)

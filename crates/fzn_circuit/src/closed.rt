@@ -15,11 +15,11 @@ ghost use Rattle.fzn_terms.specs.Denied.{that, IsEntailed, IsGrown};
 ghost use Rattle.fzn_propagator.specs.Clause.{IsFalseClause, IsJustified};
 ghost use Rattle.fzn_circuit.specs.Closed.{IsFromTo, IsPlaceIf, LeadsIntoBetween};
 
-use fzn_domain::{Domain, Lit, Memory, Op, VarId, place_of};
+use fzn_domain::{Domain, Lit, Memory, VarId, place_of};
 use fzn_list::Items;
 use fzn_meaning::Term;
 use fzn_sets::{is_index, term_at};
-use fzn_terms::{explain, greatest_of, least_of, may_be};
+use fzn_terms::{Claim, explain, greatest_of, least_of, may_be};
 use fzn_trail::Trail;
 
 /// A clause of more literals is no inference: its line may be too long.
@@ -88,7 +88,7 @@ fn explain_value(
     if may_be(trail, term, value) || MOST_LITERALS <= clause.len() {
         return Ok(false);
     }
-    explain(trail, term, Op::NotEqual, *value, clause)?;
+    explain(trail, Claim::other_than(term, *value), clause)?;
     Ok(true)
 }
 
@@ -142,8 +142,8 @@ fn explain_ends(
     requires still { IsFalseClause trail.now clause.old }
     ensures { OnOk result (IsGrown trail.now (IsFromTo low.now high.now term) clause.old clause.new) }
 {
-    explain(trail, term, Op::AtLeast, *low, clause)?;
-    explain(trail, term, Op::AtMost, *high, clause)?;
+    explain(trail, Claim::at_least(term, *low), clause)?;
+    explain(trail, Claim::at_most(term, *high), clause)?;
     Ok(())
 }
 

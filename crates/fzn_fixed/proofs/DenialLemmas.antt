@@ -19,7 +19,7 @@ use Rattle.fzn_trail.specs.Levels.{Levels}
 use Rattle.fzn_propagator.specs.Clause.{IsWritable}
 use Rattle.fzn_propagator.specs.Left.{IsLeft}
 use Rattle.fzn_propagator.proofs.CallerLemmas.{differs_not, same_value, left_of_more, last_fails, false_of_none, false_push, forcing_push}
-use Rattle.fzn_terms.specs.Claims.{IsFixed}
+use Rattle.fzn_terms.specs.Values.{IsFixed}
 use Rattle.fzn_fixed.specs.Denial.{IsOnlyLeft, IsOtherValue, IsDenial, IsDenialOr, IsTrueOn}
 
 -- a variable that has one value

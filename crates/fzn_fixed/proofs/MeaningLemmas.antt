@@ -19,7 +19,7 @@ use Rattle.fzn_propagator.specs.Inference.{AllFixed, HoldsWhereFixed}
 use Rattle.fzn_fixed.specs.declared.image.Image.{Image}
 use Rattle.fzn_fixed.specs.declared.parts.Parts.{Parts}
 use Rattle.fzn_fixed.specs.Demand.{AdmitsEach, AdmitsWhere}
-use Rattle.fzn_terms.specs.Claims.{IsFixed}
+use Rattle.fzn_terms.specs.Values.{IsFixed}
 use Rattle.fzn_terms.proofs.FixedLemmas.{fixed_to, fixed_ends}
 use Rattle.fzn_fixed.specs.Denial.{IsTrueOn}
 use Rattle.fzn_fixed.specs.Image.{Admits, IsImage}

@@ -6,7 +6,7 @@ ghost use Rattle.fzn_meaning.specs.Term.{IsTerm};
 ghost use Rattle.fzn_rules.specs.declared.rule.Rule.TheVariants as rule;
 ghost use Rattle.fzn_propagator.specs.Clause.{IsWritable, IsJustified};
 ghost use Rattle.fzn_propagator.specs.Inference.{HoldsWhereFixed};
-ghost use Rattle.fzn_terms.specs.Claims.{IsFixed};
+ghost use Rattle.fzn_terms.specs.Values.{IsFixed};
 ghost use Rattle.fzn_fixed.specs.Denial.{IsDenialOr, IsTrueOn};
 ghost use Rattle.fzn_fixed.specs.Parts.{IsReady};
 

@@ -6,7 +6,7 @@ ghost use Rattle.fzn_domain.specs.Narrow.{NoneEmpty};
 ghost use Rattle.fzn_meaning.specs.Term.{IsTerm};
 ghost use Rattle.fzn_sets.specs.Terms.{least_value};
 ghost use Rattle.fzn_propagator.specs.Left.{IsLeft};
-ghost use Rattle.fzn_terms.specs.Claims.{IsFixed};
+ghost use Rattle.fzn_terms.specs.Values.{IsFixed};
 ghost use Rattle.fzn_fixed.specs.Denial.{IsOtherValue, IsDenial};
 
 use fzn_domain::{Lit, Memory, Op};

@@ -22,7 +22,7 @@ use Rattle.fzn_meaning.proofs.CallerLemmas.{length-values_of, get_or-values_of}
 use Rattle.fzn_sets.specs.Terms.{MayBe}
 use Rattle.fzn_trail.specs.Levels.{Levels}
 use Rattle.fzn_propagator.specs.Inference.{HoldsWhereFixed}
-use Rattle.fzn_terms.specs.Claims.{place_at}
+use Rattle.fzn_terms.specs.Values.{place_at}
 use Rattle.fzn_terms.proofs.FixedLemmas.{fixed_only, now_fit}
 use Rattle.fzn_globals.specs.Apart.{AreMembers, HasOpen}
 

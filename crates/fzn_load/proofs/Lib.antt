@@ -1,2 +1,3 @@
+pub mod ClaimLemmas
 pub mod LoadLemmas
 mod PushLemmas

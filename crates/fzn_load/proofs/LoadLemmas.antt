@@ -4,7 +4,7 @@ use Rattle.std.specs.Int.{int_max}
 use Rattle.std.proofs.lemmas.Int.{ints}
 use Rattle.std.proofs.lemmas.List.{take_all}
 use Rattle.fzn_domain.specs.declared.literal.Lit.{Lit}
-use Rattle.fzn_domain.specs.declared.literal.Op.TheVariants.{AtMost, AtLeast}
+use Rattle.fzn_domain.specs.declared.literal.Op.TheVariants.{AtMost}
 use Rattle.fzn_domain.specs.IntSet.{IntSet}
 use Rattle.fzn_domain.specs.Limits.{IsInLimits}
 use Rattle.fzn_meaning.specs.declared.term.Term.{Term}
@@ -12,15 +12,18 @@ use Rattle.fzn_meaning.specs.Term.{IsTerm}
 use Rattle.fzn_rules.specs.declared.rule.Rule.TheVariants.{Load}
 use Rattle.fzn_rules.specs.Rules.{IsMet}
 use Rattle.fzn_sets.specs.Terms.{least_value, greatest_value}
-use Rattle.fzn_sets.proofs.ValueLemmas.{MayBe-ends, MayBe-between}
+use Rattle.fzn_sets.proofs.ValueLemmas.{MayBe-ends}
 use Rattle.fzn_global_rules.specs.Load.{IsLoadMet}
 use Rattle.fzn_trail.specs.Levels.{Levels}
-use Rattle.fzn_propagator.specs.Clause.{AreLeft, IsJustified}
-use Rattle.fzn_terms.specs.Denied.{that, IsEntailed, IsExplained}
+use Rattle.fzn_propagator.specs.Clause.{IsJustified}
+use Rattle.fzn_terms.specs.declared.claim.Claim.{Claim}
+use Rattle.fzn_terms.specs.Denied.{that, IsExplained, IsGrown}
 use Rattle.fzn_load.specs.declared.tasks.Tasks.{Tasks}
-use Rattle.fzn_load.specs.Loads.{AreReady, cumulative_of, IsTime, least_use_of, runs_surely, total_of, total_but, IsUseExplained, AreExplained}
+use Rattle.fzn_load.specs.Loads.{AreReady, cumulative_of, IsTime, least_use_of, total_of, total_but, IsUseExplained, AreExplained, HasNoMore}
+use Rattle.fzn_load.specs.Claims.{AreEntailedBut, task_claims, AreWithin, IsLeast}
+use Rattle.fzn_load.proofs.ClaimLemmas.{task_same, task_said}
 use Rattle.fzn_propagator.proofs.CallerLemmas.{forcing_of_false, justified_where}
-use Rattle.fzn_terms.proofs.OrderLemmas.{at_most, step_more, step_spare, wider, le_test}
+use Rattle.fzn_terms.proofs.OrderLemmas.{at_most, le_trans, step_more, step_spare, wider}
 
 module _ (sets : List IntSet) (t : ℤ) where
   total-take : (ss ds rs : List Term) (k : ℕ) (x : Term) → length ds ≡ length ss → length rs ≡ length ss → k < length ss → total_of sets t (take (suc k) ss) (take (suc k) ds) (take (suc k) rs) ≡ total_of sets t (take k ss) (take k ds) (take k rs) +ℤ least_use_of sets t (get_or ss k x) (get_or ds k x) (get_or rs k x)
@@ -76,51 +79,46 @@ module _ (sets : List IntSet) (t : ℤ) where
       let rest = but-one ss ds rs e x (omega arith) (omega arith) (omega arith) in
       omega (arith, ints)
 
--- a task whose terms are so runs at the time, and uses so much
-runs_then : (t low high shortest lowest s l h u : ℤ) → int_le high t ≡ true → int_le ((t -ℤ s) +ℤ pos 1) low ≡ true → int_le s shortest ≡ true → int_le u lowest ≡ true → cond (int_le h t && int_lt t (l +ℤ s)) (int_max (pos 0) u) (pos 0) ≤ℤ cond (int_le high t && int_lt t (low +ℤ shortest)) (int_max (pos 0) lowest) (pos 0)
-runs_then t low high shortest lowest s l h u a b c d = grind (arith, ints)
+time_is : (t : ℤ) → IsTime t → to_z w64 (of_z w64 t) ≡ t
+time_is t time = omega (arith, ints, time.0, time.1)
 
-pub all_most : (sets : List IntSet) (term : Term) (n : ℤ) → greatest_value sets term ≤ℤ n → IsEntailed sets (that term AtMost n)
-all_most sets term n h v may = let b = MayBe-between sets term v may in le_test v (greatest_value sets term) n b.1 h
+pub least_is : (n : ℤ) → IsLeast n → to_z w64 (of_z w64 n) ≡ n
+least_is n least = omega (arith, ints, least.0, least.1)
 
-pub all_least : (sets : List IntSet) (term : Term) (n : ℤ) → n ≤ℤ least_value sets term → IsEntailed sets (that term AtLeast n)
-all_least sets term n h v may = let b = MayBe-between sets term v may in le_test n (least_value sets term) v h b.0
+pub earliest_is : (t s : ℤ) → IsTime t → IsLeast s → to_z w64 (of_z w64 (to_z w64 (of_z w64 (to_z w64 (of_z w64 t) -ℤ to_z w64 (of_z w64 s))) +ℤ pos 1)) ≡ (t -ℤ s) +ℤ pos 1
+earliest_is t s time long = omega (arith, ints, time.0, time.1, long.0, long.1)
 
-run_parts : (high t low s : ℤ) → (int_le high t && int_lt t (low +ℤ s)) ≡ true → (high ≤ℤ t) × (((t -ℤ s) +ℤ pos 1) ≤ℤ low)
+-- how the code computes the numbers of the claims
+pub claims_are : (start duration uses : Term) (t s u : ℤ) (claims : List Claim) → IsTime t → IsLeast s → IsLeast u → claims ≡ task_claims start duration uses (to_z w64 (of_z w64 t)) (to_z w64 (of_z w64 (to_z w64 (of_z w64 (to_z w64 (of_z w64 t) -ℤ to_z w64 (of_z w64 s))) +ℤ pos 1))) (to_z w64 (of_z w64 s)) (to_z w64 (of_z w64 u)) → claims ≡ task_claims start duration uses t ((t -ℤ s) +ℤ pos 1) s u
+claims_are start duration uses t s u claims time long near is =
+    task_same start duration uses _ _ _ _ t _ s u claims is (time_is t time) (earliest_is t s time long) (least_is s long) (least_is u near)
+
+pub limits_least : (n : ℤ) → IsInLimits n → IsLeast n
+limits_least n limits = (omega (arith, ints, limits.0, limits.1), omega (arith, ints, limits.0, limits.1))
+
+pub run_parts : (high t low s : ℤ) → (int_le high t && int_lt t (low +ℤ s)) ≡ true → (high ≤ℤ t) × (((t -ℤ s) +ℤ pos 1) ≤ℤ low)
 run_parts high t low s h = (grind (arith, ints), grind (arith, ints))
 
--- how the code computes the earliest start of a task that runs at the time
-pub earliest_is : (t s d : ℤ) → IsTime t → IsInLimits s → s ≡ d → to_z w64 (of_z w64 (to_z w64 (of_z w64 (to_z w64 (of_z w64 t) -ℤ to_z w64 (of_z w64 s))) +ℤ pos 1)) ≡ (t -ℤ d) +ℤ pos 1
-earliest_is t s d time limits e = omega (arith, ints, time.0, time.1, limits.0, limits.1)
+uses_full : (t high low s shortest u lowest : ℤ) → high ≤ℤ t → ((t -ℤ s) +ℤ pos 1) ≤ℤ low → s ≤ℤ shortest → u ≤ℤ lowest → int_max (pos 0) u ≤ℤ cond (int_le high t && int_lt t (low +ℤ shortest)) (int_max (pos 0) lowest) (pos 0)
+uses_full t high low s shortest u lowest a b c d = grind (arith, ints)
 
-module _ (trail : Levels) (t : ℤ) (start duration uses : Term) where
-  -- what the four literals say on the trail
-  pub run_most : runs_surely trail.sets t start duration ≡ true → IsEntailed trail.sets (that start AtMost t)
-  run_most runs = all_most trail.sets start t (run_parts (greatest_value trail.sets start) t (least_value trail.sets start) (least_value trail.sets duration) runs).0
+-- where a task is so, it runs at the time and uses so much
+pub use_full : (sets : List IntSet) (start duration uses : Term) (t s u : ℤ) → AreWithin sets start duration uses t ((t -ℤ s) +ℤ pos 1) s u → int_max (pos 0) u ≤ℤ least_use_of sets t start duration uses
+use_full sets start duration uses t s u within = uses_full t (greatest_value sets start) (least_value sets start) s (least_value sets duration) u (least_value sets uses) within.no_later within.no_sooner within.no_shorter within.no_less
 
-  pub run_least : runs_surely trail.sets t start duration ≡ true → IsEntailed trail.sets (that start AtLeast ((t -ℤ least_value trail.sets duration) +ℤ pos 1))
-  run_least runs = all_least trail.sets start _ (run_parts (greatest_value trail.sets start) t (least_value trail.sets start) (least_value trail.sets duration) runs).1
+use_most : (high t low s u : ℤ) → cond (int_le high t && int_lt t (low +ℤ s)) (int_max (pos 0) u) (pos 0) ≤ℤ int_max (pos 0) u
+use_most high t low s u = grind (arith, ints)
 
-  -- and wherever they are denied
-  use_stays : (clause : List Lit) (sets : List IntSet) → AreLeft trail.declared clause sets → IsTerm (length trail.declared) start → IsTerm (length trail.declared) duration → IsTerm (length trail.declared) uses → IsEntailed sets (that start AtMost t) → IsEntailed sets (that start AtLeast ((t -ℤ least_value trail.sets duration) +ℤ pos 1)) → IsEntailed sets (that duration AtLeast (least_value trail.sets duration)) → IsEntailed sets (that uses AtLeast (least_value trail.sets uses)) → least_use_of trail.sets t start duration uses ≤ℤ least_use_of sets t start duration uses
-  use_stays clause sets left fit_start fit_duration fit_uses a b d e =
-      let count = sym left.one_each in
-      let starts = MayBe-ends sets start left.filled (subst (λ (n : ℕ). IsTerm n start) count fit_start) in
-      let durations = MayBe-ends sets duration left.filled (subst (λ (n : ℕ). IsTerm n duration) count fit_duration) in
-      let used = MayBe-ends sets uses left.filled (subst (λ (n : ℕ). IsTerm n uses) count fit_uses) in
-      runs_then t (least_value sets start) (greatest_value sets start) (least_value sets duration) (least_value sets uses) (least_value trail.sets duration) (least_value trail.sets start) (greatest_value trail.sets start) (least_value trail.sets uses)
-      (a (greatest_value sets start) starts.1) (b (least_value sets start) starts.0) (d (least_value sets duration) durations.0) (e (least_value sets uses) used.0)
-
-  pub use_explained : (c0 c1 c2 c3 c4 : List Lit) → IsTerm (length trail.declared) start → IsTerm (length trail.declared) duration → IsTerm (length trail.declared) uses → IsExplained trail (that start AtMost t) c0 c1 → IsExplained trail (that start AtLeast ((t -ℤ least_value trail.sets duration) +ℤ pos 1)) c1 c2 → IsExplained trail (that duration AtLeast (least_value trail.sets duration)) c2 c3 → IsExplained trail (that uses AtLeast (least_value trail.sets uses)) c3 c4 → IsUseExplained trail t start duration uses c0 c4
-  use_explained c0 c1 c2 c3 c4 fit_start fit_duration fit_uses a b d e = record {
-    still = e.still;
-    keeps = λ sets left. a.keeps sets (b.keeps sets (d.keeps sets (e.keeps sets left)));
-    says = λ sets left.
-        let left3 = e.keeps sets left in
-        let left2 = d.keeps sets left3 in
-        let left1 = b.keeps sets left2 in
-        use_stays c4 sets left fit_start fit_duration fit_uses (a.says sets left1) (b.says sets left2) (d.says sets left3) (e.says sets left);
-  }
+-- so it uses no less than on the trail
+pub use_explained : (trail : Levels) (t : ℤ) (start duration uses : Term) (old new : List Lit) → IsTerm (length trail.declared) start → IsTerm (length trail.declared) duration → IsTerm (length trail.declared) uses → IsGrown trail (AreEntailedBut 4 (task_claims start duration uses t ((t -ℤ least_value trail.sets duration) +ℤ pos 1) (least_value trail.sets duration) (least_value trail.sets uses))) old new → IsUseExplained trail t start duration uses old new
+use_explained trail t start duration uses old new fit_start fit_duration fit_uses said = record {
+  still = said.still;
+  keeps = said.keeps;
+  says = λ sets left.
+      le_trans _ _ _ (use_most (greatest_value trail.sets start) t (least_value trail.sets start) (least_value trail.sets duration) (least_value trail.sets uses))
+      (use_full sets start duration uses t (least_value trail.sets duration) (least_value trail.sets uses)
+      (task_said start duration uses _ _ _ _ trail new sets left fit_start fit_duration fit_uses (λ k any below. said.says sets left k any below (omega arith))));
+}
 
 -- ---- the loop over the tasks
 
@@ -208,20 +206,25 @@ explained_all trail t e k spare ss ds rs old new p q past h =
 
 -- ---- the rule
 
+-- a clause that says no more than what the capacity may be
+pub no_more : (trail : Levels) (tasks : Tasks) (capacity : ℤ) (new : List Lit) → IsTerm (length trail.declared) tasks.capacity → capacity ≡ greatest_value trail.sets tasks.capacity → (old : List Lit) → IsExplained trail (that tasks.capacity AtMost capacity) old new → HasNoMore trail tasks new
+no_more trail tasks capacity new fit is old said = record {
+  still = said.still;
+  says = λ sets left.
+      let ends = MayBe-ends sets tasks.capacity left.filled (subst (λ (k : ℕ). IsTerm k tasks.capacity) (sym left.one_each) fit) in
+      subst (λ (n : ℤ). greatest_value sets tasks.capacity ≤ℤ n) is (at_most (greatest_value sets tasks.capacity) capacity (said.says sets left (greatest_value sets tasks.capacity) ends.1));
+}
+
 over_of : (capacity load spare most total : ℤ) → most ≤ℤ capacity → load ≤ℤ (total +ℤ spare) → spare ≡ (load -ℤ capacity) -ℤ pos 1 → most <ℤ total
 over_of capacity load spare most total a b e = omega (arith, ints)
 
-pub load_inferred : (trail : Levels) (tasks : Tasks) (t capacity spare : ℤ) (n : ℕ) (c0 c1 c2 : List Lit) → AreReady (length trail.declared) tasks → length tasks.starts ≤ n → IsExplained trail (that tasks.capacity AtMost capacity) c0 c1 → AreExplained trail t n spare tasks.starts tasks.durations tasks.uses c1 c2 → spare ≡ (total_of trail.sets t tasks.starts tasks.durations tasks.uses -ℤ capacity) -ℤ pos 1 → IsJustified trail (cumulative_of tasks) (Load t) c2
+pub load_inferred : (trail : Levels) (tasks : Tasks) (t spare : ℤ) (n : ℕ) (c1 c2 : List Lit) → AreReady (length trail.declared) tasks → length tasks.starts ≤ n → HasNoMore trail tasks c1 → AreExplained trail t n spare tasks.starts tasks.durations tasks.uses c1 c2 → spare ≡ (total_of trail.sets t tasks.starts tasks.durations tasks.uses -ℤ greatest_value trail.sets tasks.capacity) -ℤ pos 1 → IsJustified trail (cumulative_of tasks) (Load t) c2
 unfolding IsMet IsLoadMet
-load_inferred trail tasks t capacity spare n c0 c1 c2 ready all most explained is =
+load_inferred trail tasks t spare n c1 c2 ready all most explained is =
     justified_where trail (cumulative_of tasks) (Load t) c2 (forcing_of_false trail c2 explained.still) (λ sets left.
-    let ss = tasks.starts in
-    let ds = tasks.durations in
-    let rs = tasks.uses in
     let on_trail = but-none trail.sets t tasks.starts tasks.durations tasks.uses n ready.as_many_durations ready.as_many_uses all in
     let on_sets = but-none sets t tasks.starts tasks.durations tasks.uses n ready.as_many_durations ready.as_many_uses all in
-    let ends = MayBe-ends sets tasks.capacity left.filled (subst (λ (k : ℕ). IsTerm k tasks.capacity) (sym left.one_each) ready.capacity) in
-    over_of capacity (total_of trail.sets t tasks.starts tasks.durations tasks.uses) spare (greatest_value sets tasks.capacity) (total_of sets t tasks.starts tasks.durations tasks.uses)
-    (at_most (greatest_value sets tasks.capacity) capacity (most.says sets (explained.keeps sets left) (greatest_value sets tasks.capacity) ends.1))
+    over_of (greatest_value trail.sets tasks.capacity) (total_of trail.sets t tasks.starts tasks.durations tasks.uses) spare (greatest_value sets tasks.capacity) (total_of sets t tasks.starts tasks.durations tasks.uses)
+    (most.says sets (explained.keeps sets left))
     (subst (λ (a : ℤ). a ≤ℤ (total_of sets t tasks.starts tasks.durations tasks.uses +ℤ spare)) on_trail (subst (λ (b : ℤ). total_but n trail.sets t tasks.starts tasks.durations tasks.uses ≤ℤ (b +ℤ spare)) on_sets (explained.says sets left)))
     is)

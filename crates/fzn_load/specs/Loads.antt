@@ -15,7 +15,7 @@ use Rattle.fzn_global_rules.specs.Tasks.{task_terms, sum_over}
 use Rattle.fzn_global_rules.specs.Load.{least_use_at}
 use Rattle.fzn_trail.specs.Levels.{Levels}
 use Rattle.fzn_propagator.specs.Clause.{Says, IsFalseClause}
-use Rattle.fzn_terms.specs.Denied.{that, IsDenied, IsGrown, IsGrownToForce}
+use Rattle.fzn_terms.specs.Denied.{that, IsDenied, IsGrown}
 use Rattle.fzn_load.specs.declared.tasks.Tasks.{Tasks}
 
 -- tasks on this many variables
@@ -66,9 +66,10 @@ AreExplained trail time except spare starts durations uses old new = IsGrown tra
 abbrev pub IsKeptAt : List IntSet → Tasks → ℤ → Type 0
 IsKeptAt sets tasks time = total_of sets time tasks.starts tasks.durations tasks.uses ≤ℤ greatest_value sets tasks.capacity
 
--- the clause, grown from a false one, is false or forces a literal, and says besides that the task uses so much at the time
-abbrev pub IsUseForced : Levels → ℤ → ℤ → Term → Term → Term → List Lit → List Lit → Type 0
-IsUseForced trail time amount start duration uses old new = IsGrownToForce trail (λ sets. amount ≤ℤ least_use_of sets time start duration uses) old new
+-- the clause is false, and says that the capacity is no more than it may be on the trail
+pub record HasNoMore (trail : Levels) (tasks : Tasks) (clause : List Lit) : Type 0 where
+  pub still : IsFalseClause trail clause
+  pub says : Says trail.declared clause (λ sets. greatest_value sets tasks.capacity ≤ℤ greatest_value trail.sets tasks.capacity)
 
 -- what a task uses at least while it runs
 abbrev pub least_amount : List IntSet → Term → ℤ
@@ -79,9 +80,9 @@ pub record AreOver (trail : Levels) (time : ℤ) (except : ℕ) (amount : ℤ) (
   pub still : IsFalseClause trail clause
   pub says : Says trail.declared clause (λ sets. greatest_value sets tasks.capacity <ℤ (total_but except sets time tasks.starts tasks.durations tasks.uses +ℤ amount))
 
--- one more than a task or the capacity may be, at the most
+-- not below 0, nor far above what a task or the capacity may be
 abbrev pub IsAmount : ℤ → Type 0
-IsAmount amount = (pos 0 ≤ℤ amount) × (amount ≤ℤ pos 1000000001)
+IsAmount amount = (pos 0 ≤ℤ amount) × (amount ≤ℤ pos 3000000001)
 
 -- the terms of the task at an index
 abbrev pub start_at : Tasks → ℕ → Term

@@ -6,13 +6,14 @@ ghost use Rattle.std.specs.Int.{int_max};
 ghost use Rattle.fzn_sets.specs.Terms.{least_value};
 ghost use Rattle.fzn_rules.specs.declared.rule.Rule.TheVariants as rule;
 ghost use Rattle.fzn_propagator.specs.Clause.{IsFalseClause, IsJustified};
-ghost use Rattle.fzn_load.specs.Loads.{AreReady, cumulative_of, IsTime, least_use_of, runs_surely, total_of, IsUseExplained, AreExplained, IsKeptAt};
+ghost use Rattle.fzn_load.specs.Loads.{AreReady, cumulative_of, IsTime, least_use_of, runs_surely, total_of, IsUseExplained, AreExplained, IsKeptAt, HasNoMore};
 
+use crate::claims::{explain_claims, task_claims};
 use crate::tasks::Tasks;
-use fzn_domain::{Lit, Memory, Op};
+use fzn_domain::{Lit, Memory};
 use fzn_list::Items;
 use fzn_meaning::Term;
-use fzn_terms::{explain, greatest_of, least_of};
+use fzn_terms::{Claim, explain, greatest_of, least_of};
 use fzn_trail::Trail;
 
 /// What a task uses at least while it runs, and no less than 0. Each present set has a value.
@@ -101,12 +102,28 @@ fn explain_use(
     ensures { OnOk result (IsUseExplained trail.now time.now start duration uses clause.old clause.new) }
 {
     let shortest = least_of(trail, duration);
-    let least = least_of(trail, uses);
-    explain(trail, start, Op::AtMost, *time, clause)?;
-    explain(trail, start, Op::AtLeast, *time - shortest + 1, clause)?;
-    explain(trail, duration, Op::AtLeast, shortest, clause)?;
-    explain(trail, uses, Op::AtLeast, least, clause)?;
-    Ok(())
+    let claims = task_claims(
+        start,
+        duration,
+        uses,
+        *time,
+        *time - shortest + 1,
+        shortest,
+        least_of(trail, uses),
+    );
+    explain_claims(trail, &claims, claims.len(), clause)
+}
+
+/// Empties the clause, and adds what it takes to say that the capacity is no more than it may be on the trail. It answers `Err` where
+/// memory runs out.
+pub fn explain_capacity(trail: &Trail, tasks: &Tasks, clause: &mut Items<Lit>) -> Result<(), Memory>
+    requires tasks { AreReady (length trail.now.declared) tasks.now }
+    requires filled { NoneEmpty trail.now.sets }
+    ensures { OnOk result (HasNoMore trail.now tasks.now clause.new) }
+{
+    let capacity = greatest_of(trail, tasks.capacity);
+    clause.clear();
+    explain(trail, Claim::at_most(tasks.capacity, capacity), clause)
 }
 
 /// Adds to a false clause what it takes to say that the tasks, but for the one at an index, use at the time no less than on the trail,
@@ -161,8 +178,7 @@ pub fn explain_load(
     if load <= capacity {
         return Ok(false);
     }
-    clause.clear();
-    explain(trail, tasks.capacity, Op::AtMost, capacity, clause)?;
+    explain_capacity(trail, tasks, clause)?;
     explain_uses(
         trail,
         tasks,

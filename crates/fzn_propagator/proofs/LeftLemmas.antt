@@ -67,14 +67,6 @@ pub left_of_more : (declared : List IntSet) (clause more : List Lit) (term : Ter
 left_of_more declared clause more (Constant k) v left = left
 left_of_more declared clause more (Variable var) v left = (left.0, All-front (λ (l : Lit). l.var ≡ var → is_true_at l v ≡ false) clause more left.1)
 
-All-back : {X : Type 0} (P : X → Type 0) (xs ys : List X) → All P (xs ++ ys) → All P ys
-All-back P [] ys all = all
-All-back P (x ∷ xs) ys all = All-back P xs ys (All-tail P x (xs ++ ys) all)
-
-pub left_of_later : (declared : List IntSet) (clause more : List Lit) (term : Term) (v : ℤ) → IsLeft declared (clause ++ more) term v → IsLeft declared more term v
-left_of_later declared clause more (Constant k) v left = left
-left_of_later declared clause more (Variable var) v left = (left.0, All-back (λ (l : Lit). l.var ≡ var → is_true_at l v ≡ false) clause more left.1)
-
 -- the last literal of a clause is false at each value that is left
 pub last_fails : (declared : List IntSet) (clause : List Lit) (lit : Lit) (v : ℤ) → IsLeft declared (clause ++ lit ∷ []) (Variable lit.var) v → is_true_at lit v ≡ false
 last_fails declared clause lit v left = All-contains (λ (l : Lit). l.var ≡ lit.var → is_true_at l v ≡ false) (clause ++ lit ∷ []) lit left.1 (Contains-push clause lit) refl

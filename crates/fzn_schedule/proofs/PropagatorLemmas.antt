@@ -1,5 +1,5 @@
 -- Where no clause is left and all variables are fixed, the tasks keep the capacity.
-use Rattle.std.proofs.Common.{◌≡◌, ℕ, ◌-◌, ◌<◌, Bool, true, false, cond, ◌&&◌, List, [], ◌∷◌, length, get_or, refl, sym, ap, ap₂, subst, ◌∙◌, inl, inr, arith, ℤ, pos, negsuc, ◌+ℤ◌, ◌≤ℤ◌, ◌<ℤ◌, All, int_le, int_lt}
+use Rattle.std.proofs.Common.{◌≡◌, ℕ, ◌<◌, Bool, true, false, cond, ◌&&◌, List, [], ◌∷◌, length, get_or, refl, sym, ap, ap₂, subst, ◌∙◌, inl, inr, arith, ℤ, pos, negsuc, ◌+ℤ◌, ◌≤ℤ◌, ◌<ℤ◌, All, int_le, int_lt}
 use Rattle.std.specs.Int.{int_max}
 use Rattle.std.specs.List.{Any}
 use Rattle.std.proofs.lemmas.Int.{ints}
@@ -31,7 +31,7 @@ use Rattle.fzn_trail.specs.Levels.{Levels}
 use Rattle.fzn_propagator.specs.Inference.{AllFixed, IsExhausted}
 use Rattle.fzn_terms.specs.Denied.{that, IsEntailed}
 use Rattle.fzn_propagator.specs.Clause.{IsJustified, IsForcing, Says}
-use Rattle.fzn_terms.specs.Claims.{IsFixed}
+use Rattle.fzn_terms.specs.Values.{IsFixed}
 use Rattle.fzn_terms.proofs.FixedLemmas.{fixed_to, fixed_ends}
 use Rattle.fzn_load.specs.declared.tasks.Tasks.{Tasks}
 use Rattle.fzn_load.specs.Loads.{AreReady, cumulative_of, total_of}

@@ -23,13 +23,13 @@ ghost use Rattle.fzn_schedule.specs.Kept.{AreNotBelow, HasNoneBelow, IsSomeBelow
 
 use crate::energy_pass::first_energy;
 use crate::load_pass::{find_by_profile, first_of_fixed};
-use fzn_domain::{Lit, Memory, Op};
+use fzn_domain::{Lit, Memory};
 use fzn_list::{Items, Shared};
 use fzn_load::Tasks;
 use fzn_meaning::{Constraint, Model, Term};
 use fzn_propagator::{Cost, Event, Findings, Propagator, Subscriptions};
 use fzn_rules::Rule;
-use fzn_terms::force;
+use fzn_terms::{Claim, force};
 use fzn_trail::Trail;
 use std::alloc::Global;
 
@@ -199,7 +199,7 @@ fn is_not_below(
     ensures { IfOk result (λ found. MatchBool found (IsSomeBelow trail.now terms.now clause.new) ((default : Term) → IsDenied trail.now.sets (that (slice_index_or terms.now k default) op.AtMost (negsuc 0)))) }
 {
     clause.clear();
-    force(trail, terms[k], Op::AtMost, -1, clause)
+    force(trail, Claim::at_most(terms[k], -1), clause)
 }
 
 /// Finds that the capacity is not below 0.
@@ -218,7 +218,7 @@ fn find_negative_capacity(
     ensures none { OnOk result (found.new ≡ [] → IsDenied trail.now.sets (that tasks.now.capacity op.AtMost (negsuc 0))) }
 {
     let mut clause = Items::new(alloc);
-    if force(trail, tasks.capacity, Op::AtMost, -1, &mut clause)? {
+    if force(trail, Claim::at_most(tasks.capacity, -1), &mut clause)? {
         found.hand_over(number, Rule::Rows, Some(clause))?;
     }
     Ok(())

@@ -8,9 +8,8 @@ use Rattle.fzn_domain.specs.Literal.{compares, is_true_at}
 use Rattle.fzn_domain.specs.IntSet.{IntSet}
 use Rattle.fzn_meaning.specs.declared.term.Term.{Term}
 use Rattle.fzn_sets.specs.Terms.{MayBe, least_value, greatest_value}
-use Rattle.fzn_global_rules.specs.GlobalRows.{AreRowsOut}
-use Rattle.fzn_propagator.specs.Left.{IsLeft}
-use Rattle.fzn_terms.specs.Claims.{place_at}
+use Rattle.fzn_global_rules.specs.GlobalRows.{IsRowOut, AreRowsOut}
+use Rattle.fzn_terms.specs.Values.{place_at}
 use Rattle.fzn_terms.specs.Narrow.{IsNarrow}
 
 -- the rule `rows` of these places and rows
@@ -46,9 +45,13 @@ pub record IsSupport (sets : List IntSet) (places : List Term) (rows : List ℤ)
 abbrev pub IsSupported : List IntSet → List Term → List ℤ → ℕ → ℤ → Type 0
 IsSupported sets places rows p value = (r : ℕ) × IsSupport sets places rows p value r
 
--- some supported value of the place does not stand so to the bound
-abbrev pub HasSupportAgainst : List IntSet → List Term → List ℤ → ℕ → Op → ℤ → Type 0
-HasSupportAgainst sets places rows p op bound = (v : ℤ) × (compares op v bound ≡ false) × IsSupported sets places rows p v
+-- some value of the term stands so to the bound
+abbrev pub MayStand : List IntSet → Term → Op → ℤ → Type 0
+MayStand sets term op bound = (v : ℤ) × MayBe sets term v × (compares op v bound ≡ true)
+
+-- some supported value of the place does
+abbrev pub HasSupportThat : List IntSet → List Term → List ℤ → ℕ → Op → ℤ → Type 0
+HasSupportThat sets places rows p op bound = (v : ℤ) × (compares op v bound ≡ true) × IsSupported sets places rows p v
 
 -- ---- narrow places
 
@@ -72,10 +75,6 @@ AreSupported sets places rows count = (p : ℕ) → p < count → HasSupports se
 abbrev pub IsBarred : List Lit → VarId → ℤ → Type 0
 IsBarred clause var value = (lit : Lit) × Contains clause lit × (lit.var ≡ var) × (is_true_at lit value ≡ true)
 
--- some value of the row is not left its place
-abbrev pub IsRowRefuted : List IntSet → List Lit → List Term → List ℤ → ℕ → Type 0
-IsRowRefuted declared clause places rows r = (k : ℕ) × (k < length places) × (IsLeft declared clause (place_at places k) (number_at places rows r k) → ⊥)
-
--- so of each of the first rows whose value at the place does not stand so to the bound
-abbrev pub AreRowsRefuted : List IntSet → List Lit → List Term → List ℤ → ℕ → Op → ℤ → ℕ → Type 0
-AreRowsRefuted declared clause places rows p op bound count = (r : ℕ) → r < count → compares op (number_at places rows r p) bound ≡ false → IsRowRefuted declared clause places rows r
+-- of each of the first rows whose value at the place stands so to the bound, some value is not in its place's set
+abbrev pub AreMatchesOut : List IntSet → List Term → List ℤ → ℕ → Op → ℤ → ℕ → Type 0
+AreMatchesOut sets places rows p op bound count = (r : ℕ) → r < count → compares op (number_at places rows r p) bound ≡ true → IsRowOut sets places rows r

@@ -1,5 +1,5 @@
 // What follows from the rows of a table: by the rule `rows`.
-ghost use Rattle.std.specs.Prelude.{◌≡◌, ◌≢◌, ◌↔◌, ◌+◌, ◌*◌, ◌<◌, ◌≤◌, false, true, ℕ, ℤ, pos, [], IsTrue, IfOk, IfSome, IfNone, OnOk, length};
+ghost use Rattle.std.specs.Prelude.{◌≡◌, ◌≢◌, ◌↔◌, ◌+◌, ◌*◌, ◌<◌, ◌≤◌, false, true, ℕ, ℤ, pos, [], IsTrue, MatchBool, IfOk, IfSome, IfNone, OnOk, length};
 ghost use Rattle.std.specs.List.{All};
 ghost use Rattle.fzn_domain.specs.Limits.{IsInLimits, IsNearLimits};
 ghost use Rattle.fzn_domain.specs.Literal.{compares};
@@ -9,10 +9,11 @@ ghost use Rattle.fzn_meaning.specs.Term.{IsTerm, numbers_in};
 ghost use Rattle.fzn_sets.specs.Terms.{MayBe};
 ghost use Rattle.fzn_propagator.specs.Left.{IsLeft};
 ghost use Rattle.fzn_propagator.specs.Clause.{IsJustifiedBy, IsFalseClause};
-ghost use Rattle.fzn_terms.specs.Claims.{CanFail, LeavesNoMore, place_at};
-ghost use Rattle.fzn_terms.specs.Denied.{that, IsDenied};
+ghost use Rattle.fzn_global_rules.specs.GlobalRows.{IsRowOut};
+ghost use Rattle.fzn_terms.specs.Values.{place_at};
+ghost use Rattle.fzn_terms.specs.Denied.{IsEntailed, IsGrown};
 ghost use Rattle.fzn_terms.specs.Intervals.{IsLimitedInterval, ends_of};
-ghost use Rattle.fzn_table.specs.Supports.{AreRowsOutOn, number_at, IsWhole, IsOutAt, IsOpenUpTo, AreOpen, IsSupported, IsNarrowPlace, HasSupportAgainst, HasSupports, AreSupported, IsBarred, IsRowRefuted, AreRowsRefuted};
+ghost use Rattle.fzn_table.specs.Supports.{AreRowsOutOn, number_at, IsWhole, IsOutAt, IsOpenUpTo, AreOpen, IsSupported, IsNarrowPlace, MayStand, HasSupportThat, HasSupports, AreSupported, IsBarred};
 ghost use Rattle.fzn_propagator.specs.Inference.{AreFoundOf};
 
 use crate::supports::Supports;
@@ -21,7 +22,9 @@ use fzn_list::Items;
 use fzn_meaning::Term;
 use fzn_propagator::Findings;
 use fzn_rules::Rule;
-use fzn_terms::{Interval, interval_of, is_narrow, least_of, may_be, next_value, push_claim};
+use fzn_terms::{
+    Claim, Interval, explain, force, interval_of, is_narrow, least_of, may_be, next_value,
+};
 use fzn_trail::Trail;
 use std::alloc::Global;
 
@@ -91,37 +94,48 @@ fn is_narrow_place(trail: &Trail, places: &[Term], rows: &[Term], p: usize, ends
     is_narrow(trail, places[p], ends, rows.len() / places.len())
 }
 
-/// A claim that holds of the value and of none that the place has: of a wide place a bound, where the value lies beyond its ends.
-fn claim_out(trail: &Trail, places: &[Term], rows: &[Term], k: usize, value: &i64) -> (Op, i64)
+/// A claim that is true of each value that the place has, and not of this value: of a wide place a bound, where the value lies beyond its
+/// ends.
+fn claim_out(trail: &Trail, places: &[Term], rows: &[Term], k: usize, value: &i64) -> Claim
     requires places { All (IsTerm (length trail.now.declared)) places.now }
     requires filled { NoneEmpty trail.now.sets }
     requires in_range { k < length places.now }
     requires number { IsInLimits value.now }
     requires out { MayBe trail.now.sets (place_at places.now k) value.now → ⊥ }
-    ensures holds { compares result.0 value.now result.1 ≡ true }
-    ensures none { IsDenied trail.now.sets (that (place_at places.now k) result.0 result.1) }
-    ensures near { IsNearLimits result.1 }
+    ensures term { result.term ≡ place_at places.now k }
+    ensures present { IsEntailed trail.now.sets result }
+    ensures fails { compares result.op value.now result.number ≡ false }
+    ensures near { IsNearLimits result.number }
 {
-    let ends = interval_of(trail, places[k]);
+    let term = places[k];
+    let ends = interval_of(trail, term);
     if !is_narrow_place(trail, places, rows, k, ends) {
         if *value < ends.low {
-            return (
-                Op::AtMost,
-                nearest(places, rows, k, Op::AtMost, value, &ends.low),
-            );
+            let nearest = nearest(places, rows, k, Op::AtMost, value, &ends.low);
+            return Claim {
+                term,
+                op: Op::AtLeast,
+                number: nearest + 1,
+            };
         }
         if ends.high < *value {
-            return (
-                Op::AtLeast,
-                nearest(places, rows, k, Op::AtLeast, value, &ends.high),
-            );
+            let nearest = nearest(places, rows, k, Op::AtLeast, value, &ends.high);
+            return Claim {
+                term,
+                op: Op::AtMost,
+                number: nearest - 1,
+            };
         }
     }
-    (Op::Equal, *value)
+    Claim {
+        term,
+        op: Op::NotEqual,
+        number: *value,
+    }
 }
 
-/// Adds a claim that bars the value from the place, where neither its declared set nor the clause does.
-fn push_out(
+/// Adds to a false clause what it takes to say that the place has not this value, which it has not on the trail.
+fn explain_out(
     trail: &Trail,
     places: &[Term],
     rows: &[Term],
@@ -134,16 +148,14 @@ fn push_out(
     requires in_range { k < length places.now }
     requires number { IsInLimits value.now }
     requires out { MayBe trail.now.sets (place_at places.now k) value.now → ⊥ }
-    requires refuted { IsFalseClause trail.now clause.old }
-    ensures refuted { OnOk result (IsFalseClause trail.now clause.new) }
-    ensures fewer { OnOk result (LeavesNoMore trail.now.declared clause.new clause.old) }
-    ensures out { OnOk result (IsLeft trail.now.declared clause.new (place_at places.now k) value.now → ⊥) }
+    requires still { IsFalseClause trail.now clause.old }
+    ensures { OnOk result (IsGrown trail.now (λ sets. MayBe sets (place_at places.now k) value.now → ⊥) clause.old clause.new) }
 {
     if is_said(trail, places[k], value, clause) {
         return Ok(());
     }
-    let (op, bound) = claim_out(trail, places, rows, k, value);
-    push_claim(clause, places[k], op, &bound)?;
+    let claim = claim_out(trail, places, rows, k, value);
+    explain(trail, claim, clause)?;
     Ok(())
 }
 
@@ -196,7 +208,8 @@ fn first_place_out(
     place_out(trail, places, rows, r, clause)
 }
 
-/// Adds a literal that refutes the row, at this place where it can be, or says that each of its values is in its place's set.
+/// Adds to a false clause what it takes to say that some value of the row is not in its place's set, at this place where it can be. `false`
+/// where each is.
 fn refute_row(
     trail: &Trail,
     places: &[Term],
@@ -210,17 +223,14 @@ fn refute_row(
     requires filled { NoneEmpty trail.now.sets }
     requires whole { IsWhole places.now (numbers_in rows.now) r }
     requires in_range { p < length places.now }
-    requires refuted { IsFalseClause trail.now clause.old }
-    ensures refuted { IfOk result (λ out. IsTrue out → IsFalseClause trail.now clause.new) }
-    ensures fewer { IfOk result (λ out. IsTrue out → LeavesNoMore trail.now.declared clause.new clause.old) }
-    ensures out { IfOk result (λ out. IsTrue out → IsRowRefuted trail.now.declared clause.new places.now (numbers_in rows.now) r) }
-    ensures stands { IfOk result (λ out. out ≡ false → IsOpenUpTo trail.now.sets places.now (numbers_in rows.now) r (length places.now)) }
+    requires still { IsFalseClause trail.now clause.old }
+    ensures { IfOk result (λ out. MatchBool out (IsGrown trail.now (λ sets. IsRowOut sets places.now (numbers_in rows.now) r) clause.old clause.new) (IsOpenUpTo trail.now.sets places.now (numbers_in rows.now) r (length places.now))) }
 {
     let Some(k) = first_place_out(trail, places, rows, r, p, clause) else {
         return Ok(false);
     };
     let value = rows[r * places.len() + k].number();
-    push_out(trail, places, rows, k, &value, clause)?;
+    explain_out(trail, places, rows, k, &value, clause)?;
     Ok(true)
 }
 
@@ -256,8 +266,8 @@ fn is_open(trail: &Trail, places: &[Term], rows: &[Term], r: usize) -> bool
     true
 }
 
-/// The clause that each value of the place, counted from 0, stands so to the bound, or some row whose value there does not stands: an
-/// inference by the rule `rows` where this answers `true`; else some such row stands. The claim has to be open or false. The rows stand one
+/// The clause that no value of the place, counted from 0, stands so to the bound, or some row whose value there does stands: an inference
+/// by the rule `rows` where this answers `true`; else some such row stands. Some value of the place has to stand so. The rows stand one
 /// after another, each as long as the places, and each present set has a value. It answers `Err` where memory runs out, and nothing is said
 /// of the clause then.
 pub fn explain_claim(
@@ -274,20 +284,24 @@ pub fn explain_claim(
     requires filled { NoneEmpty trail.now.sets }
     requires in_range { p < length places.now }
     requires near { IsNearLimits bound.now }
-    requires can_fail { CanFail trail.now.sets (place_at places.now p) op bound.now }
+    requires may_stand { MayStand trail.now.sets (place_at places.now p) op bound.now }
     ensures found { IfOk result (λ found. IsTrue found → IsJustifiedBy trail.now (AreRowsOutOn places.now (numbers_in rows.now)) clause.new) }
-    ensures none { IfOk result (λ found. found ≡ false → HasSupportAgainst trail.now.sets places.now (numbers_in rows.now) p op bound.now) }
+    ensures none { IfOk result (λ found. found ≡ false → HasSupportThat trail.now.sets places.now (numbers_in rows.now) p op bound.now) }
 {
     clause.clear();
     for r in 0..rows.len() / places.len() {
-        if !row_stands(places, rows, r, p, op, bound) {
+        if row_stands(places, rows, r, p, op, bound) {
             if !refute_row(trail, places, rows, r, p, clause)? {
                 return Ok(false);
             }
         }
     }
-    push_claim(clause, places[p], op, bound)?;
-    Ok(true)
+    let claim = Claim {
+        term: places[p],
+        op,
+        number: *bound,
+    };
+    force(trail, claim, clause)
 }
 
 /// Whether each value of the row is in its place's set. A row that is marked is not looked at again.
@@ -343,7 +357,7 @@ fn is_support(
     false
 }
 
-/// Appends to `found` the inference that the place stands so to the bound. `false` where a row stands whose value there does not.
+/// Appends to `found` the inference that no value of the place stands so to the bound. `false` where a row stands whose value there does.
 fn bar_claim(
     alloc: Global,
     trail: &Trail,
@@ -360,12 +374,12 @@ fn bar_claim(
     requires filled { NoneEmpty trail.now.sets }
     requires in_range { p < length places.now }
     requires near { IsNearLimits bound.now }
-    requires can_fail { CanFail trail.now.sets (place_at places.now p) op bound.now }
+    requires may_stand { MayStand trail.now.sets (place_at places.now p) op bound.now }
     requires before { AreFoundOf number (constraint.Table places.now (numbers_in rows.now)) trail.now found.old }
     ensures found { AreFoundOf number (constraint.Table places.now (numbers_in rows.now)) trail.now found.new }
     ensures kept { found.new ≡ [] → found.old ≡ [] }
     ensures some { IfOk result (λ barred. IsTrue barred → found.new ≢ []) }
-    ensures none { IfOk result (λ barred. barred ≡ false → HasSupportAgainst trail.now.sets places.now (numbers_in rows.now) p op bound.now) }
+    ensures none { IfOk result (λ barred. barred ≡ false → HasSupportThat trail.now.sets places.now (numbers_in rows.now) p op bound.now) }
 {
     let mut clause = Items::with_capacity(alloc, places.len())?;
     if !explain_claim(trail, places, rows, p, op, bound, &mut clause)? {
@@ -404,7 +418,7 @@ fn bar_value(
         rows,
         number,
         p,
-        Op::NotEqual,
+        Op::Equal,
         value,
         found,
     )?;
@@ -480,8 +494,8 @@ fn bar_values(
     }
 }
 
-/// The inference that the place stands so to the bound, where its end does not: `false` where the end does, or some row's value there that
-/// stands does not either.
+/// The inference that no value of the place stands so to the bound, where its end does: `false` where the end does not, or some row stands
+/// whose value there does.
 fn bar_beyond(
     alloc: Global,
     trail: &Trail,
@@ -504,7 +518,7 @@ fn bar_beyond(
     ensures kept { found.new ≡ [] → found.old ≡ [] }
     ensures some { IfOk result (λ barred. IsTrue barred → found.new ≢ []) }
 {
-    if bound < LEAST_BOUND || GREATEST_BOUND < bound || op.compares(*end, bound) {
+    if bound < LEAST_BOUND || GREATEST_BOUND < bound || !op.compares(*end, bound) {
         return Ok(false);
     }
     bar_claim(alloc, trail, places, rows, number, p, op, &bound, found)
@@ -585,8 +599,10 @@ fn bar_ends(
         rows,
         number,
         p,
-        Op::AtLeast,
-        supports.next_from(possible, p, *least, *greatest),
+        Op::AtMost,
+        supports
+            .next_from(possible, p, *least, *greatest)
+            .saturating_sub(1),
         least,
         supports.row_of(possible, p, *least),
         marks,
@@ -599,8 +615,10 @@ fn bar_ends(
         rows,
         number,
         p,
-        Op::AtMost,
-        supports.last_up_to(possible, p, *least, *greatest),
+        Op::AtLeast,
+        supports
+            .last_up_to(possible, p, *least, *greatest)
+            .saturating_add(1),
         greatest,
         supports.row_of(possible, p, *greatest),
         marks,

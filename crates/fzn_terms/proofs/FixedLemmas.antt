@@ -10,7 +10,7 @@ use Rattle.fzn_sets.specs.Terms.{IsFixedTo}
 use Rattle.fzn_sets.proofs.CallerLemmas.{MayBe-term_value}
 use Rattle.fzn_trail.specs.Levels.{Levels}
 use Rattle.fzn_propagator.specs.Inference.{AllFixed}
-use Rattle.fzn_terms.specs.Claims.{IsOnly, IsFixed}
+use Rattle.fzn_terms.specs.Values.{IsOnly, IsFixed}
 
 module _ (sets : List IntSet) (values : List ℤ) (within : IsWithin sets values) (fixed : AllFixed sets) where
   pub fixed_only : (term : Term) → IsTerm (length sets) term → IsOnly sets term (term_value values term)

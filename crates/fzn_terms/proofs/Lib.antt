@@ -1,5 +1,4 @@
 pub mod CaseLemmas
-pub mod ClaimLemmas
 pub mod DeniedLemmas
 mod EndLemmas
 pub mod ExplanationLemmas

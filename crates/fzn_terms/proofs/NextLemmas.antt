@@ -6,7 +6,7 @@ use Rattle.std.proofs.lemmas.Bool.{cases_Bool}
 use Rattle.fzn_domain.specs.IntSet.{IntSet}
 use Rattle.fzn_meaning.specs.declared.term.Term.{Term}
 use Rattle.fzn_sets.specs.Terms.{MayBe}
-use Rattle.fzn_terms.specs.Claims.{IsNextValue}
+use Rattle.fzn_terms.specs.Values.{IsNextValue}
 use Rattle.fzn_terms.proofs.OrderLemmas.{equal_of}
 
 less_of : (v k : ℤ) → v ≤ℤ k → int_eq v k ≡ false → v <ℤ k

@@ -1,4 +1,4 @@
-pub mod Claims
 pub mod Denied
 pub mod Intervals
 pub mod Narrow
+pub mod Values

@@ -3,7 +3,8 @@ ghost use Rattle.std.specs.Prelude.{◌≡◌, ◌<ℤ◌, ◌≤ℤ◌, ℕ, �
 ghost use Rattle.fzn_domain.specs.IntSet.{IntSet};
 ghost use Rattle.fzn_meaning.specs.Term.{IsTerm};
 ghost use Rattle.fzn_sets.specs.Terms.{MayBe};
-ghost use Rattle.fzn_terms.specs.Denied.{opposite, IsDenied};
+ghost use Rattle.fzn_domain.specs.declared.literal.Op.TheVariants.{AtLeast, AtMost, Equal, NotEqual};
+ghost use Rattle.fzn_terms.specs.Denied.{opposite, that, IsDenied};
 
 use fzn_domain::{Lit, Op, VarId};
 use fzn_meaning::Term;
@@ -20,6 +21,28 @@ pub struct Claim {
 }
 
 impl Claim {
+    /// That the value is at most the number.
+    pub fn at_most(term: Term, number: i64) -> Claim
+        ensures { result ≡ that term AtMost number }
+    {
+        Claim {
+            term,
+            op: Op::AtMost,
+            number,
+        }
+    }
+
+    /// That the value is at least the number.
+    pub fn at_least(term: Term, number: i64) -> Claim
+        ensures { result ≡ that term AtLeast number }
+    {
+        Claim {
+            term,
+            op: Op::AtLeast,
+            number,
+        }
+    }
+
     /// That the value is less than the number. The number is not the least of 64 bits.
     pub fn below(term: Term, number: i64) -> Claim
         requires { i64.MIN <ℤ number }
@@ -48,6 +71,7 @@ impl Claim {
 
     /// That the value is another than the number.
     pub fn other_than(term: Term, number: i64) -> Claim
+        ensures value { result ≡ that term NotEqual number }
         ensures term { result.term ≡ term }
         ensures denied { (sets : List IntSet) (v : ℤ) → IsDenied sets result → MayBe sets term v → v ≡ number }
     {
@@ -60,6 +84,7 @@ impl Claim {
 
     /// That the value is the number.
     pub fn equal(term: Term, number: i64) -> Claim
+        ensures value { result ≡ that term Equal number }
         ensures term { result.term ≡ term }
         ensures denied { (sets : List IntSet) → IsDenied sets result → MayBe sets term number → ⊥ }
     {

@@ -1,10 +1,10 @@
-// Clauses of claims, which are tested on the trail.
-ghost use Rattle.std.specs.Prelude.{◌≡◌, ◌↔◌, length, IfOk, IfSome, IsTrue};
+// Clauses of claims: of any claims, tested on the trail; or a clause that is known to be false, grown by what says that a claim is entailed.
+ghost use Rattle.std.specs.Prelude.{◌≡◌, ◌↔◌, ◌≤ℤ◌, pos, negsuc, length, IfOk, OnOk, IfSome, IsTrue, MatchBool};
 ghost use Rattle.std.specs.List.{All};
-ghost use Rattle.fzn_domain.specs.Narrow.{IsClauseOver};
+ghost use Rattle.fzn_domain.specs.Narrow.{IsClauseOver, NoneEmpty};
 ghost use Rattle.fzn_meaning.specs.Term.{IsTerm};
-ghost use Rattle.fzn_propagator.specs.Clause.{IsWritable, IsForcing};
-ghost use Rattle.fzn_terms.specs.Denied.{IsDenied, IsSaid, IsExplanation};
+ghost use Rattle.fzn_propagator.specs.Clause.{IsFalseClause, IsWritable, IsForcing};
+ghost use Rattle.fzn_terms.specs.Denied.{IsEntailed, IsDenied, IsSaid, IsExplanation, IsExplained, IsForced};
 
 use crate::claim::Claim;
 use fzn_domain::{GREATEST_BOUND, LEAST_BOUND, Lit, Memory};
@@ -35,6 +35,68 @@ pub fn explanation_of(
     } else {
         Ok(None)
     }
+}
+
+/// Adds to a false clause what it takes to say the claim, which is true of each value of its term on the trail. Its number lies from
+/// -4 * 10^9 to 4 * 10^9. It answers `Err` where memory runs out, and nothing is said of the clause then.
+pub fn explain(trail: &Trail, claim: Claim, clause: &mut Items<Lit>) -> Result<(), Memory>
+    requires term { IsTerm (length trail.now.declared) claim.term }
+    requires filled { NoneEmpty trail.now.sets }
+    requires above { negsuc 3999999999 ≤ℤ claim.number }
+    requires below { claim.number ≤ℤ pos 4000000000 }
+    requires present { IsEntailed trail.now.sets claim }
+    requires still { IsFalseClause trail.now clause.old }
+    ensures { OnOk result (IsExplained trail.now claim clause.old clause.new) }
+{
+    let Term::Variable(var) = claim.term else {
+        return Ok(());
+    };
+    let _domain = trail.domain(var); // Its values are declared ones.
+    let declared = trail.declared(var);
+    let _none = declared.is_empty(); // Its values lie within the limits.
+    let lit = Lit {
+        var,
+        op: claim.op,
+        value: claim.number,
+    }
+    .negated();
+    if !declared.is_false(lit) {
+        clause.push(lit)?;
+    }
+    Ok(())
+}
+
+/// Adds to a false clause the literal without which the claim is true of each value of its term. `false` where it is true of none on the
+/// trail, so that the literal is true. Its number lies from -4 * 10^9 to 4 * 10^9. It answers `Err` where memory runs out, and nothing is
+/// said of the clause then.
+pub fn force(trail: &Trail, claim: Claim, clause: &mut Items<Lit>) -> Result<bool, Memory>
+    requires term { IsTerm (length trail.now.declared) claim.term }
+    requires filled { NoneEmpty trail.now.sets }
+    requires above { negsuc 3999999999 ≤ℤ claim.number }
+    requires below { claim.number ≤ℤ pos 4000000000 }
+    requires still { IsFalseClause trail.now clause.old }
+    ensures { IfOk result (λ forces. MatchBool forces (IsForced trail.now claim clause.old clause.new) (IsDenied trail.now.sets claim)) }
+{
+    let var = match claim.term {
+        Term::Constant(k) => return Ok(claim.op.compares(k, claim.number)),
+        Term::Variable(var) => var,
+    };
+    let possible = Lit {
+        var,
+        op: claim.op,
+        value: claim.number,
+    };
+    let domain = trail.domain(var);
+    if domain.is_false(possible) {
+        return Ok(false);
+    }
+    let declared = trail.declared(var);
+    let _none = declared.is_empty(); // Its values lie within the limits.
+    let lit = possible.negated();
+    if !declared.is_false(lit) {
+        clause.push(lit)?;
+    }
+    Ok(true)
 }
 
 /// Adds the claim to the clause, where it may be true of a declared value. `false` where it is true of a constant.

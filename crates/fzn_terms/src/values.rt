@@ -5,7 +5,7 @@ ghost use Rattle.fzn_domain.specs.Limits.{IsInLimits};
 ghost use Rattle.fzn_domain.specs.Narrow.{NoneEmpty};
 ghost use Rattle.fzn_meaning.specs.Term.{IsTerm};
 ghost use Rattle.fzn_sets.specs.Terms.{MayBe, least_value, greatest_value};
-ghost use Rattle.fzn_terms.specs.Claims.{IsNextValue, HasOther, IsOnly, IsFixed};
+ghost use Rattle.fzn_terms.specs.Values.{IsNextValue, HasOther, IsOnly, IsFixed};
 
 use fzn_meaning::Term;
 use fzn_trail::Trail;

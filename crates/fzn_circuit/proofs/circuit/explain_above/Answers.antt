@@ -1,9 +1,10 @@
-use Rattle.std.proofs.Common.{◌≡◌, ◌+◌, ◌≤◌, ℕ, length, get_or, arith, subst, ℤ, pos, ◌+ℤ◌, w64, to_z, of_z, MatchBool}
+use Rattle.std.proofs.Common.{◌≡◌, ◌+◌, ◌≤◌, ℕ, length, get_or, arith, ap, subst, ◌∙◌, pos, ◌+ℤ◌, w64, to_z, of_z, MatchBool}
 use Rattle.std.proofs.lemmas.Int.{ints}
 use Rattle.std.proofs.lemmas.Result.{IfOk-weaker}
 use Rattle.fzn_domain.specs.declared.literal.Op.TheVariants.{AtLeast}
 use Rattle.fzn_meaning.specs.declared.term.Term.{Term}
 use Rattle.fzn_meaning.specs.declared.term.Term.TheVariants.{Constant}
+use Rattle.fzn_terms.specs.declared.claim.Claim.{Claim}
 use Rattle.fzn_terms.specs.Denied.{that, IsDenied, IsForced}
 use Rattle.fzn_terms.proofs.CaseLemmas.{either}
 use Rattle.fzn_circuit.proofs.CircuitLemmas.{at_default, above_met}
@@ -24,5 +25,5 @@ returns c =
     either found
     (λ forced. justified_where c.args.trail.now (Circuit xs) Rows c.force.new.clause forced.forcing (λ sets left. above_met sets xs c.args.k (Constant (pos 0)) c.requires.place (forced.says sets left)))
     (λ none d. at_default xs c.args.k (Constant (pos 0)) d (λ (t : Term). IsDenied trail.sets (that t AtLeast (pos (length xs + 1)))) c.requires.place none)
-    (subst (λ (x : ℤ). MatchBool found (IsForced trail (that (get_or xs c.args.k (Constant (pos 0))) AtLeast x) c.clear.new.self c.force.new.clause) (IsDenied trail.sets (that (get_or xs c.args.k (Constant (pos 0))) AtLeast x))) (number_is (length xs) c.requires.terms.1) told))
+    (subst (λ (claim : Claim). MatchBool found (IsForced trail claim c.clear.new.self c.force.new.clause) (IsDenied trail.sets claim)) (c.at_least.ensures ∙ ap (that (get_or xs c.args.k (Constant (pos 0))) AtLeast) (number_is (length xs) c.requires.terms.1)) told))
     c.force.ensures

@@ -19,5 +19,5 @@ returns c =
     either found
     (λ forced. justified_where c.args.trail.now (Circuit xs) Rows c.force.new.clause forced.forcing (λ sets left. below_met sets xs c.args.k (Constant (pos 0)) c.requires.place (forced.says sets left)))
     (λ none d. at_default xs c.args.k (Constant (pos 0)) d (λ (t : Term). IsDenied c.args.trail.now.sets (that t AtMost (pos 0))) c.requires.place none)
-    told)
+    (rw c.at_most.ensures at told))
     c.force.ensures

@@ -1,8 +1,9 @@
-use Rattle.std.proofs.Common.{rules, ◌≡◌, ◌<◌, length, arith, ap, sym, subst, ◌∙◌, ℤ, w64, to_z, of_z, FitsSigned, IsPermutation}
+use Rattle.std.proofs.Common.{rules, ◌≡◌, ◌<◌, length, arith, ap, ap₂, sym, subst, ◌∙◌, ℤ, w64, to_z, of_z, FitsSigned, IsPermutation}
 use Rattle.std.proofs.lemmas.Int.{to_z-of_z}
 use Rattle.fzn_domain.specs.declared.literal.Op.TheVariants.{Equal}
 use Rattle.fzn_meaning.specs.declared.term.Term.{Term}
 use Rattle.fzn_sets.specs.Terms.{term_at}
+use Rattle.fzn_terms.specs.declared.claim.Claim.{Claim}
 use Rattle.fzn_terms.specs.Denied.{that, IsForced, IsDenied}
 use Rattle.fzn_circuit.specs.Circuits.{IsWay, IsAtEnd}
 use Rattle.fzn_circuit.proofs.WayLemmas.{hints_are, cut_inferred, none_of_apart}
@@ -17,13 +18,11 @@ returns-then-branch-clause-found c =
     let fits : FitsSigned w64 c.args.start = search rules in
     let fits_last : FitsSigned w64 c.in_ok-last.last = search rules in
     let start_is : to_z w64 (of_z w64 c.args.start) ≡ c.args.start = to_z-of_z w64 c.args.start fits in
-    let at : c.term_at.result ≡ term_at xs last = c.term_at.ensures.value ∙ ap (term_at xs) (to_z-of_z w64 c.in_ok-last.last fits_last) in
+    let same : c.equal-back.result ≡ that (term_at xs last) Equal c.args.start = c.equal-back.ensures.value ∙ ap₂ (λ (t : Term) (x : ℤ). that t Equal x) (c.term_at.ensures.value ∙ ap (term_at xs) (to_z-of_z w64 c.in_ok-last.last fits_last)) start_is in
     let way = subst (λ (x : ℤ). IsWay trail xs x c.in_ok-last.last c.follow.new.places.items c.follow.new.clause) start_is c.in_ok-last.ensures.way in
     let sorted = c.deref.result.now in
     let order = subst (IsPermutation c.follow.new.places.items) (sym c.deref.ensures.value) c.sort_unstable.ensures.permutation in
-    let forced = subst (λ (t : Term). IsForced trail (that t Equal c.args.start) c.follow.new.clause c.force.new.clause) at
-    (subst (λ (x : ℤ). IsForced trail (that c.term_at.result Equal x) c.follow.new.clause c.force.new.clause) start_is
-    (MatchBool-at_true _ (IsDenied trail.sets (that c.term_at.result Equal (to_z w64 (of_z w64 c.args.start)))) c.if-branch.true c.in_ok-force.ensures)) in
+    let forced = subst (λ (claim : Claim). IsForced trail claim c.follow.new.clause c.force.new.clause) same (MatchBool-at_true _ (IsDenied trail.sets c.equal-back.result) c.if-branch.true c.in_ok-force.ensures) in
     let few = c.in_ok-places.ensures.few in
     let len = c.len.ensures in
     let short = c.if-len-successors.false in
@@ -46,12 +45,10 @@ returns-clause-none c =
     let fits : FitsSigned w64 c.args.start = search rules in
     let fits_last : FitsSigned w64 c.in_ok-last.last = search rules in
     let start_is : to_z w64 (of_z w64 c.args.start) ≡ c.args.start = to_z-of_z w64 c.args.start fits in
-    let at : c.term_at.result ≡ term_at xs last = c.term_at.ensures.value ∙ ap (term_at xs) (to_z-of_z w64 c.in_ok-last.last fits_last) in
+    let same : c.equal-back.result ≡ that (term_at xs last) Equal c.args.start = c.equal-back.ensures.value ∙ ap₂ (λ (t : Term) (x : ℤ). that t Equal x) (c.term_at.ensures.value ∙ ap (term_at xs) (to_z-of_z w64 c.in_ok-last.last fits_last)) start_is in
     let way = subst (λ (x : ℤ). IsWay trail xs x c.in_ok-last.last c.follow.new.places.items c.follow.new.clause) start_is c.in_ok-last.ensures.way in
     let end = subst (λ (x : ℤ). IsAtEnd trail.sets xs x c.follow.new.places.items) start_is c.in_ok-last.ensures.end in
-    let none = subst (λ (t : Term). IsDenied trail.sets (that t Equal c.args.start)) at
-    (subst (λ (x : ℤ). IsDenied trail.sets (that c.term_at.result Equal x)) start_is
-    (MatchBool-at_false (IsForced trail (that c.term_at.result Equal (to_z w64 (of_z w64 c.args.start))) c.follow.new.clause c.force.new.clause) _ c.if-branch.false c.in_ok-force.ensures)) in
+    let none = subst (IsDenied trail.sets) same (MatchBool-at_false (IsForced trail c.equal-back.result c.follow.new.clause c.force.new.clause) _ c.if-branch.false c.in_ok-force.ensures) in
     let len = c.len.ensures in
     let short = c.if-len-successors.false in
     none_of_apart trail xs c.args.start last c.follow.new.places.items c.follow.new.clause way (omega arith) c.requires.filled c.len-entries.ensures.narrower.one_each c.requires.terms.0 end none

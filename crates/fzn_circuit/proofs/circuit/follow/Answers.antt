@@ -1,9 +1,10 @@
-use Rattle.std.proofs.Common.{rules, ◌≡◌, ◌∷◌, [], ◌++◌, ◌<◌, List, length, arith, ap, sym, subst, ◌∙◌, ℤ, w64, to_z, of_z, FitsSigned}
+use Rattle.std.proofs.Common.{rules, ◌≡◌, ◌∷◌, [], ◌++◌, ◌<◌, List, length, arith, ap, ap₂, sym, subst, ◌∙◌, ℤ, w64, to_z, of_z, FitsSigned}
 use Rattle.std.proofs.lemmas.Int.{to_z-of_z}
 use Rattle.std.proofs.lemmas.List.{length-append}
 use Rattle.fzn_domain.specs.declared.literal.Op.TheVariants.{Equal}
 use Rattle.fzn_meaning.specs.declared.term.Term.{Term}
 use Rattle.fzn_sets.specs.Terms.{term_at}
+use Rattle.fzn_terms.specs.declared.claim.Claim.{Claim}
 use Rattle.fzn_terms.specs.Denied.{that, IsEntailed, IsExplained}
 use Rattle.fzn_terms.proofs.CaseLemmas.{same_of}
 use Rattle.fzn_circuit.specs.Circuits.{IsWay}
@@ -26,9 +27,8 @@ explain-requires-clause-present c =
     let trail = c.args.trail.now in
     let fits_next : FitsSigned w64 c.in-Some.next = search rules in
     let next_is : to_z w64 (of_z w64 c.in-Some.next) ≡ c.in-Some.next = to_z-of_z w64 c.in-Some.next fits_next in
-    subst (λ (t : Term). IsEntailed trail.sets (that t Equal (to_z w64 (of_z w64 c.in-Some.next)))) (sym c.term_at.ensures.value)
-    (subst (λ (x : ℤ). IsEntailed trail.sets (that (term_at c.args.successors.now (to_z w64 c.loop-count.last-bits)) Equal x)) (sym next_is)
-    (all_fixed trail.sets (term_at c.args.successors.now (to_z w64 c.loop-count.last-bits)) c.in-Some.next c.in-Some.ensures.fixed))
+    subst (IsEntailed trail.sets) (sym (c.equal-leads.ensures.value ∙ ap₂ (λ (t : Term) (x : ℤ). that t Equal x) c.term_at.ensures.value next_is))
+    (all_fixed trail.sets (term_at c.args.successors.now (to_z w64 c.loop-count.last-bits)) c.in-Some.next c.in-Some.ensures.fixed)
 
 pub loop-count-preserved : goal.loop-count-preserved
 loop-count-preserved c =
@@ -41,9 +41,7 @@ loop-count-preserved c =
     let start_is : to_z w64 (of_z w64 c.args.start) ≡ c.args.start = to_z-of_z w64 c.args.start fits_start in
     let way = subst (λ (x : ℤ). IsWay trail xs x (to_z w64 c.loop-count.last-bits) c.loop-count.places.items c.loop-count.clause) start_is c.loop-count.invariant.way in
     let leads = c.in-Some.ensures.fixed in
-    let explained =
-    subst (λ (t : Term). IsExplained trail (that t Equal c.in-Some.next) c.loop-count.clause c.explain.new.clause) c.term_at.ensures.value
-    (subst (λ (x : ℤ). IsExplained trail (that c.term_at.result Equal x) c.loop-count.clause c.explain.new.clause) next_is c.in_ok-explain.ensures) in
+    let explained = subst (λ (claim : Claim). IsExplained trail claim c.loop-count.clause c.explain.new.clause) (c.equal-leads.ensures.value ∙ ap₂ (λ (t : Term) (x : ℤ). that t Equal x) c.term_at.ensures.value next_is) c.in_ok-explain.ensures in
     let room : length c.loop-count.places.items < length xs = let count = c.loop-count.invariant.count in omega arith in
     let longer : c.push-in-loop-count.new.self.items ≡ c.loop-count.places.items ++ c.in-Some.next ∷ [] = c.in_ok-push-2.ensures.items ∙ ap (λ (x : ℤ). c.loop-count.places.items ++ x ∷ []) next_is in
     let more = way_step trail xs c.args.start (to_z w64 c.loop-count.last-bits) c.in-Some.next c.loop-count.places.items c.loop-count.clause c.explain.new.clause way room c.in-Some.ensures.place leads (λ e. c.if-next-start.false (ap (of_z w64) e)) explained in

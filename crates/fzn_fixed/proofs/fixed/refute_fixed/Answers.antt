@@ -6,7 +6,7 @@ use Rattle.std.proofs.lemmas.Result.{IfOk-weaker}
 use Rattle.fzn_meaning.specs.declared.term.Term.{Term}
 use Rattle.fzn_meaning.specs.Term.{IsTerm}
 use Rattle.fzn_sets.specs.Terms.{least_value}
-use Rattle.fzn_terms.specs.Claims.{IsFixed}
+use Rattle.fzn_terms.specs.Values.{IsFixed}
 use Rattle.fzn_fixed.specs.Denial.{IsDenial, IsDenialOr, IsTrueOn}
 use Rattle.fzn_propagator.specs.Inference.{HoldsWhereFixed}
 use Rattle.fzn_fixed.specs.Image.{IsImage}

@@ -1,6 +1,6 @@
 use Rattle.std.proofs.Common.{arith, subst}
 use Rattle.fzn_domain.proofs.DomainLemmas.{real}
-use Rattle.fzn_terms.specs.Claims.{HasOther, place_at}
+use Rattle.fzn_terms.specs.Values.{HasOther, place_at}
 use Rattle.fzn_globals.proofs.all_different.has_open.Goals as goal
 
 pub returns-then-has_other : goal.returns-then-has_other

@@ -5,7 +5,7 @@ use Rattle.fzn_domain.specs.declared.literal.Lit.{Lit}
 use Rattle.fzn_meaning.specs.declared.term.Term.{Term}
 use Rattle.fzn_meaning.specs.declared.term.Term.TheVariants.{Constant}
 use Rattle.fzn_propagator.specs.Clause.{IsJustifiedBy}
-use Rattle.fzn_globals.specs.Apart.{HasExcessOn, IsPushed}
+use Rattle.fzn_globals.specs.Apart.{HasExcessOn, IsForcedWithin}
 use Rattle.fzn_globals.proofs.HallLemmas.{end_explained}
 use Rattle.fzn_globals.proofs.hall.push_outside.Goals as goal
 
@@ -16,8 +16,8 @@ returns c =
     let low = c.args.low.now in
     let high = c.args.high.now in
     let d : Term = Constant (pos 0) in
-    let clause = c.push_end.new.clause in
-    let pushed = subst (λ (xs : List Lit). IsPushed trail xs clause low high (get_or places c.args.place d)) (c.in_ok-clause.ensures ∙ c.as_slice.ensures) (c.in_ok-push_end.ensures c.if-not-branch.false) in
+    let clause = c.force_within.new.clause in
+    let forced = subst (λ (xs : List Lit). IsForcedWithin trail low high (get_or places c.args.place d) xs clause) (c.in_ok-clause.ensures ∙ c.as_slice.ensures) (c.in_ok-force_within.ensures c.if-not-branch.false) in
     subst (All (IsJustifiedBy trail (HasExcessOn places low high))) (sym c.in_ok-push.ensures.items)
     (All-push (IsJustifiedBy trail (HasExcessOn places low high)) c.args.clauses.now.items clause c.requires.before
-    (end_explained trail places low high c.requires.places c.requires.ordered c.args.within.now clause c.args.place d c.requires.in_range c.requires.within pushed c.requires.many))
+    (end_explained trail places low high c.requires.ordered c.args.within.now clause c.args.place d c.requires.in_range c.requires.within forced c.requires.many))

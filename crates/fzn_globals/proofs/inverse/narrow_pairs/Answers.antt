@@ -2,7 +2,7 @@ use Rattle.std.proofs.Common.{ℤ, subst, to_z, w64}
 use Rattle.fzn_domain.proofs.DomainLemmas.{real}
 use Rattle.fzn_meaning.specs.declared.term.Term.{Term}
 use Rattle.fzn_sets.specs.Terms.{MayBe, term_at}
-use Rattle.fzn_terms.specs.Claims.{IsNextValue}
+use Rattle.fzn_terms.specs.Values.{IsNextValue}
 use Rattle.fzn_terms.proofs.NextLemmas.{next_done}
 use Rattle.fzn_globals.proofs.inverse.narrow_pairs.Goals as goal
 

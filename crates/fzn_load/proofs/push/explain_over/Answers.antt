@@ -2,11 +2,8 @@ use Rattle.std.proofs.Common.{◌≡◌, ◌*◌, ◌∙◌, arith, ℤ, pos, �
 use Rattle.std.proofs.lemmas.Int.{ints}
 use Rattle.fzn_domain.specs.Limits.{IsInLimits}
 use Rattle.fzn_sets.specs.Terms.{greatest_value}
-use Rattle.fzn_propagator.proofs.CallerLemmas.{false_of_none}
 use Rattle.fzn_load.specs.Loads.{IsAmount, total_but}
-use Rattle.fzn_load.proofs.LoadLemmas.{all_most}
 use Rattle.fzn_load.proofs.PushLemmas.{over}
-use Rattle.fzn_terms.proofs.OrderLemmas.{ge_same}
 use Rattle.fzn_domain.proofs.DomainLemmas.{real}
 use Rattle.fzn_load.proofs.push.explain_over.Goals as goal
 
@@ -25,15 +22,10 @@ returns-then-excess-le0 c =
     let excess = excess_is c.others_at.result c.args.amount.now c.greatest_of-capacity.result c.others_at.ensures.low c.others_at.ensures.high c.requires.amount c.greatest_of-capacity.ensures.in_limits in
     room c.others_at.result (total_but c.args.k c.args.trail.now.sets c.args.time.now tasks.starts tasks.durations tasks.uses) c.args.amount.now c.greatest_of-capacity.result (greatest_value c.args.trail.now.sets tasks.capacity) _ c.others_at.ensures.value c.greatest_of-capacity.ensures.value excess (omega (arith, ints))
 
-pub explain-requires-clause-present : goal.explain-requires-clause-present
-explain-requires-clause-present c =
-    all_most c.args.trail.now.sets c.args.tasks.now.capacity (to_z w64 (of_z w64 c.greatest_of-capacity.result)) (ge_same _ _ (real _ c.greatest_of-capacity.ensures.in_limits ∙ c.greatest_of-capacity.ensures.value))
-
-pub explain-requires-clause-still : goal.explain-requires-clause-still
-explain-requires-clause-still c = false_of_none c.args.trail.now c.clear.new.self c.clear.ensures
-
 pub returns : goal.returns
 returns c =
     let tasks = c.args.tasks.now in
-    over c.args.trail.now c.args.tasks.now c.args.time.now (to_z w64 (of_z w64 c.greatest_of-capacity.result)) _ c.args.amount.now c.args.k c.clear.new.self c.explain.new.clause c.explain_uses.new.clause c.requires.tasks c.in_ok-explain.ensures c.in_ok-explain_uses.ensures
-    (spare_is c.others_at.result (total_but c.args.k c.args.trail.now.sets c.args.time.now tasks.starts tasks.durations tasks.uses) c.args.amount.now c.greatest_of-capacity.result c.others_at.ensures.value c.others_at.ensures.low c.others_at.ensures.high c.requires.amount c.greatest_of-capacity.ensures.in_limits)
+    let limits = c.greatest_of-capacity.ensures.in_limits in
+    over c.args.trail.now c.args.tasks.now c.args.time.now (to_z w64 (of_z w64 c.greatest_of-capacity.result)) _ c.args.amount.now c.args.k c.explain_capacity.new.clause c.explain_uses.new.clause c.in_ok-explain_capacity.ensures c.in_ok-explain_uses.ensures
+    (spare_is c.others_at.result (total_but c.args.k c.args.trail.now.sets c.args.time.now tasks.starts tasks.durations tasks.uses) c.args.amount.now c.greatest_of-capacity.result c.others_at.ensures.value c.others_at.ensures.low c.others_at.ensures.high c.requires.amount limits)
+    (real _ limits ∙ c.greatest_of-capacity.ensures.value)

@@ -1,8 +1,8 @@
-use Rattle.std.proofs.Common.{◌≡◌, ◌*◌, sym, subst, ◌∙◌, arith, ℤ, pos, ◌+ℤ◌, ◌-ℤ◌, ◌≤ℤ◌, w64, to_z, of_z}
+use Rattle.std.proofs.Common.{◌≡◌, ◌*◌, sym, subst, arith, ℤ, pos, ◌+ℤ◌, ◌-ℤ◌, ◌≤ℤ◌, w64, to_z, of_z}
 use Rattle.std.proofs.lemmas.Int.{ints}
 use Rattle.fzn_meaning.specs.declared.term.Term.TheVariants.{Constant}
 use Rattle.fzn_load.specs.Loads.{total_of, total_but}
-use Rattle.fzn_load.proofs.LoadLemmas.{but-one, but-low, use_same}
+use Rattle.fzn_load.proofs.LoadLemmas.{but-one, but-low}
 use Rattle.fzn_load.proofs.push.others_at.Goals as goal
 
 less_of : (load used total but amount : ℤ) → load ≡ total → used ≡ amount → total ≡ but +ℤ amount → pos 0 ≤ℤ load → load ≤ℤ pos (100000 * 1000000000) → pos 0 ≤ℤ used → used ≤ℤ pos 1000000000 → to_z w64 (of_z w64 (to_z w64 (of_z w64 load) -ℤ to_z w64 (of_z w64 used))) ≡ but
@@ -14,7 +14,7 @@ returns-clause-value c =
     let sets = c.args.trail.now.sets in
     let t = c.args.time.now in
     less_of c.load_at.result c.use_at.result (total_of sets t tasks.starts tasks.durations tasks.uses) (total_but c.args.k sets t tasks.starts tasks.durations tasks.uses) _ c.load_at.ensures.value
-    (c.use_at.ensures.value ∙ use_same sets t c.args.k (Constant (pos 0)) c.as_slice-starts.result.now tasks.starts c.as_slice-durations.result.now tasks.durations c.as_slice-uses.result.now tasks.uses c.as_slice-starts.ensures c.as_slice-durations.ensures c.as_slice-uses.ensures)
+    (let start = c.at-start.ensures.start in let duration = c.at-start.ensures.duration in let uses = c.at-start.ensures.uses in cc)
     (but-one sets t tasks.starts tasks.durations tasks.uses c.args.k (Constant (pos 0)) c.requires.tasks.as_many_durations c.requires.tasks.as_many_uses c.requires.place)
     c.load_at.ensures.not_negative c.load_at.ensures.bounded c.use_at.ensures.not_negative c.use_at.ensures.bounded
 

@@ -2,7 +2,8 @@ use Rattle.std.proofs.Common.{◌≡◌, ◌*◌, inr, arith, ap, subst, ◌∙�
 use Rattle.std.proofs.lemmas.Int.{ints}
 use Rattle.std.proofs.lemmas.Result.{IfOk-weaker}
 use Rattle.fzn_domain.specs.declared.literal.Op.TheVariants.{AtMost}
-use Rattle.fzn_terms.specs.Denied.{that, IsDenied}
+use Rattle.fzn_terms.specs.declared.claim.Claim.{Claim}
+use Rattle.fzn_terms.specs.Denied.{that, IsDenied, IsForced}
 use Rattle.fzn_terms.proofs.CaseLemmas.{either}
 use Rattle.fzn_load.proofs.PushLemmas.{capacity_inferred}
 use Rattle.fzn_load.proofs.push_amount.push_capacity.Goals as goal
@@ -17,7 +18,9 @@ returns c =
     let len = c.len.ensures in
     let limit = limit_is c.load_at-load.result c.load_at-load.ensures.not_negative c.load_at-load.ensures.bounded in
     either found
-    (λ forced. capacity_inferred c.args.trail.now c.args.tasks.now c.args.time.now c.load_at-load.result _ c.len.result c.clear.new.self c.explain_uses.new.clause c.force.new.clause c.requires.tasks (omega arith) c.in_ok-explain_uses.ensures forced c.load_at-load.ensures.value limit)
-    (λ none. inr (subst (λ (n : ℤ). IsDenied c.args.trail.now.sets (that c.args.tasks.now.capacity AtMost n)) (limit ∙ ap (λ (n : ℤ). n -ℤ pos 1) c.load_at-load.ensures.value) none))
+    (λ forced. capacity_inferred c.args.trail.now c.args.tasks.now c.args.time.now c.load_at-load.result _ c.len.result c.clear.new.self c.explain_uses.new.clause c.force.new.clause c.requires.tasks (omega arith) c.in_ok-explain_uses.ensures
+    (subst (λ (claim : Claim). IsForced c.args.trail.now claim c.explain_uses.new.clause c.force.new.clause) c.at_most.ensures forced) c.load_at-load.ensures.value limit)
+    (λ none. inr (subst (λ (n : ℤ). IsDenied c.args.trail.now.sets (that c.args.tasks.now.capacity AtMost n)) (limit ∙ ap (λ (n : ℤ). n -ℤ pos 1) c.load_at-load.ensures.value)
+    (subst (IsDenied c.args.trail.now.sets) c.at_most.ensures none)))
     told)
     c.force.ensures

@@ -1,56 +1,43 @@
-use Rattle.std.proofs.Common.{◌≡◌, ◌*◌, ap₂, refl, subst, ◌∙◌, inl, inr, arith, List, get_or, ℤ, pos, ◌+ℤ◌, ◌-ℤ◌, ◌≤ℤ◌, ◌<ℤ◌, w64, to_z, of_z}
+use Rattle.std.proofs.Common.{◌≡◌, ◌∙◌, ◌*◌, inl, inr, arith, ap, ℤ, pos, ◌+ℤ◌, ◌-ℤ◌, ◌≤ℤ◌, w64, to_z, of_z}
 use Rattle.std.proofs.lemmas.Int.{ints}
 use Rattle.std.proofs.lemmas.Result.{IfOk-weaker}
+use Rattle.fzn_domain.proofs.DomainLemmas.{real}
+use Rattle.fzn_sets.specs.Terms.{least_value, greatest_value}
+use Rattle.fzn_terms.proofs.CaseLemmas.{either}
 use Rattle.fzn_domain.specs.Limits.{IsInLimits}
-use Rattle.fzn_domain.specs.declared.literal.Op.TheVariants.{AtLeast}
-use Rattle.fzn_meaning.specs.declared.term.Term.{Term}
-use Rattle.fzn_meaning.specs.declared.term.Term.TheVariants.{Constant}
-use Rattle.fzn_sets.specs.Terms.{greatest_value}
-use Rattle.fzn_terms.specs.Denied.{that, IsDenied}
-use Rattle.fzn_load.specs.Loads.{AreOver, HasRoom, others_of}
-use Rattle.fzn_load.proofs.PushLemmas.{pushed}
-use Rattle.std.proofs.lemmas.Bool.{MatchBool-at_false}
+use Rattle.fzn_load.specs.Loads.{others_of}
+use Rattle.fzn_load.proofs.PushLemmas.{but_least, free_to_use}
 use Rattle.fzn_load.proofs.push_amount.push_less.Goals as goal
+use Rattle.fzn_load.proofs.push_amount.push_less.Goals.{After-others_at}
 
-amount_is : (most others : ℤ) → IsInLimits most → pos 0 ≤ℤ others → others ≤ℤ pos (100000 * 1000000000) → to_z w64 (of_z w64 (to_z w64 (of_z w64 (to_z w64 (of_z w64 most) -ℤ to_z w64 (of_z w64 others))) +ℤ pos 1)) ≡ (most -ℤ others) +ℤ pos 1
-amount_is most others limits low high = omega (arith, ints, limits.0, limits.1)
+amount_is : (most others greatest used : ℤ) → IsInLimits most → pos 0 ≤ℤ others → others ≤ℤ pos (100000 * 1000000000) → most ≡ greatest → others ≡ used → to_z w64 (of_z w64 (to_z w64 (of_z w64 (to_z w64 (of_z w64 most) -ℤ to_z w64 (of_z w64 others))) +ℤ pos 1)) ≡ (greatest -ℤ used) +ℤ pos 1
+amount_is most others greatest used limits low high a b = omega (arith, ints, limits.0, limits.1)
 
-amount_same : (most others greatest used : ℤ) → IsInLimits most → pos 0 ≤ℤ others → others ≤ℤ pos (100000 * 1000000000) → most ≡ greatest → others ≡ used → to_z w64 (of_z w64 (to_z w64 (of_z w64 (to_z w64 (of_z w64 most) -ℤ to_z w64 (of_z w64 others))) +ℤ pos 1)) ≡ (greatest -ℤ used) +ℤ pos 1
-amount_same most others greatest used limits low high a b = amount_is most others limits low high ∙ ap₂ (λ (x y : ℤ). (x -ℤ y) +ℤ pos 1) a b
+-- one more than what is left
+amount : (c : After-others_at) → to_z w64 (of_z w64 (to_z w64 (of_z w64 (to_z w64 (of_z w64 c.greatest_of.result) -ℤ to_z w64 (of_z w64 c.others_at.result))) +ℤ pos 1)) ≡ (greatest_value c.args.trail.now.sets c.args.tasks.now.capacity -ℤ others_of c.args.trail.now.sets c.args.time.now c.args.k c.args.tasks.now) +ℤ pos 1
+amount c =
+    amount_is c.greatest_of.result c.others_at.result (greatest_value c.args.trail.now.sets c.args.tasks.now.capacity) (others_of c.args.trail.now.sets c.args.time.now c.args.k c.args.tasks.now)
+    c.greatest_of.ensures.in_limits c.others_at.ensures.low c.others_at.ensures.high c.greatest_of.ensures.value c.others_at.ensures.value
 
-too_many : (amount greatest used : ℤ) → amount ≡ (greatest -ℤ used) +ℤ pos 1 → amount <ℤ pos 0 → greatest <ℤ used
-too_many amount greatest used e h = omega (arith, ints)
-
-no_room : (amount greatest used : ℤ) → amount ≡ (greatest -ℤ used) +ℤ pos 1 → (used +ℤ amount) ≤ℤ greatest → ⊥
-no_room amount greatest used e h = omega (arith, ints)
+pub returns-then-not-surely_runs : goal.returns-then-not-surely_runs
+returns-then-not-surely_runs c = inl (let start = c.at-start.ensures.start in let duration = c.at-start.ensures.duration in cc)
 
 pub returns-then-amount-lt0 : goal.returns-then-amount-lt0
-returns-then-amount-lt0 c =
-    let sets = c.args.trail.now.sets in
-    let tasks = c.args.tasks.now in
-    inr (inl (too_many _ (greatest_value sets tasks.capacity) (others_of sets c.args.time.now c.args.k tasks)
-    (amount_same c.greatest_of.result c.others_at.result (greatest_value sets tasks.capacity) (others_of sets c.args.time.now c.args.k tasks) c.greatest_of.ensures.in_limits c.others_at.ensures.low c.others_at.ensures.high c.greatest_of.ensures.value c.others_at.ensures.value)
-    (omega (arith, ints))))
+returns-then-amount-lt0 c = let over = amount (goal.at.returns-then-amount-lt0 c).After-others_at in inr (inl (omega (arith, ints)))
 
-pub returns-then-not-branch : goal.returns-then-not-branch
-returns-then-not-branch c =
+pub push-requires-clause-present : goal.push-requires-clause-present
+push-requires-clause-present c =
     let sets = c.args.trail.now.sets in
-    let tasks = c.args.tasks.now in
-    let amount = to_z w64 (of_z w64 (to_z w64 (of_z w64 (to_z w64 (of_z w64 c.greatest_of.result) -ℤ to_z w64 (of_z w64 c.others_at.result))) +ℤ pos 1)) in
-    absurd (no_room amount (greatest_value sets tasks.capacity) (others_of sets c.args.time.now c.args.k tasks)
-    (amount_same c.greatest_of.result c.others_at.result (greatest_value sets tasks.capacity) (others_of sets c.args.time.now c.args.k tasks) c.greatest_of.ensures.in_limits c.others_at.ensures.low c.others_at.ensures.high c.greatest_of.ensures.value c.others_at.ensures.value)
-    (MatchBool-at_false (AreOver c.args.trail.now c.args.time.now c.args.k amount tasks c.explain_over.new.clause) (HasRoom sets c.args.time.now c.args.k amount tasks) c.if-not-branch.true c.in_ok-explain_over.ensures))
+    let start = c.at-start.ensures.start in
+    let duration = c.at-start.ensures.duration in
+    but_least sets c.args.tasks.now c.args.time.now _ _ c.args.k (cc)
+    (real _ c.least_of-shortest.ensures.in_limits ∙ c.least_of-shortest.ensures.value ∙ ap (least_value sets) c.at-start.ensures.duration)
 
 pub returns : goal.returns
 returns c =
-    IfOk-weaker c.force_less.result _ _
-    (λ found told.
     let sets = c.args.trail.now.sets in
-    let tasks = c.args.tasks.now in
-    let same = amount_same c.greatest_of.result c.others_at.result (greatest_value sets tasks.capacity) (others_of sets c.args.time.now c.args.k tasks) c.greatest_of.ensures.in_limits c.others_at.ensures.low c.others_at.ensures.high c.greatest_of.ensures.value c.others_at.ensures.value in
-    pushed c.args.trail.now c.args.tasks.now c.args.time.now _ _ c.args.k (Constant (pos 0)) c.as_slice.result.now c.as_slice-2.result.now c.as_slice-3.result.now c.explain_over.new.clause c.force_less.new.clause
-    c.in_ok-explain_over.field-0 found c.requires.tasks c.requires.place c.as_slice.ensures c.as_slice-2.ensures c.as_slice-3.ensures c.in_ok-explain_over.ensures c.if-not-branch.false refl
-    (λ none. inr (inr (subst (λ (n : ℤ). IsDenied c.args.trail.now.sets (that (get_or c.args.tasks.now.uses c.args.k (Constant (pos 0))) AtLeast n)) same
-    (subst (λ (xs : List Term). IsDenied c.args.trail.now.sets (that (get_or xs c.args.k (Constant (pos 0))) AtLeast (to_z w64 (of_z w64 (to_z w64 (of_z w64 (to_z w64 (of_z w64 c.greatest_of.result) -ℤ to_z w64 (of_z w64 c.others_at.result))) +ℤ pos 1))))) c.as_slice-3.ensures none))))
-    told)
-    c.force_less.ensures
+    IfOk-weaker c.push.result _ _
+    (λ found.
+    either found (λ justified. justified)
+    (free_to_use sets c.args.tasks.now c.args.time.now (to_z w64 (of_z w64 c.least_of-shortest.result)) _ c.args.k (amount (goal.at.returns c).After-others_at)))
+    c.push.ensures

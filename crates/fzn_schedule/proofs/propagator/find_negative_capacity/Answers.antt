@@ -14,7 +14,7 @@ found : (c : After-hand_over) → AreFoundOf c.args.number (cumulative_of c.args
 found c =
     let trail = c.args.trail.now in
     let tasks = c.args.tasks.now in
-    let forced = MatchBool-at_true _ (IsDenied trail.sets (that c.args.tasks.now.capacity AtMost (negsuc 0))) c.if-branch.true c.in_ok-force.ensures in
+    let forced = MatchBool-at_true _ (IsDenied trail.sets (that c.args.tasks.now.capacity AtMost (negsuc 0))) c.if-branch.true (rw c.at_most.ensures at c.in_ok-force.ensures) in
     c.hand_over.ensures.found trail (cumulative_of tasks)
     (capacity_inferred trail tasks c.force.new.clause forced.forcing
     (λ sets left. is_below sets tasks.capacity left.filled (subst (λ (n : ℕ). IsTerm n c.args.tasks.now.capacity) (sym left.one_each) c.requires.tasks.capacity) (forced.says sets left)))

@@ -22,5 +22,5 @@ returns c =
           some_below sets terms c.args.k (Constant (pos 0)) c.requires.place left.filled (subst (λ (n : ℕ). All (IsTerm n) c.args.terms.now) (sym left.one_each) c.requires.terms.0) (forced.says sets left);
     })
     (λ none d. subst (λ (t : Term). IsDenied c.args.trail.now.sets (that t AtMost (negsuc 0))) (get_or_default terms c.args.k (Constant (pos 0)) d c.requires.place) none)
-    told)
+    (rw c.at_most.ensures at told))
     c.force.ensures

@@ -1,7 +1,7 @@
 use Rattle.std.proofs.Common.{to_z, w64}
 use Rattle.fzn_domain.proofs.DomainLemmas.{real}
 use Rattle.fzn_meaning.specs.Term.{numbers_in}
-use Rattle.fzn_terms.specs.Claims.{place_at}
+use Rattle.fzn_terms.specs.Values.{place_at}
 use Rattle.fzn_terms.proofs.NextLemmas.{next_done, all_done}
 use Rattle.fzn_table.specs.Supports.{IsSupported}
 use Rattle.fzn_table.proofs.table.bar_values.Goals as goal

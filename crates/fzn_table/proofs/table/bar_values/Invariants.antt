@@ -4,7 +4,7 @@ use Rattle.fzn_domain.specs.Limits.{IsInLimits}
 use Rattle.fzn_meaning.specs.declared.constraint.Constraint.TheVariants.{Table}
 use Rattle.fzn_meaning.specs.Term.{numbers_in}
 use Rattle.fzn_sets.specs.Terms.{MayBe}
-use Rattle.fzn_terms.specs.Claims.{place_at}
+use Rattle.fzn_terms.specs.Values.{place_at}
 use Rattle.fzn_table.specs.Supports.{AreOpen, IsSupported}
 use Rattle.fzn_propagator.specs.Inference.{AreFoundOf}
 use Rattle.fzn_table.proofs.table.bar_values.Given as goal

@@ -1,5 +1,5 @@
 use Rattle.std.specs.List.{AllWithin}
-use Rattle.fzn_terms.specs.Claims.{IsFixed}
+use Rattle.fzn_terms.specs.Values.{IsFixed}
 use Rattle.fzn_terms.proofs.values.are_fixed.Given as goal
 
 abbrev pub invariant-loop-term : goal.invariant-loop-term
