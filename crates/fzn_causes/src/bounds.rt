@@ -88,8 +88,16 @@ impl AllBounds {
         {
             let is_raised = known.least < bounds.least;
             let is_lowered = bounds.greatest < known.greatest;
-            bounds.raised_by = if is_raised { Some(last) } else { known.raised_by };
-            bounds.lowered_by = if is_lowered { Some(last) } else { known.lowered_by };
+            bounds.raised_by = if is_raised {
+                Some(last)
+            } else {
+                known.raised_by
+            };
+            bounds.lowered_by = if is_lowered {
+                Some(last)
+            } else {
+                known.lowered_by
+            };
         }
         bounds
     }
