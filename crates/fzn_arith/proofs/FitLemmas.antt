@@ -10,10 +10,10 @@ use Rattle.fzn_meaning.specs.Term.{IsPlace}
 use Rattle.fzn_meaning.specs.Meaning.{IsWellFormed}
 use Rattle.fzn_builtin_rules.specs.Form.{Form, Fits}
 use Rattle.fzn_builtin_rules.proofs.CallerLemmas.{form_fits}
-use Rattle.fzn_sums.specs.Opposite.{opposites}
-use Rattle.fzn_sums.proofs.CallerLemmas.{opposites_fit, opposites-twice, length-opposites}
+use Rattle.fzn_arith.specs.Opposite.{opposites}
+use Rattle.fzn_arith.proofs.CallerLemmas.{opposites_fit, opposites-twice, length-opposites}
 use Rattle.fzn_arith.specs.declared.form.SumForm.{SumForm}
-use Rattle.fzn_arith.specs.Opposite.{other_bound, opposite_form}
+use Rattle.fzn_arith.specs.OppositeForm.{other_bound, opposite_form}
 use Rattle.fzn_arith.specs.Kinds.{form_in, IsFormOf, IsReady}
 
 pub fits_of : (count : ℕ) (c : Constraint) (sum : SumForm) → IsFormOf c sum → IsWellFormed count c → Fits count (form_in sum)

@@ -29,10 +29,10 @@ use Rattle.fzn_trail.specs.Levels.{Levels}
 use Rattle.fzn_propagator.specs.Inference.{AllFixed, IsHint, IsTight, IsInference, IsExhausted}
 use Rattle.fzn_propagator.specs.Barred.{IsToDiffer, LeavesNoBarred}
 use Rattle.fzn_propagator.proofs.CallerLemmas.{one_end, flat_cond, justified_by, inference_of}
-use Rattle.fzn_sums.specs.Opposite.{opposites}
-use Rattle.fzn_sums.specs.Refuted.{LeavesSome, LeavesEach}
-use Rattle.fzn_sums.proofs.CallerLemmas.{total_le, none_barred_opposites, sum_at-opposites, opposites-twice, opposites_fit}
-use Rattle.fzn_arith.specs.Opposite.{other_comparison, other_bound, opposite_form}
+use Rattle.fzn_arith.specs.Opposite.{opposites}
+use Rattle.fzn_arith.specs.Refuted.{LeavesSome, LeavesEach}
+use Rattle.fzn_arith.proofs.CallerLemmas.{total_le, none_barred_opposites, sum_at-opposites, opposites-twice, opposites_fit}
+use Rattle.fzn_arith.specs.OppositeForm.{other_comparison, other_bound, opposite_form}
 use Rattle.fzn_arith.specs.Sum.{IsFound, IsLeftAlone}
 use Rattle.fzn_terms.proofs.OrderLemmas.{ge_same}
 

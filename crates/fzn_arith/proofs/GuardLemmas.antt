@@ -16,9 +16,9 @@ use Rattle.fzn_trail.specs.Levels.{Levels}
 use Rattle.fzn_trail.specs.Unit.{IsFalseOrUnit}
 use Rattle.fzn_propagator.specs.Clause.{IsWritable}
 use Rattle.fzn_propagator.proofs.CallerLemmas.{last_fails, none_left, value_where_false, denied_one, denied_some, may_fail}
-use Rattle.fzn_sums.specs.Opposite.{opposites}
-use Rattle.fzn_sums.specs.Refuted.{IsConflict, IsRefutation}
-use Rattle.fzn_sums.proofs.CallerLemmas.{rules_out-more, refutation_of}
+use Rattle.fzn_arith.specs.Opposite.{opposites}
+use Rattle.fzn_arith.specs.Refuted.{IsConflict, IsRefutation}
+use Rattle.fzn_arith.proofs.CallerLemmas.{rules_out-more, refutation_of}
 use Rattle.fzn_arith.specs.Guard.{IsGuard, IsGuarded}
 
 -- ---- one more literal

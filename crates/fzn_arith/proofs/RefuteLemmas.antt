@@ -14,12 +14,12 @@ use Rattle.fzn_builtin_rules.specs.Form.{Form}
 use Rattle.fzn_trail.specs.Levels.{Levels}
 use Rattle.fzn_propagator.specs.Left.{IsLeft}
 use Rattle.fzn_propagator.proofs.CallerLemmas.{end_left, ends_ordered}
-use Rattle.fzn_sums.specs.Explained.{Exceeds}
-use Rattle.fzn_sums.specs.Opposite.{opposites}
-use Rattle.fzn_sums.specs.Refuted.{RulesOut, IsRefutation}
+use Rattle.fzn_arith.specs.Explained.{Exceeds}
+use Rattle.fzn_arith.specs.Opposite.{opposites}
+use Rattle.fzn_arith.specs.Refuted.{RulesOut, IsRefutation}
 use Rattle.fzn_terms.proofs.ProductLemmas.{mono_up, mono_down}
-use Rattle.fzn_sums.proofs.CallerLemmas.{total_le, least_sum-opposites, greatest_sum-opposites, opposites_fit}
-use Rattle.fzn_arith.specs.Opposite.{other_comparison, other_bound, opposite_form}
+use Rattle.fzn_arith.proofs.CallerLemmas.{total_le, least_sum-opposites, greatest_sum-opposites, opposites_fit}
+use Rattle.fzn_arith.specs.OppositeForm.{other_comparison, other_bound, opposite_form}
 use Rattle.fzn_arith.specs.Guard.{IsGuarded}
 use Rattle.fzn_arith.specs.Sum.{IsFound}
 

@@ -20,12 +20,12 @@ use Rattle.fzn_builtin_rules.specs.Form.{Form}
 use Rattle.fzn_trail.specs.Levels.{Levels}
 use Rattle.fzn_propagator.specs.declared.propagator.Inference.{Inference}
 use Rattle.fzn_propagator.specs.Inference.{IsInference, AreInferencesOf}
-use Rattle.fzn_sums.specs.Opposite.{opposites}
-use Rattle.fzn_sums.specs.Refuted.{IsRefutation}
+use Rattle.fzn_arith.specs.Opposite.{opposites}
+use Rattle.fzn_arith.specs.Refuted.{IsRefutation}
 use Rattle.fzn_arith.specs.declared.form.SumForm.{SumForm}
 use Rattle.fzn_arith.specs.Guard.{IsGuard, IsGuarded}
 use Rattle.fzn_arith.specs.Kinds.{form_in, IsFormOf}
-use Rattle.fzn_arith.specs.Opposite.{opposite_form}
+use Rattle.fzn_arith.specs.OppositeForm.{opposite_form}
 use Rattle.fzn_arith.specs.Rest.{guard_of, IsAsked, AddsInferences}
 use Rattle.fzn_arith.specs.Sum.{IsFound}
 use Rattle.fzn_arith.proofs.FormLemmas.{sum_found}

@@ -8,7 +8,7 @@ use Rattle.fzn_meaning.specs.declared.term.Place.{Place}
 use Rattle.fzn_meaning.specs.declared.relation.Comparison.{Comparison}
 use Rattle.fzn_trail.specs.Levels.{Levels}
 use Rattle.fzn_propagator.specs.Left.{IsLeft}
-use Rattle.fzn_sums.specs.Refuted.{IsRefutation}
+use Rattle.fzn_arith.specs.Refuted.{IsRefutation}
 
 -- a literal that says that a switch is not 0, or not 1
 pub record IsGuard (trail : Levels) (lit : Lit) : Type 0 where

@@ -4,7 +4,7 @@ use Rattle.fzn_meaning.specs.declared.constraint.Constraint.{Constraint}
 use Rattle.fzn_meaning.specs.Meaning.{IsSwitch}
 use Rattle.fzn_builtin_rules.specs.Form.{Form, form, form_of}
 use Rattle.fzn_arith.specs.declared.form.SumForm.{SumForm}
-use Rattle.fzn_arith.specs.Opposite.{opposite_form}
+use Rattle.fzn_arith.specs.OppositeForm.{opposite_form}
 use Rattle.fzn_arith.specs.Sum.{IsSum}
 
 abbrev pub form_in : SumForm → Form

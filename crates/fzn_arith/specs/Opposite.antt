@@ -1,21 +1,19 @@
--- The form that holds exactly where another does not.
-use Rattle.std.specs.Prelude.{ℤ, pos, ◌-ℤ◌}
-use Rattle.fzn_meaning.specs.declared.relation.Comparison.{Comparison}
-use Rattle.fzn_meaning.specs.declared.relation.Comparison.TheVariants.{AtMost, Equal, NotEqual}
-use Rattle.fzn_builtin_rules.specs.Form.{Form, form}
-use Rattle.fzn_sums.specs.Opposite.{opposites}
+-- The places whose sum is the negative of another's.
+use Rattle.std.specs.Prelude.{◌≡◌, ℕ, ◌≤◌, pos, ◌-ℤ◌, List, map, length}
+use Rattle.std.specs.List.{All}
+use Rattle.fzn_meaning.specs.declared.term.Place.{Place}
+use Rattle.fzn_meaning.specs.Term.{IsPlace}
 
-abbrev pub other_comparison : Comparison → Comparison
-other_comparison AtMost = AtMost
-other_comparison Equal = NotEqual
-other_comparison NotEqual = Equal
+-- the place gives the negative of what it gave
+abbrev pub opposite : Place → Place
+opposite place = record { coefficient = pos 0 -ℤ place.coefficient; term = place.term }
 
--- more than the bound is at most one less than its negative, for the negative sum
-abbrev pub other_bound : Comparison → ℤ → ℤ
-other_bound AtMost bound = (pos 0 -ℤ bound) -ℤ pos 1
-other_bound Equal bound = pos 0 -ℤ bound
-other_bound NotEqual bound = pos 0 -ℤ bound
+abbrev pub opposites : List Place → List Place
+opposites places = map opposite places
 
--- the negative sum compares so with this bound exactly where the sum does not compare so with its own
-abbrev pub opposite_form : Form → Form
-opposite_form found = form (opposites found.places) (other_comparison found.comparison) (other_bound found.comparison found.bound) found.switch
+-- at most 200,000 places over so many variables, and their opposites
+pub record AreOpposite (count : ℕ) (places opposite : List Place) : Type 0 where
+  pub places_fit : All (IsPlace count) places
+  pub opposite_fit : All (IsPlace count) opposite
+  pub short : length places ≤ 200000
+  pub opposite_is : opposite ≡ opposites places

@@ -9,8 +9,8 @@ use Rattle.fzn_builtin_rules.specs.Form.{Form, IsFormMet}
 use Rattle.fzn_sets.specs.Terms.{IsFixedTo}
 use Rattle.fzn_trail.specs.Levels.{Levels}
 use Rattle.fzn_propagator.specs.Clause.{IsJustifiedBy}
-use Rattle.fzn_sums.specs.Opposite.{opposites}
-use Rattle.fzn_sums.specs.Refuted.{LeavesEach}
+use Rattle.fzn_arith.specs.Opposite.{opposites}
+use Rattle.fzn_arith.specs.Refuted.{LeavesEach}
 use Rattle.fzn_arith.specs.declared.form.SumForm.{SumForm}
 
 -- a sum over some of this many variables, with its opposite places

@@ -6,7 +6,7 @@ ghost use Rattle.fzn_domain.specs.Narrow.{set_of, NoneEmpty};
 ghost use Rattle.fzn_meaning.specs.declared.term.Term.TheVariants.{Variable};
 ghost use Rattle.fzn_meaning.specs.Term.{IsTerm};
 ghost use Rattle.fzn_sets.specs.Terms.{IsFixedTo};
-ghost use Rattle.fzn_sums.specs.Refuted.{LeavesEach};
+ghost use Rattle.fzn_arith.specs.Refuted.{LeavesEach};
 ghost use Rattle.fzn_arith.specs.Sum.{IsSum};
 ghost use Rattle.fzn_arith.specs.Guard.{IsGuard, IsGuarded};
 

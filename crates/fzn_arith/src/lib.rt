@@ -1,18 +1,31 @@
-//! Propagators of the constraints that have a form: a sum that compares with a bound, perhaps under a switch.
+//! Propagators of the constraints that have a form: a weighted sum that compares with a bound, perhaps under a switch.
 //!
 //! In: the number of a constraint of a model, then a trail. Out: the inferences of one pass, of each of which a rule justifies the
 //! clause, which is false or forces one literal on the trail; or none, by the law of the trait `Propagator`. Proved against
-//! `specs/Kinds.antt`: the constraint that a propagator is for, by its form.
+//! `specs/Kinds.antt`: the constraint that a propagator is for, by its form. Of the sums themselves, their least values and the clauses
+//! that refute how they compare with a bound, against `specs/Refuted.antt`: whatever values the clause leaves, no sum compares so with the
+//! bound; and where none is found, the ends leave one.
 #![tactic(auto)]
 
+pub use at_most::{
+    Forced, PlaceFloor, conflict_at_most, floors_of, next_forced, refute_at_most, refute_place,
+    slack_within,
+};
+pub use ends::ends_of;
+pub use equal::refute_equal;
 pub use form::SumForm;
 pub use fzn_propagator::{Findings, Inference, Propagator};
 pub use kinds::{ArithPropagator, propagator_of};
+pub use not_equal::{conflict_not_equal, refute_not_equal};
 
+mod at_most;
+mod ends;
+mod equal;
 mod equality;
 mod form;
 mod guard;
 mod kinds;
+mod not_equal;
 mod opposite;
 mod refute;
 mod sum;

@@ -2,9 +2,9 @@
 ghost use Rattle.std.specs.Prelude.{◌≡◌, IfOk};
 ghost use Rattle.std.specs.List.{All};
 ghost use Rattle.fzn_domain.specs.Limits.{IsSmall};
-ghost use Rattle.fzn_sums.specs.Opposite.{opposites};
+ghost use Rattle.fzn_arith.specs.Opposite.{opposites};
 ghost use Rattle.fzn_arith.specs.Kinds.{form_in};
-ghost use Rattle.fzn_arith.specs.Opposite.{other_comparison, other_bound, opposite_form};
+ghost use Rattle.fzn_arith.specs.OppositeForm.{other_comparison, other_bound, opposite_form};
 
 use crate::form::SumForm;
 use fzn_domain::Memory;

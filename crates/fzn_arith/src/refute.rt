@@ -2,16 +2,16 @@
 ghost use Rattle.std.specs.Prelude.{length, IfOk, IfSome, IfNone};
 ghost use Rattle.fzn_domain.specs.Narrow.{NoneEmpty};
 ghost use Rattle.fzn_meaning.specs.declared.relation.Comparison.TheVariants as compares;
-ghost use Rattle.fzn_sums.specs.Refuted.{IsConflict, IsRefutation, LeavesSome, LeavesEach};
+ghost use Rattle.fzn_arith.specs.Refuted.{IsConflict, IsRefutation, LeavesSome, LeavesEach};
 ghost use Rattle.fzn_arith.specs.Sum.{IsSum};
 
+use crate::at_most::{conflict_at_most, refute_at_most};
+use crate::equal::refute_equal;
 use crate::form::SumForm;
+use crate::not_equal::{conflict_not_equal, refute_not_equal};
 use fzn_domain::{Lit, Memory};
 use fzn_list::Items;
 use fzn_meaning::{Comparison, Place};
-use fzn_sums::{
-    conflict_at_most, conflict_not_equal, refute_at_most, refute_equal, refute_not_equal,
-};
 use fzn_trail::Trail;
 use std::alloc::Global;
 

@@ -17,6 +17,8 @@ ghost use Rattle.fzn_arith.specs.Rest.{guard_of, IsAsked, AddsInferences};
 ghost use Rattle.fzn_arith.specs.Sum.{IsSum, IsFound, IsLeftAlone};
 ghost use Rattle.fzn_arith.specs.Wakes.{sum_subscriptions};
 
+use crate::at_most::{floors_of, next_forced, refute_place, slack_within};
+use crate::ends::ends_of;
 use crate::form::SumForm;
 use crate::guard::guarded;
 use crate::refute::refute;
@@ -26,7 +28,6 @@ use fzn_list::Items;
 use fzn_meaning::{Comparison, Place, Term};
 use fzn_propagator::{Cost, Findings, Inference, Propagator, Subscriptions};
 use fzn_rules::Rule;
-use fzn_sums::{ends_of, floors_of, next_forced, refute_place, slack_within};
 use fzn_terms::{greatest_of, is_fixed, least_of};
 use fzn_trail::Trail;
 use std::alloc::Global;

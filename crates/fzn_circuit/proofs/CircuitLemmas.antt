@@ -18,8 +18,8 @@ use Rattle.fzn_rules.specs.declared.rule.Rule.TheVariants.{Rows, Hall}
 use Rattle.fzn_rules.specs.Rules.{IsMet}
 use Rattle.fzn_sets.specs.Terms.{least_value, greatest_value, IsFixedTo}
 use Rattle.fzn_sets.proofs.ValueLemmas.{MayBe-between, MayBe-ends}
-use Rattle.fzn_global_rules.specs.GlobalRows.{IsGlobalRowsMet}
-use Rattle.fzn_global_rules.specs.Hall.{lies_within, IsHallMet}
+use Rattle.fzn_rules.specs.GlobalRows.{IsGlobalRowsMet}
+use Rattle.fzn_rules.specs.Hall.{lies_within, IsHallMet}
 use Rattle.fzn_propagator.specs.Clause.{AreLeft}
 use Rattle.fzn_terms.specs.Denied.{that, IsEntailed}
 use Rattle.fzn_terms.proofs.OrderLemmas.{le_same}

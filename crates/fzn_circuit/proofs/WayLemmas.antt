@@ -26,7 +26,7 @@ use Rattle.fzn_sets.proofs.TermLemmas.{IsTerm-term_at}
 use Rattle.fzn_rules.specs.declared.rule.Rule.TheVariants.{Cut}
 use Rattle.fzn_rules.specs.Rules.{IsMet}
 use Rattle.fzn_sets.specs.Terms.{MayBe, IsFixedTo, term_at}
-use Rattle.fzn_global_rules.specs.Cut.{LeadsInto, IsCutMet}
+use Rattle.fzn_rules.specs.Cut.{LeadsInto, IsCutMet}
 use Rattle.fzn_trail.specs.Levels.{Levels}
 use Rattle.fzn_propagator.specs.Inference.{IsHint, HasWritableHints}
 use Rattle.fzn_terms.specs.Denied.{that, IsDenied, IsExplained, IsForced}

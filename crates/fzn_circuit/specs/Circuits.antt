@@ -11,7 +11,7 @@ use Rattle.fzn_meaning.specs.Circuit.{reached_from}
 use Rattle.fzn_meaning.specs.Entries.{IsIndex}
 use Rattle.fzn_meaning.specs.Term.{IsTerm, values_of}
 use Rattle.fzn_sets.specs.Terms.{IsFixedTo, term_at}
-use Rattle.fzn_global_rules.specs.Cut.{LeadsInto}
+use Rattle.fzn_rules.specs.Cut.{LeadsInto}
 use Rattle.fzn_trail.specs.Levels.{Levels}
 use Rattle.fzn_domain.specs.declared.literal.Op.TheVariants.{AtMost, AtLeast, Equal}
 use Rattle.fzn_propagator.specs.Clause.{Says, IsFalseClause}

@@ -7,10 +7,10 @@ ghost use Rattle.fzn_meaning.specs.WellFormed.{IsWellFormed};
 use crate::kinds::model_of;
 use crate::rules::declared;
 use fzn_builtin_rules::{is_box_met, is_enum_met, is_fixed_met, is_lin_met, is_rows_met};
-use fzn_global_rules::{
+use fzn_meaning::{Constraint, Model};
+use fzn_rules::{
     is_cut_met, is_energy_met, is_global_rows_met, is_hall_met, is_load_met, is_pair_met,
 };
-use fzn_meaning::{Constraint, Model};
 use fzn_sets::Sets;
 use std::alloc::{AllocError, Global};
 use std::string::String;

@@ -37,14 +37,14 @@ use Rattle.fzn_tree.specs.declared.tree.Size.{Size}
 use Rattle.fzn_tree.specs.declared.tree.Var.{Var}
 use Rattle.fzn_tree.specs.declared.tree.Var.TheVariants as vars
 use Rattle.fzn_registry.specs.declared.signature.Argument.TheVariants.{BooleanConstant}
-use Rattle.fzn_symbols.specs.Types.{repeated, fits, sets_in, unknown_in, wrong_literals, wrong_in}
-use Rattle.fzn_symbols.specs.Limits.{IsLiteralWithin, IsBasicWithin, IsParamValueWithin, IsParamWithin, IsVarWithin, AreDeclarationsWithin}
-use Rattle.fzn_symbols.specs.Positions.{when, at, position_of_literal}
-use Rattle.fzn_symbols.specs.Values.{NameList, literal_value, value_term, terms_of}
-use Rattle.fzn_symbols.specs.Variables.{kind_of, values_of, vars_of}
-use Rattle.fzn_symbols.specs.declared.names.Declared.{Declared}
-use Rattle.fzn_symbols.specs.declared.names.Declared.TheVariants as d
-use Rattle.fzn_symbols.proofs.CallerLemmas.{left_empty, right_empty, at-empty, bit_in_range, none_limited, IsMeaning, AreMeanings, constants_meaning, array_meaning, literal_meaning, when_not, terms_of-within, boolean_terms}
+use Rattle.fzn_names.specs.Types.{repeated, fits, sets_in, unknown_in, wrong_literals, wrong_in}
+use Rattle.fzn_names.specs.Limits.{IsLiteralWithin, IsBasicWithin, IsParamValueWithin, IsParamWithin, IsVarWithin, AreDeclarationsWithin}
+use Rattle.fzn_names.specs.Positions.{when, at, position_of_literal}
+use Rattle.fzn_names.specs.Values.{NameList, literal_value, value_term, terms_of}
+use Rattle.fzn_names.specs.Variables.{kind_of, values_of, vars_of}
+use Rattle.fzn_names.specs.declared.names.Declared.{Declared}
+use Rattle.fzn_names.specs.declared.names.Declared.TheVariants as d
+use Rattle.fzn_names.proofs.CallerLemmas.{left_empty, right_empty, at-empty, bit_in_range, none_limited, IsMeaning, AreMeanings, constants_meaning, array_meaning, literal_meaning, when_not, terms_of-within, boolean_terms}
 
 -- ---- parameters
 

@@ -4,7 +4,7 @@ use Rattle.fzn_lexer.specs.declared.fault.Fault.{Fault}
 use Rattle.fzn_lexer.specs.declared.halt.Halt.{Halt}
 use Rattle.fzn_lexer.specs.declared.halt.Halt.TheVariants as errors
 use Rattle.fzn_names.specs.Given.{Gives}
-use Rattle.fzn_symbols.proofs.CallerLemmas.{first-append_some}
+use Rattle.fzn_names.proofs.CallerLemmas.{first-append_some}
 
 pub err_is : {A : Type 0} (result : Result A (Halt Fault)) (e : Halt Fault) → IsErrAnd result (λ x. x ≡ e) → result ≡ Err e
 err_is (Ok value) e h = absurd h

@@ -1,8 +1,11 @@
+pub mod CallerLemmas
 pub mod DeclaredLemmas
+pub mod FirstLemmas
 pub mod FlagLemmas
 pub mod GivesLemmas
+pub mod MeaningLemmas
+mod NameLemmas
 pub mod SizeLemmas
 pub mod StepLemmas
-pub use Rattle.fzn_symbols.proofs.FirstLemmas
-pub use Rattle.fzn_symbols.proofs.MeaningLemmas
-pub use Rattle.fzn_symbols.proofs.ValueSetLemmas
+pub mod ValueSetLemmas
+mod VarLemmas

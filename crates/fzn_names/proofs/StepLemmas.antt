@@ -16,12 +16,12 @@ use Rattle.fzn_tree.specs.declared.tree.Param.{Param}
 use Rattle.fzn_tree.specs.declared.tree.SingleVar.{SingleVar}
 use Rattle.fzn_tree.specs.declared.tree.Var.{Var}
 use Rattle.fzn_tree.specs.declared.tree.Var.TheVariants as vars
-use Rattle.fzn_symbols.specs.Types.{repeated, sets_in, unknown_in, wrong_in}
-use Rattle.fzn_symbols.specs.Positions.{first, when, at}
-use Rattle.fzn_symbols.specs.Values.{NameList, meaning_of}
-use Rattle.fzn_symbols.specs.Variables.{kind_of, vars_of}
-use Rattle.fzn_symbols.specs.declared.names.Declared.{Declared}
-use Rattle.fzn_symbols.proofs.CallerLemmas.{first-append_none, empty-first, left_empty, right_empty, at-empty}
+use Rattle.fzn_names.specs.Types.{repeated, sets_in, unknown_in, wrong_in}
+use Rattle.fzn_names.specs.Positions.{first, when, at}
+use Rattle.fzn_names.specs.Values.{NameList, meaning_of}
+use Rattle.fzn_names.specs.Variables.{kind_of, vars_of}
+use Rattle.fzn_names.specs.declared.names.Declared.{Declared}
+use Rattle.fzn_names.proofs.CallerLemmas.{first-append_none, empty-first, left_empty, right_empty, at-empty}
 
 -- ---- lists
 

@@ -6,10 +6,10 @@ use Rattle.fzn_names.specs.Params.{params_faults, param_names}
 use Rattle.fzn_tree.specs.declared.tree.Param.{Param}
 use Rattle.fzn_tree.specs.declared.tree.Var.{Var}
 use Rattle.fzn_tree.specs.declared.tree.Var.TheVariants as vars
-use Rattle.fzn_symbols.specs.Values.{NameList, terms_of}
-use Rattle.fzn_symbols.specs.Variables.{kind_of}
-use Rattle.fzn_symbols.specs.declared.names.Declared.{Declared}
-use Rattle.fzn_symbols.specs.declared.names.Declared.TheVariants.{Array, Variable}
+use Rattle.fzn_names.specs.Values.{NameList, terms_of}
+use Rattle.fzn_names.specs.Variables.{kind_of}
+use Rattle.fzn_names.specs.declared.names.Declared.{Declared}
+use Rattle.fzn_names.specs.declared.names.Declared.TheVariants.{Array, Variable}
 
 -- ---- variables and arrays
 

@@ -16,10 +16,10 @@ use Rattle.fzn_tree.specs.declared.tree.Var.{Var}
 use Rattle.fzn_tree.specs.declared.tree.Var.TheVariants as vars
 use Rattle.fzn_registry.specs.declared.signature.Argument.{Argument}
 use Rattle.fzn_registry.specs.declared.signature.Argument.TheVariants.{Integer, Boolean}
-use Rattle.fzn_symbols.specs.Positions.{when, at}
-use Rattle.fzn_symbols.specs.Types.{sets_in, unknown_in, wrong_in, repeated}
-use Rattle.fzn_symbols.specs.Values.{NameList}
-use Rattle.fzn_symbols.specs.Variables.{kind_of}
+use Rattle.fzn_names.specs.Positions.{when, at}
+use Rattle.fzn_names.specs.Types.{sets_in, unknown_in, wrong_in, repeated}
+use Rattle.fzn_names.specs.Values.{NameList}
+use Rattle.fzn_names.specs.Variables.{kind_of}
 
 abbrev pub set_types : Base → List Position
 set_types (bases.Set position values) = position ∷ []

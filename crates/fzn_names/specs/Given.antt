@@ -3,7 +3,7 @@ use Rattle.std.specs.Prelude.{◌≡◌, List, [], Some, Result, Ok, Err}
 use Rattle.fzn_lexer.specs.declared.fault.Fault.{Fault}
 use Rattle.fzn_lexer.specs.declared.halt.Halt.{Halt}
 use Rattle.fzn_lexer.specs.declared.halt.Halt.TheVariants as errors
-use Rattle.fzn_symbols.specs.Positions.{first}
+use Rattle.fzn_names.specs.Positions.{first}
 
 -- the first of the faults; or a value with this fact, where there is no fault; or that memory ran out
 abbrev pub Gives : {A : Type 0} → List Fault → (A → Type 0) → Result A (Halt Fault) → Type 0

@@ -12,9 +12,9 @@ use Rattle.fzn_tree.specs.declared.tree.ArrayVar.{ArrayVar}
 use Rattle.fzn_tree.specs.declared.tree.SingleVar.{SingleVar}
 use Rattle.fzn_tree.specs.declared.tree.Var.{Var}
 use Rattle.fzn_tree.specs.declared.tree.Var.TheVariants as vars
-use Rattle.fzn_symbols.specs.Positions.{when}
-use Rattle.fzn_symbols.specs.Values.{NameList, terms_of}
-use Rattle.fzn_symbols.specs.Variables.{kind_of}
+use Rattle.fzn_names.specs.Positions.{when}
+use Rattle.fzn_names.specs.Values.{NameList, terms_of}
+use Rattle.fzn_names.specs.Variables.{kind_of}
 
 abbrev pub single_item : ℕ → SingleVar → OutputItem
 single_item number var = items.Single var.name.text (kind_of var.base) (record { 0 = number })

@@ -13,11 +13,11 @@ use Rattle.fzn_tree.specs.declared.tree.ParamValue.TheVariants as v
 use Rattle.fzn_tree.specs.declared.tree.Size.{Size}
 use Rattle.fzn_registry.specs.declared.signature.Argument.{Argument}
 use Rattle.fzn_registry.specs.declared.signature.Argument.TheVariants.{IntegerConstant, BooleanConstant, Set}
-use Rattle.fzn_symbols.specs.Positions.{when, at, position_of_literal}
-use Rattle.fzn_symbols.specs.Types.{set_literals, wrong_literals, repeated}
-use Rattle.fzn_symbols.specs.Values.{NameList, literal_value, value_term}
-use Rattle.fzn_symbols.specs.declared.names.Declared.{Declared}
-use Rattle.fzn_symbols.specs.declared.names.Declared.TheVariants.{Constants}
+use Rattle.fzn_names.specs.Positions.{when, at, position_of_literal}
+use Rattle.fzn_names.specs.Types.{set_literals, wrong_literals, repeated}
+use Rattle.fzn_names.specs.Values.{NameList, literal_value, value_term}
+use Rattle.fzn_names.specs.declared.names.Declared.{Declared}
+use Rattle.fzn_names.specs.declared.names.Declared.TheVariants.{Constants}
 
 -- ---- faults
 

@@ -7,7 +7,7 @@ ghost use Rattle.fzn_names.specs.Annotations.{has_no_args, is_output_var, is_out
 ghost use Rattle.fzn_names.specs.Capped.{capped};
 ghost use Rattle.fzn_tree.specs.declared.tree.Ann.{Ann, out-Ann};
 ghost use Rattle.fzn_tree.specs.declared.tree.AnnTerm.{AnnTerm};
-ghost use Rattle.fzn_symbols.specs.Positions.{first};
+ghost use Rattle.fzn_names.specs.Positions.{first};
 
 use fzn_lexer::Position;
 use fzn_list::Items;

@@ -4,16 +4,19 @@ ghost use Rattle.std.specs.List.{All};
 ghost use Rattle.fzn_meaning.specs.Meaning.{longest};
 ghost use Rattle.fzn_names.specs.Declarations.{name_of, var_value, number_after, vars_faults, names_from, names_of, declaration_faults};
 ghost use Rattle.fzn_names.specs.Given.{Gives};
-ghost use Rattle.fzn_symbols.specs.Known.{known};
-ghost use Rattle.fzn_symbols.specs.Limits.{IsVarWithin, AreDeclarationsWithin};
-ghost use Rattle.fzn_symbols.specs.Variables.{vars_of};
+ghost use Rattle.fzn_names.specs.Known.{known};
+ghost use Rattle.fzn_names.specs.Limits.{IsVarWithin, AreDeclarationsWithin};
+ghost use Rattle.fzn_names.specs.Variables.{vars_of};
 
+use crate::domain::kind_of;
 use crate::fault::{added_by, var_fault};
+use crate::named_list::NamedList;
+use crate::names::{Declared, Names};
 use crate::param::param_names;
+use crate::value::terms_of;
 use fzn_domain::VarId;
 use fzn_lexer::{Fault, Halt};
 use fzn_list::Text;
-use fzn_symbols::{Declared, NamedList, Names, kind_of, terms_of};
 use fzn_tree::{Param, Var};
 use std::alloc::{AllocError, Global};
 
@@ -55,7 +58,7 @@ fn var_value(
 }
 
 /// The earlier names with those of the variables and arrays, or the first fault of their declarations beside this many constraints.
-#[tactic(auto, using(fzn_symbols::proofs::CallerLemmas::firsts))]
+#[tactic(auto, using(crate::proofs::CallerLemmas::firsts))]
 fn var_names(
     alloc: Global,
     earlier: Names,

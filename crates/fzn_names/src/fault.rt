@@ -2,19 +2,20 @@
 ghost use Rattle.std.specs.Prelude.{◌≡◌, ◌≤◌, ◌++◌, length, flat_map};
 ghost use Rattle.fzn_meaning.specs.Meaning.{longest};
 ghost use Rattle.fzn_names.specs.Faults.{set_types, unbounded_types, wanted_of, unknown_values, wrong_written, added_by_value, added_by_entries, added_by, passes, single_faults, array_faults, var_faults};
-ghost use Rattle.fzn_symbols.specs.Known.{known};
-ghost use Rattle.fzn_symbols.specs.Limits.{IsVarWithin};
-ghost use Rattle.fzn_symbols.specs.Positions.{first};
-ghost use Rattle.fzn_symbols.specs.Types.{sets_in};
+ghost use Rattle.fzn_names.specs.Known.{known};
+ghost use Rattle.fzn_names.specs.Limits.{IsVarWithin};
+ghost use Rattle.fzn_names.specs.Positions.{first};
+ghost use Rattle.fzn_names.specs.Types.{sets_in};
 
 use crate::annotation::{array_mark_fault, mark_fault};
+use crate::domain::kind_of;
+use crate::entry::{first_set_in, first_unknown_in, first_wrong_in};
+use crate::names::Names;
+use crate::value::{unknown_in, wrong_in};
 use fzn_lexer::{Fault, FaultKind, Position};
 use fzn_list::LONGEST;
 use fzn_meaning::Kind;
 use fzn_registry::Argument;
-use fzn_symbols::{
-    Names, first_set_in, first_unknown_in, first_wrong_in, kind_of, unknown_in, wrong_in,
-};
 use fzn_tree::{ArrayVar, Base, Basic, SingleVar, Var};
 
 fn wanted_of(kind: Kind) -> Argument
@@ -84,7 +85,7 @@ fn added_by_value(value: &Option<Basic>) -> usize
 }
 
 /// The first fault of a variable behind these names and this many constraints.
-#[tactic(auto, using(fzn_symbols::proofs::CallerLemmas::firsts), unfolding(crate::specs::Faults::single_faults))]
+#[tactic(auto, using(crate::proofs::CallerLemmas::firsts), unfolding(crate::specs::Faults::single_faults))]
 fn single_fault(earlier: &Names, before: usize, var: &SingleVar) -> Option<Fault>
     requires { before ≤ longest }
     ensures { result ≡ first (single_faults (known earlier.now) before var.now) }
@@ -136,7 +137,7 @@ fn single_fault(earlier: &Names, before: usize, var: &SingleVar) -> Option<Fault
 
 // ---- arrays
 
-#[tactic(auto, using(fzn_symbols::proofs::CallerLemmas::firsts))]
+#[tactic(auto, using(crate::proofs::CallerLemmas::firsts))]
 fn refused_set(earlier: &Names, var: &ArrayVar) -> Option<Position>
     ensures { result ≡ first (set_types var.now.base ++ flat_map (sets_in (known earlier.now)) var.now.array.entries) }
 {
@@ -157,7 +158,7 @@ fn added_by_entries(base: &Base, entries: &[Basic]) -> usize
 }
 
 /// The first fault of an array behind these names and this many constraints.
-#[tactic(auto, using(fzn_symbols::proofs::CallerLemmas::firsts), unfolding(crate::specs::Faults::array_faults))]
+#[tactic(auto, using(crate::proofs::CallerLemmas::firsts), unfolding(crate::specs::Faults::array_faults))]
 fn array_fault(earlier: &Names, before: usize, var: &ArrayVar) -> Option<Fault>
     requires before { before ≤ longest }
     requires few { length var.now.array.entries ≤ longest }

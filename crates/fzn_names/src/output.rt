@@ -5,16 +5,18 @@ ghost use Rattle.fzn_domain.specs.declared.literal.VarId.{VarId};
 ghost use Rattle.fzn_meaning.specs.Meaning.{longest};
 ghost use Rattle.fzn_names.specs.Annotations.{is_array_mark};
 ghost use Rattle.fzn_names.specs.Outputs.{single_item, array_item, items_of, shown_from};
-ghost use Rattle.fzn_symbols.specs.Known.{known};
-ghost use Rattle.fzn_symbols.specs.Limits.{IsVarWithin};
-ghost use Rattle.fzn_symbols.specs.Variables.{vars_of};
+ghost use Rattle.fzn_names.specs.Known.{known};
+ghost use Rattle.fzn_names.specs.Limits.{IsVarWithin};
+ghost use Rattle.fzn_names.specs.Variables.{vars_of};
 
 use crate::annotation::{is_array_mark, is_marked, ranges_of};
 use crate::declaration::number_after;
+use crate::domain::kind_of;
+use crate::names::Names;
+use crate::value::terms_of;
 use fzn_domain::VarId;
 use fzn_list::Items;
 use fzn_meaning::OutputItem;
-use fzn_symbols::{Names, kind_of, terms_of};
 use fzn_tree::{Ann, ArrayVar, SingleVar, Var};
 use std::alloc::{AllocError, Global};
 

@@ -3,19 +3,19 @@ ghost use Rattle.std.specs.Prelude.{◌≡◌, [], ◌++◌, flat_map, IfOk};
 ghost use Rattle.std.specs.List.{All};
 ghost use Rattle.fzn_names.specs.Given.{Gives};
 ghost use Rattle.fzn_names.specs.Params.{set_elements, set_values, wanted_by, wrong_values, wrong_lengths, param_faults, kind_by, param_value, params_faults, param_names};
-ghost use Rattle.fzn_symbols.specs.Known.{known};
-ghost use Rattle.fzn_symbols.specs.Limits.{IsLiteralWithin, IsParamWithin};
-ghost use Rattle.fzn_symbols.specs.Positions.{first};
-ghost use Rattle.fzn_symbols.specs.Types.{set_literals, wrong_literals};
-ghost use Rattle.fzn_symbols.specs.Values.{literal_value};
+ghost use Rattle.fzn_names.specs.Known.{known};
+ghost use Rattle.fzn_names.specs.Limits.{IsLiteralWithin, IsParamWithin};
+ghost use Rattle.fzn_names.specs.Positions.{first};
+ghost use Rattle.fzn_names.specs.Types.{set_literals, wrong_literals};
+ghost use Rattle.fzn_names.specs.Values.{literal_value};
 
+use crate::named_list::NamedList;
+use crate::names::{Declared, Names};
+use crate::value::{literal_terms, position_of_literal, set_literal, wrong_literal};
 use fzn_domain::Domain;
 use fzn_lexer::{Fault, FaultKind, Halt, Position};
 use fzn_meaning::Kind;
 use fzn_registry::Argument;
-use fzn_symbols::{
-    Declared, NamedList, Names, literal_terms, position_of_literal, set_literal, wrong_literal,
-};
 use fzn_tree::{Literal, Param, ParamBase, ParamValue, Size};
 use std::alloc::{AllocError, Global};
 
@@ -30,7 +30,7 @@ fn set_element(size: &Option<Size>, base: ParamBase) -> Option<Position>
     }
 }
 
-#[tactic(auto, using(fzn_symbols::proofs::CallerLemmas::firsts))]
+#[tactic(auto, using(crate::proofs::CallerLemmas::firsts))]
 fn first_set_literal(mut literals: &[Literal]) -> Option<Position>
     ensures { result ≡ first (flat_map set_literals literals.now) }
 {
@@ -52,7 +52,7 @@ fn set_value(value: &ParamValue) -> Option<Position>
     }
 }
 
-#[tactic(auto, using(fzn_symbols::proofs::CallerLemmas::firsts))]
+#[tactic(auto, using(crate::proofs::CallerLemmas::firsts))]
 fn refused_set(param: &Param) -> Option<Position>
     ensures { result ≡ first (set_elements param.now.size param.now.base ++ set_values param.now.value) }
 {
@@ -72,7 +72,7 @@ fn wanted_by(base: ParamBase) -> Argument
     }
 }
 
-#[tactic(auto, using(fzn_symbols::proofs::CallerLemmas::firsts))]
+#[tactic(auto, using(crate::proofs::CallerLemmas::firsts))]
 fn first_wrong_literal(wanted: Argument, mut literals: &[Literal]) -> Option<Position>
     ensures { result ≡ first (flat_map (wrong_literals wanted) literals.now) }
 {
@@ -108,7 +108,7 @@ fn wrong_length(size: &Option<Size>, value: &ParamValue) -> Option<Position>
 }
 
 /// The first fault of a parameter behind these names.
-#[tactic(auto, using(fzn_symbols::proofs::CallerLemmas::firsts), unfolding(crate::specs::Params::param_faults))]
+#[tactic(auto, using(crate::proofs::CallerLemmas::firsts), unfolding(crate::specs::Params::param_faults))]
 fn param_fault(earlier: &Names, param: &Param) -> Option<Fault>
     ensures { result ≡ first (param_faults (known earlier.now) param.now) }
 {
@@ -183,7 +183,7 @@ fn param_value(alloc: Global, param: &Param) -> Result<Declared, AllocError>
 }
 
 /// The names of the parameters, or their first fault.
-#[tactic(auto, using(fzn_symbols::proofs::CallerLemmas::firsts))]
+#[tactic(auto, using(crate::proofs::CallerLemmas::firsts))]
 pub fn param_names(alloc: Global, mut params: &[Param]) -> Result<Names, Halt<Fault>>
     requires { All IsParamWithin params.now }
     ensures { Gives (params_faults [] params.now) (λ names. known names ≡ param_names params.now) result }

@@ -9,8 +9,8 @@ ghost use Rattle.fzn_propagator.specs.Constraints.{IsInference, IsJustified, IsQ
 ghost use Rattle.fzn_kinds.specs.AnyCrate.{AnyIsFor};
 ghost use Rattle.fzn_propagators.specs.Propagators.{AreFor, StandFor};
 
+use crate::agenda::Agenda;
 use crate::forcing::take_forcing;
-use fzn_agenda::Agenda;
 use fzn_domain::Memory;
 use fzn_kinds::{AnyPropagator, propagator_of};
 use fzn_list::Items;

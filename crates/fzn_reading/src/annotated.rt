@@ -8,7 +8,7 @@ ghost use Rattle.fzn_reading.specs.Reads.{Answers};
 
 use crate::fault::ModelFault;
 use crate::file::read_file;
-use fzn_annotations::annotations_of;
+use crate::taken::annotations_of;
 use fzn_meaning::Model;
 use fzn_strategy::Annotation;
 use fzn_streams::TrackedRead;

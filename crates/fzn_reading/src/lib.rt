@@ -2,7 +2,8 @@
 //!
 //! In: a reader. Out: the model, and the search annotations where they are asked for, or the first fault of the file with its number and
 //! position. Proved against `specs/Reads.antt`: the model, or the fault of the lexer, else of the parser, else of the types, on the bytes
-//! that the reader had left.
+//! that the reader had left. Annotations of another form, and of names that are no variable or array of variables, are passed over.
+//! Nothing that is promised of an answer speaks of them: contracts see that each variable is one of the model's.
 #![tactic(auto)]
 
 mod annotated;
@@ -11,6 +12,8 @@ mod file;
 mod input;
 mod law;
 mod model;
+mod taken;
+mod written;
 
 pub use annotated::{Annotated, read_annotated};
 pub use fault::ModelFault;

@@ -4,13 +4,13 @@ use fzn_domain::{Domain, VarId};
 use fzn_lexer::Position;
 use fzn_list::{Items, Text};
 use fzn_meaning::{Kind, Term};
-use fzn_registry::Argument;
-use fzn_symbols::{
+use fzn_names::{
     Declared, NamedList, Names, array_of, first_set_in, first_unknown_in, first_wrong_in,
     has_negative_entry, is_negative, kind_of, list_of, literal_terms, no_values, position_of,
     position_of_literal, set_literal, set_of, term_of, terms_of, unknown_in, values_in,
     variable_of, wrong_in, wrong_literal,
 };
+use fzn_registry::Argument;
 use fzn_tree::{Arg, Base, Basic, Int, Literal, ParamValue, Range, Tree, Values};
 use std::alloc::{AllocError, Global};
 use std::test::*;

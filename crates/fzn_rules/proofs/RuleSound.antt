@@ -8,7 +8,12 @@ use Rattle.fzn_rules.specs.declared.rule.Rule.{Rule}
 use Rattle.fzn_rules.specs.declared.rule.Rule.TheVariants.{Lin, Rows, Box, Fixed, Enum, Hall, Load, Energy, Cut, Pair}
 use Rattle.fzn_rules.specs.Rules.{IsMet}
 use Rattle.fzn_builtin_rules.proofs.CallerLemmas.{fixed_sound, enum_sound, lin_sound, box_sound, rows_sound}
-use Rattle.fzn_global_rules.proofs.CallerLemmas.{cut_sound, energy_sound, global_rows_sound, hall_sound, load_sound, pair_sound}
+use Rattle.fzn_rules.proofs.CutSound.{cut_sound}
+use Rattle.fzn_rules.proofs.EnergySound.{energy_sound}
+use Rattle.fzn_rules.proofs.GlobalRowsSound.{global_rows_sound}
+use Rattle.fzn_rules.proofs.HallSound.{hall_sound}
+use Rattle.fzn_rules.proofs.LoadSound.{load_sound}
+use Rattle.fzn_rules.proofs.PairSound.{pair_sound}
 
 pub rule_sound : (constraint : Constraint) (sets : List IntSet) (rule : Rule) (values : List ℤ) → IsWellFormed (length sets) constraint → IsMet constraint sets rule → IsWithin sets values → HasBooleanValues values constraint → Meets constraint values → ⊥
 unfolding IsMet

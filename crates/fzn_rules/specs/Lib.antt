@@ -1,2 +1,10 @@
+pub mod Cut
+pub mod Energy
+pub mod GlobalRows
+pub mod Hall
 pub mod Hints
+pub mod Load
+pub mod Pair
 pub mod Rules
+pub mod Runs
+pub mod Tasks

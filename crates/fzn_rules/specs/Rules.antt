@@ -7,13 +7,13 @@ use Rattle.fzn_meaning.specs.declared.constraint.Constraint.{Constraint}
 use Rattle.fzn_rules.specs.declared.rule.Rule.{Rule}
 use Rattle.fzn_rules.specs.declared.rule.Rule.TheVariants.{Lin, Rows, Box, Fixed, Enum, Hall, Load, Energy, Cut, Pair}
 use Rattle.fzn_builtin_rules.specs.Choices.{IsFixedMet, IsEnumMet}
-use Rattle.fzn_global_rules.specs.Cut.{IsCutMet}
-use Rattle.fzn_global_rules.specs.Energy.{IsEnergyMet}
+use Rattle.fzn_rules.specs.Cut.{IsCutMet}
+use Rattle.fzn_rules.specs.Energy.{IsEnergyMet}
 use Rattle.fzn_builtin_rules.specs.Form.{IsLinMet}
-use Rattle.fzn_global_rules.specs.GlobalRows.{IsGlobalRowsMet}
-use Rattle.fzn_global_rules.specs.Hall.{IsHallMet}
-use Rattle.fzn_global_rules.specs.Load.{IsLoadMet}
-use Rattle.fzn_global_rules.specs.Pair.{IsPairMet}
+use Rattle.fzn_rules.specs.GlobalRows.{IsGlobalRowsMet}
+use Rattle.fzn_rules.specs.Hall.{IsHallMet}
+use Rattle.fzn_rules.specs.Load.{IsLoadMet}
+use Rattle.fzn_rules.specs.Pair.{IsPairMet}
 use Rattle.fzn_builtin_rules.specs.Product.{IsBoxMet}
 use Rattle.fzn_builtin_rules.specs.Rows.{IsRowsMet}
 

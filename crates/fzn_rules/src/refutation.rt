@@ -4,11 +4,14 @@ ghost use Rattle.fzn_domain.specs.Narrow.{is_some_empty, IsWithin};
 ghost use Rattle.fzn_meaning.specs.Meaning.{IsWellFormed, HasBooleanValues, Meets};
 ghost use Rattle.fzn_rules.specs.Rules.{IsMet};
 
+use crate::cut::is_cut_met;
+use crate::energy::is_energy_met;
+use crate::global_rows::is_global_rows_met;
+use crate::hall::is_hall_met;
+use crate::load::is_load_met;
+use crate::pair::is_pair_met;
 use crate::rule::Rule;
 use fzn_builtin_rules::{is_box_met, is_enum_met, is_fixed_met, is_lin_met, is_rows_met};
-use fzn_global_rules::{
-    is_cut_met, is_energy_met, is_global_rows_met, is_hall_met, is_load_met, is_pair_met,
-};
 use fzn_meaning::Constraint;
 use fzn_sets::Sets;
 

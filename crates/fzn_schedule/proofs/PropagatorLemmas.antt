@@ -25,7 +25,7 @@ use Rattle.fzn_sets.proofs.ValueLemmas.{MayBe-ends}
 use Rattle.fzn_sets.specs.Terms.{least_value, greatest_value}
 use Rattle.fzn_rules.specs.declared.rule.Rule.TheVariants.{Rows}
 use Rattle.fzn_rules.specs.Rules.{IsMet}
-use Rattle.fzn_global_rules.specs.GlobalRows.{IsBelowZero, IsGlobalRowsMet}
+use Rattle.fzn_rules.specs.GlobalRows.{IsBelowZero, IsGlobalRowsMet}
 use Rattle.fzn_builtin_rules.specs.Form.{form_of}
 use Rattle.fzn_trail.specs.Levels.{Levels}
 use Rattle.fzn_propagator.specs.Inference.{AllFixed, IsExhausted}
@@ -33,8 +33,8 @@ use Rattle.fzn_terms.specs.Denied.{that, IsEntailed}
 use Rattle.fzn_propagator.specs.Clause.{IsJustified, IsForcing, Says}
 use Rattle.fzn_terms.specs.Values.{IsFixed}
 use Rattle.fzn_terms.proofs.FixedLemmas.{fixed_to, fixed_ends}
-use Rattle.fzn_load.specs.declared.tasks.Tasks.{Tasks}
-use Rattle.fzn_load.specs.Loads.{AreReady, cumulative_of, total_of}
+use Rattle.fzn_schedule.specs.declared.tasks.Tasks.{Tasks}
+use Rattle.fzn_schedule.specs.Loads.{AreReady, cumulative_of, total_of}
 use Rattle.fzn_schedule.specs.Kept.{AreNotBelow, HasNoneBelow, IsSomeBelow, AreKept, least_terms, least_cumulative, MeetsWhereFixed}
 use Rattle.fzn_propagator.proofs.CallerLemmas.{justified_where, exhausted as no_sum}
 use Rattle.fzn_terms.proofs.OrderLemmas.{le_same}

@@ -11,13 +11,13 @@ use Rattle.fzn_meaning.specs.declared.constraint.Constraint.{Constraint}
 use Rattle.fzn_meaning.specs.declared.constraint.Constraint.TheVariants.{Cumulative}
 use Rattle.fzn_meaning.specs.Meaning.{Meets}
 use Rattle.fzn_sets.specs.Terms.{least_value, greatest_value}
-use Rattle.fzn_global_rules.specs.GlobalRows.{IsBelowZero}
+use Rattle.fzn_rules.specs.GlobalRows.{IsBelowZero}
 use Rattle.fzn_trail.specs.Levels.{Levels}
 use Rattle.fzn_propagator.specs.Inference.{AllFixed}
 use Rattle.fzn_propagator.specs.Clause.{Says, IsForcing}
 use Rattle.fzn_terms.specs.Denied.{that, IsDenied}
-use Rattle.fzn_load.specs.declared.tasks.Tasks.{Tasks}
-use Rattle.fzn_load.specs.Loads.{cumulative_of, IsKeptAt}
+use Rattle.fzn_schedule.specs.declared.tasks.Tasks.{Tasks}
+use Rattle.fzn_schedule.specs.Loads.{cumulative_of, IsKeptAt}
 
 -- no term of these has a value below 0
 abbrev pub AreNotBelow : List IntSet → List Term → Type 0

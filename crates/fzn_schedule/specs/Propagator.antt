@@ -2,7 +2,7 @@
 use Rattle.std.specs.Prelude.{◌≡◌, ℕ, List, length}
 use Rattle.fzn_domain.specs.IntSet.{IntSet}
 use Rattle.fzn_meaning.specs.declared.constraint.Constraint.{Constraint}
-use Rattle.fzn_load.specs.Loads.{AreReady, cumulative_of}
+use Rattle.fzn_schedule.specs.Loads.{AreReady, cumulative_of}
 use Rattle.fzn_schedule.specs.declared.propagator.CumulativePropagator.{CumulativePropagator}
 
 abbrev pub cumulative_number : CumulativePropagator → ℕ

@@ -16,16 +16,16 @@ ghost use Rattle.fzn_propagator.specs.declared.event.Event.TheVariants as event;
 ghost use Rattle.fzn_propagator.specs.Clause.{IsJustified};
 ghost use Rattle.fzn_propagator.specs.Subscriptions.{terms_of, waits, waits_each, AreHeard};
 ghost use Rattle.fzn_terms.specs.Denied.{that, IsDenied};
-ghost use Rattle.fzn_load.specs.Loads.{AreReady, cumulative_of};
+ghost use Rattle.fzn_schedule.specs.Loads.{AreReady, cumulative_of};
 ghost use Rattle.fzn_schedule.specs.Propagator.{cumulative_number, CumulativeIsFor, CumulativeFits};
 ghost use Rattle.fzn_propagator.specs.Inference.{AreFoundOf};
 ghost use Rattle.fzn_schedule.specs.Kept.{AreNotBelow, HasNoneBelow, IsSomeBelow, MeetsWhereFixed};
 
 use crate::energy_pass::first_energy;
 use crate::load_pass::{find_by_profile, first_of_fixed};
+use crate::tasks::Tasks;
 use fzn_domain::{Lit, Memory};
 use fzn_list::{Items, Shared};
-use fzn_load::Tasks;
 use fzn_meaning::{Constraint, Model, Term};
 use fzn_propagator::{Cost, Event, Findings, Propagator, Subscriptions};
 use fzn_rules::Rule;

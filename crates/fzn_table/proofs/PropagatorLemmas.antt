@@ -12,7 +12,7 @@ use Rattle.fzn_meaning.specs.Table.{row_at}
 use Rattle.fzn_meaning.specs.Term.{IsTerm, values_of}
 use Rattle.fzn_meaning.specs.Meaning.{Meets}
 use Rattle.fzn_meaning.proofs.CallerLemmas.{length-values_of, get_or-values_of}
-use Rattle.fzn_global_rules.specs.GlobalRows.{IsGlobalRowsMet}
+use Rattle.fzn_rules.specs.GlobalRows.{IsGlobalRowsMet}
 use Rattle.fzn_builtin_rules.specs.Form.{form_of}
 use Rattle.fzn_rules.specs.declared.rule.Rule.TheVariants as rule
 use Rattle.fzn_rules.specs.Rules.{IsMet}

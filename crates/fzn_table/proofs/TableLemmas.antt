@@ -10,7 +10,7 @@ use Rattle.fzn_domain.specs.Limits.{IsNearLimits}
 use Rattle.fzn_domain.specs.Literal.{compares}
 use Rattle.fzn_domain.specs.Narrow.{denied}
 use Rattle.fzn_meaning.specs.declared.term.Term.{Term}
-use Rattle.fzn_global_rules.specs.GlobalRows.{IsRowOut}
+use Rattle.fzn_rules.specs.GlobalRows.{IsRowOut}
 use Rattle.fzn_trail.specs.Levels.{Levels}
 use Rattle.fzn_propagator.specs.Clause.{IsJustifiedBy, Says, Keeps}
 use Rattle.fzn_propagator.proofs.CallerLemmas.{left_denied}

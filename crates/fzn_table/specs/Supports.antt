@@ -8,7 +8,7 @@ use Rattle.fzn_domain.specs.Literal.{compares, is_true_at}
 use Rattle.fzn_domain.specs.IntSet.{IntSet}
 use Rattle.fzn_meaning.specs.declared.term.Term.{Term}
 use Rattle.fzn_sets.specs.Terms.{MayBe, least_value, greatest_value}
-use Rattle.fzn_global_rules.specs.GlobalRows.{IsRowOut, AreRowsOut}
+use Rattle.fzn_rules.specs.GlobalRows.{IsRowOut, AreRowsOut}
 use Rattle.fzn_terms.specs.Values.{place_at}
 use Rattle.fzn_terms.specs.Narrow.{IsNarrow}
 

@@ -9,7 +9,7 @@ ghost use Rattle.fzn_meaning.specs.Term.{IsTerm, numbers_in};
 ghost use Rattle.fzn_sets.specs.Terms.{MayBe};
 ghost use Rattle.fzn_propagator.specs.Left.{IsLeft};
 ghost use Rattle.fzn_propagator.specs.Clause.{IsJustifiedBy, IsFalseClause};
-ghost use Rattle.fzn_global_rules.specs.GlobalRows.{IsRowOut};
+ghost use Rattle.fzn_rules.specs.GlobalRows.{IsRowOut};
 ghost use Rattle.fzn_terms.specs.Values.{place_at};
 ghost use Rattle.fzn_terms.specs.Denied.{IsEntailed, IsGrown};
 ghost use Rattle.fzn_terms.specs.Intervals.{IsLimitedInterval, ends_of};

@@ -1,3 +1,10 @@
+mod CoreLemmas
+mod FrontLemmas
+mod ItemLemmas
+mod ListLemmas
+mod ListingLemmas
+mod NameLemmas
+mod SourceLemmas
 mod TrialLemmas
 mod TrimLemmas
 mod WriteLemmas

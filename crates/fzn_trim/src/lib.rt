@@ -1,19 +1,30 @@
-//! Trimming: from a model and an accepted certificate to one that shows the same with no more steps.
+//! What an accepted certificate can do without: steps, and constraints of its file.
 //!
-//! In: a model, the bytes of a certificate from any source, and a writer. Out: on the writer a certificate of version 2 with all solutions
-//! of the first one and those of its other steps that its first empty clause rests on; or the fault that a check finds. `plan` searches for
-//! these steps, and nothing is promised of what it finds: `trial` takes its steps one by one as those of a certificate are taken, and where
-//! one is refused the old steps are written in place of all. The old steps alone are held: each new one is made from these where it is
-//! taken, and once more where it is written. Proved against `specs/Trimmed.antt`, in the words of `fzn_cert`'s `Verdict`; within, against
-//! `specs/Planned.antt`, the step of each line.
+//! In: a model, the bytes of a certificate from any source, and a writer. Out, of `trim`: on the writer a certificate of version 2 with all
+//! solutions of the first one and those of its other steps that its first empty clause rests on; or the fault that a check finds. `plan`
+//! searches for these steps, and nothing is promised of what it finds: `trial` takes its steps one by one as those of a certificate are
+//! taken, and where one is refused the old steps are written in place of all. The old steps alone are held: each new one is made from these
+//! where it is taken, and once more where it is written. Proved against `specs/Trimmed.antt`, in the words of `fzn_cert`'s `Verdict`;
+//! within, against `specs/Planned.antt`, the step of each line.
+//!
+//! Out, of `core`: on the writer a line for each constraint that the closed answer was found to rest on, with its item as it stands in the
+//! file, and how many there are; or the fault that a check finds. Proved against `specs/Core.antt`: the answer follows from the constraints
+//! listed alone, in the words of `fzn_meaning` on lists of solutions; and against `specs/Items.antt`: the item that states a constraint
+//! goes from its first token to its `;`.
 #![tactic(auto)]
 
-pub use kept::Kept;
-pub use trial::trimmed_steps;
+pub use listing::{Listed, core, core_tracked};
 pub use trimming::{Trimmed, trim, trim_tracked};
 
+mod cited;
+mod input;
+mod item;
 mod kept;
+mod listing;
+mod located;
 mod plan;
+mod print;
+mod source;
 mod trial;
 mod trimming;
 mod write;

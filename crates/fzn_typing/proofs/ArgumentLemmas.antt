@@ -12,9 +12,9 @@ use Rattle.fzn_meaning.specs.Meaning.{IsBoolean, AreTerms}
 use Rattle.fzn_meaning.specs.Term.{number_in, weighted, IsTerm, IsPlace}
 use Rattle.fzn_names.specs.Positions.{position_of}
 use Rattle.fzn_names.specs.Types.{is_wanted}
-use Rattle.fzn_symbols.specs.Signs.{is_negative}
+use Rattle.fzn_names.specs.Signs.{is_negative}
 use Rattle.fzn_names.specs.Values.{NameList, value_of, terms_in, set_in}
-use Rattle.fzn_symbols.specs.declared.names.Declared.{Declared}
+use Rattle.fzn_names.specs.declared.names.Declared.{Declared}
 use Rattle.fzn_names.proofs.FirstLemmas.{left_empty, right_empty}
 use Rattle.fzn_names.proofs.MeaningLemmas.{IsMeaning, AreMeanings, value-meaning, when_not, term_of-within, terms_of-within, boolean_term, boolean_terms}
 use Rattle.fzn_names.proofs.ValueSetLemmas.{zero_in_limits, none_limited}

@@ -21,7 +21,7 @@ use Rattle.fzn_meaning.specs.declared.relation.Relation.TheVariants as r
 use Rattle.fzn_meaning.specs.declared.term.Term.{Term}
 use Rattle.fzn_meaning.specs.Meaning.{IsBoolean, HasBooleanSets, booleans_of, AreTerms, IsSum, IsWellFormed}
 use Rattle.fzn_meaning.specs.Term.{IsTerm}
-use Rattle.fzn_symbols.specs.Signs.{is_negative}
+use Rattle.fzn_names.specs.Signs.{is_negative}
 use Rattle.fzn_names.specs.Values.{NameList}
 use Rattle.fzn_names.proofs.MeaningLemmas.{AreMeanings}
 use Rattle.fzn_tree.specs.declared.tree.Arg.{Arg}

@@ -10,8 +10,8 @@ use Rattle.fzn_registry.specs.declared.name.Name.{Name}
 use Rattle.fzn_registry.specs.declared.signature.Argument.{Argument}
 use Rattle.fzn_registry.specs.declared.signature.Argument.TheVariants as types
 use Rattle.fzn_registry.specs.Registry.{name_spelled, arguments_of}
-use Rattle.fzn_symbols.specs.declared.names.Declared.{Declared}
-use Rattle.fzn_symbols.specs.declared.names.Declared.TheVariants as d
+use Rattle.fzn_names.specs.declared.names.Declared.{Declared}
+use Rattle.fzn_names.specs.declared.names.Declared.TheVariants as d
 use Rattle.fzn_tree.specs.declared.tree.Arg.{Arg}
 use Rattle.fzn_tree.specs.declared.tree.Arg.TheVariants as args
 use Rattle.fzn_tree.specs.declared.tree.Array.{Array}

@@ -21,8 +21,8 @@ use Rattle.fzn_names.specs.Limits.{IsBasicWithin, IsValueWithin, IsBaseWithin, I
 use Rattle.fzn_names.specs.Positions.{first, when, at}
 use Rattle.fzn_names.specs.Values.{NameList, value_of, term_of}
 use Rattle.fzn_names.specs.Variables.{kind_of, values_in}
-use Rattle.fzn_symbols.specs.declared.names.Declared.{Declared}
-use Rattle.fzn_symbols.specs.declared.names.Declared.TheVariants as d
+use Rattle.fzn_names.specs.declared.names.Declared.{Declared}
+use Rattle.fzn_names.specs.declared.names.Declared.TheVariants as d
 use Rattle.fzn_names.proofs.FirstLemmas.{left_empty, right_empty, at-empty}
 use Rattle.fzn_names.proofs.MeaningLemmas.{IsMeaning, AreMeanings, lookup-meaning, when_not, term_of-within}
 use Rattle.fzn_names.proofs.ValueSetLemmas.{values_in-limited}

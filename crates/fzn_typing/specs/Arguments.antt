@@ -9,7 +9,7 @@ use Rattle.fzn_meaning.specs.Term.{number_in, numbers_in}
 use Rattle.fzn_names.specs.Positions.{first}
 use Rattle.fzn_names.specs.Types.{sets_in, unknown_in, wrong_in}
 use Rattle.fzn_names.specs.Values.{NameList, value_of, term_of, terms_of, terms_in, set_in}
-use Rattle.fzn_symbols.specs.Signs.{is_negative}
+use Rattle.fzn_names.specs.Signs.{is_negative}
 use Rattle.fzn_tree.specs.declared.tree.Arg.{Arg}
 use Rattle.fzn_tree.specs.declared.tree.Arg.TheVariants as args
 use Rattle.fzn_tree.specs.declared.tree.Array.{Array}

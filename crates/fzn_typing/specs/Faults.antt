@@ -9,8 +9,8 @@ use Rattle.fzn_names.specs.Declarations.{names_of, declaration_faults}
 use Rattle.fzn_names.specs.Positions.{when, at, position_of}
 use Rattle.fzn_names.specs.Types.{unknown_in}
 use Rattle.fzn_names.specs.Values.{NameList, value_of}
-use Rattle.fzn_symbols.specs.declared.names.Declared.{Declared}
-use Rattle.fzn_symbols.specs.declared.names.Declared.TheVariants.{Variable}
+use Rattle.fzn_names.specs.declared.names.Declared.{Declared}
+use Rattle.fzn_names.specs.declared.names.Declared.TheVariants.{Variable}
 use Rattle.fzn_tree.specs.declared.tree.Basic.{Basic}
 use Rattle.fzn_tree.specs.declared.tree.Con.{Con}
 use Rattle.fzn_tree.specs.declared.tree.Goal.{Goal}

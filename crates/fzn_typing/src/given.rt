@@ -6,7 +6,7 @@ ghost use Rattle.fzn_typing.specs.Arguments.{term_at, terms_at, set_at, number_a
 ghost use Rattle.fzn_typing.specs.Limits.{IsArgWithin};
 ghost use Rattle.fzn_meaning.specs.Term.{weighted};
 ghost use Rattle.fzn_names.specs.Values.{terms_of};
-ghost use Rattle.fzn_symbols.specs.Signs.{is_negative};
+ghost use Rattle.fzn_names.specs.Signs.{is_negative};
 
 use fzn_domain::Domain;
 use fzn_list::{Items, Shared};

@@ -6,8 +6,7 @@
 #![tactic(auto)]
 
 use fzn_checker::{CheckFault, check, to2};
-use fzn_core::core;
-use fzn_trim::trim;
+use fzn_trim::{core, trim};
 use fzn_words::{CheckOptions, OptionsFault, check_options_of};
 use std::env;
 use std::fs::File;

@@ -2,8 +2,7 @@
 use super::{CASES, Case, Trial, case_of, trial_of};
 use fzn_checker::{CheckFault, check};
 use fzn_checker_tests::{Calls, Flaw, Sink, Source};
-use fzn_core::core;
-use fzn_trim::trim;
+use fzn_trim::{core, trim};
 use std::alloc::Global;
 use std::io::{Read, Write};
 use std::test::Fail;

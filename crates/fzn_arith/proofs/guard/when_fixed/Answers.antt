@@ -4,7 +4,7 @@ use Rattle.fzn_domain.specs.declared.literal.Lit.{Lit}
 use Rattle.fzn_domain.specs.IntSet.{least}
 use Rattle.fzn_domain.specs.Narrow.{set_of}
 use Rattle.fzn_meaning.specs.declared.term.Term.TheVariants.{Variable}
-use Rattle.fzn_sums.specs.Refuted.{IsRefutation}
+use Rattle.fzn_arith.specs.Refuted.{IsRefutation}
 use Rattle.fzn_arith.specs.Guard.{IsGuarded}
 use Rattle.fzn_arith.proofs.GuardLemmas.{guarded_fixed}
 use Rattle.fzn_arith.proofs.guard.when_fixed.Goals as goal

@@ -5,7 +5,7 @@ use Rattle.fzn_domain.specs.IntSet.{contains}
 use Rattle.fzn_domain.specs.Narrow.{set_of}
 use Rattle.fzn_meaning.specs.declared.term.Term.TheVariants.{Variable}
 use Rattle.fzn_propagator.proofs.CallerLemmas.{some_value}
-use Rattle.fzn_sums.specs.Refuted.{IsConflict}
+use Rattle.fzn_arith.specs.Refuted.{IsConflict}
 use Rattle.fzn_arith.specs.Guard.{IsGuarded}
 use Rattle.fzn_arith.proofs.GuardLemmas.{guarded_open}
 use Rattle.fzn_arith.proofs.guard.when_open.Goals as goal

@@ -1,5 +1,5 @@
 use Rattle.std.proofs.Common.{◌≡◌, take}
-use Rattle.fzn_sums.specs.Opposite.{opposites}
+use Rattle.fzn_arith.specs.Opposite.{opposites}
 use Rattle.fzn_arith.proofs.opposite.opposites.Given as goal
 
 abbrev pub invariant-loop-place : goal.invariant-loop-place

@@ -4,7 +4,7 @@ use Rattle.fzn_domain.specs.declared.literal.Lit.{Lit}
 use Rattle.fzn_meaning.specs.declared.term.Place.{Place}
 use Rattle.fzn_meaning.specs.declared.relation.Comparison.{Comparison}
 use Rattle.fzn_meaning.specs.declared.relation.Comparison.TheVariants.{Equal, NotEqual}
-use Rattle.fzn_sums.specs.Refuted.{LeavesEach}
+use Rattle.fzn_arith.specs.Refuted.{LeavesEach}
 use Rattle.fzn_arith.proofs.refute.refute.Goals as goal
 
 -- the comparison, the places and the bound are those of the call

@@ -3,7 +3,7 @@ use Rattle.std.proofs.lemmas.Result.{IfOk-weaker}
 use Rattle.fzn_domain.proofs.DomainLemmas.{real}
 use Rattle.fzn_meaning.specs.declared.term.Term.{Term}
 use Rattle.fzn_meaning.specs.declared.term.Term.TheVariants.{Variable}
-use Rattle.fzn_global_rules.specs.Cut.{LeadsInto}
+use Rattle.fzn_rules.specs.Cut.{LeadsInto}
 use Rattle.fzn_terms.specs.Denied.{IsGrown}
 use Rattle.fzn_circuit.specs.Closed.{IsFromTo, LeadsIntoBetween}
 use Rattle.fzn_circuit.proofs.ClosedLemmas.{leads_into}

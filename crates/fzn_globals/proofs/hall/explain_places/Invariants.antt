@@ -1,6 +1,6 @@
 use Rattle.std.proofs.Common.{◌≡◌, take}
 use Rattle.std.specs.List.{count_by}
-use Rattle.fzn_global_rules.specs.Hall.{lies_within}
+use Rattle.fzn_rules.specs.Hall.{lies_within}
 use Rattle.fzn_propagator.specs.Clause.{IsFalseClause}
 use Rattle.fzn_globals.specs.Apart.{AreWithin}
 use Rattle.fzn_globals.proofs.hall.explain_places.Given as goal

@@ -1,6 +1,6 @@
 use Rattle.std.proofs.Common.{◌≡◌, length}
 use Rattle.fzn_names.specs.Annotations.{is_bad_array_mark, mark_faults}
-use Rattle.fzn_symbols.specs.Positions.{first}
+use Rattle.fzn_names.specs.Positions.{first}
 use Rattle.fzn_names.proofs.annotation.array_mark_fault.Given as goal
 
 -- what is found from here on is what is found from the start

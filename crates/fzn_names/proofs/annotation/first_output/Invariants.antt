@@ -1,6 +1,6 @@
 use Rattle.std.proofs.Common.{◌≡◌, length, map, filter}
 use Rattle.fzn_names.specs.Annotations.{is_output, position_of_ann}
-use Rattle.fzn_symbols.specs.Positions.{first}
+use Rattle.fzn_names.specs.Positions.{first}
 use Rattle.fzn_names.proofs.annotation.first_output.Given as goal
 
 -- what is found from here on is what is found from the start

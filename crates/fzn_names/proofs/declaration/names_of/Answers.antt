@@ -2,9 +2,9 @@ use Rattle.std.proofs.Common.{◌≡◌, subst, []}
 use Rattle.fzn_names.specs.Given.{Gives}
 use Rattle.fzn_names.specs.Declarations.{vars_faults, names_from, names_of}
 use Rattle.fzn_names.specs.Params.{params_faults, param_names}
-use Rattle.fzn_symbols.specs.Known.{known}
-use Rattle.fzn_symbols.specs.Values.{NameList}
-use Rattle.fzn_symbols.specs.declared.names.Names.{Names}
+use Rattle.fzn_names.specs.Known.{known}
+use Rattle.fzn_names.specs.Values.{NameList}
+use Rattle.fzn_names.specs.declared.names.Names.{Names}
 use Rattle.fzn_names.proofs.GivesLemmas.{Gives-err_first, Gives-last}
 use Rattle.fzn_names.proofs.declaration.names_of.Goals as goal
 

@@ -2,10 +2,10 @@ use Rattle.std.proofs.Common.{subst, sym, ◌∙◌, arith, ap, ap₂, ◌+◌}
 use Rattle.std.specs.List.{All}
 use Rattle.std.proofs.lemmas.List.Elements.{All-tail}
 use Rattle.fzn_names.specs.Declarations.{vars_faults, names_from}
-use Rattle.fzn_symbols.specs.Known.{known}
-use Rattle.fzn_symbols.specs.Limits.{IsVarWithin}
-use Rattle.fzn_symbols.specs.Positions.{first}
-use Rattle.fzn_symbols.specs.Values.{meaning_of}
+use Rattle.fzn_names.specs.Known.{known}
+use Rattle.fzn_names.specs.Limits.{IsVarWithin}
+use Rattle.fzn_names.specs.Positions.{first}
+use Rattle.fzn_names.specs.Values.{meaning_of}
 use Rattle.fzn_names.proofs.StepLemmas.{rest_of, uncons, var_fresh, var_room, vars_step, names_step, number_step}
 use Rattle.fzn_names.proofs.declaration.var_names.Goals as goal
 

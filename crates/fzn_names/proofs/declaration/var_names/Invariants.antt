@@ -1,10 +1,10 @@
 use Rattle.std.proofs.Common.{◌≡◌, ◌+◌, ◌≤◌, length}
 use Rattle.std.specs.List.{All}
 use Rattle.fzn_names.specs.Declarations.{vars_faults, names_from}
-use Rattle.fzn_symbols.specs.Known.{known}
-use Rattle.fzn_symbols.specs.Limits.{IsVarWithin}
-use Rattle.fzn_symbols.specs.Positions.{first}
-use Rattle.fzn_symbols.specs.Variables.{vars_of}
+use Rattle.fzn_names.specs.Known.{known}
+use Rattle.fzn_names.specs.Limits.{IsVarWithin}
+use Rattle.fzn_names.specs.Positions.{first}
+use Rattle.fzn_names.specs.Variables.{vars_of}
 use Rattle.fzn_names.proofs.declaration.var_names.Given as goal
 
 -- the faults to come, the names so far with those to come, and how many variables and constraints there are

@@ -1,7 +1,7 @@
 use Rattle.std.proofs.Common.{◌≡◌, ◌++◌, length, map, filter}
 use Rattle.fzn_names.specs.Annotations.{is_array_mark}
 use Rattle.fzn_names.specs.Outputs.{array_item}
-use Rattle.fzn_symbols.specs.Known.{known}
+use Rattle.fzn_names.specs.Known.{known}
 use Rattle.fzn_names.proofs.output.show_array.Given as goal
 
 -- those so far, and those to come

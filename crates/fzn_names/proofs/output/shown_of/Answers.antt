@@ -2,8 +2,8 @@ use Rattle.std.proofs.Common.{◌++◌, subst, arith, ap, ◌∙◌}
 use Rattle.std.specs.List.{All}
 use Rattle.std.proofs.lemmas.List.Elements.{All-tail}
 use Rattle.fzn_names.specs.Outputs.{shown_from}
-use Rattle.fzn_symbols.specs.Known.{known}
-use Rattle.fzn_symbols.specs.Limits.{IsVarWithin}
+use Rattle.fzn_names.specs.Known.{known}
+use Rattle.fzn_names.specs.Limits.{IsVarWithin}
 use Rattle.fzn_names.proofs.StepLemmas.{rest_of, uncons, shown_step, number_step}
 use Rattle.fzn_names.proofs.output.shown_of.Goals as goal
 

@@ -1,9 +1,9 @@
 use Rattle.std.proofs.Common.{◌≡◌, ◌+◌, ◌≤◌, ◌++◌, length}
 use Rattle.std.specs.List.{All}
 use Rattle.fzn_names.specs.Outputs.{shown_from}
-use Rattle.fzn_symbols.specs.Known.{known}
-use Rattle.fzn_symbols.specs.Limits.{IsVarWithin}
-use Rattle.fzn_symbols.specs.Variables.{vars_of}
+use Rattle.fzn_names.specs.Known.{known}
+use Rattle.fzn_names.specs.Limits.{IsVarWithin}
+use Rattle.fzn_names.specs.Variables.{vars_of}
 use Rattle.fzn_names.proofs.output.shown_of.Given as goal
 
 -- those so far with those to come, and how many variables there are

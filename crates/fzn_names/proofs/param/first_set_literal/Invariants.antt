@@ -1,6 +1,6 @@
 use Rattle.std.proofs.Common.{◌≡◌, length, flat_map}
-use Rattle.fzn_symbols.specs.Positions.{first}
-use Rattle.fzn_symbols.specs.Types.{set_literals}
+use Rattle.fzn_names.specs.Positions.{first}
+use Rattle.fzn_names.specs.Types.{set_literals}
 use Rattle.fzn_names.proofs.param.first_set_literal.Given as goal
 
 -- what is found from here on is what is found from the start

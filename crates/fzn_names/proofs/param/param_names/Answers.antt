@@ -1,8 +1,8 @@
 use Rattle.std.proofs.Common.{subst, sym, ◌∙◌}
 use Rattle.std.specs.List.{All}
 use Rattle.std.proofs.lemmas.List.Elements.{All-tail}
-use Rattle.fzn_symbols.specs.Known.{known}
-use Rattle.fzn_symbols.specs.Limits.{IsParamWithin}
+use Rattle.fzn_names.specs.Known.{known}
+use Rattle.fzn_names.specs.Limits.{IsParamWithin}
 use Rattle.fzn_names.proofs.StepLemmas.{rest_of, uncons, param_fresh, params_step, param_names_step}
 use Rattle.fzn_names.proofs.param.param_names.Goals as goal
 

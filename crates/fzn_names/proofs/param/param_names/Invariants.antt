@@ -1,9 +1,9 @@
 use Rattle.std.proofs.Common.{◌≡◌, ◌++◌, [], length}
 use Rattle.std.specs.List.{All}
 use Rattle.fzn_names.specs.Params.{params_faults, param_names}
-use Rattle.fzn_symbols.specs.Known.{known}
-use Rattle.fzn_symbols.specs.Limits.{IsParamWithin}
-use Rattle.fzn_symbols.specs.Positions.{first}
+use Rattle.fzn_names.specs.Known.{known}
+use Rattle.fzn_names.specs.Limits.{IsParamWithin}
+use Rattle.fzn_names.specs.Positions.{first}
 use Rattle.fzn_names.proofs.param.param_names.Given as goal
 
 -- the faults to come, and the names so far with those to come

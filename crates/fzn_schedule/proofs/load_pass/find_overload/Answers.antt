@@ -1,5 +1,5 @@
 use Rattle.fzn_propagator.specs.Inference.{AreFoundOf}
-use Rattle.fzn_load.specs.Loads.{cumulative_of}
+use Rattle.fzn_schedule.specs.Loads.{cumulative_of}
 use Rattle.fzn_schedule.proofs.load_pass.find_overload.Goals as goal
 use Rattle.fzn_schedule.proofs.load_pass.find_overload.Goals.{After-hand_over}
 

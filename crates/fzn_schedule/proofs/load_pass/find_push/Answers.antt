@@ -1,7 +1,7 @@
 use Rattle.std.proofs.Common.{rules, ◌≡◌, w64, to_z, of_z, FitsSigned}
 use Rattle.std.proofs.lemmas.Int.{to_z-of_z}
 use Rattle.fzn_propagator.specs.Inference.{AreFoundOf}
-use Rattle.fzn_load.specs.Loads.{cumulative_of}
+use Rattle.fzn_schedule.specs.Loads.{cumulative_of}
 use Rattle.fzn_schedule.proofs.load_pass.find_push.Goals as goal
 use Rattle.fzn_schedule.proofs.load_pass.find_push.Goals.{After-hand_over}
 

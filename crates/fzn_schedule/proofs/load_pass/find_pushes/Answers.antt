@@ -1,6 +1,6 @@
 use Rattle.std.proofs.Common.{sym, subst}
 use Rattle.fzn_propagator.specs.Inference.{AreFoundOf}
-use Rattle.fzn_load.specs.Loads.{cumulative_of}
+use Rattle.fzn_schedule.specs.Loads.{cumulative_of}
 use Rattle.fzn_schedule.proofs.load_pass.find_pushes.Goals as goal
 use Rattle.fzn_schedule.proofs.load_pass.find_pushes.Goals.{in-Some+in_ok-find_push, in_default}
 

@@ -5,7 +5,7 @@ use Rattle.fzn_meaning.specs.declared.term.Term.{Term}
 use Rattle.fzn_terms.specs.Denied.{that, IsDenied}
 use Rattle.fzn_schedule.specs.Kept.{IsSomeBelow}
 use Rattle.fzn_propagator.specs.Inference.{AreFoundOf}
-use Rattle.fzn_load.specs.Loads.{cumulative_of}
+use Rattle.fzn_schedule.specs.Loads.{cumulative_of}
 use Rattle.fzn_schedule.proofs.propagator.find_below.Goals as goal
 use Rattle.fzn_schedule.proofs.propagator.find_below.Goals.{then-branch+in_ok-hand_over, else-branch}
 

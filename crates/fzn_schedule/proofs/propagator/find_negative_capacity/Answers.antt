@@ -3,7 +3,7 @@ use Rattle.fzn_domain.specs.declared.literal.Op.TheVariants.{AtMost}
 use Rattle.fzn_meaning.specs.Term.{IsTerm}
 use Rattle.fzn_terms.specs.Denied.{that, IsDenied}
 use Rattle.fzn_propagator.specs.Inference.{AreFoundOf}
-use Rattle.fzn_load.specs.Loads.{cumulative_of}
+use Rattle.fzn_schedule.specs.Loads.{cumulative_of}
 use Rattle.fzn_schedule.proofs.PropagatorLemmas.{is_below, capacity_inferred}
 use Rattle.std.proofs.lemmas.Bool.{MatchBool-at_true}
 use Rattle.fzn_schedule.proofs.propagator.find_negative_capacity.Goals as goal

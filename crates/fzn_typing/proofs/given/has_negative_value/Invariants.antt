@@ -1,7 +1,7 @@
 use Rattle.std.proofs.Common.{◌≡◌, length}
 use Rattle.std.specs.List.{list_any}
 use Rattle.fzn_names.specs.Known.{known}
-use Rattle.fzn_symbols.specs.Signs.{is_negative}
+use Rattle.fzn_names.specs.Signs.{is_negative}
 use Rattle.fzn_names.specs.Values.{terms_of}
 use Rattle.fzn_typing.proofs.given.has_negative_value.Given as goal
 

@@ -6,7 +6,7 @@ use Rattle.fzn_meaning.specs.declared.model.Var.{Var}
 use Rattle.fzn_names.specs.Outputs.{IsShown}
 use Rattle.fzn_meaning.specs.declared.constraint.Constraint.{Constraint}
 use Rattle.fzn_meaning.specs.declared.model.Goal.{Goal}
-use Rattle.fzn_symbols.specs.declared.names.Names.{Names}
+use Rattle.fzn_names.specs.declared.names.Names.{Names}
 use Rattle.fzn_names.specs.Known.{known}
 use Rattle.fzn_names.specs.Declarations.{names_of}
 use Rattle.fzn_typing.specs.Models.{stated, written, goal_of}

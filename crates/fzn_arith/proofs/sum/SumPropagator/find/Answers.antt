@@ -4,7 +4,7 @@ use Rattle.std.proofs.lemmas.Option.{IfSome_then}
 use Rattle.fzn_domain.specs.declared.literal.Lit.{Lit}
 use Rattle.fzn_meaning.specs.declared.term.Term.{Term}
 use Rattle.fzn_meaning.specs.Term.{IsTerm}
-use Rattle.fzn_sums.specs.Refuted.{IsRefutation}
+use Rattle.fzn_arith.specs.Refuted.{IsRefutation}
 use Rattle.fzn_arith.specs.Kinds.{form_in}
 use Rattle.fzn_arith.specs.Sum.{IsFound}
 use Rattle.fzn_arith.specs.Guard.{IsGuarded}

@@ -4,7 +4,7 @@ use Rattle.fzn_domain.specs.declared.literal.Lit.{Lit}
 use Rattle.fzn_meaning.specs.declared.relation.Comparison.TheVariants.{AtMost}
 use Rattle.fzn_builtin_rules.specs.Linear.{least_sum}
 use Rattle.fzn_propagator.specs.declared.propagator.Inference.{Inference}
-use Rattle.fzn_sums.specs.Refuted.{IsRefutation}
+use Rattle.fzn_arith.specs.Refuted.{IsRefutation}
 use Rattle.fzn_arith.specs.Kinds.{form_in}
 use Rattle.fzn_arith.specs.Rest.{AddsInferences}
 use Rattle.fzn_arith.proofs.RestLemmas.{found_within, adds_none, adds_push}

@@ -1,3 +1,0 @@
-mod CoreLemmas
-mod ListLemmas
-mod ListingLemmas

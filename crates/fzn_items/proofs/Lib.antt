@@ -1,4 +1,0 @@
-mod FrontLemmas
-mod ItemLemmas
-mod NameLemmas
-mod SourceLemmas

@@ -1,3 +1,0 @@
-pub mod ClaimLemmas
-pub mod LoadLemmas
-mod PushLemmas

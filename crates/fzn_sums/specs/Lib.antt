@@ -1,5 +1,0 @@
-pub mod Ends
-pub mod Explained
-pub mod Opposite
-pub mod Pinned
-pub mod Refuted

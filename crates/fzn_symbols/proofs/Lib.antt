@@ -1,6 +1,0 @@
-pub mod CallerLemmas
-pub mod FirstLemmas
-pub mod MeaningLemmas
-mod NameLemmas
-pub mod ValueSetLemmas
-mod VarLemmas

@@ -1,7 +1,0 @@
--- The names that a map holds.
-use Rattle.std.specs.Prelude.{map}
-use Rattle.fzn_symbols.specs.declared.names.Names.{Names}
-use Rattle.fzn_symbols.specs.Values.{NameList}
-
-abbrev pub known : Names → NameList
-known names = map (λ entry. (entry.0.items, entry.1)) names.map.entries

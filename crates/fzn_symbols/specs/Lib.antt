@@ -1,7 +1,0 @@
-pub mod Known
-pub mod Limits
-pub mod Positions
-pub mod Signs
-pub mod Types
-pub mod Values
-pub mod Variables

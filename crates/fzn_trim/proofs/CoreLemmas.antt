@@ -1,0 +1,121 @@
+-- Why an answer follows from the constraints that its steps infer from.
+use Rattle.std.proofs.Common.{◌≡◌, ℕ, ◌+◌, ◌-◌, Bool, true, false, List, [], ◌∷◌, ℤ, length, get_or, Option, Some, IfSome, slice_get, refl, ap, subst, sym, ◌∙◌, arith, inl, inr}
+use Rattle.std.specs.Prelude.{Contains, ◌↔◌}
+use Rattle.std.specs.List.{All, filter_map, fold}
+use Rattle.std.specs.List.Sorted.{IsStrictlyIncreasing}
+use Rattle.std.proofs.lemmas.List.Elements.{All-nil, All-cons, All-head, All-tail, All-contains, Contains-get_or}
+use Rattle.std.proofs.lemmas.Option.{slice_get_cases, slice_get-get_or}
+use Rattle.fzn_domain.specs.declared.literal.Lit.{Lit}
+use Rattle.fzn_meaning.specs.declared.constraint.Constraint.{Constraint}
+use Rattle.fzn_meaning.specs.declared.model.Model.{Model}
+use Rattle.fzn_meaning.specs.Meaning.{Meets, HasBooleanSets, IsWellFormed as IsWellFormedConstraint}
+use Rattle.fzn_meaning.specs.Solutions.{declared_sets, IsExhausted}
+use Rattle.fzn_meaning.specs.WellFormed.{IsWellFormed}
+use Rattle.fzn_rules.specs.declared.rule.Rule.{Rule}
+use Rattle.fzn_rules.specs.Rules.{IsAcceptedBy}
+use Rattle.fzn_cert.specs.declared.step.Step.{Step}
+use Rattle.fzn_cert.specs.declared.step.Step.TheVariants.{Infer, Resolve, Solution, Delete}
+use Rattle.fzn_cert.specs.Past.{Past, start}
+use Rattle.fzn_cert.specs.Accepted.{IsAccepted, IsConstraintNumber, AllAcceptedAfter, AllAccepted, after, past_of}
+use Rattle.fzn_cert.specs.Sound.{IsSound}
+use Rattle.fzn_cert.proofs.SoundLaws.{sound-start, sound-after, exhausted-sound}
+use Rattle.fzn_checker.specs.declared.hold.Held.{Held}
+use Rattle.fzn_trim.specs.Kept.{IsTrimOf}
+use Rattle.fzn_trim.specs.Core.{only, constraint_of, RestsOn, IsCore}
+use Rattle.fzn_trim.proofs.ListLemmas.{picked-all, picked-contains, picked-few}
+
+-- ---- the numbers
+
+-- accepted steps infer from constraints of the model
+cited-within : (model : Model) (past : Past) (steps : List Step) → AllAcceptedAfter model past steps → All (IsConstraintNumber model) (filter_map constraint_of steps)
+cited-within model past [] accepted = All-nil (IsConstraintNumber model)
+cited-within model past (Infer c rule clause ∷ steps) accepted =
+    All-cons (IsConstraintNumber model) c (filter_map constraint_of steps) accepted.0.1 (cited-within model (after model past (Infer c rule clause)) steps accepted.1)
+cited-within model past (Resolve clause ids ∷ steps) accepted = cited-within model (after model past (Resolve clause ids)) steps accepted.1
+cited-within model past (Solution values ∷ steps) accepted = cited-within model (after model past (Solution values)) steps accepted.1
+cited-within model past (Delete ids ∷ steps) accepted = cited-within model (after model past (Delete ids)) steps accepted.1
+
+module _ (model : Model) (numbers : List ℕ) (wf : IsWellFormed model) (rising : IsStrictlyIncreasing numbers) (within : All (IsConstraintNumber model) numbers) where
+  -- ---- the model with these constraints alone
+
+  formed : IsWellFormed (only model numbers)
+  formed = record {
+    constraints = picked-all model.constraints (IsWellFormedConstraint (length model.vars)) numbers wf.constraints;
+    booleans = picked-all model.constraints (HasBooleanSets (declared_sets model.vars)) numbers wf.booleans;
+    goal = wf.goal;
+    outputs = wf.outputs;
+    rising = wf.rising;
+    shown = wf.shown;
+    values = wf.values;
+    few_vars = wf.few_vars;
+    few_constraints = omega (arith, picked-few model.constraints numbers rising within, wf.few_constraints);
+  }
+
+  -- what is inferred from one of them is so too where it has another number
+  infer-alone : (past : Past) (c : ℕ) (rule : Rule) (clause : List Lit) → IsAccepted model past (Infer c rule clause) → Contains numbers c → (k : ℕ) × IsAccepted (only model numbers) past (Infer k rule clause)
+  infer-alone past c rule clause accepted listed =
+      elim (slice_get_cases model.constraints (c - 1)).1 [
+        | inl (constraint, inside, is, at) ↦
+            let Accepts : Option Constraint → Type 0 = λ o. IfSome o (λ k. IsAcceptedBy k rule (declared_sets model.vars) clause) in
+            let held = picked-contains model.constraints numbers c constraint accepted.1.0 listed is in
+            let alone = (only model numbers).constraints in
+            let here : slice_get alone held.0 ≡ Some constraint = slice_get-get_or alone held.0 constraint held.1 ∙ ap (λ (k : Constraint). Some k) held.2 in
+            let place : held.0 + 1 - 1 ≡ held.0 = omega arith in
+            (held.0 + 1, (accepted.0, (omega arith, omega (arith, held.1)), subst (λ (i : ℕ). Accepts (slice_get alone i)) (sym place) (subst Accepts (sym here) (subst Accepts is accepted.2))))
+        | inr past_end ↦ absurd (omega (arith, past_end.0, accepted.1.0, accepted.1.1))
+      ]
+
+  -- ---- accepted steps are sound for it
+
+  sound-step : (past : Past) (step : Step) → IsSound (only model numbers) past → IsAccepted model past step → All (Contains numbers) (filter_map constraint_of (step ∷ [])) → IsSound (only model numbers) (after model past step)
+  sound-step past (Infer c rule clause) sound accepted listed =
+      let alone = infer-alone past c rule clause accepted (listed 0 c (omega arith)) in
+      sound-after (only model numbers) past (Infer alone.0 rule clause) formed sound alone.1
+  sound-step past (Resolve clause ids) sound accepted listed = sound-after (only model numbers) past (Resolve clause ids) formed sound accepted
+  sound-step past (Solution values) sound accepted listed =
+      sound-after (only model numbers) past (Solution values) formed sound ((accepted.0.0, picked-all model.constraints (λ k. Meets k values) numbers accepted.0.1), accepted.1)
+  sound-step past (Delete ids) sound accepted listed = sound-after (only model numbers) past (Delete ids) formed sound accepted
+
+  -- the first step's number, and those of the others
+  first-listed : (step : Step) (steps : List Step) → All (Contains numbers) (filter_map constraint_of (step ∷ steps)) → All (Contains numbers) (filter_map constraint_of (step ∷ [])) × All (Contains numbers) (filter_map constraint_of steps)
+  first-listed (Infer c rule clause) steps h =
+      (All-cons (Contains numbers) c [] (All-head (Contains numbers) c (filter_map constraint_of steps) h) (All-nil (Contains numbers)), All-tail (Contains numbers) c (filter_map constraint_of steps) h)
+  first-listed (Resolve clause ids) steps h = (All-nil (Contains numbers), h)
+  first-listed (Solution values) steps h = (All-nil (Contains numbers), h)
+  first-listed (Delete ids) steps h = (All-nil (Contains numbers), h)
+
+  sound-steps : (past : Past) (steps : List Step) → IsSound (only model numbers) past → AllAcceptedAfter model past steps → All (Contains numbers) (filter_map constraint_of steps) → IsSound (only model numbers) (fold (after model) past steps)
+  sound-steps past [] sound accepted listed = sound
+  sound-steps past (step ∷ steps) sound accepted listed =
+      let parts = first-listed step steps listed in
+      sound-steps (after model past step) steps (sound-step past step sound accepted.0 parts.0) accepted.1 parts.1
+
+-- ---- the core
+
+pub rests-on : (model : Model) (steps : List Step) (found : List (List ℤ)) (numbers : List ℕ) → IsWellFormed model → AllAccepted model steps → (past_of model steps).solutions ≡ found → (past_of model steps).refuted ≡ true
+    → ((number : ℕ) → Contains numbers number ↔ Contains (filter_map constraint_of steps) number) → IsStrictlyIncreasing numbers → RestsOn model found numbers
+rests-on model steps found numbers wf accepted found_are refuted cited rising =
+    let all_cited = filter_map constraint_of steps in
+    let cited_within : All (IsConstraintNumber model) all_cited = cited-within model start steps accepted in
+    let within : All (IsConstraintNumber model) numbers =
+    λ k d lt. All-contains (IsConstraintNumber model) all_cited (get_or numbers k d) cited_within ((cited (get_or numbers k d)).0 (Contains-get_or numbers k d lt)) in
+    let listed : All (Contains numbers) all_cited = λ k d lt. (cited (get_or all_cited k d)).1 (Contains-get_or all_cited k d lt) in
+    let sound : IsSound (only model numbers) (past_of model steps) = sound-steps model numbers wf rising within start steps (sound-start (only model numbers)) accepted listed in
+    record {
+      steps = steps;
+      accepted = accepted;
+      solutions = found_are;
+      refuted = refuted;
+      cited = cited;
+      rising = rising;
+      exhausted = subst (IsExhausted (only model numbers)) found_are (exhausted-sound (only model numbers) (past_of model steps) sound refuted);
+    }
+
+pub closed-core : (model : Model) (held : Held) (kept : List Step) (numbers : List ℕ) → IsWellFormed model → held.closed ≡ true → IsTrimOf model held kept
+    → ((number : ℕ) → Contains numbers number ↔ Contains (filter_map constraint_of kept) number) → IsStrictlyIncreasing numbers → IsCore model held.solutions.items held.closed numbers
+closed-core model held kept numbers wf closed trim cited rising =
+    subst (λ (b : Bool). IsCore model held.solutions.items b numbers) (sym closed)
+    (rests-on model kept held.solutions.items numbers wf trim.accepted trim.found (trim.may_end closed) cited rising)
+
+pub open-core : (model : Model) (found : List (List ℤ)) (closed : Bool) → closed ≡ false → IsCore model found closed []
+open-core model found closed is = subst (λ (b : Bool). IsCore model found b []) (sym is) refl

@@ -1,0 +1,73 @@
+// The numbers of the constraints that steps rest on.
+ghost use Rattle.std.specs.Prelude.{◌≡◌, ◌↔◌, ◌++◌, ◌∷◌, [], ℕ, Contains, IfOk, OnOk};
+ghost use Rattle.std.specs.List.{filter_map};
+ghost use Rattle.std.specs.List.Sorted.{IsStrictlyIncreasing};
+ghost use Rattle.fzn_meaning.specs.WellFormed.{IsWellFormed};
+ghost use Rattle.fzn_cert.specs.declared.step.Version.TheVariants.{Two};
+ghost use Rattle.fzn_cert.specs.Verdict.{AllHaveLines};
+ghost use Rattle.fzn_checker.specs.Held.{Stands};
+ghost use Rattle.fzn_trim.specs.Kept.{steps_in};
+ghost use Rattle.fzn_trim.specs.Core.{IsCore, constraint_of};
+
+use crate::kept::Kept;
+use crate::trial::trimmed_steps;
+use fzn_cert::Step;
+use fzn_checker::Held;
+use fzn_domain::Memory;
+use fzn_meaning::Model;
+use std::alloc::Global;
+
+/// The numbers of the constraints that the held steps' answer was found to rest on, in rising order, and none where it is open. It answers
+/// `Err` where memory runs out.
+pub fn core_numbers(alloc: Global, model: &Model, held: Held) -> Result<Vec<u64>, Memory>
+    requires model { IsWellFormed model.now }
+    requires stands { Stands model.now held }
+    requires lines { AllHaveLines Two 0 held.steps }
+    ensures { IfOk result (λ numbers. IsCore model.now held.solutions.items held.closed numbers.items) }
+{
+    if !held.closed {
+        return Ok(Vec::new(alloc));
+    }
+    let kept = trimmed_steps(alloc, model, held)?;
+    let numbers = cited_by(alloc, &kept)?;
+    Ok(numbers)
+}
+
+/// The numbers of the constraints that the steps infer from, each once, in rising order.
+fn cited_by(alloc: Global, kept: &Kept) -> Result<Vec<u64>, Memory>
+    ensures cited { IfOk result (λ numbers. (number : ℕ) → Contains numbers.items number ↔ Contains (filter_map constraint_of (steps_in kept.now)) number) }
+    ensures rising { IfOk result (λ numbers. IsStrictlyIncreasing numbers.items) }
+{
+    let mut numbers = numbers_in(alloc, kept)?;
+    numbers.sort_unstable();
+    numbers.dedup();
+    Ok(numbers)
+}
+
+/// The number of the constraint of each step that infers from one.
+fn numbers_in(alloc: Global, kept: &Kept) -> Result<Vec<u64>, Memory>
+    ensures { IfOk result (λ numbers. numbers.items ≡ filter_map constraint_of (steps_in kept.now)) }
+{
+    let mut numbers = Vec::new(alloc);
+    for place in 0..kept.len() {
+        // Not reached: there is a step at the place.
+        let Some(step) = kept.get(alloc, place)? else {
+            return Ok(numbers);
+        };
+        push_number(&step, &mut numbers)?;
+    }
+    Ok(numbers)
+}
+
+/// Puts the number of the constraint at the end, where the step infers from one.
+fn push_number(step: &Step, numbers: &mut Vec<u64>) -> Result<(), Memory>
+    ensures { OnOk result (numbers.new.items ≡ numbers.old.items ++ filter_map constraint_of (step.now ∷ [])) }
+{
+    match step {
+        Step::Infer { constraint, .. } => {
+            numbers.push(*constraint)?;
+            Ok(())
+        }
+        _ => Ok(()),
+    }
+}
