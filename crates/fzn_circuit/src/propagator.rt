@@ -28,6 +28,7 @@ use fzn_list::{Items, Shared};
 use fzn_meaning::{Constraint, Model, Term};
 use fzn_propagator::{Cost, Event, Findings, Propagator, Subscriptions};
 use fzn_rules::Rule;
+use fzn_terms::{Claim, is_denied};
 use fzn_trail::Trail;
 use std::alloc::Global;
 
@@ -173,7 +174,10 @@ fn find_below(
     ensures kept { OnOk result (found.new ≡ [] → found.old ≡ []) }
     ensures none { OnOk result (found.new ≡ [] → (default : Term) → IsDenied trail.now.sets (that (slice_index_or successors.now k default) op.AtMost (pos 0))) }
 {
-    let mut below = Items::new(alloc);
+    if is_denied(trail, Claim::at_most(successors[k], 0)) {
+        return Ok(());
+    }
+    let mut below = Items::with_capacity(alloc, 1)?;
     if explain_below(trail, successors, k, &mut below)? {
         found.hand_over(number, Rule::Rows, Some(below))?;
     }
@@ -197,7 +201,11 @@ fn find_above(
     ensures kept { OnOk result (found.new ≡ [] → found.old ≡ []) }
     ensures none { OnOk result (found.new ≡ [] → (default : Term) → IsDenied trail.now.sets (that (slice_index_or successors.now k default) op.AtLeast (pos (length successors.now + 1)))) }
 {
-    let mut above = Items::new(alloc);
+    let beyond = successors.len() as i64 + 1;
+    if is_denied(trail, Claim::at_least(successors[k], beyond)) {
+        return Ok(());
+    }
+    let mut above = Items::with_capacity(alloc, 1)?;
     if explain_above(trail, successors, k, &mut above)? {
         found.hand_over(number, Rule::Rows, Some(above))?;
     }

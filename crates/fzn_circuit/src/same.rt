@@ -164,7 +164,7 @@ fn find_pair(
     }
     let value = least_of(trail, successors[i]);
     if greatest_of(trail, successors[i]) == value {
-        let mut clause = Items::new(alloc);
+        let mut clause = Items::with_capacity(alloc, 2)?;
         if explain_same(trail, successors, i, j, value, &mut clause)? {
             found.hand_over(number, Rule::Hall(value, value), Some(clause))?;
         }

@@ -2,7 +2,7 @@
 use Rattle.std.proofs.Common.{◌≡◌, ◌≢◌, ℕ, ◌+◌, ◌-◌, ◌*◌, ◌^◌, ◌<◌, ◌≤◌, ◌==◌, ◌⊎◌, cond, List, [], ◌∷◌, ◌++◌, length, get_or, set, All, Contains, Option, Some, None, IfSome, is_some, refl, sym, ap, ◌∙◌, subst, inl, inr, arith}
 use Rattle.std.specs.List.{AllByRecursion}
 use Rattle.std.proofs.lemmas.List.{append-nil, get_or-set_other}
-use Rattle.std.proofs.lemmas.List.Elements.{All-head, All-tail, All-weaker, All-get_or, All-from_get_or, All-contains, Contains-get_or}
+use Rattle.std.proofs.lemmas.List.Elements.{All-head, All-tail, All-weaker, All-get_or, All-from_get_or, Contains-get_or}
 use Rattle.fzn_domain.specs.declared.literal.Lit.{Lit}
 use Rattle.fzn_meaning.specs.declared.model.Model.{Model}
 use Rattle.fzn_cert.specs.declared.step.Step.{Step}
@@ -16,9 +16,10 @@ use Rattle.fzn_trail.specs.Levels.{Levels}
 use Rattle.fzn_clauses.specs.Held.{clause_of}
 use Rattle.fzn_clauses.specs.Watching.{held_by}
 use Rattle.fzn_learned.specs.Reasoned.{opens}
+use Rattle.fzn_upkeep.specs.declared.deletion.Deletion.{Deletion}
 use Rattle.fzn_upkeep.specs.declared.notes.Notes.{Notes}
 use Rattle.fzn_engine.specs.declared.solver.Solver.{Solver}
-use Rattle.fzn_upkeep.specs.Deletion.{IsInUse}
+use Rattle.fzn_upkeep.specs.Deletion.{IsInUse, IsDeletion}
 use Rattle.fzn_engine.specs.Volume.{slack}
 use Rattle.fzn_engine.specs.Learned.{resolved}
 use Rattle.fzn_engine.specs.Changes.{IsTended}
@@ -140,31 +141,28 @@ module _ {model : Model} {stock : Stock} {steps : List Step} {trail : Levels} {n
       each [] all = tt
       each (n ∷ ns) all = (All-head IsNumber n ns all, each ns (All-tail IsNumber n ns all))
 
--- of the numbers that were told, those that are not among these
-module _ {model : Model} {old : Solver} {before : List Step} (h : IsAfter model old before) (ids used : List ℕ) {told numbers among : List ℕ} (told_is : told ≡ old.alive) (numbers_is : numbers ≡ old.numbers) (among_is : among ≡ used) (in_told : All (Contains told) ids) (all : (n : ℕ) → IsInUse (held_by old.clauses) numbers old.inferences n → Contains used n) (apart_from : All (λ n. Contains among n → ⊥) ids) where
-  alive : All (Contains old.alive) ids
-  alive = let T : List ℕ → Type 0 = λ t. All (Contains t) ids in subst T told_is in_told
+-- the search that deletes them
+module _ {model : Model} {old : Solver} {before : List Step} (h : IsAfter model old before) {found : Option Deletion} {it : Deletion} (is : found ≡ Some it) (next : IfSome found (λ it. IsDeletion (held_by old.clauses) old.numbers old.inferences old.alive it.ids it.left)) where
+  abbrev ids : List ℕ
+  ids = it.ids
 
-  idle : (n : ℕ) → IsInUse (held_by old.clauses) old.numbers old.inferences n → Contains ids n → ⊥
-  idle n in_use there =
-      let U : List ℕ → Type 0 = λ ns. IsInUse (held_by old.clauses) ns old.inferences n in
-      let C : List ℕ → Type 0 = λ ns. Contains ns n in
-      All-contains (λ k. Contains among k → ⊥) ids n apart_from there (subst C (sym among_is) (all n (subst U (sym numbers_is) in_use)))
+  d : IsDeletion (held_by old.clauses) old.numbers old.inferences old.alive it.ids it.left
+  d =
+      let D : Option Deletion → Type 0 = λ o. IfSome o (λ it. IsDeletion (held_by old.clauses) old.numbers old.inferences old.alive it.ids it.left) in
+      subst D is next
 
-  pub delete-spelled : 0 < length ids → IdsRise ids → IsSpelled Two (Delete ids)
-  delete-spelled some rise = ids-spelled h.state.core ids alive idle h.few_steps some rise
+  pub delete-spelled : IsSpelled Two (Delete ids)
+  delete-spelled = ids-spelled h.state.core ids d.among d.idle h.few_steps d.some d.rise
 
   pub delete-logged : (now : List Step) → (now ≡ before) ⊎ (now ≡ before ++ Delete ids ∷ []) → AllAccepted model now
-  delete-logged now log = logged-accepted model before now (Delete ids) h.state.core.accepted (delete-accepted h.state.core ids alive idle) log
+  delete-logged now log = logged-accepted model before now (Delete ids) h.state.core.accepted (delete-accepted h.state.core ids d.among d.idle) log
 
-  pub deleted-tended : {now : List Step} → now ≡ before ++ Delete ids ∷ [] → length now < 10 ^ 18 → (left : List ℕ) → left ≡ used → All (IsInUse (held_by old.clauses) numbers old.inferences) used → (number : ℕ) → number ≡ old.steps + 1 → (notes : Notes) → IsTended model old (record old { alive = left; notes = notes; steps = number }) now
-  deleted-tended now_is few left left_is only number newest notes =
-      let V : List ℕ → Type 0 = λ ns. All (IsInUse (held_by old.clauses) ns old.inferences) left in
-      let W : List ℕ → Type 0 = λ ns. All (IsInUse (held_by old.clauses) numbers old.inferences) ns in
-      let core = Core-deleted h.state.core ids alive idle left (subst V numbers_is (subst W (sym left_is) only)) in
+  pub deleted-tended : {now : List Step} → now ≡ before ++ Delete ids ∷ [] → length now < 10 ^ 18 → (number : ℕ) → number ≡ old.steps + 1 → (notes : Notes) → IsTended model old (record old { alive = it.left; notes = notes; steps = number }) now
+  deleted-tended now_is few number newest notes =
+      let core = Core-deleted h.state.core ids d.among d.idle it.left d.in_use in
       let R : List (List Lit) → Type 0 = λ cs. PlainOf old.trail.declared old.trail.sets (opens old.trail.declared old.trail.entries) cs old.search.nodes in
-      let S : List Step → Type 0 = λ s. StateOf model old.learn (record (stock_of old) { alive = left }) s old.trail old.search.nodes in
-      let state : S (before ++ Delete ids ∷ []) = record { core = core; plain = λ plain. subst R (sym (same_learned h.state.core ids alive idle)) (h.state.plain plain) } in
+      let S : List Step → Type 0 = λ s. StateOf model old.learn (record (stock_of old) { alive = it.left }) s old.trail old.search.nodes in
+      let state : S (before ++ Delete ids ∷ []) = record { core = core; plain = λ plain. subst R (sym (same_learned h.state.core ids d.among d.idle)) (h.state.plain plain) } in
       record {
         state = record {
           state = subst S (sym now_is) state;

@@ -1,17 +1,17 @@
--- A held clause that is neither a reason nor a cut may be forgotten.
-use Rattle.std.proofs.Common.{◌≡◌, ◌≢◌, ℕ, zero, suc, ◌<◌, Bool, true, false, List, [], ◌∷◌, ◌++◌, length, get_or, set, All, Option, Some, None, refl, sym, ap, ◌∙◌, subst, arith}
+-- Other clauses are held.
+use Rattle.std.proofs.Common.{◌≡◌, ◌≢◌, ℕ, ◌<◌, List, [], ◌∷◌, ◌++◌, length, All, Option, Some, is_some, refl, sym, ap, ◌∙◌, subst, inl, inr}
 use Rattle.std.specs.Prelude.{IsSome, IfSome}
 use Rattle.std.specs.Option.{unwrap_or}
-use Rattle.std.proofs.lemmas.Bool.{false≢true}
-use Rattle.std.proofs.lemmas.List.{length-map, length-set, get_or-set_other}
-use Rattle.std.proofs.lemmas.List.Elements.{All-get_or, All-weaker}
+use Rattle.std.proofs.lemmas.Bool.{cases_Bool, false≢true}
+use Rattle.std.proofs.lemmas.List.{length-map}
+use Rattle.std.proofs.lemmas.List.Elements.{All-nil, All-cons, All-head, All-tail, All-get_or, All-weaker}
 use Rattle.fzn_domain.specs.declared.literal.Lit.{Lit}
 use Rattle.fzn_domain.specs.Narrow.{IsClauseOver}
 use Rattle.fzn_meaning.specs.declared.model.Model.{Model}
 use Rattle.fzn_meaning.specs.Solutions.{declared_sets, cut_of}
 use Rattle.fzn_sets.specs.Sets.{Narrowed, start}
 use Rattle.fzn_cert.specs.declared.step.Step.{Step}
-use Rattle.fzn_cert.specs.Past.{Past, clause_held}
+use Rattle.fzn_cert.specs.Past.{clause_held}
 use Rattle.fzn_cert.specs.Accepted.{past_of}
 use Rattle.fzn_propagator.specs.Inferences.{inference_at}
 use Rattle.fzn_trail.specs.declared.trail.ClauseId.{ClauseId}
@@ -19,51 +19,21 @@ use Rattle.fzn_trail.specs.declared.trail.Entry.{Entry}
 use Rattle.fzn_trail.specs.declared.trail.Reason.{Reason}
 use Rattle.fzn_trail.specs.declared.trail.Reason.TheVariants.{Decision, Clause, Inference}
 use Rattle.fzn_clauses.specs.declared.clauses.Clauses.{Clauses}
-use Rattle.fzn_clauses.specs.Held.{Held, IsHeld, AllHeld, at_number, clause_of}
+use Rattle.fzn_clauses.specs.Held.{Held, IsHeld, at_number, clause_of}
 use Rattle.fzn_clauses.specs.Kept.{KeepsWatching}
 use Rattle.fzn_clauses.specs.Watching.{held_by}
 use Rattle.fzn_clauses.proofs.HeldLemmas.{AllHeld-push}
-use Rattle.fzn_learned.specs.Reasoned.{IsOther, IsReasoned}
-use Rattle.fzn_learned.proofs.CallerLemmas.{IsReasoned-grown, IsReasoned-without}
+use Rattle.fzn_learned.specs.Reasoned.{IsReasoned}
+use Rattle.fzn_learned.proofs.CallerLemmas.{IsReasoned-grown, IsReasoned-still, IsStill}
 use Rattle.fzn_upkeep.specs.declared.notes.Notes.{Notes}
 use Rattle.fzn_engine.specs.declared.solver.Solver.{Solver}
-use Rattle.fzn_upkeep.specs.Forgetting.{IsFlagged, is_cut}
+use Rattle.fzn_upkeep.specs.Forgetting.{HasForgotten}
 use Rattle.fzn_engine.specs.Changes.{IsTended}
 use Rattle.fzn_engine.specs.Search.{IsAfter, stock_of}
-use Rattle.fzn_engine.specs.State.{known_in, IsHeldCut, AreNumbered, IsJustified, IsStocked, StateOf}
+use Rattle.fzn_engine.specs.State.{known_in, IsHeldCut, IsJustified, IsStocked, StateOf}
 use Rattle.fzn_engine.proofs.HeldCutLemmas.{IsHeldCut-left}
 use Rattle.fzn_engine.proofs.NumberLemmas.{AreNumbered-push}
 use Rattle.fzn_engine.proofs.StateLemmas.{cuts-grown, Core-restocked}
-
-none_at : (held : Held) (k : ℕ) → get_or (set held k None) k None ≡ None
-none_at [] zero = refl
-none_at [] (suc k) = refl
-none_at (x ∷ held) zero = refl
-none_at (x ∷ held) (suc k) = none_at held k
-
--- ---- the clauses that are left
-
-module _ (held : Held) (gone : ClauseId) where
-  other_id : (id : ClauseId) → IsHeld (set held gone.0 None) id → id.0 ≢ gone.0
-  other_id id is same = false≢true (subst IsSome (ap (λ (n : ℕ). get_or (set held gone.0 None) n None) same ∙ none_at held gone.0) is)
-
-  at_left : (id : ClauseId) → IsHeld (set held gone.0 None) id → at_number (set held gone.0 None) id ≡ at_number held id
-  at_left id is = get_or-set_other held gone.0 id.0 None None (other_id id is)
-
-  held_left : (id : ClauseId) → IsHeld (set held gone.0 None) id → IsHeld held id
-  held_left id is = subst IsSome (at_left id is) is
-
-  clause_left : (id : ClauseId) → IsHeld (set held gone.0 None) id → clause_of (set held gone.0 None) id ≡ clause_of held id
-  clause_left id is = ap (λ (o : Option (List Lit)). unwrap_or o []) (at_left id is)
-
-  AllHeld-left : (P : List Lit → Type 0) → AllHeld P held → AllHeld P (set held gone.0 None)
-  AllHeld-left P all id is = subst P (sym (clause_left id is)) (all id (held_left id is))
-
-  AreNumbered-left : (past : Past) (numbers : List ℕ) → AreNumbered past numbers held → AreNumbered past numbers (set held gone.0 None)
-  AreNumbered-left past numbers h = record {
-    one_each = h.one_each ∙ sym (length-set held gone.0 None);
-    gives = λ id is. h.gives id (held_left id is) ∙ ap Some (sym (clause_left id is));
-  }
 
 -- ---- the search that is left
 
@@ -97,22 +67,57 @@ module _ {model : Model} {old : Solver} {steps : List Step} (h : IsAfter model o
         tally = refl;
       }
 
-  -- a clause is gone
-  pub dropped-tended : (clauses : Clauses) (gone : ClauseId) → held_by clauses ≡ set (held_by old.clauses) gone.0 None → KeepsWatching old.clauses clauses → All (λ (entry : Entry). IsOther gone entry.reason) old.trail.entries → is_cut old.cuts gone ≡ false → IsTended model old (record old { clauses = clauses }) steps
-  dropped-tended clauses gone held_is keeps apart no_cut =
-      let core = h.state.core in
-      let held = held_by old.clauses in
-      let left = set (held_by old.clauses) gone.0 None in
-      restocked-tended clauses keeps left held_is old.numbers
-      (record {
-        numbered = AreNumbered-left held gone (past_of model steps) old.numbers core.numbered;
-        justified = core.justified;
-        alive = core.alive;
-        cuts_held = All-weaker (λ values. IsHeldCut held old.cuts (cut_of model values)) (λ values. IsHeldCut left old.cuts (cut_of model values))
-            (λ values cut. IsHeldCut-left held old.cuts (cut_of model values) cut gone no_cut) (past_of model steps).solutions core.cuts_held;
-        held_over = AllHeld-left held gone (IsClauseOver (length old.trail.declared)) core.held_over;
-      })
-      (IsReasoned-without (known_in (stock_of old)) gone old.trail apart core.reasoned) old.notes
+  -- some clauses were forgotten
+  module _ (clauses : Clauses) (forgotten : HasForgotten old.trail old.cuts old.clauses clauses) where
+    abbrev held : Held
+    held = held_by old.clauses
+
+    abbrev left : Held
+    left = held_by clauses
+
+    was_held : (id : ClauseId) → IsHeld left id → IsHeld held id
+    was_held id is = subst IsSome (forgotten.left id is) is
+
+    clause_left : (id : ClauseId) → IsHeld left id → clause_of left id ≡ clause_of held id
+    clause_left id is = ap (λ (o : Option (List Lit)). unwrap_or o []) (forgotten.left id is)
+
+    -- one that cannot be gone is left
+    at_left : (id : ClauseId) → ((IsHeld left id → ⊥) → ⊥) → at_number left id ≡ at_number held id
+    at_left id not_gone = elim (cases_Bool (is_some (at_number left id))) [
+      | inl is ↦ forgotten.left id is
+      | inr not ↦ absurd (not_gone (λ is. false≢true (sym not ∙ is)))
+    ]
+
+    still-one : (reason : Reason) → ((id : ClauseId) → IsHeld held id → (IsHeld left id → ⊥) → reason ≢ Clause id) → IsStill held left reason
+    still-one Decision apart = tt
+    still-one (Clause id) apart = λ was. at_left id (λ gone. apart id was gone refl)
+    still-one (Inference place) apart = tt
+
+    -- each reason among them
+    still-each : (entries : List Entry) → ((id : ClauseId) → IsHeld held id → (IsHeld left id → ⊥) → All (λ (entry : Entry). entry.reason ≢ Clause id) entries) → All (λ (entry : Entry). IsStill held left entry.reason) entries
+    still-each [] apart = All-nil (λ (entry : Entry). IsStill held left entry.reason)
+    still-each (entry ∷ later) apart =
+        All-cons (λ (e : Entry). IsStill held left e.reason) entry later
+        (still-one entry.reason (λ id was gone. All-head (λ (e : Entry). e.reason ≢ Clause id) entry later (apart id was gone)))
+        (still-each later (λ id was gone. All-tail (λ (e : Entry). e.reason ≢ Clause id) entry later (apart id was gone)))
+
+    pub forgotten-tended : (notes : Notes) → IsTended model old (record old { clauses = clauses; notes = notes }) steps
+    forgotten-tended notes =
+        let core = h.state.core in
+        restocked-tended clauses forgotten.watching left refl old.numbers
+        (record {
+          numbered = record {
+            one_each = core.numbered.one_each ∙ sym forgotten.size;
+            gives = λ id is. core.numbered.gives id (was_held id is) ∙ ap Some (sym (clause_left id is));
+          };
+          justified = core.justified;
+          alive = core.alive;
+          cuts_held = All-weaker (λ values. IsHeldCut held old.cuts (cut_of model values)) (λ values. IsHeldCut left old.cuts (cut_of model values))
+              (λ values cut. IsHeldCut-left held old.cuts (cut_of model values) cut left
+              (λ id was flag. at_left id (λ gone. false≢true (sym (forgotten.gone id was gone).no_cut ∙ flag)))) (past_of model steps).solutions core.cuts_held;
+          held_over = λ id is. subst (IsClauseOver (length old.trail.declared)) (sym (clause_left id is)) (core.held_over id (was_held id is));
+        })
+        (IsReasoned-still (known_in (stock_of old)) left old.trail (still-each old.trail.entries (λ id was gone. (forgotten.gone id was gone).no_reason)) core.reasoned) notes
 
   -- the same clauses are watched otherwise
   pub swept-tended : (clauses : Clauses) → held_by clauses ≡ held_by old.clauses → KeepsWatching old.clauses clauses → (notes : Notes) → IsTended model old (record old { clauses = clauses; notes = notes }) steps
@@ -149,18 +154,3 @@ module _ {model : Model} {old : Solver} {steps : List Step} (h : IsAfter model o
           held_over = AllHeld-push (IsClauseOver (length old.trail.declared)) held clause core.held_over inference-over;
         })
         (IsReasoned-grown (known_in (stock_of old)) (Some clause ∷ []) old.trail core.reasoned) notes
-
--- ---- flags
-
-other-of : (flags : List Bool) (gone : ClauseId) → gone.0 < length flags → get_or flags gone.0 false ≡ false → (reason : Reason) → IsFlagged flags reason → IsOther gone reason
-other-of flags gone within clear Decision h = tt
-other-of flags gone within clear (Clause other) h = λ same. both (get_or flags gone.0 false) (subst (λ (n : ℕ). get_or flags n false ≡ true) same (h (omega arith))) clear
-  where
-    both : (b : Bool) → b ≡ true → b ≡ false → ⊥
-    both b set_there clear_there = cc
-other-of flags gone within clear (Inference place) h = tt
-
--- a clause without a flag is no reason
-pub unflagged-apart : (flags : List Bool) (gone : ClauseId) (entries : List Entry) → gone.0 < length flags → get_or flags gone.0 false ≡ false → All (λ (entry : Entry). IsFlagged flags entry.reason) entries → All (λ (entry : Entry). IsOther gone entry.reason) entries
-unflagged-apart flags gone entries within clear flagged =
-    All-weaker (λ (entry : Entry). IsFlagged flags entry.reason) (λ (entry : Entry). IsOther gone entry.reason) (λ entry one. other-of flags gone within clear entry.reason one) entries flagged

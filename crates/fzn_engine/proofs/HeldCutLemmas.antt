@@ -1,12 +1,11 @@
 -- Cuts stay held as ones.
-use Rattle.std.proofs.Common.{◌≡◌, ◌≢◌, ℕ, ◌≤◌, Bool, false, List, [], ◌++◌, length, get_or, set, Option, Some, None, refl, sym, ap, ◌∙◌, subst, arith}
+use Rattle.std.proofs.Common.{◌≡◌, ◌≢◌, ℕ, ◌≤◌, Bool, true, List, [], ◌++◌, length, get_or, set, Option, Some, None, refl, sym, ap, ◌∙◌, subst, arith}
 use Rattle.std.specs.Prelude.{IsSome}
 use Rattle.std.specs.Option.{unwrap_or}
-use Rattle.std.proofs.lemmas.Bool.{false≢true}
 use Rattle.std.proofs.lemmas.List.{get_or-set_other}
 use Rattle.fzn_domain.specs.declared.literal.Lit.{Lit}
 use Rattle.fzn_trail.specs.declared.trail.ClauseId.{ClauseId}
-use Rattle.fzn_clauses.specs.Held.{Held, IsHeld, AllHeld}
+use Rattle.fzn_clauses.specs.Held.{Held, IsHeld, AllHeld, at_number}
 use Rattle.fzn_clauses.proofs.HeldLemmas.{IsHeld-within, at_number-grown}
 use Rattle.fzn_upkeep.specs.Forgetting.{is_cut}
 use Rattle.fzn_engine.specs.State.{IsHeldCut}
@@ -27,11 +26,9 @@ module _ (held : Held) (cuts : List Bool) (clause : List Lit) (h : IsHeldCut hel
   pub IsHeldCut-flagged : (new : List Bool) (id : ClauseId) → length held ≤ id.0 → ((other : ClauseId) → other.0 ≢ id.0 → is_cut new other ≡ is_cut cuts other) → IsHeldCut held new clause
   IsHeldCut-flagged new id past others = (h.0, others h.0 (λ same. absurd (omega (arith, same, past, IsHeld-within held h.0 is_held))) ∙ h.1, h.2)
 
-  -- where one is gone that has no flag
-  pub IsHeldCut-left : (gone : ClauseId) → is_cut cuts gone ≡ false → IsHeldCut (set held gone.0 None) cuts clause
-  IsHeldCut-left gone clear =
-      let apart : h.0.0 ≢ gone.0 = λ same. false≢true (sym clear ∙ ap (λ (n : ℕ). get_or cuts n false) (sym same) ∙ h.1) in
-      (h.0, h.1, get_or-set_other held gone.0 h.0.0 None None apart ∙ h.2)
+  -- where those are left that have flags
+  pub IsHeldCut-left : (left : Held) → ((id : ClauseId) → IsHeld held id → is_cut cuts id ≡ true → at_number left id ≡ at_number held id) → IsHeldCut left cuts clause
+  IsHeldCut-left left same = (h.0, h.1, same h.0 is_held h.1 ∙ h.2)
 
   -- where another is held under a free number
   pub IsHeldCut-put : (id : ClauseId) (one : List Lit) → (IsHeld held id → ⊥) → IsHeldCut (set held id.0 (Some one)) cuts clause

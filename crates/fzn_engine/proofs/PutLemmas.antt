@@ -1,13 +1,12 @@
 -- The clause of a written inference is held under a number that no held clause has.
-use Rattle.std.proofs.Common.{◌≡◌, ◌≢◌, ℕ, ◌<◌, List, [], ◌∷◌, length, get_or, set, Option, Some, None, sym, ap, ◌∙◌, subst, inl, inr, arith, get_or-set_same, get_or-set_other}
+use Rattle.std.proofs.Common.{◌≡◌, ◌≢◌, ℕ, ◌<◌, List, [], ◌∷◌, length, get_or, set, All, Option, Some, None, sym, ap, ◌∙◌, subst, inl, inr, arith, get_or-set_same, get_or-set_other}
 use Rattle.std.specs.Prelude.{IsSome}
 use Rattle.std.specs.Option.{unwrap_or}
 use Rattle.std.proofs.lemmas.Bool.{cases_eq}
 use Rattle.std.proofs.lemmas.List.{length-set}
-use Rattle.std.proofs.lemmas.List.Elements.{All-weaker}
+use Rattle.std.proofs.lemmas.List.Elements.{All-nil, All-cons, All-weaker}
 use Rattle.fzn_domain.specs.declared.literal.Lit.{Lit}
-use Rattle.fzn_domain.specs.IntSet.{IntSet}
-use Rattle.fzn_domain.specs.Narrow.{IsClauseOver, narrowed}
+use Rattle.fzn_domain.specs.Narrow.{IsClauseOver}
 use Rattle.fzn_meaning.specs.declared.model.Model.{Model}
 use Rattle.fzn_meaning.specs.Solutions.{cut_of}
 use Rattle.fzn_cert.specs.declared.step.Step.{Step}
@@ -23,7 +22,8 @@ use Rattle.fzn_clauses.specs.declared.clauses.Clauses.{Clauses}
 use Rattle.fzn_clauses.specs.Held.{Held, IsHeld, AllHeld, at_number, clause_of}
 use Rattle.fzn_clauses.specs.Kept.{KeepsWatching}
 use Rattle.fzn_clauses.specs.Watching.{held_by}
-use Rattle.fzn_learned.specs.Reasoned.{IsForced, IsReason, IsReasoned, Known, Leads}
+use Rattle.fzn_learned.specs.Reasoned.{IsReasoned}
+use Rattle.fzn_learned.proofs.CallerLemmas.{IsReasoned-still, IsStill}
 use Rattle.fzn_upkeep.specs.declared.notes.Notes.{Notes}
 use Rattle.fzn_engine.specs.declared.solver.Solver.{Solver}
 use Rattle.fzn_engine.specs.Changes.{IsTended}
@@ -43,9 +43,6 @@ module _ (held : Held) (id : ClauseId) (clause : List Lit) (free : IsHeld held i
 
   at_other : (other : ClauseId) → other.0 ≢ id.0 → at_number now other ≡ at_number held other
   at_other other apart = get_or-set_other held id.0 other.0 (Some clause) None apart
-
-  held_still : (other : ClauseId) → IsHeld held other → IsHeld now other
-  held_still other is = subst IsSome (sym (at_other other (other_id other is))) is
 
   clause_still : (other : ClauseId) → other.0 ≢ id.0 → clause_of now other ≡ clause_of held other
   clause_still other apart = ap (λ (o : Option (List Lit)). unwrap_or o []) (at_other other apart)
@@ -78,39 +75,17 @@ module _ (held : Held) (id : ClauseId) (clause : List Lit) (free : IsHeld held i
 
   -- ---- what the entries rest on is still held
 
-  module _ (stacked : List (List Lit)) where
-    abbrev before : Known
-    before = record { held = held; stacked = stacked }
+  still-put : (reason : Reason) → IsStill held now reason
+  still-put Decision = tt
+  still-put (Clause other) = λ is. at_other other (other_id other is)
+  still-put (Inference place) = tt
 
-    abbrev after : Known
-    after = record { held = now; stacked = stacked }
+  still-each : (entries : List Entry) → All (λ (entry : Entry). IsStill held now entry.reason) entries
+  still-each [] = All-nil (λ (entry : Entry). IsStill held now entry.reason)
+  still-each (entry ∷ later) = All-cons (λ (e : Entry). IsStill held now e.reason) entry later (still-put entry.reason) (still-each later)
 
-    IsReason-put : (from : List IntSet) (lit : Lit) (reason : Reason) → IsReason before from lit reason → IsReason after from lit reason
-    IsReason-put from lit Decision is = is
-    IsReason-put from lit (Clause other) (known, forced) =
-        (held_still other known, subst (λ (c : List Lit). IsForced from c lit) (sym (clause_still other (other_id other known))) forced)
-    IsReason-put from lit (Inference place) is = is
-
-    Leads-put : (entries : List Entry) (from to : List IntSet) → Leads before from entries to → Leads after from entries to
-    Leads-put [] from to leads = leads
-    Leads-put (entry ∷ later) from to leads =
-        (leads.0, IsReason-put from entry.lit entry.reason leads.1, Leads-put later (narrowed from entry.lit) to leads.2)
-
-    pub IsReasoned-put : (trail : Levels) → IsReasoned before trail → IsReasoned after trail
-    IsReasoned-put trail reasoned = record {
-      leads = Leads-put trail.entries trail.declared trail.sets reasoned.leads;
-      one_each = reasoned.one_each;
-      standing = λ k below. let stands = reasoned.standing k below in record {
-        stood = stands.stood;
-        here = stands.here;
-        lit = stands.lit;
-        level = stands.level;
-        later = stands.later;
-        parts = stands.parts;
-        leads = Leads-put stands.stood.entries trail.declared stands.stood.sets stands.leads;
-        below = stands.below;
-      };
-    }
+  pub IsReasoned-put : (stacked : List (List Lit)) (trail : Levels) → IsReasoned (record { held = held; stacked = stacked }) trail → IsReasoned (record { held = now; stacked = stacked }) trail
+  IsReasoned-put stacked trail reasoned = IsReasoned-still (record { held = held; stacked = stacked }) now trail (still-each trail.entries) reasoned
 
 -- ---- the search that has it
 

@@ -8,11 +8,8 @@ use crate::fault::Fault;
 use crate::sink::Sink;
 use crate::solver::Solver;
 use fzn_cert::Step;
-use fzn_domain::Memory;
-use fzn_list::Items;
 use fzn_meaning::Model;
-use fzn_strategy::Learn;
-use fzn_upkeep::{idle_among, numbers_in_use};
+use fzn_upkeep::next_deletion;
 use std::alloc::Global;
 
 impl Solver {
@@ -27,32 +24,21 @@ impl Solver {
         ensures tended { OnOk result (IsTended model.now self.old self.new (S.written sink.new)) }
         ensures left { IsLeft model.now (S.written sink.new) (S.keeps model.now sink.new) (S.origin sink.new ≡ S.origin sink.old) }
     {
-        if !self.is_deletion_due() {
-            return Ok(());
-        }
-        let used = numbers_in_use(
+        let found = next_deletion(
             alloc,
             &self.clauses,
-            self.numbers.as_slice(),
+            &self.numbers,
             &self.inferences,
+            &self.alive,
+            &mut self.notes,
         )?;
-        self.notes.expect_steps(used.len());
-        let ids = idle_among(alloc, self.alive.as_slice(), used.as_slice())?;
-        if ids.len() == 0 {
+        let Some(deletion) = found else {
             return Ok(());
-        }
-        self.alive = Items::from_slice(alloc, used.as_slice())?;
+        };
+        self.alive = deletion.left;
         self.steps += 1;
-        let step = Step::Delete { ids };
+        let step = Step::Delete { ids: deletion.ids };
         sink.step(alloc, model, &step)?;
         Ok(())
-    }
-
-    /// Whether steps are to be deleted. In plain learning none ever is.
-    fn is_deletion_due(&self) -> bool {
-        match self.learn {
-            Learn::Plain => false,
-            Learn::First => self.notes.has_many_steps(self.alive.len()),
-        }
     }
 }

@@ -1,6 +1,5 @@
 // The entries of level 0 are settled: those that the present sets need stand on clauses of one literal, and the others are gone.
 ghost use Rattle.std.specs.Prelude.{◌≡◌, ◌≤◌, List, length, IfOk, IfSome, OnOk, IsTrue};
-ghost use Rattle.std.specs.List.{All};
 ghost use Rattle.fzn_domain.specs.Narrow.{IsClauseOver, NoneEmpty};
 ghost use Rattle.fzn_meaning.specs.declared.model.Model.{Model};
 ghost use Rattle.fzn_meaning.specs.Solutions.{declared_sets};
@@ -11,7 +10,7 @@ ghost use Rattle.fzn_clauses.specs.Watching.{held_by, IsWatching};
 ghost use Rattle.fzn_strategy.specs.declared.learn.Learn.TheVariants.{First};
 ghost use Rattle.fzn_trail.specs.Levels.{fresh, level_of};
 ghost use Rattle.fzn_engine.specs.Volume.{slack};
-ghost use Rattle.fzn_engine.specs.Changes.{IsKeptBy, IsTended};
+ghost use Rattle.fzn_engine.specs.Changes.{IsKeptBy};
 ghost use Rattle.fzn_engine.specs.Search.{IsAfter, IsReady, IsLeft};
 
 use crate::fault::Fault;
@@ -23,7 +22,7 @@ use fzn_domain::{Memory, Op, VarId};
 use fzn_meaning::{Model, Var};
 use fzn_strategy::Learn;
 use fzn_trail::{ClauseId, Reason, Trail};
-use fzn_upkeep::reasons_on;
+use fzn_upkeep::forget_units;
 use std::alloc::Global;
 
 impl Solver {
@@ -65,7 +64,7 @@ impl Solver {
         }
     }
 
-    /// Makes the trail anew, where no set is wider then.
+    /// Makes the trail anew, where no set is wider then, and forgets the clauses that stood for entries and are reasons of none.
     fn renew(&mut self, alloc: Global, model: &Model) -> Result<(), Memory>
         requires first { self.old.learn ≡ First }
         requires level { level_of self.old.trail ≡ 0 }
@@ -87,21 +86,13 @@ impl Solver {
         self.search.undo(&self.trail, 0);
         self.trail = trail;
         self.cut();
-        self.drop_units(alloc)?;
-        Ok(())
-    }
-
-    /// Forgets the clauses that stood for entries and are reasons of none.
-    fn drop_units(&mut self, alloc: Global) -> Result<(), Memory>
-        ensures tended { OnOk result ((model : Model) (steps : List Step) → IsAfter model self.old steps → IsTended model self.old self.new steps) }
-    {
-        let flags = reasons_on(alloc, &self.trail, self.clauses.len())?;
-        let are_reasons = flags.as_slice();
-        let idle = self.notes.settle(alloc, self.trail.len(), are_reasons)?;
-        for id in &idle {
-            self.drop_unit(*id, are_reasons);
-        }
-        self.notes.forget(idle.as_slice())?;
+        forget_units(
+            alloc,
+            &self.trail,
+            &mut self.clauses,
+            &self.cuts,
+            &mut self.notes,
+        )?;
         Ok(())
     }
 }

@@ -18,6 +18,7 @@ use fzn_list::Items;
 use fzn_meaning::Model;
 use fzn_strategy::Learn;
 use fzn_trail::ClauseId;
+use fzn_upkeep::forget;
 use std::alloc::Global;
 
 impl Solver {
@@ -30,7 +31,14 @@ impl Solver {
     {
         self.prove_units(alloc, model, sink)?;
         self.hold_cited()?;
-        self.forget(alloc, model)?;
+        forget(
+            alloc,
+            &self.trail,
+            &mut self.clauses,
+            &self.cuts,
+            &mut self.notes,
+            model.vars.len(),
+        )?;
         self.settle(alloc, model, sink)?;
         self.delete(alloc, model, sink)?;
         Ok(())

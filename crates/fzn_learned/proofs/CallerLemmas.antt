@@ -8,16 +8,15 @@ use Rattle.fzn_domain.specs.Literal.{negated}
 use Rattle.fzn_domain.specs.IntSet.{IntSet}
 use Rattle.fzn_domain.specs.Narrow.{IsVariable, IsOpen, narrowed}
 use Rattle.fzn_clauses.specs.Held as numbered
-use Rattle.fzn_trail.specs.declared.trail.ClauseId.{ClauseId}
 use Rattle.fzn_trail.specs.declared.trail.Entry.{Entry}
 use Rattle.fzn_trail.specs.declared.trail.Reason.{Reason}
 use Rattle.fzn_trail.specs.declared.trail.Reason.TheVariants.{Decision, Clause, Inference}
 use Rattle.fzn_trail.specs.Levels.{Levels, standing, level_of, fresh, pushed, asserted, restored, returned}
 use Rattle.fzn_trail.proofs.CallerLemmas.{returned-present}
-use Rattle.fzn_learned.specs.Reasoned.{Known, IsBelow, cut_at, IsOther, without, IsForcedFrom, open_at, IsReason, Leads, Open, opens, IsStanding, IsReasoned, negated_decisions}
+use Rattle.fzn_learned.specs.Reasoned.{Known, IsBelow, cut_at, IsForcedFrom, open_at, IsReason, Leads, Open, opens, IsStanding, IsReasoned, negated_decisions}
 use Rattle.fzn_learned.proofs.KnownLemmas.{grown, stacked_more, All-front}
-pub use Rattle.fzn_learned.proofs.KnownLemmas.{IsKnown-undecided}
-use Rattle.fzn_learned.proofs.EntryLemmas.{after, Leads-after, Leads-append, Leads-grown, Leads-stacked, Leads-below, Leads-without, opens-append, front_cases}
+pub use Rattle.fzn_learned.proofs.KnownLemmas.{IsKnown-undecided, IsStill}
+use Rattle.fzn_learned.proofs.EntryLemmas.{after, Leads-after, Leads-append, Leads-grown, Leads-stacked, Leads-below, Leads-still, opens-append, front_cases}
 use Rattle.fzn_learned.proofs.DecisionLemmas.{slice_get_front, slice_get_at, slice_get_take, opens-below, returned-standing}
 pub use Rattle.fzn_learned.proofs.DecisionLemmas.{length-reasoned, narrower-reasoned, filled-reasoned, length-opens, taken-reasoned, IsDecisionAt, decision_at}
 
@@ -85,10 +84,10 @@ IsReasoned-cut known n trail low reasoned = record {
   };
 }
 
--- a held clause that is no reason may be taken out
-pub IsReasoned-without : (known : Known) (id : ClauseId) (trail : Levels) → All (λ (entry : Entry). IsOther id entry.reason) trail.entries → IsReasoned known trail → IsReasoned (without id known) trail
-IsReasoned-without known id trail apart reasoned = record {
-  leads = Leads-without known id trail.entries trail.declared trail.sets apart reasoned.leads;
+-- other clauses may be held, the reasons among them
+pub IsReasoned-still : (known : Known) (held : numbered.Held) (trail : Levels) → All (λ (entry : Entry). IsStill known.held held entry.reason) trail.entries → IsReasoned known trail → IsReasoned (record known { held = held }) trail
+IsReasoned-still known held trail still reasoned = record {
+  leads = Leads-still known held trail.entries trail.declared trail.sets still reasoned.leads;
   one_each = reasoned.one_each;
   standing = λ k below. let stands = reasoned.standing k below in record {
     stood = stands.stood;
@@ -97,9 +96,9 @@ IsReasoned-without known id trail apart reasoned = record {
     level = stands.level;
     later = stands.later;
     parts = stands.parts;
-    leads = Leads-without known id stands.stood.entries trail.declared stands.stood.sets
-        (All-front (λ (entry : Entry). IsOther id entry.reason) stands.stood.entries (record { lit = stands.lit; reason = Decision; level = stands.level } ∷ stands.later)
-        (subst (All (λ (entry : Entry). IsOther id entry.reason)) stands.parts apart))
+    leads = Leads-still known held stands.stood.entries trail.declared stands.stood.sets
+        (All-front (λ (entry : Entry). IsStill known.held held entry.reason) stands.stood.entries (record { lit = stands.lit; reason = Decision; level = stands.level } ∷ stands.later)
+        (subst (All (λ (entry : Entry). IsStill known.held held entry.reason)) stands.parts still))
         stands.leads;
     below = stands.below;
   };

@@ -7,15 +7,14 @@ use Rattle.fzn_domain.specs.IntSet.{IntSet, is_possible}
 use Rattle.fzn_domain.specs.Narrow.{IsVariable, IsOpen, set_of, narrowed}
 use Rattle.fzn_domain.proofs.NarrowLemmas.{length-narrowed}
 use Rattle.fzn_clauses.specs.Held as numbered
-use Rattle.fzn_trail.specs.declared.trail.ClauseId.{ClauseId}
 use Rattle.fzn_trail.specs.declared.trail.Entry.{Entry}
 use Rattle.fzn_trail.specs.declared.trail.Reason.{Reason}
 use Rattle.fzn_trail.specs.declared.trail.Reason.TheVariants.{Decision, Clause, Inference}
 use Rattle.fzn_trail.specs.Levels.{IsNarrower, NoneEmpty}
 use Rattle.fzn_trail.proofs.CallerLemmas.{IsNarrower-narrowed, NoneEmpty-narrowed}
 use Rattle.fzn_learned.specs.Learned.{reason_before, reasons}
-use Rattle.fzn_learned.proofs.KnownLemmas.{grown, IsForcedFrom-grown, stacked_more, IsForcedFrom-stacked, IsForcedFrom-below, IsForcedFrom-without}
-use Rattle.fzn_learned.specs.Reasoned.{IsBelow, cut_at, IsOther, without}
+use Rattle.fzn_learned.proofs.KnownLemmas.{grown, IsForcedFrom-grown, stacked_more, IsForcedFrom-stacked, IsForcedFrom-below, IsStill, IsForcedFrom-still}
+use Rattle.fzn_learned.specs.Reasoned.{IsBelow, cut_at}
 use Rattle.fzn_learned.specs.Reasoned.{Known, IsKnown, clause_of, IsReason, Leads, Open, open_at, opens}
 use Rattle.fzn_learned.proofs.NarrowerLemmas.{IsTrueOn, IsNarrower-self, IsNarrower-through, IsTrueOn-narrower, IsTrueOn-narrowed, possible_if_unit}
 
@@ -89,18 +88,18 @@ Leads-below known n (entry ∷ later) from to low leads = (
   Leads-below known n later (narrowed from entry.lit) to (All-tail (λ (e : Entry). IsBelow n e.reason) entry later low) leads.2,
 )
 
--- and where a clause is taken out that is none of the reasons
-IsReason-without : (known : Known) (id : ClauseId) (sets : List IntSet) (lit : Lit) (reason : Reason) → IsOther id reason → IsReason known sets lit reason → IsReason (without id known) sets lit reason
-IsReason-without known id sets lit Decision apart h = h
-IsReason-without known id sets lit (Clause other) apart h = IsForcedFrom-without known id sets lit (Clause other) apart h
-IsReason-without known id sets lit (Inference place) apart h = h
+-- and where other clauses are held, the reasons among them
+IsReason-still : (known : Known) (held : numbered.Held) (sets : List IntSet) (lit : Lit) (reason : Reason) → IsStill known.held held reason → IsReason known sets lit reason → IsReason (record known { held = held }) sets lit reason
+IsReason-still known held sets lit Decision still h = h
+IsReason-still known held sets lit (Clause id) still h = IsForcedFrom-still known held sets lit (Clause id) still h
+IsReason-still known held sets lit (Inference place) still h = h
 
-pub Leads-without : (known : Known) (id : ClauseId) (entries : List Entry) (from to : List IntSet) → All (λ (entry : Entry). IsOther id entry.reason) entries → Leads known from entries to → Leads (without id known) from entries to
-Leads-without known id [] from to apart leads = leads
-Leads-without known id (entry ∷ later) from to apart leads = (
+pub Leads-still : (known : Known) (held : numbered.Held) (entries : List Entry) (from to : List IntSet) → All (λ (entry : Entry). IsStill known.held held entry.reason) entries → Leads known from entries to → Leads (record known { held = held }) from entries to
+Leads-still known held [] from to still leads = leads
+Leads-still known held (entry ∷ later) from to still leads = (
   leads.0,
-  IsReason-without known id from entry.lit entry.reason (All-head (λ (e : Entry). IsOther id e.reason) entry later apart) leads.1,
-  Leads-without known id later (narrowed from entry.lit) to (All-tail (λ (e : Entry). IsOther id e.reason) entry later apart) leads.2,
+  IsReason-still known held from entry.lit entry.reason (All-head (λ (e : Entry). IsStill known.held held e.reason) entry later still) leads.1,
+  Leads-still known held later (narrowed from entry.lit) to (All-tail (λ (e : Entry). IsStill known.held held e.reason) entry later still) leads.2,
 )
 
 possible_by_reason : (known : Known) (sets : List IntSet) (lit : Lit) (reason : Reason) → IsReason known sets lit reason → is_possible (set_of sets lit.var) lit ≡ true

@@ -1,8 +1,8 @@
 -- Known clauses as they become more or fewer.
-use Rattle.std.proofs.Common.{◌≡◌, ◌≢◌, ℕ, List, [], ◌∷◌, ◌++◌, length-append, refl, sym, ap, subst, ◌∙◌, arith, All, Option, None}
+use Rattle.std.proofs.Common.{◌≡◌, ◌≢◌, ℕ, List, [], ◌∷◌, ◌++◌, length-append, refl, sym, ap, subst, ◌∙◌, arith, All, Option}
 use Rattle.std.specs.Prelude.{IsSome}
 use Rattle.std.specs.Option.{unwrap_or}
-use Rattle.std.proofs.lemmas.List.{get_or_append_left, get_or-set_other, get_or-take, length-take}
+use Rattle.std.proofs.lemmas.List.{get_or_append_left, get_or-take, length-take}
 use Rattle.std.proofs.lemmas.List.Elements.{All-nil, All-cons, All-head, All-tail}
 use Rattle.fzn_domain.specs.declared.literal.Lit.{Lit}
 use Rattle.fzn_domain.specs.IntSet.{IntSet}
@@ -11,8 +11,7 @@ use Rattle.fzn_clauses.specs.Held as numbered
 use Rattle.fzn_clauses.proofs.HeldLemmas as still
 use Rattle.fzn_trail.specs.declared.trail.Reason.{Reason}
 use Rattle.fzn_trail.specs.declared.trail.Reason.TheVariants.{Decision, Clause, Inference}
-use Rattle.fzn_trail.specs.declared.trail.ClauseId.{ClauseId}
-use Rattle.fzn_learned.specs.Reasoned.{Known, IsKnown, clause_of, cut_at, IsBelow, without, IsOther, IsForcedFrom}
+use Rattle.fzn_learned.specs.Reasoned.{Known, IsKnown, clause_of, cut_at, IsBelow, IsForcedFrom}
 
 -- more held clauses, and more inferences
 abbrev pub grown : numbered.Held → Known → Known
@@ -65,13 +64,18 @@ IsForcedFrom-below known n sets lit (Inference place) low h = (
   (ap (possible_in sets) (get_or-take n known.stacked place [] low) ∙ h.1.0, h.1.1),
 )
 
--- where another held clause is taken out
-pub IsForcedFrom-without : (known : Known) (id : ClauseId) (sets : List IntSet) (lit : Lit) (reason : Reason) → IsOther id reason → IsForcedFrom known sets lit reason → IsForcedFrom (without id known) sets lit reason
-IsForcedFrom-without known id sets lit Decision apart h = absurd h.0
-IsForcedFrom-without known id sets lit (Clause other) apart h =
-    let e = get_or-set_other known.held id.0 other.0 None None apart in
+-- where other clauses are held, a reason that was held is under its number still
+abbrev pub IsStill : numbered.Held → numbered.Held → Reason → Type 0
+IsStill old new Decision = Unit {0}
+IsStill old new (Clause id) = numbered.IsHeld old id → numbered.at_number new id ≡ numbered.at_number old id
+IsStill old new (Inference place) = Unit {0}
+
+pub IsForcedFrom-still : (known : Known) (held : numbered.Held) (sets : List IntSet) (lit : Lit) (reason : Reason) → IsStill known.held held reason → IsForcedFrom known sets lit reason → IsForcedFrom (record known { held = held }) sets lit reason
+IsForcedFrom-still known held sets lit Decision same h = absurd h.0
+IsForcedFrom-still known held sets lit (Clause id) same h =
+    let e = same h.0 in
     (subst IsSome (sym e) h.0, (ap (λ (o : Option (List Lit)). possible_in sets (unwrap_or o [])) e ∙ h.1.0, h.1.1))
-IsForcedFrom-without known id sets lit (Inference place) apart h = h
+IsForcedFrom-still known held sets lit (Inference place) same h = h
 
 -- what holds of all of a list holds of its front
 pub All-front : {X : Type 0} (P : X → Type 0) (xs ys : List X) → All P (xs ++ ys) → All P xs

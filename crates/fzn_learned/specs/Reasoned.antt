@@ -1,5 +1,5 @@
 -- How the entries of a trail came to stand.
-use Rattle.std.specs.Prelude.{◌≡◌, ◌≢◌, ℕ, ◌<◌, true, List, [], ◌∷◌, ◌++◌, map, length, take, slice_get, slice_index_or, slice_set, Some, None}
+use Rattle.std.specs.Prelude.{◌≡◌, ℕ, ◌<◌, true, List, [], ◌∷◌, ◌++◌, map, length, take, slice_get, slice_index_or, Some}
 use Rattle.std.specs.List.{All}
 use Rattle.fzn_domain.specs.declared.literal.Lit.{Lit}
 use Rattle.fzn_domain.specs.Literal.{negated}
@@ -9,7 +9,6 @@ use Rattle.fzn_clauses.specs.declared.clauses.Clauses.{Clauses}
 use Rattle.fzn_clauses.specs.Held as numbered
 use Rattle.fzn_clauses.specs.Watching.{held_by}
 use Rattle.fzn_propagator.specs.declared.inferences.Inferred.{Inferred}
-use Rattle.fzn_trail.specs.declared.trail.ClauseId.{ClauseId}
 use Rattle.fzn_trail.specs.declared.trail.Entry.{Entry}
 use Rattle.fzn_trail.specs.declared.trail.Reason.{Reason}
 use Rattle.fzn_trail.specs.declared.trail.Reason.TheVariants.{Decision, Clause, Inference}
@@ -52,16 +51,6 @@ abbrev pub IsBelow : ℕ → Reason → Type 0
 IsBelow n Decision = Unit {0}
 IsBelow n (Clause id) = Unit {0}
 IsBelow n (Inference place) = place < n
-
--- without the held clause of this number
-abbrev pub without : ClauseId → Known → Known
-without id known = record known { held = slice_set known.held id.0 None }
-
--- the reason is not the held clause of this number
-abbrev pub IsOther : ClauseId → Reason → Type 0
-IsOther id Decision = Unit {0}
-IsOther id (Clause other) = other.0 ≢ id.0
-IsOther id (Inference place) = Unit {0}
 
 -- the literal is the one possible literal of the clause, and not yet true
 abbrev pub IsForced : List IntSet → List Lit → Lit → Type 0

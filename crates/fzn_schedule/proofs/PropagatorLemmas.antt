@@ -1,7 +1,6 @@
 -- Where no clause is left and all variables are fixed, the tasks keep the capacity.
-use Rattle.std.proofs.Common.{◌≡◌, ℕ, ◌<◌, Bool, true, false, cond, ◌&&◌, List, [], ◌∷◌, length, get_or, refl, sym, ap, ap₂, subst, ◌∙◌, inl, inr, arith, ℤ, pos, negsuc, ◌+ℤ◌, ◌≤ℤ◌, ◌<ℤ◌, All, int_le, int_lt}
+use Rattle.std.proofs.Common.{◌≡◌, ℕ, zero, suc, ◌<◌, Bool, true, false, cond, ◌&&◌, List, [], ◌∷◌, length, get_or, refl, sym, ap, ap₂, subst, ◌∙◌, inl, inr, arith, ℤ, pos, negsuc, ◌+ℤ◌, ◌≤ℤ◌, ◌<ℤ◌, All, int_le, int_lt}
 use Rattle.std.specs.Int.{int_max}
-use Rattle.std.specs.List.{Any}
 use Rattle.std.proofs.lemmas.Int.{ints}
 use Rattle.std.proofs.lemmas.Bool.{true≢false}
 use Rattle.std.proofs.lemmas.List.{get_or_default, length-map}
@@ -10,7 +9,7 @@ use Rattle.fzn_domain.specs.declared.literal.Lit.{Lit}
 use Rattle.fzn_domain.specs.declared.literal.Op.TheVariants.{AtMost}
 use Rattle.fzn_domain.specs.IntSet.{IntSet}
 use Rattle.fzn_domain.specs.Limits.{IsInLimits}
-use Rattle.fzn_domain.specs.Narrow.{IsWithin, is_some_empty}
+use Rattle.fzn_domain.specs.Narrow.{IsWithin}
 use Rattle.fzn_meaning.specs.declared.term.Term.{Term}
 use Rattle.fzn_meaning.specs.declared.term.Term.TheVariants.{Constant}
 use Rattle.fzn_meaning.specs.declared.constraint.Constraint.{Constraint}
@@ -29,8 +28,8 @@ use Rattle.fzn_rules.specs.GlobalRows.{IsBelowZero, IsGlobalRowsMet}
 use Rattle.fzn_builtin_rules.specs.Form.{form_of}
 use Rattle.fzn_trail.specs.Levels.{Levels}
 use Rattle.fzn_propagator.specs.Inference.{AllFixed, IsExhausted}
-use Rattle.fzn_terms.specs.Denied.{that, IsEntailed}
-use Rattle.fzn_propagator.specs.Clause.{IsJustified, IsForcing, Says}
+use Rattle.fzn_terms.specs.Denied.{that, IsForced}
+use Rattle.fzn_propagator.specs.Clause.{IsJustified}
 use Rattle.fzn_terms.specs.Values.{IsFixed}
 use Rattle.fzn_terms.proofs.FixedLemmas.{fixed_to, fixed_ends}
 use Rattle.fzn_schedule.specs.declared.tasks.Tasks.{Tasks}
@@ -44,13 +43,16 @@ use Rattle.fzn_terms.proofs.OrderLemmas.{le_same}
 below_of : (v : ℤ) → int_le v (negsuc 0) ≡ true → v <ℤ pos 0
 below_of v h = grind (arith, ints)
 
--- each value of the term is below 0
-pub is_below : (sets : List IntSet) (term : Term) → is_some_empty sets ≡ false → IsTerm (length sets) term → IsEntailed sets (that term AtMost (negsuc 0)) → IsBelowZero sets term
-is_below sets term filled fits all = below_of (greatest_value sets term) (all (greatest_value sets term) (MayBe-ends sets term filled fits).1)
-
-pub some_below : (sets : List IntSet) (terms : List Term) (k : ℕ) (d : Term) → k < length terms → is_some_empty sets ≡ false → All (IsTerm (length sets)) terms → IsEntailed sets (that (get_or terms k d) AtMost (negsuc 0)) → Any (IsBelowZero sets) terms
-some_below sets terms k d inside filled fit all =
-    (k, get_or terms k d, inside, get_or_default terms k (get_or terms k d) d inside, is_below sets (get_or terms k d) filled (All-get_or (IsTerm (length sets)) terms k d inside fit) all)
+-- a clause that forces that a term is below 0
+pub some_below : (trail : Levels) (terms : List Term) (k : ℕ) (d : Term) (old clause : List Lit) → All (IsTerm (length trail.declared)) terms → k < length terms → IsForced trail (that (get_or terms k d) AtMost (negsuc 0)) old clause → IsSomeBelow trail terms clause
+some_below trail terms k d old clause fit inside forced = record {
+  forcing = forced.forcing;
+  says = λ sets left.
+      let term = get_or terms k d in
+      let fits = subst (λ (n : ℕ). IsTerm n (get_or terms k d)) (sym left.one_each) (All-get_or (IsTerm (length trail.declared)) terms k d inside fit) in
+      let below = below_of (greatest_value sets term) (forced.says sets left (greatest_value sets term) (MayBe-ends sets term left.filled fits).1) in
+      (k, term, inside, get_or_default terms k term d inside, below);
+}
 
 module _ (trail : Levels) (tasks : Tasks) (clause : List Lit) where
   pub durations_inferred : IsSomeBelow trail tasks.durations clause → IsJustified trail (cumulative_of tasks) Rows clause
@@ -61,9 +63,15 @@ module _ (trail : Levels) (tasks : Tasks) (clause : List Lit) where
   unfolding IsMet IsGlobalRowsMet
   uses_inferred some = justified_where trail (cumulative_of tasks) Rows clause some.forcing (λ sets left. inr (inr (inl (some.says sets left))))
 
-  pub capacity_inferred : IsForcing trail clause → Says trail.declared clause (λ sets. IsBelowZero sets tasks.capacity) → IsJustified trail (cumulative_of tasks) Rows clause
+  only : (term x : Term) (k : ℕ) → k < 1 → get_or (term ∷ []) k x ≡ x → x ≡ term
+  only term x zero inside is = sym is
+  only term x (suc k) inside is = absurd (omega arith)
+
+  pub capacity_inferred : IsSomeBelow trail (tasks.capacity ∷ []) clause → IsJustified trail (cumulative_of tasks) Rows clause
   unfolding IsMet IsGlobalRowsMet
-  capacity_inferred forcing says = justified_where trail (cumulative_of tasks) Rows clause forcing (λ sets left. inr (inr (inr (says sets left))))
+  capacity_inferred some = justified_where trail (cumulative_of tasks) Rows clause some.forcing (λ sets left.
+      let one = some.says sets left in
+      inr (inr (inr (subst (IsBelowZero sets) (only tasks.capacity one.1 one.0 one.2 one.3) one.4))))
 
 -- ---- fixed tasks
 
@@ -109,9 +117,9 @@ module _ (sets : List IntSet) (values : List ℤ) (within : IsWithin sets values
       (subst (λ (t : ℤ). total_of sets t group.starts group.durations group.uses ≤ℤ greatest_value sets group.capacity) start.1 (kept k d below)) most.1))
 
 -- a test that says that terms are not
-pub not_fixed : (sets : List IntSet) (count : ℕ) (terms held : List Term) (r : Bool) → length sets ≡ count → All (IsTerm count) terms → held ≡ terms → (All (IsFixed sets) held → r ≡ true) → r ≡ false → (values : List ℤ) → IsWithin sets values → AllFixed sets → ⊥
-not_fixed sets count terms held r same fit is test told values within fixed =
-    true≢false (sym (test (subst (All (IsFixed sets)) (sym is) (λ k d below. fixed_ends sets values within fixed (get_or terms k d) (All-get_or (IsTerm (length sets)) terms k d below (subst (λ (n : ℕ). All (IsTerm n) terms) (sym same) fit))))) ∙ told)
+pub not_fixed : (sets : List IntSet) (count : ℕ) (terms : List Term) (r : Bool) → length sets ≡ count → All (IsTerm count) terms → (All (IsFixed sets) terms → r ≡ true) → r ≡ false → (values : List ℤ) → IsWithin sets values → AllFixed sets → ⊥
+not_fixed sets count terms r same fit test told values within fixed =
+    true≢false (sym (test (λ k d below. fixed_ends sets values within fixed (get_or terms k d) (All-get_or (IsTerm (length sets)) terms k d below (subst (λ (n : ℕ). All (IsTerm n) terms) (sym same) fit)))) ∙ told)
 
 -- ---- tasks of constants
 

@@ -1,40 +1,18 @@
--- Claims that are said one after another, and those by which a task uses so much at a time.
-use Rattle.std.specs.Prelude.{◌≢◌, ◌⊎◌, ◌<◌, ℕ, ℤ, pos, negsuc, ◌+ℤ◌, ◌-ℤ◌, ◌≤ℤ◌, List, [], ◌∷◌, length, slice_index_or}
+-- The claims by which a task uses so much at a time.
+use Rattle.std.specs.Prelude.{◌⊎◌, ℕ, ℤ, pos, negsuc, ◌+ℤ◌, ◌-ℤ◌, ◌≤ℤ◌, List, [], ◌∷◌, slice_index_or}
 use Rattle.std.specs.Int.{int_max}
 use Rattle.fzn_domain.specs.declared.literal.Op.TheVariants.{AtMost, AtLeast}
 use Rattle.fzn_domain.specs.IntSet.{IntSet}
 use Rattle.fzn_meaning.specs.declared.term.Term.{Term}
-use Rattle.fzn_meaning.specs.Term.{IsTerm}
-use Rattle.fzn_sets.specs.Terms.{least_value, greatest_value}
-use Rattle.fzn_terms.specs.Denied.{that, IsEntailed, IsDenied}
+use Rattle.fzn_terms.specs.Denied.{that, IsDenied}
 use Rattle.fzn_terms.specs.declared.claim.Claim.{Claim}
 use Rattle.fzn_schedule.specs.declared.tasks.Tasks.{Tasks}
 use Rattle.fzn_schedule.specs.Loads.{start_at, duration_at, uses_at, HasRoom}
-
--- the number of a claim that a clause can have
-abbrev pub IsNear : ℤ → Type 0
-IsNear number = (negsuc 3999999999 ≤ℤ number) × (number ≤ℤ pos 4000000000)
-
--- the claim is on a term over so many variables, and a clause can have its number
-pub record IsSayable (count : ℕ) (claim : Claim) : Type 0 where
-  pub term : IsTerm count claim.term
-  pub near : IsNear claim.number
-
--- each of the claims is entailed but for the one at an index
-abbrev pub AreEntailedBut : ℕ → List Claim → List IntSet → Type 0
-AreEntailedBut except claims sets = (k : ℕ) (default : Claim) → k < length claims → k ≢ except → IsEntailed sets (slice_index_or claims k default)
 
 -- that a task of these terms starts at these times at the latest and at the earliest, lasts so long and uses so much at least
 abbrev pub task_claims : Term → Term → Term → ℤ → ℤ → ℤ → ℤ → List Claim
 task_claims start duration uses latest earliest shortest least =
     that start AtMost latest ∷ that start AtLeast earliest ∷ that duration AtLeast shortest ∷ that uses AtLeast least ∷ []
-
--- so of the sets
-pub record AreWithin (sets : List IntSet) (start duration uses : Term) (latest earliest shortest least : ℤ) : Type 0 where
-  pub no_later : greatest_value sets start ≤ℤ latest
-  pub no_sooner : earliest ≤ℤ least_value sets start
-  pub no_shorter : shortest ≤ℤ least_value sets duration
-  pub no_less : least ≤ℤ least_value sets uses
 
 -- that the task at an index runs at the time, as it ends after it where it lasts so long, and uses so much
 abbrev pub use_claims : Tasks → ℕ → ℤ → ℤ → ℤ → List Claim

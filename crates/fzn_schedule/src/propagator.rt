@@ -1,28 +1,25 @@
 // The propagator of a cumulative: the clauses of the first kind of which there are any; and which constraint gets one.
-ghost use Rattle.std.specs.Prelude.{◌≡◌, ◌-◌, ◌<◌, ◌≤◌, ◌++◌, negsuc, List, [], length, IfOk, IfSome, IfNone, OnOk, MatchBool, slice_index_or};
+ghost use Rattle.std.specs.Prelude.{◌≡◌, ◌-◌, ◌≤◌, ◌++◌, List, [], length, IfOk, IfSome, IfNone, OnOk, slice_index_or};
+ghost use Rattle.std.specs.List.{All};
 ghost use Rattle.fzn_domain.specs.declared.literal.Lit.{Lit};
-ghost use Rattle.fzn_domain.specs.declared.literal.Op.TheVariants as op;
 ghost use Rattle.fzn_domain.specs.IntSet.{IntSet};
-ghost use Rattle.fzn_domain.specs.Narrow.{NoneEmpty};
 ghost use Rattle.fzn_meaning.specs.declared.constraint.Constraint.{Constraint};
 ghost use Rattle.fzn_meaning.specs.declared.constraint.Constraint.TheVariants as constraint;
 ghost use Rattle.fzn_meaning.specs.declared.term.Term.{Term};
-ghost use Rattle.fzn_meaning.specs.Meaning.{AreTerms};
+ghost use Rattle.fzn_meaning.specs.Term.{IsTerm};
 ghost use Rattle.fzn_meaning.specs.Solutions.{declared_sets};
 ghost use Rattle.fzn_meaning.specs.WellFormed.{IsWellFormed};
 ghost use Rattle.fzn_rules.specs.declared.rule.Rule.TheVariants as rule;
 ghost use Rattle.fzn_propagator.specs.declared.cost.Cost.TheVariants as cost;
 ghost use Rattle.fzn_propagator.specs.declared.event.Event.TheVariants as event;
-ghost use Rattle.fzn_propagator.specs.Clause.{IsJustified};
 ghost use Rattle.fzn_propagator.specs.Subscriptions.{terms_of, waits, waits_each, AreHeard};
-ghost use Rattle.fzn_terms.specs.Denied.{that, IsDenied};
-ghost use Rattle.fzn_schedule.specs.Loads.{AreReady, cumulative_of};
+ghost use Rattle.fzn_schedule.specs.Passes.{tasks_of, IsInferred, AreFoundIn};
 ghost use Rattle.fzn_schedule.specs.Propagator.{cumulative_number, CumulativeIsFor, CumulativeFits};
-ghost use Rattle.fzn_propagator.specs.Inference.{AreFoundOf};
 ghost use Rattle.fzn_schedule.specs.Kept.{AreNotBelow, HasNoneBelow, IsSomeBelow, MeetsWhereFixed};
 
-use crate::energy_pass::first_energy;
-use crate::load_pass::{find_by_profile, first_of_fixed};
+use crate::energy_pass::find_energy;
+use crate::load_pass::{find_by_profile, find_of_fixed};
+use crate::pass::Pass;
 use crate::tasks::Tasks;
 use fzn_domain::{Lit, Memory};
 use fzn_list::{Items, Shared};
@@ -92,19 +89,16 @@ impl Propagator for CumulativePropagator {
     }
 
     fn propagate(&self, alloc: Global, trail: &Trail, found: &mut Findings) -> Result<(), Memory> {
-        find_negative(alloc, trail, self.number, &self.tasks, found)?;
-        if !found.is_empty() {
-            return Ok(());
-        }
-        find_by_profile(alloc, trail, self.number, &self.tasks, found)?;
-        if !found.is_empty() {
-            return Ok(());
-        }
-        find_energy(alloc, trail, self.number, &self.tasks, found)?;
-        if !found.is_empty() {
-            return Ok(());
-        }
-        find_of_fixed(alloc, trail, self.number, &self.tasks, found)
+        let pass = Pass {
+            alloc,
+            number: self.number,
+            trail,
+            starts: self.tasks.starts.as_slice(),
+            durations: self.tasks.durations.as_slice(),
+            uses: self.tasks.uses.as_slice(),
+            capacity: self.tasks.capacity,
+        };
+        find_all(&pass, found)
     }
 }
 
@@ -139,129 +133,52 @@ fn propagator_for(number: u64, given: &Constraint) -> Result<Option<CumulativePr
     Ok(Some(propagator))
 }
 
-/// Finds of each duration, each use and the capacity that it is not below 0.
-fn find_negative(
-    alloc: Global,
-    trail: &Trail,
-    number: u64,
-    tasks: &Tasks,
-    found: &mut Findings,
-) -> Result<(), Memory>
-    requires tasks { AreReady (length trail.now.declared) tasks.now }
-    requires filled { NoneEmpty trail.now.sets }
-    requires before { AreFoundOf number (cumulative_of tasks.now) trail.now found.old }
-    ensures found { AreFoundOf number (cumulative_of tasks.now) trail.now found.new }
-    ensures none { OnOk result (found.new ≡ [] → HasNoneBelow trail.now.sets tasks.now) }
+/// Finds by one kind of clauses after the other, until there is any.
+fn find_all(pass: &Pass, found: &mut Findings) -> Result<(), Memory>
+    requires before { AreFoundIn pass.now found.old }
+    ensures found { AreFoundIn pass.now found.new }
+    ensures none { OnOk result (found.new ≡ [] → MeetsWhereFixed pass.now.trail.now.sets (tasks_of pass.now)) }
 {
-    let durations = tasks.durations.as_slice();
-    let uses = tasks.uses.as_slice();
-    find_below(alloc, trail, number, tasks, durations, found)?;
-    find_below(alloc, trail, number, tasks, uses, found)?;
-    find_negative_capacity(alloc, trail, number, tasks, found)
+    find_negative(pass, found)?;
+    if !found.is_empty() {
+        return Ok(());
+    }
+    find_by_profile(pass, found)?;
+    if !found.is_empty() {
+        return Ok(());
+    }
+    find_energy(pass, found)?;
+    if !found.is_empty() {
+        return Ok(());
+    }
+    find_of_fixed(pass, found)
+}
+
+/// Finds of each duration, each use and the capacity that it is not below 0.
+fn find_negative(pass: &Pass, found: &mut Findings) -> Result<(), Memory>
+    requires before { AreFoundIn pass.now found.old }
+    ensures found { AreFoundIn pass.now found.new }
+    ensures none { OnOk result (found.new ≡ [] → HasNoneBelow pass.now.trail.now.sets (tasks_of pass.now)) }
+{
+    find_below(pass, pass.durations, found)?;
+    find_below(pass, pass.uses, found)?;
+    find_below(pass, &[pass.capacity], found)
 }
 
 /// Finds of each of these terms of the tasks that it is not below 0.
-fn find_below(
-    alloc: Global,
-    trail: &Trail,
-    number: u64,
-    tasks: &Tasks,
-    terms: &[Term],
-    found: &mut Findings,
-) -> Result<(), Memory>
-    requires terms { AreTerms (length trail.now.declared) terms.now }
-    requires filled { NoneEmpty trail.now.sets }
-    requires inferred { (clause : List Lit) → IsSomeBelow trail.now terms.now clause → IsJustified trail.now (cumulative_of tasks.now) rule.Rows clause }
-    requires before { AreFoundOf number (cumulative_of tasks.now) trail.now found.old }
-    ensures found { AreFoundOf number (cumulative_of tasks.now) trail.now found.new }
+fn find_below(pass: &Pass, terms: &[Term], found: &mut Findings) -> Result<(), Memory>
+    requires terms { All (IsTerm (length pass.now.trail.now.declared)) terms.now }
+    requires inferred { (clause : List Lit) → IsSomeBelow pass.now.trail.now terms.now clause → IsInferred pass.now rule.Rows clause }
+    requires before { AreFoundIn pass.now found.old }
+    ensures found { AreFoundIn pass.now found.new }
     ensures kept { OnOk result (found.new ≡ [] → found.old ≡ []) }
-    ensures none { OnOk result (found.new ≡ [] → AreNotBelow trail.now.sets terms.now) }
+    ensures none { OnOk result (found.new ≡ [] → AreNotBelow pass.now.trail.now.sets terms.now) }
 {
     for k in 0..terms.len() {
-        let mut clause = Items::new(alloc);
-        if is_not_below(trail, terms, k, &mut clause)? {
-            found.hand_over(number, Rule::Rows, Some(clause))?;
+        let mut clause = Items::new(pass.alloc);
+        if force(pass.trail, Claim::at_most(terms[k], -1), &mut clause)? {
+            found.hand_over(pass.number, Rule::Rows, Some(clause))?;
         }
-    }
-    Ok(())
-}
-
-/// `true`: the clause, emptied first, says that the term at place k, counted from 0, is not below 0.
-fn is_not_below(
-    trail: &Trail,
-    terms: &[Term],
-    k: usize,
-    clause: &mut Items<Lit>,
-) -> Result<bool, Memory>
-    requires terms { AreTerms (length trail.now.declared) terms.now }
-    requires filled { NoneEmpty trail.now.sets }
-    requires place { k < length terms.now }
-    ensures { IfOk result (λ found. MatchBool found (IsSomeBelow trail.now terms.now clause.new) ((default : Term) → IsDenied trail.now.sets (that (slice_index_or terms.now k default) op.AtMost (negsuc 0)))) }
-{
-    clause.clear();
-    force(trail, Claim::at_most(terms[k], -1), clause)
-}
-
-/// Finds that the capacity is not below 0.
-fn find_negative_capacity(
-    alloc: Global,
-    trail: &Trail,
-    number: u64,
-    tasks: &Tasks,
-    found: &mut Findings,
-) -> Result<(), Memory>
-    requires tasks { AreReady (length trail.now.declared) tasks.now }
-    requires filled { NoneEmpty trail.now.sets }
-    requires before { AreFoundOf number (cumulative_of tasks.now) trail.now found.old }
-    ensures found { AreFoundOf number (cumulative_of tasks.now) trail.now found.new }
-    ensures kept { OnOk result (found.new ≡ [] → found.old ≡ []) }
-    ensures none { OnOk result (found.new ≡ [] → IsDenied trail.now.sets (that tasks.now.capacity op.AtMost (negsuc 0))) }
-{
-    let mut clause = Items::new(alloc);
-    if force(trail, Claim::at_most(tasks.capacity, -1), &mut clause)? {
-        found.hand_over(number, Rule::Rows, Some(clause))?;
-    }
-    Ok(())
-}
-
-/// Finds a conflict between two times that a sweep picks.
-fn find_energy(
-    alloc: Global,
-    trail: &Trail,
-    number: u64,
-    tasks: &Tasks,
-    found: &mut Findings,
-) -> Result<(), Memory>
-    requires tasks { AreReady (length trail.now.declared) tasks.now }
-    requires filled { NoneEmpty trail.now.sets }
-    requires before { AreFoundOf number (cumulative_of tasks.now) trail.now found.old }
-    ensures { AreFoundOf number (cumulative_of tasks.now) trail.now found.new }
-{
-    let mut clause = Items::new(alloc);
-    if let Some(span) = first_energy(alloc, trail, tasks, &mut clause)? {
-        found.hand_over(number, Rule::Energy(span.from, span.until), Some(clause))?;
-    }
-    Ok(())
-}
-
-/// Finds where all tasks are fixed that they do not use more than the capacity where one of them starts.
-fn find_of_fixed(
-    alloc: Global,
-    trail: &Trail,
-    number: u64,
-    tasks: &Tasks,
-    found: &mut Findings,
-) -> Result<(), Memory>
-    requires tasks { AreReady (length trail.now.declared) tasks.now }
-    requires filled { NoneEmpty trail.now.sets }
-    requires none_below { HasNoneBelow trail.now.sets tasks.now }
-    requires before { AreFoundOf number (cumulative_of tasks.now) trail.now found.old }
-    ensures found { AreFoundOf number (cumulative_of tasks.now) trail.now found.new }
-    ensures none { OnOk result (found.new ≡ [] → MeetsWhereFixed trail.now.sets tasks.now) }
-{
-    let mut clause = Items::new(alloc);
-    if let Some(time) = first_of_fixed(alloc, trail, tasks, &mut clause)? {
-        found.hand_over(number, Rule::Load(time), Some(clause))?;
     }
     Ok(())
 }

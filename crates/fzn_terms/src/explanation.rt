@@ -1,10 +1,11 @@
 // Clauses of claims: of any claims, tested on the trail; or a clause that is known to be false, grown by what says that a claim is entailed.
-ghost use Rattle.std.specs.Prelude.{◌≡◌, ◌↔◌, ◌≤ℤ◌, pos, negsuc, length, IfOk, OnOk, IfSome, IsTrue, MatchBool};
+ghost use Rattle.std.specs.Prelude.{◌≡◌, ◌↔◌, ◌<◌, ◌≤ℤ◌, pos, negsuc, length, IfOk, OnOk, IfSome, IsTrue, MatchBool, slice_index_or};
 ghost use Rattle.std.specs.List.{All};
 ghost use Rattle.fzn_domain.specs.Narrow.{IsClauseOver, NoneEmpty};
 ghost use Rattle.fzn_meaning.specs.Term.{IsTerm};
 ghost use Rattle.fzn_propagator.specs.Clause.{IsFalseClause, IsWritable, IsForcing};
-ghost use Rattle.fzn_terms.specs.Denied.{IsEntailed, IsDenied, IsSaid, IsExplanation, IsExplained, IsForced};
+ghost use Rattle.fzn_terms.specs.declared.claim.Claim.{Claim};
+ghost use Rattle.fzn_terms.specs.Denied.{IsEntailed, AreEntailedBut, IsDenied, IsSayable, IsSaid, IsExplanation, IsGrown, IsGrownToForce, IsExplained, IsForced};
 
 use crate::claim::Claim;
 use fzn_domain::{GREATEST_BOUND, LEAST_BOUND, Lit, Memory};
@@ -99,6 +100,47 @@ pub fn force(trail: &Trail, claim: Claim, clause: &mut Items<Lit>) -> Result<boo
     Ok(true)
 }
 
+/// Adds to a false clause what it takes to say the claims but for the one at an index, each of which is true of each value of its term on
+/// the trail. It answers `Err` where memory runs out.
+pub fn explain_claims(
+    trail: &Trail,
+    claims: &[Claim],
+    except: usize,
+    clause: &mut Items<Lit>,
+) -> Result<(), Memory>
+    requires claims { All (IsSayable (length trail.now.declared)) claims.now }
+    requires filled { NoneEmpty trail.now.sets }
+    requires present { AreEntailedBut except claims.now trail.now.sets }
+    requires still { IsFalseClause trail.now clause.old }
+    ensures { OnOk result (IsGrown trail.now (AreEntailedBut except claims.now) clause.old clause.new) }
+{
+    for k in 0..claims.len() {
+        if k != except {
+            explain(trail, claims[k], clause)?;
+        }
+    }
+    Ok(())
+}
+
+/// Adds to a false clause what it takes to say the claims: the one at an index by a literal without which it is true. `false` where that
+/// one is true of no value on the trail.
+pub fn force_claims(
+    trail: &Trail,
+    claims: &[Claim],
+    forced: usize,
+    clause: &mut Items<Lit>,
+) -> Result<bool, Memory>
+    requires claims { All (IsSayable (length trail.now.declared)) claims.now }
+    requires filled { NoneEmpty trail.now.sets }
+    requires forced { forced < length claims.now }
+    requires present { AreEntailedBut forced claims.now trail.now.sets }
+    requires still { IsFalseClause trail.now clause.old }
+    ensures { IfOk result (λ forces. MatchBool forces (IsGrownToForce trail.now (λ sets. All (IsEntailed sets) claims.now) clause.old clause.new) ((default : Claim) → IsDenied trail.now.sets (slice_index_or claims.now forced default))) }
+{
+    explain_claims(trail, claims, forced, clause)?;
+    force(trail, claims[forced], clause)
+}
+
 /// Adds the claim to the clause, where it may be true of a declared value. `false` where it is true of a constant.
 fn say(trail: &Trail, claim: Claim, clause: &mut Items<Lit>) -> Result<bool, Memory>
     requires term { IsTerm (length trail.now.declared) claim.term }
@@ -127,6 +169,21 @@ pub fn is_never(trail: &Trail, claim: Claim) -> bool
     match claim.term {
         Term::Constant(k) => !claim.op.compares(k, claim.number),
         Term::Variable(var) => trail.declared(var).is_false(Lit {
+            var,
+            op: claim.op,
+            value: claim.number,
+        }),
+    }
+}
+
+/// Whether the claim is true of no value of its term on the trail.
+pub fn is_denied(trail: &Trail, claim: Claim) -> bool
+    requires { IsTerm (length trail.now.declared) claim.term }
+    ensures { IsTrue result ↔ IsDenied trail.now.sets claim }
+{
+    match claim.term {
+        Term::Constant(value) => !claim.op.compares(value, claim.number),
+        Term::Variable(var) => trail.domain(var).is_false(Lit {
             var,
             op: claim.op,
             value: claim.number,

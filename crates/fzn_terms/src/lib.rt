@@ -8,7 +8,9 @@
 #![tactic(auto)]
 
 pub use claim::Claim;
-pub use explanation::{explain, explanation_of, force, is_never};
+pub use explanation::{
+    explain, explain_claims, explanation_of, force, force_claims, is_denied, is_never,
+};
 pub use interval::{Interval, interval_of};
 pub use narrow::{MOST_VALUES, is_narrow, is_thinned, is_thinned_beside};
 pub use values::{are_fixed, greatest_of, has_other, is_fixed, least_of, may_be, next_value};

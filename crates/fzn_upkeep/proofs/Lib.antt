@@ -1,1 +1,2 @@
 mod DeletionLemmas
+pub mod ForgetLemmas

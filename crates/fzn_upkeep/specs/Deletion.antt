@@ -1,5 +1,7 @@
 -- Which steps may be deleted: those of no held clause and of no inference that stands.
-use Rattle.std.specs.Prelude.{◌≡◌, ◌⊎◌, ℕ, List, Some, slice_index_or}
+use Rattle.std.specs.Prelude.{◌≡◌, ◌⊎◌, ℕ, ◌<◌, List, length, Some, slice_index_or}
+use Rattle.std.specs.List.{All, Contains}
+use Rattle.fzn_cert.specs.Spelling.{IdsRise}
 use Rattle.fzn_propagator.specs.declared.inferences.Inferred.{Inferred}
 use Rattle.fzn_propagator.specs.Inferences.{IsStacked, inference_at}
 use Rattle.fzn_trail.specs.declared.trail.ClauseId.{ClauseId}
@@ -16,3 +18,12 @@ IsOfStacked stack n = (place : ℕ) × IsStacked stack place × ((inference_at s
 -- what is held or stands may be cited by the step's number
 abbrev pub IsInUse : Held → List ℕ → List Inferred → ℕ → Type 0
 IsInUse held numbers stack n = IsOfHeld held numbers n ⊎ IsOfStacked stack n
+
+-- these steps are deleted, some at least, of which nothing is held or stands, and those that are left are all that are in use
+pub record IsDeletion (held : Held) (numbers : List ℕ) (stack : List Inferred) (alive ids left : List ℕ) : Type 0 where
+  pub some : 0 < length ids
+  pub rise : IdsRise ids
+  pub among : All (Contains alive) ids
+  pub idle : (n : ℕ) → IsInUse held numbers stack n → Contains ids n → ⊥
+  pub in_use : All (IsInUse held numbers stack) left
+  pub all : (n : ℕ) → IsInUse held numbers stack n → Contains left n

@@ -1,19 +1,23 @@
 //! What a search keeps beside its trail and its clauses to stay small and fast.
 //!
-//! In: held clauses with the numbers of their steps, the inferences that stand, the trail. Out: which clauses to forget, which are
-//! reasons or cuts, which steps nothing rests on, and what to restart or to sweep. Proved against `specs/Forgetting.antt` (reasons and
-//! cuts are flagged) and `specs/Deletion.antt` (which steps are in use); of the choice among the others nothing is promised.
+//! In: held clauses with the numbers of their steps, the inferences that stand, the trail. Out: the clauses that are left where those of
+//! little use are forgotten, the steps that are deleted, and what is noted for the next conflicts. Proved against
+//! `specs/Forgetting.antt` (no clause is forgotten on which an entry of the trail rests, and no cut) and `specs/Deletion.antt` (no step
+//! is deleted that is in use); of the choice among the others nothing is promised.
 #![tactic(auto)]
 
 pub use cuts::Cuts;
-pub use idle::{idle_among, numbers_in_use};
+pub use deletion::{Deletion, next_deletion};
+pub use forgetting::{forget, forget_units};
 pub use notes::Notes;
 pub use numbers::Numbers;
-pub use reasons::reasons_on;
 
 mod cuts;
+mod deletion;
+mod forgetting;
 mod idle;
 mod notes;
 mod numbers;
+mod ranks;
 mod reasons;
 mod recent;

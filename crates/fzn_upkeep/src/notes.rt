@@ -4,11 +4,11 @@ ghost use Rattle.fzn_clauses.specs.Held.{IsHeld};
 ghost use Rattle.fzn_clauses.specs.Watching.{held_by};
 
 use crate::numbers::Numbers;
+use crate::ranks::Ranks;
 use crate::recent::Recent;
 use fzn_clauses::Clauses;
 use fzn_conflict::Marks;
 use fzn_domain::Memory;
-use fzn_learned::Ranks;
 use fzn_strategy::Learn;
 use fzn_trail::{ClauseId, Reason};
 use std::alloc::Global;
@@ -35,7 +35,7 @@ pub struct Notes {
     /// How many inferences are stacked when it is next looked which of them entries rest on.
     pub next_cut: usize,
     /// The learned clauses that may be forgotten.
-    pub learned: Ranks,
+    learned: Ranks,
     /// The clauses of inferences that are held.
     inferred: Recent,
     /// Numbers under which clauses were forgotten.
@@ -49,6 +49,8 @@ pub struct Notes {
     has_restarted: bool,
     /// With how many steps that are not deleted some are.
     next_deletion: usize,
+    /// What is learned: in plain learning no step is ever deleted.
+    learn: Learn,
     /// The places of the inferences on which the last learned clause rests.
     cited: Vec<usize>,
     /// The number of the last step of which it was asked whether its clause is to be held.
@@ -82,6 +84,7 @@ impl Notes {
             keep: keep as usize,
             has_restarted: false,
             next_deletion: IDLE,
+            learn,
             cited: Vec::new(alloc),
             last_step: 0,
             conflicts: 0,
@@ -105,7 +108,7 @@ impl Notes {
     }
 
     /// The clauses of these numbers are forgotten, where they may be.
-    pub fn forget(&mut self, ids: &[ClauseId]) -> Result<(), Memory> {
+    pub(crate) fn forget(&mut self, ids: &[ClauseId]) -> Result<(), Memory> {
         self.held = self.held.saturating_sub(ids.len());
         self.forgotten = self.forgotten.saturating_add(ids.len());
         self.free.extend_from_slice(ids)?;
@@ -113,7 +116,7 @@ impl Notes {
     }
 
     /// Whether the lists of watchers, of so many variables, are to be swept: they hold no more than some times what was forgotten.
-    pub fn is_sweep_due(&mut self, variables: usize) -> bool {
+    pub(crate) fn is_sweep_due(&mut self, variables: usize) -> bool {
         if self.forgotten < (self.held / 2).saturating_add(variables) {
             return false;
         }
@@ -160,7 +163,7 @@ impl Notes {
 
     /// The entries were settled: so many stand on another trail, and these clauses are their reasons. Gives the clauses that stood for entries
     /// before and for none now, which may be forgotten.
-    pub fn settle(
+    pub(crate) fn settle(
         &mut self,
         alloc: Global,
         entries: usize,
@@ -220,24 +223,24 @@ impl Notes {
     }
 
     /// Whether some of so many steps are to be deleted.
-    pub fn has_many_steps(&self, count: usize) -> bool {
-        count >= self.next_deletion
+    pub(crate) fn has_many_steps(&self, count: usize) -> bool {
+        self.learn == Learn::First && count >= self.next_deletion
     }
 
     /// So many steps are in use.
-    pub fn expect_steps(&mut self, used: usize) {
+    pub(crate) fn expect_steps(&mut self, used: usize) {
         self.next_deletion = used
             .saturating_add(used.min(MOST_IDLE))
             .saturating_add(IDLE);
     }
 
     /// Whether some clauses are to be forgotten.
-    pub fn has_many(&self) -> bool {
+    pub(crate) fn has_many(&self) -> bool {
         self.has_restarted || self.learned.has_many() || self.inferred.has_many()
     }
 
     /// The clauses to be forgotten.
-    pub fn take_worst(
+    pub(crate) fn take_worst(
         &mut self,
         alloc: Global,
         are_reasons: &[bool],

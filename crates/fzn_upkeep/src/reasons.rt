@@ -1,7 +1,6 @@
 // Which held clauses are reasons.
-ghost use Rattle.std.specs.Prelude.{◌≡◌, IfOk};
-ghost use Rattle.std.specs.List.{All};
-ghost use Rattle.fzn_upkeep.specs.Forgetting.{IsFlagged};
+ghost use Rattle.std.specs.Prelude.{IfOk};
+ghost use Rattle.fzn_upkeep.specs.Forgetting.{IsFlagged, AreFlagged};
 
 use fzn_domain::Memory;
 use fzn_trail::{Reason, Trail};
@@ -10,7 +9,7 @@ use std::alloc::Global;
 /// For each of so many held clauses, by their numbers, whether an entry rests on it. It goes over the trail. It answers `Err` where memory
 /// runs out.
 pub fn reasons_on(alloc: Global, trail: &Trail, count: usize) -> Result<Vec<bool>, Memory>
-    ensures { IfOk result (λ flags. All (λ entry. IsFlagged flags.items entry.reason) trail.now.entries) }
+    ensures { IfOk result (λ flags. AreFlagged flags.items trail.now) }
 {
     let mut flags = vec![in alloc; false; count]?;
     for i in 0..trail.len() {

@@ -2,7 +2,7 @@
 //! It also writes certificates anew, as version 2 or trimmed, and prints the constraints that an answer rests on.
 //!
 //! In: the command line. Out: the answer on standard output, or one line on standard error, and the status that goes with it. What is
-//! printed and when is proved on `check` and `to2` of `fzn_checker`, `trim` of `fzn_trim` and `core` of `fzn_core`; here the paths are opened.
+//! printed and when is proved on `check` and `to2` of `fzn_checker`, `trim` and `core` of `fzn_trim`; here the paths are opened.
 #![tactic(auto)]
 
 use fzn_checker::{CheckFault, check, to2};

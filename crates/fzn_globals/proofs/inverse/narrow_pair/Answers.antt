@@ -16,8 +16,8 @@ returns-clause-found c =
     let there = c.args.there.now in
     let back = c.args.back.now in
     let C = inverse_of c.args.side there back in
-    let clause = c.explain_pair.new.clause in
-    let is = pair_justified trail there back clause c.args.i.now c.args.j.now c.requires.first c.requires.second c.args.side (c.in_ok-explain_pair.ensures.found c.if-not-branch.false) in
+    let clause = c.in-Some.clause in
+    let is = pair_justified trail there back clause c.args.i.now c.args.j.now c.requires.first c.requires.second c.args.side (rw c.in-Some.is at c.in_ok-clause.ensures.found) in
     c.hand_over.ensures.found trail C (subst (λ (r : Rule). IsJustified trail C r clause) (sym c.pair_rule.ensures) is) c.requires.before
 
 pub returns-in_err-hand_over-clause-found : goal.returns-in_err-hand_over-clause-found
@@ -26,6 +26,6 @@ returns-in_err-hand_over-clause-found c =
     let there = c.args.there.now in
     let back = c.args.back.now in
     let C = inverse_of c.args.side there back in
-    let clause = c.explain_pair.new.clause in
-    let is = pair_justified trail there back clause c.args.i.now c.args.j.now c.requires.first c.requires.second c.args.side (c.in_ok-explain_pair.ensures.found c.if-not-branch.false) in
+    let clause = c.in-Some.clause in
+    let is = pair_justified trail there back clause c.args.i.now c.args.j.now c.requires.first c.requires.second c.args.side (rw c.in-Some.is at c.in_ok-clause.ensures.found) in
     c.hand_over.ensures.found trail C (subst (λ (r : Rule). IsJustified trail C r clause) (sym c.pair_rule.ensures) is) c.requires.before

@@ -1,12 +1,11 @@
 use Rattle.std.proofs.Common.{sym, subst}
-use Rattle.fzn_propagator.specs.Inference.{AreFoundOf}
-use Rattle.fzn_schedule.specs.Loads.{cumulative_of}
 use Rattle.fzn_schedule.proofs.load_pass.find_pushes.Goals as goal
+use Rattle.fzn_schedule.specs.Passes.{AreFoundIn}
 use Rattle.fzn_schedule.proofs.load_pass.find_pushes.Goals.{in-Some+in_ok-find_push, in_default}
 
 pub loop-k-preserved : goal.loop-k-preserved
 loop-k-preserved c =
     elim c.match-time_for.branch [
-      | in-Some+in_ok-find_push w ↦ subst (AreFoundOf c.args.number (cumulative_of c.args.tasks.now) c.args.trail.now) (sym w.found-is) w.in_ok-find_push.ensures
-      | in_default w ↦ subst (AreFoundOf c.args.number (cumulative_of c.args.tasks.now) c.args.trail.now) (sym w.found-is) c.loop-k.invariant
+      | in-Some+in_ok-find_push w ↦ subst (AreFoundIn c.args.pass.now) (sym w.found-is) w.in_ok-find_push.ensures
+      | in_default w ↦ subst (AreFoundIn c.args.pass.now) (sym w.found-is) c.loop-k.invariant
     ]

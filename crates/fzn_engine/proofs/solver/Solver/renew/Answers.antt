@@ -10,7 +10,7 @@ use Rattle.fzn_clauses.specs.Watching.{held_by}
 use Rattle.fzn_clauses.proofs.CallerLemmas.{declared-Propagates}
 use Rattle.fzn_engine.specs.Changes.{IsKeptBy}
 use Rattle.fzn_engine.specs.Search.{stock_of}
-use Rattle.fzn_engine.proofs.ForgetLemmas.{swept-tended, tended-through}
+use Rattle.fzn_engine.proofs.ForgetLemmas.{swept-tended, forgotten-tended, tended-through}
 use Rattle.fzn_engine.proofs.SettlingLemmas.{tended-kept, kept-through, IsRooted-fresh, renewed-kept, cut-tended}
 use Rattle.fzn_engine.proofs.StackLemmas.{AllBelow-reasoned}
 use Rattle.fzn_engine.proofs.solver.Solver.renew.Goals as goal
@@ -50,6 +50,6 @@ returns c = record {
       let K : Searching → Type 0 = λ search. IsKeptBy c.args.model.now steps c.args.self.now (record c.args.self.now { clauses = c.look_at_all.new.self; trail = c.in_ok-trail.trail; notes = c.expect_entries.new.self; search = search }) in
       let kept = subst K (sym c.undo.ensures.same) anew in
       let less = cut-tended kept.state c.cut.ensures in
-      let left = tended-through less (c.in_ok-drop_units.ensures.tended c.args.model.now steps less.state) in
+      let left = tended-through less (forgotten-tended less.state c.forget_units.new.clauses c.forget_units.ensures c.forget_units.new.notes) in
       kept-through kept (tended-kept left);
 }
