@@ -1,5 +1,5 @@
 -- The propagator of a sum waits for each term of its constraint: these are the terms of its places and its switch.
-use Rattle.std.proofs.Common.{◌≡◌, Result, Ok, Err, IfOk, List, [], ◌∷◌, ◌++◌, map, Option, Some, None, ℤ, pos, negsuc, refl, sym, ap, subst, ◌∙◌}
+use Rattle.std.proofs.Common.{◌≡◌, Result, Ok, Err, IfOk, List, [], ◌∷◌, ◌++◌, Some, None, ℤ, pos, negsuc, refl, sym, ap, subst, ◌∙◌}
 use Rattle.std.specs.Option.{option_to_list}
 use Rattle.std.proofs.lemmas.List.{append-nil, map-append}
 use Rattle.fzn_meaning.specs.declared.term.Term.{Term}
@@ -10,13 +10,13 @@ use Rattle.fzn_meaning.specs.declared.constraint.Constraint.TheVariants.{Compare
 use Rattle.fzn_builtin_rules.specs.Form.{Form, form_of, weighted, each_with}
 use Rattle.fzn_propagator.specs.declared.event.Event.TheVariants.{Any}
 use Rattle.fzn_propagator.specs.declared.subscriptions.Subscription.{Subscription}
-use Rattle.fzn_propagator.specs.Subscriptions.{terms_in, terms_of, waits_each, waits_some, AreHeard}
+use Rattle.fzn_propagator.specs.Subscriptions.{terms_in, terms_of, waits_some, AreHeard}
 use Rattle.fzn_propagator.proofs.CallerLemmas.{all_heard-by, all_heard-each, all_heard-join, all_heard-swap}
 use Rattle.fzn_arith.specs.declared.sum.SumPropagator.{SumPropagator}
 use Rattle.fzn_arith.specs.declared.equality.EqualityPropagator.{EqualityPropagator}
 use Rattle.fzn_arith.specs.Kinds.{form_in, IsFormOf}
 use Rattle.fzn_arith.specs.Equality.{EqualityIsFor}
-use Rattle.fzn_arith.specs.Wakes.{event_at, place_waits, sum_subscriptions}
+use Rattle.fzn_arith.specs.Wakes.{event_at, sum_subscriptions}
 
 -- ---- the terms of a form
 

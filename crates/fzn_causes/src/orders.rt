@@ -1,4 +1,5 @@
-// The entries on each variable in order, among which one is found by halves.
+// The entries on each variable in order. The one that made a literal true is found on a way back over those that moved its bound, and by
+// halves among all where that way is long.
 
 use crate::bounds::AllBounds;
 use crate::implications::Implications;
@@ -6,7 +7,7 @@ use crate::implied::is_true_on;
 use fzn_domain::{Domain, Lit, Memory, VarId};
 use std::alloc::Global;
 
-/// How many entries are gone back one by one before the search by halves.
+/// How many entries a way back visits at most before the search by halves.
 pub const NEAR: usize = 128;
 
 /// Where a way back over the entries on a variable ended.

@@ -1,15 +1,14 @@
 -- Clauses that say that terms lead into some places.
-use Rattle.std.proofs.Common.{◌≡◌, ℕ, ◌<◌, ◌≤◌, true, List, length, get_or, sym, subst, inl, inr, ◌⊎◌, arith, ℤ, pos, ◌≤ℤ◌, ◌<ℤ◌}
+use Rattle.std.proofs.Common.{◌≡◌, ℕ, ◌<◌, true, List, length, get_or, sym, subst, inl, inr, ◌⊎◌, arith, ℤ, pos, ◌≤ℤ◌, ◌<ℤ◌}
 use Rattle.std.specs.List.{Contains}
 use Rattle.std.proofs.lemmas.Int.{ints}
-use Rattle.std.proofs.lemmas.List.Elements.{All-from_get_or, All-weaker}
+use Rattle.std.proofs.lemmas.List.Elements.{All-from_get_or}
 use Rattle.fzn_domain.specs.declared.literal.Lit.{Lit}
 use Rattle.fzn_domain.specs.declared.literal.VarId.{VarId}
 use Rattle.fzn_domain.specs.declared.literal.Op.TheVariants.{AtMost, AtLeast}
 use Rattle.fzn_domain.specs.Ascending.{IsAscending}
 use Rattle.fzn_domain.specs.IntSet.{IntSet, contains}
 use Rattle.fzn_domain.specs.Narrow.{IsVariable, set_of}
-use Rattle.fzn_list.specs.Limits.{longest}
 use Rattle.fzn_meaning.specs.declared.term.Term.{Term}
 use Rattle.fzn_meaning.specs.declared.term.Term.TheVariants.{Variable}
 use Rattle.fzn_meaning.specs.declared.constraint.Constraint.TheVariants.{Circuit}
@@ -19,11 +18,9 @@ use Rattle.fzn_rules.specs.Rules.{IsMet}
 use Rattle.fzn_sets.specs.Terms.{MayBe, term_at}
 use Rattle.fzn_rules.specs.Cut.{LeadsInto, IsCutMet}
 use Rattle.fzn_trail.specs.Levels.{Levels}
-use Rattle.fzn_propagator.specs.Inference.{IsHint, HasWritableHints}
 use Rattle.fzn_propagator.specs.Clause.{Says, IsFalseClause, IsJustified}
 use Rattle.fzn_terms.specs.Denied.{that, IsExplained, IsGrown}
-use Rattle.fzn_circuit.specs.Closed.{IsFromTo, IsPlaceIf, LeadsIntoBetween}
-use Rattle.fzn_circuit.proofs.WayLemmas.{hint_of}
+use Rattle.fzn_circuit.specs.Closed.{IsPlaceIf, LeadsIntoBetween}
 use Rattle.fzn_propagator.proofs.CallerLemmas.{forcing_of_false, justified_where}
 use Rattle.fzn_terms.proofs.OrderLemmas.{le_lt, at_most}
 
@@ -86,20 +83,13 @@ last_before value next high v over first to = elim (more_or_not value v) [
 
 -- ---- one term
 
-pub ends_grown : (trail : Levels) (low high : ℤ) (term : Term) (old one two : List Lit) → IsExplained trail (that term AtLeast low) old one → IsExplained trail (that term AtMost high) one two → IsGrown trail (IsFromTo low high term) old two
-ends_grown trail low high term old one two from to = record {
-  still = to.still;
-  keeps = λ sets left. from.keeps sets (to.keeps sets left);
-  says = λ sets left. (from.says sets (to.keeps sets left), to.says sets left);
-}
-
-pub leads_into : (trail : Levels) (places : List ℤ) (var : VarId) (low high : ℤ) (old ends new : List Lit) → IsGrown trail (IsFromTo low high (Variable var)) old ends → IsGrown trail (LeadsIntoBetween places var low high) ends new → IsGrown trail (λ sets. LeadsInto sets places (Variable var)) old new
-leads_into trail places var low high old ends new from_to between = record {
+pub leads_into : (trail : Levels) (places : List ℤ) (var : VarId) (low high : ℤ) (old one two new : List Lit) → IsExplained trail (that (Variable var) AtLeast low) old one → IsExplained trail (that (Variable var) AtMost high) one two → IsGrown trail (LeadsIntoBetween places var low high) two new → IsGrown trail (λ sets. LeadsInto sets places (Variable var)) old new
+leads_into trail places var low high old one two new from to between = record {
   still = between.still;
-  keeps = λ sets left. from_to.keeps sets (between.keeps sets left);
+  keeps = λ sets left. from.keeps sets (to.keeps sets (between.keeps sets left));
   says = λ sets left v may.
-      let said = from_to.says sets (between.keeps sets left) in
-      between.says sets left v (at_most low v (said.0 v may)) (at_most v high (said.1 v may)) may;
+      let ends = between.keeps sets left in
+      between.says sets left v (at_most low v (from.says sets (to.keeps sets ends) v may)) (at_most v high (to.says sets ends v may)) may;
 }
 
 -- ---- all places
@@ -118,6 +108,3 @@ closed_inferred trail successors places clause some fewer up indices still says 
       not_all = fewer;
       closed = All-from_get_or (λ place. LeadsInto sets places (term_at successors place)) places (pos 0) (says sets left);
     })
-
-pub closed_hints : (n : ℕ) (places : List ℤ) → n ≤ longest → IsAscending places → ((k : ℕ) → k < length places → IsIndex n (get_or places k (pos 0))) → HasWritableHints (Cut places)
-closed_hints n places short up indices = (All-weaker (IsIndex n) IsHint (λ p place. hint_of n p short place) places (All-from_get_or (IsIndex n) places (pos 0) indices), up)

@@ -34,7 +34,7 @@ value_is sets successors fit values within fixed k below =
     (fixed_to sets values within fixed (get_or successors k d) (All-get_or (IsTerm (length sets)) successors k d below fit))
 
 module _ (sets : List IntSet) (successors : List Term) where
-  pub apart_different : AreApart sets successors → AreDifferent sets successors
+  pub apart_different : ((i j : ℕ) → i < length successors → AreApart sets successors i j) → AreDifferent sets successors
   apart_different apart fit values within fixed i j d before below same =
       let len = length-values_of values successors in
       let lt_i : i < length successors = omega arith in
@@ -46,7 +46,7 @@ module _ (sets : List IntSet) (successors : List Term) where
       let fits_j = All-get_or (IsTerm (length sets)) successors j (Constant (pos 0)) lt_j fit in
       let may = MayBe-term_value sets values (get_or successors j (Constant (pos 0))) within fits_j in
       let other : i ≢ j = omega arith in
-      int_eq_of x y is (apart i j (Constant (pos 0)) x other lt_i lt_j (fixed_to sets values within fixed (get_or successors i (Constant (pos 0))) fits_i) y may)
+      int_eq_of x y is (apart i j lt_i (Constant (pos 0)) x other lt_i lt_j (fixed_to sets values within fixed (get_or successors i (Constant (pos 0))) fits_i) y may)
 
   -- a place is found by its value
   pub owned_different : (owners : List ℕ) → ((k : ℕ) → k < length successors → owner_of owners (least_value sets (get_or successors k (Constant (pos 0)))) ≡ k) → AreDifferent sets successors

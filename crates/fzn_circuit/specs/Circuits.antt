@@ -1,21 +1,31 @@
 -- Where the fixed successors of places lead.
 use Rattle.std.specs.Prelude.{◌≡◌, ◌≢◌, ◌⊎◌, ℕ, ◌+◌, ◌-◌, ◌<◌, ◌≤◌, ℤ, pos, negsuc, List, length, slice_index_or}
 use Rattle.std.specs.List.{All}
+use Rattle.std.proofs.Props.{props}
 use Rattle.fzn_domain.specs.declared.literal.Lit.{Lit}
 use Rattle.fzn_domain.specs.IntSet.{IntSet}
 use Rattle.fzn_domain.specs.Narrow.{AllFixed, IsWithin}
 use Rattle.fzn_meaning.specs.declared.term.Term.{Term}
-use Rattle.fzn_meaning.specs.declared.term.Term.TheVariants.{Constant}
+use Rattle.fzn_meaning.specs.declared.term.Term.TheVariants.{Constant, Variable}
 use Rattle.fzn_meaning.specs.AllDifferent.{IsAllDifferent}
 use Rattle.fzn_meaning.specs.Circuit.{reached_from}
 use Rattle.fzn_meaning.specs.Entries.{IsIndex}
 use Rattle.fzn_meaning.specs.Term.{IsTerm, values_of}
+use Rattle.fzn_meaning.specs.Meaning.{AreTerms}
 use Rattle.fzn_sets.specs.Terms.{IsFixedTo, term_at}
 use Rattle.fzn_rules.specs.Cut.{LeadsInto}
 use Rattle.fzn_trail.specs.Levels.{Levels}
 use Rattle.fzn_domain.specs.declared.literal.Op.TheVariants.{AtMost, AtLeast, Equal}
 use Rattle.fzn_propagator.specs.Clause.{Says, IsFalseClause}
 use Rattle.fzn_terms.specs.Denied.{that, IsDenied}
+
+-- of terms on so many variables there is one proof at most
+IsTerm-prop : (count : ℕ) (term : Term) → IsProp (IsTerm count term)
+IsTerm-prop count (Constant k) = Prim.hlevel props
+IsTerm-prop count (Variable var) = Prim.hlevel props
+
+pub AreTerms-prop : (count : ℕ) (terms : List Term) → IsProp (AreTerms count terms)
+AreTerms-prop count terms = Prim.hlevel (props, IsTerm-prop)
 
 -- each successor has one value, these in order, and each is a place
 pub record AreFixedPlaces (sets : List IntSet) (successors : List Term) (values : List ℤ) : Type 0 where
@@ -45,15 +55,18 @@ abbrev pub HasNoShortWay : List IntSet → List Term → ℤ → Type 0
 HasNoShortWay sets successors start =
     (values : List ℤ) → AreFixedPlaces sets successors values → (k : ℕ) → 1 ≤ k → k < length values → reached_from values start k ≡ start → ⊥
 
+-- each value of the term is one of so many places
+abbrev pub IsInside : List IntSet → ℕ → Term → Type 0
+IsInside sets count term = IsDenied sets (that term AtMost (pos 0)) × IsDenied sets (that term AtLeast (pos (count + 1)))
+
 -- no successor has a value that is no place
 abbrev pub AreInside : List IntSet → List Term → Type 0
-AreInside sets successors =
-    (k : ℕ) (default : Term) → k < length successors → IsDenied sets (that (slice_index_or successors k default) AtMost (pos 0)) × IsDenied sets (that (slice_index_or successors k default) AtLeast (pos (length successors + 1)))
+AreInside sets successors = All (IsInside sets (length successors)) successors
 
--- the value of a fixed successor is no value of another
-abbrev pub AreApart : List IntSet → List Term → Type 0
-AreApart sets successors =
-    (i j : ℕ) (default : Term) (value : ℤ) → i ≢ j → i < length successors → j < length successors → IsFixedTo sets (slice_index_or successors i default) value
+-- the value of the successor at place i, counted from 0, where it has one, is no value of the one at place j
+abbrev pub AreApart : List IntSet → List Term → ℕ → ℕ → Type 0
+AreApart sets successors i j =
+    (default : Term) (value : ℤ) → i ≢ j → i < length successors → j < length successors → IsFixedTo sets (slice_index_or successors i default) value
     → IsDenied sets (that (slice_index_or successors j default) Equal value)
 
 -- where each variable has one value, no two successors are the same

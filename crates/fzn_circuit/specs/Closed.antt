@@ -1,17 +1,11 @@
 -- Where a term leads, by what a clause says of the sets on which it is denied.
 use Rattle.std.specs.Prelude.{◌≤ℤ◌, ℤ, List}
 use Rattle.std.specs.List.{Contains}
-use Rattle.fzn_domain.specs.declared.literal.Op.TheVariants.{AtLeast, AtMost}
 use Rattle.fzn_domain.specs.declared.literal.VarId.{VarId}
 use Rattle.fzn_domain.specs.IntSet.{IntSet}
 use Rattle.fzn_meaning.specs.declared.term.Term.{Term}
 use Rattle.fzn_meaning.specs.declared.term.Term.TheVariants.{Variable}
 use Rattle.fzn_sets.specs.Terms.{MayBe}
-use Rattle.fzn_terms.specs.Denied.{that, IsEntailed}
-
--- each value of the term is one from low to high
-abbrev pub IsFromTo : ℤ → ℤ → Term → List IntSet → Type 0
-IsFromTo low high term sets = IsEntailed sets (that term AtLeast low) × IsEntailed sets (that term AtMost high)
 
 -- the value, where the term may have it, is one of the places
 abbrev pub IsPlaceIf : List ℤ → Term → ℤ → List IntSet → Type 0

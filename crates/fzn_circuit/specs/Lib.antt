@@ -1,3 +1,4 @@
 pub mod Circuits
 pub mod Closed
+pub mod Passes
 pub mod Propagator

@@ -1,34 +1,32 @@
 // The propagator of a circuit: the clauses of the first kind of which there are any; and which constraint gets one.
-ghost use Rattle.std.specs.Prelude.{◌≡◌, ◌+◌, ◌-◌, ◌<◌, ◌≤◌, pos, List, [], length, IfOk, IfSome, IfNone, OnOk, slice_index_or};
-ghost use Rattle.fzn_domain.specs.declared.literal.Op.TheVariants as op;
-ghost use Rattle.fzn_domain.specs.Narrow.{NoneEmpty};
+ghost use Rattle.std.specs.Prelude.{◌≡◌, ◌-◌, ◌<◌, ◌≤◌, pos, List, [], length, IfOk, IfSome, IfNone, OnOk, slice_index_or};
 ghost use Rattle.fzn_meaning.specs.declared.constraint.Constraint.{Constraint};
 ghost use Rattle.fzn_meaning.specs.declared.constraint.Constraint.TheVariants as constraint;
 ghost use Rattle.fzn_meaning.specs.declared.term.Term.{Term};
-ghost use Rattle.fzn_meaning.specs.Entries.{IsIndex};
-ghost use Rattle.fzn_meaning.specs.Meaning.{AreTerms};
+ghost use Rattle.fzn_meaning.specs.Term.{IsTerm};
 ghost use Rattle.fzn_domain.specs.IntSet.{IntSet};
 ghost use Rattle.fzn_meaning.specs.Solutions.{declared_sets};
 ghost use Rattle.fzn_meaning.specs.WellFormed.{IsWellFormed};
 ghost use Rattle.fzn_propagator.specs.declared.cost.Cost.TheVariants as cost;
 ghost use Rattle.fzn_propagator.specs.declared.event.Event.TheVariants as event;
-ghost use Rattle.fzn_propagator.specs.Inference.{AreExhausted, AreFoundOf};
+ghost use Rattle.fzn_propagator.specs.Inference.{AreExhausted};
 ghost use Rattle.fzn_propagator.specs.Subscriptions.{terms_of, waits_each, AreHeard};
-ghost use Rattle.fzn_terms.specs.Denied.{that, IsDenied};
+ghost use Rattle.fzn_terms.specs.Denied.{IsDenied, IsNear};
 ghost use Rattle.fzn_circuit.specs.Propagator.{circuit_number, CircuitIsFor, CircuitFits};
 ghost use Rattle.fzn_circuit.specs.Circuits.{AreInside, HasNoShortWay};
+ghost use Rattle.fzn_circuit.specs.Passes.{IsRefuted, AreFoundIn};
 
-use crate::circuit::{explain_above, explain_below, explain_cut};
-use crate::closed::explain_closed;
+use crate::circuit::find_cut;
+use crate::closed::find_closed;
+use crate::pass::Pass;
 use crate::same::{find_same, has_open};
-use crate::walk::closed_places;
 use crate::ways::starts_of;
 use fzn_domain::Memory;
 use fzn_list::{Items, Shared};
 use fzn_meaning::{Constraint, Model, Term};
 use fzn_propagator::{Cost, Event, Findings, Propagator, Subscriptions};
 use fzn_rules::Rule;
-use fzn_terms::{Claim, is_denied};
+use fzn_terms::{Claim, force, is_denied};
 use fzn_trail::Trail;
 use std::alloc::Global;
 
@@ -79,7 +77,13 @@ impl Propagator for CircuitPropagator {
     }
 
     fn propagate(&self, alloc: Global, trail: &Trail, found: &mut Findings) -> Result<(), Memory> {
-        find_all(alloc, trail, self.number, self.successors.as_slice(), found)
+        let pass = Pass {
+            alloc,
+            number: self.number,
+            trail,
+            successors: self.successors.as_slice(),
+        };
+        find_all(&pass, found)
     }
 }
 
@@ -108,180 +112,79 @@ fn propagator_for(number: u64, given: &Constraint) -> Result<Option<CircuitPropa
 }
 
 /// Finds all of the first kind of which there is anything to be found.
-fn find_all(
-    alloc: Global,
-    trail: &Trail,
-    number: u64,
-    successors: &[Term],
-    found: &mut Findings,
-) -> Result<(), Memory>
-    requires terms { AreTerms (length trail.now.declared) successors.now }
-    requires filled { NoneEmpty trail.now.sets }
-    requires before { AreFoundOf number (constraint.Circuit successors.now) trail.now found.old }
-    ensures found { AreFoundOf number (constraint.Circuit successors.now) trail.now found.new }
-    ensures none { OnOk result (found.new ≡ [] → AreExhausted (λ given. constraint.Circuit successors.now ≡ given) trail.now) }
+fn find_all(pass: &Pass, found: &mut Findings) -> Result<(), Memory>
+    requires before { AreFoundIn pass.now found.old }
+    ensures found { AreFoundIn pass.now found.new }
+    ensures none { OnOk result (found.new ≡ [] → AreExhausted (λ given. constraint.Circuit pass.now.successors.now ≡ given) pass.now.trail.now) }
 {
-    find_outside(alloc, trail, number, successors, found)?;
+    find_outside(pass, found)?;
     if !found.is_empty() {
         return Ok(());
     }
-    find_same(alloc, trail, number, successors, found)?;
+    find_same(pass, found)?;
     if !found.is_empty() {
         return Ok(());
     }
-    find_cuts(alloc, trail, number, successors, found)?;
+    find_cuts(pass, found)?;
     if !found.is_empty() {
         return Ok(());
     }
-    find_closed(alloc, trail, number, successors, found)
+    find_closed(pass, found)
 }
 
 /// Finds for each successor that it is a place.
-fn find_outside(
-    alloc: Global,
-    trail: &Trail,
-    number: u64,
-    successors: &[Term],
-    found: &mut Findings,
-) -> Result<(), Memory>
-    requires terms { AreTerms (length trail.now.declared) successors.now }
-    requires filled { NoneEmpty trail.now.sets }
-    requires before { AreFoundOf number (constraint.Circuit successors.now) trail.now found.old }
-    ensures found { AreFoundOf number (constraint.Circuit successors.now) trail.now found.new }
-    ensures none { OnOk result (found.new ≡ [] → AreInside trail.now.sets successors.now) }
+fn find_outside(pass: &Pass, found: &mut Findings) -> Result<(), Memory>
+    requires before { AreFoundIn pass.now found.old }
+    ensures found { AreFoundIn pass.now found.new }
+    ensures none { OnOk result (found.new ≡ [] → AreInside pass.now.trail.now.sets pass.now.successors.now) }
 {
-    for k in 0..successors.len() {
-        find_below(alloc, trail, number, successors, k, found)?;
-        find_above(alloc, trail, number, successors, k, found)?;
+    let beyond = pass.successors.len() as i64 + 1;
+    for k in 0..pass.successors.len() {
+        let below = Claim::at_most(pass.successors[k], 0);
+        if !is_denied(pass.trail, below) {
+            find_not(pass, below, found)?;
+        }
+        let above = Claim::at_least(pass.successors[k], beyond);
+        if !is_denied(pass.trail, above) {
+            find_not(pass, above, found)?;
+        }
     }
     Ok(())
 }
 
-/// Finds that the successor at place k, counted from 0, is at least 1.
-fn find_below(
-    alloc: Global,
-    trail: &Trail,
-    number: u64,
-    successors: &[Term],
-    k: usize,
-    found: &mut Findings,
-) -> Result<(), Memory>
-    requires terms { AreTerms (length trail.now.declared) successors.now }
-    requires filled { NoneEmpty trail.now.sets }
-    requires place { k < length successors.now }
-    requires before { AreFoundOf number (constraint.Circuit successors.now) trail.now found.old }
-    ensures found { AreFoundOf number (constraint.Circuit successors.now) trail.now found.new }
+/// Finds that a claim does not hold by which some successor is no place.
+fn find_not(pass: &Pass, claim: Claim, found: &mut Findings) -> Result<(), Memory>
+    requires term { IsTerm (length pass.now.trail.now.declared) claim.term }
+    requires near { IsNear claim.number }
+    requires refuted { IsRefuted pass.now claim }
+    requires before { AreFoundIn pass.now found.old }
+    ensures found { AreFoundIn pass.now found.new }
     ensures kept { OnOk result (found.new ≡ [] → found.old ≡ []) }
-    ensures none { OnOk result (found.new ≡ [] → (default : Term) → IsDenied trail.now.sets (that (slice_index_or successors.now k default) op.AtMost (pos 0))) }
+    ensures none { OnOk result (found.new ≡ [] → IsDenied pass.now.trail.now.sets claim) }
 {
-    if is_denied(trail, Claim::at_most(successors[k], 0)) {
+    let mut clause = Items::with_capacity(pass.alloc, 1)?;
+    if !force(pass.trail, claim, &mut clause)? {
         return Ok(());
     }
-    let mut below = Items::with_capacity(alloc, 1)?;
-    if explain_below(trail, successors, k, &mut below)? {
-        found.hand_over(number, Rule::Rows, Some(below))?;
-    }
-    Ok(())
-}
-
-/// Finds that the successor at place k, counted from 0, is no more than there are.
-fn find_above(
-    alloc: Global,
-    trail: &Trail,
-    number: u64,
-    successors: &[Term],
-    k: usize,
-    found: &mut Findings,
-) -> Result<(), Memory>
-    requires terms { AreTerms (length trail.now.declared) successors.now }
-    requires filled { NoneEmpty trail.now.sets }
-    requires place { k < length successors.now }
-    requires before { AreFoundOf number (constraint.Circuit successors.now) trail.now found.old }
-    ensures found { AreFoundOf number (constraint.Circuit successors.now) trail.now found.new }
-    ensures kept { OnOk result (found.new ≡ [] → found.old ≡ []) }
-    ensures none { OnOk result (found.new ≡ [] → (default : Term) → IsDenied trail.now.sets (that (slice_index_or successors.now k default) op.AtLeast (pos (length successors.now + 1)))) }
-{
-    let beyond = successors.len() as i64 + 1;
-    if is_denied(trail, Claim::at_least(successors[k], beyond)) {
-        return Ok(());
-    }
-    let mut above = Items::with_capacity(alloc, 1)?;
-    if explain_above(trail, successors, k, &mut above)? {
-        found.hand_over(number, Rule::Rows, Some(above))?;
-    }
-    Ok(())
+    found.hand_over(pass.number, Rule::Rows, Some(clause))
 }
 
 /// Finds for each way through fixed successors that it does not come back too soon.
-fn find_cuts(
-    alloc: Global,
-    trail: &Trail,
-    number: u64,
-    successors: &[Term],
-    found: &mut Findings,
-) -> Result<(), Memory>
-    requires terms { AreTerms (length trail.now.declared) successors.now }
-    requires filled { NoneEmpty trail.now.sets }
-    requires before { AreFoundOf number (constraint.Circuit successors.now) trail.now found.old }
-    ensures found { AreFoundOf number (constraint.Circuit successors.now) trail.now found.new }
-    ensures none { OnOk result (found.new ≡ [] → 0 < length successors.now → HasNoShortWay trail.now.sets successors.now (pos 1)) }
+fn find_cuts(pass: &Pass, found: &mut Findings) -> Result<(), Memory>
+    requires before { AreFoundIn pass.now found.old }
+    ensures found { AreFoundIn pass.now found.new }
+    ensures none { OnOk result (found.new ≡ [] → 0 < length pass.now.successors.now → HasNoShortWay pass.now.trail.now.sets pass.now.successors.now (pos 1)) }
 {
-    let list = starts_of(alloc, trail, successors)?;
+    let list = starts_of(pass)?;
     let starts = list.as_slice();
     for k in 0..starts.len() {
-        find_cut(alloc, trail, number, successors, starts[k], found)?;
+        find_cut(pass, starts[k], found)?;
     }
     if !found.is_empty() {
         return Ok(());
     }
-    if successors.is_empty() || has_open(trail, successors) {
+    if pass.successors.is_empty() || has_open(pass) {
         return Ok(());
     }
-    find_cut(alloc, trail, number, successors, 1, found)
-}
-
-/// Finds that the way from the start through fixed successors does not come back before it has been at all places.
-fn find_cut(
-    alloc: Global,
-    trail: &Trail,
-    number: u64,
-    successors: &[Term],
-    start: i64,
-    found: &mut Findings,
-) -> Result<(), Memory>
-    requires terms { AreTerms (length trail.now.declared) successors.now }
-    requires filled { NoneEmpty trail.now.sets }
-    requires start { IsIndex (length successors.now) start }
-    requires before { AreFoundOf number (constraint.Circuit successors.now) trail.now found.old }
-    ensures found { AreFoundOf number (constraint.Circuit successors.now) trail.now found.new }
-    ensures none { OnOk result (found.new ≡ [] → HasNoShortWay trail.now.sets successors.now start) }
-{
-    let mut clause = Items::new(alloc);
-    if let Some(places) = explain_cut(alloc, trail, successors, start, &mut clause)? {
-        found.hand_over(number, Rule::Cut(places), Some(clause))?;
-    }
-    Ok(())
-}
-
-/// Finds that places which lead only to one another do not.
-fn find_closed(
-    alloc: Global,
-    trail: &Trail,
-    number: u64,
-    successors: &[Term],
-    found: &mut Findings,
-) -> Result<(), Memory>
-    requires terms { AreTerms (length trail.now.declared) successors.now }
-    requires filled { NoneEmpty trail.now.sets }
-    requires before { AreFoundOf number (constraint.Circuit successors.now) trail.now found.old }
-    ensures { AreFoundOf number (constraint.Circuit successors.now) trail.now found.new }
-{
-    let Some(places) = closed_places(alloc, trail, successors)? else {
-        return Ok(());
-    };
-    let mut clause = Items::new(alloc);
-    if explain_closed(trail, successors, places.as_slice(), &mut clause)? {
-        found.hand_over(number, Rule::Cut(places), Some(clause))?;
-    }
-    Ok(())
+    find_cut(pass, 1, found)
 }

@@ -1,16 +1,14 @@
 // Places that lead only to one another, by a walk along possible successors that looks at each once: R. Tarjan, Depth-first search and
 // linear graph algorithms, 1972. No contract rests on which places these are.
-ghost use Rattle.std.specs.Prelude.{IfOk, IfSome, length};
+ghost use Rattle.std.specs.Prelude.{IfOk, IfSome};
 ghost use Rattle.fzn_domain.specs.Ascending.{IsAscending};
-ghost use Rattle.fzn_meaning.specs.Meaning.{AreTerms};
 
 use crate::circuit::rising;
+use crate::pass::Pass;
 use fzn_domain::Memory;
 use fzn_list::Items;
-use fzn_meaning::Term;
 use fzn_sets::is_index;
 use fzn_terms::{may_be, next_value};
-use fzn_trail::Trail;
 use std::alloc::Global;
 
 /// A place on the way from the first one. Places are counted from 0, and by the order in which they were seen from 1.
@@ -95,17 +93,16 @@ impl Walk {
     }
 
     /// The next successor of the place that was not seen.
-    fn next_of(&mut self, trail: &Trail, successors: &[Term], stop: &mut Stop) -> Option<usize>
-        requires terms { AreTerms (length trail.now.declared) successors.now }
-    {
-        if stop.place >= successors.len() {
+    fn next_of(&mut self, pass: &Pass, stop: &mut Stop) -> Option<usize> {
+        let count = pass.successors.len();
+        if stop.place >= count {
             return None;
         }
-        let term = successors[stop.place];
-        for _ in 0..successors.len() {
-            let value = next_value(trail, term, &stop.upto)?;
-            let place = place_of(successors.len(), value)?;
-            let unseen = self.unseen_from(place).min(successors.len());
+        let term = pass.successors[stop.place];
+        for _ in 0..count {
+            let value = next_value(pass.trail, term, &stop.upto)?;
+            let place = place_of(count, value)?;
+            let unseen = self.unseen_from(place).min(count);
             if unseen == place {
                 stop.upto = value;
                 return Some(place);
@@ -117,24 +114,23 @@ impl Walk {
 
     /// The first seen of the successors of a place, where all of them were seen, by its number; that of the place where none was seen
     /// before it. It looks at the places that were seen and at the successors by turns, until it has looked at all of either.
-    fn back_from(&self, trail: &Trail, successors: &[Term], place: usize) -> usize
-        requires terms { AreTerms (length trail.now.declared) successors.now }
-    {
+    fn back_from(&self, pass: &Pass, place: usize) -> usize {
         let mut back = at(&self.numbers, place, 0);
-        if place >= successors.len() {
+        let count = pass.successors.len();
+        if place >= count {
             return back;
         }
-        let term = successors[place];
+        let term = pass.successors[place];
         let mut upto = 0;
         for k in 0..back.min(self.seen.len()) {
-            let seen = self.seen[k].min(successors.len()) as i64 + 1;
-            if may_be(trail, term, &seen) {
+            let seen = self.seen[k].min(count) as i64 + 1;
+            if may_be(pass.trail, term, &seen) {
                 return back.min(k + 1);
             }
-            let Some(value) = next_value(trail, term, &upto) else {
+            let Some(value) = next_value(pass.trail, term, &upto) else {
                 return back;
             };
-            if let Some(next) = place_of(successors.len(), value) {
+            if let Some(next) = place_of(count, value) {
                 back = back.min(at(&self.numbers, next, back));
             }
             upto = value;
@@ -143,19 +139,17 @@ impl Walk {
     }
 
     /// Goes on to a place that was not seen, or back. Gives the number of a place where all that is reached from there was seen since.
-    fn go_on(&mut self, trail: &Trail, successors: &[Term]) -> Result<Option<usize>, Memory>
-        requires terms { AreTerms (length trail.now.declared) successors.now }
-    {
+    fn go_on(&mut self, pass: &Pass) -> Result<Option<usize>, Memory> {
         let Some(mut stop) = self.way.pop() else {
             return Ok(None);
         };
-        if let Some(place) = self.next_of(trail, successors, &mut stop) {
+        if let Some(place) = self.next_of(pass, &mut stop) {
             self.way.push(stop)?;
             self.enter(place)?;
             return Ok(None);
         }
         let number = at(&self.numbers, stop.place, 0);
-        let back = stop.back.min(self.back_from(trail, successors, stop.place));
+        let back = stop.back.min(self.back_from(pass, stop.place));
         if number <= back {
             return Ok(Some(number));
         }
@@ -185,22 +179,18 @@ impl Walk {
 }
 
 /// Some places, but not all, that lead only to one another, in rising order, where the walk finds any.
-pub(crate) fn closed_places(
-    alloc: Global,
-    trail: &Trail,
-    successors: &[Term],
-) -> Result<Option<Items<i64>>, Memory>
-    requires terms { AreTerms (length trail.now.declared) successors.now }
+pub(crate) fn closed_places(pass: &Pass) -> Result<Option<Items<i64>>, Memory>
     ensures { IfOk result (λ found. IfSome found IsAscending) }
 {
-    let mut walk = Walk::new(alloc, successors.len())?;
+    let pass = *pass; // Its fields stay in registers while the walk writes.
+    let mut walk = Walk::new(pass.alloc, pass.successors.len())?;
     walk.enter(0)?;
-    for _ in 0..successors.len().saturating_mul(2) {
-        if let Some(number) = walk.go_on(trail, successors)? {
-            if number <= 1 && successors.len() <= walk.seen.len() {
+    for _ in 0..pass.successors.len().saturating_mul(2) {
+        if let Some(number) = walk.go_on(&pass)? {
+            if number <= 1 && pass.successors.len() <= walk.seen.len() {
                 return Ok(None);
             }
-            let places = walk.places_from(alloc, number)?;
+            let places = walk.places_from(pass.alloc, number)?;
             return Ok(Some(places));
         }
     }

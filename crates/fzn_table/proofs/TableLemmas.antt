@@ -1,8 +1,9 @@
 -- The clauses of a table.
-use Rattle.std.proofs.Common.{◌≡◌, ◌≢◌, ℕ, ◌+◌, ◌<◌, true, false, List, length, below_more, sym, ◌∙◌, inl, inr, arith, ℤ, to_z, of_z, w64}
+use Rattle.std.proofs.Common.{◌≡◌, ◌≢◌, ℕ, ◌+◌, ◌*◌, ◌/◌, ◌<◌, ◌≤◌, rules, true, false, List, length, below_more, sym, ◌∙◌, inl, inr, arith, ℤ, to_z, of_z, w64}
 use Rattle.std.specs.Ordering.{int_eq}
 use Rattle.std.proofs.lemmas.Int.{ints}
 use Rattle.std.proofs.lemmas.Bool.{cases_Bool, true≢false}
+use Rattle.std.proofs.lemmas.List.{length-map}
 use Rattle.fzn_domain.specs.declared.literal.Lit.{Lit}
 use Rattle.fzn_domain.specs.declared.literal.Op.{Op}
 use Rattle.fzn_domain.specs.IntSet.{IntSet}
@@ -10,12 +11,15 @@ use Rattle.fzn_domain.specs.Limits.{IsNearLimits}
 use Rattle.fzn_domain.specs.Literal.{compares}
 use Rattle.fzn_domain.specs.Narrow.{denied}
 use Rattle.fzn_meaning.specs.declared.term.Term.{Term}
+use Rattle.fzn_meaning.specs.Term.{number_in}
 use Rattle.fzn_rules.specs.GlobalRows.{IsRowOut}
 use Rattle.fzn_trail.specs.Levels.{Levels}
 use Rattle.fzn_propagator.specs.Clause.{IsJustifiedBy, Says, Keeps}
 use Rattle.fzn_propagator.proofs.CallerLemmas.{left_denied}
 use Rattle.fzn_terms.specs.Values.{place_at}
 use Rattle.fzn_terms.specs.Denied.{that, IsForced}
+use Rattle.fzn_table.specs.declared.pass.Pass.{Pass}
+use Rattle.fzn_table.specs.Passes.{IsRow}
 use Rattle.fzn_table.specs.Supports.{AreRowsOutOn, number_at, IsWhole, AreMatchesOut}
 
 pub unequal : (v k : ℤ) → v ≢ k → int_eq v k ≡ false
@@ -29,6 +33,20 @@ pub real_near : (v : ℤ) → IsNearLimits v → to_z w64 (of_z w64 v) ≡ v
 real_near v near = omega (arith, ints, near.0, near.1)
 
 -- ---- rows
+
+pub row_below : (pass : Pass) (r : ℕ) → r < length pass.rows.now / length pass.places.now → IsRow pass r
+row_below pass r below =
+    let some = pass.some in
+    let as_many = length-map pass.rows.now number_in in
+    let fits : r * length pass.places.now + length pass.places.now ≤ length pass.rows.now = search rules in
+    omega (arith, fits, as_many)
+
+pub below_count : (pass : Pass) (r : ℕ) → IsRow pass r → r < length pass.rows.now / length pass.places.now
+below_count pass r whole =
+    let some = pass.some in
+    let as_many = length-map pass.rows.now number_in in
+    let fits : r * length pass.places.now + length pass.places.now ≤ length pass.rows.now = omega (arith, whole, as_many) in
+    search rules
 
 module _ (declared : List IntSet) (places : List Term) (rows : List ℤ) (p : ℕ) (op : Op) (bound : ℤ) (old new : List Lit) where
   -- one row more, which is out

@@ -1,3 +1,4 @@
+pub mod Passes
 pub mod Propagator
 pub mod Supports
 pub mod Words

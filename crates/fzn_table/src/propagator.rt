@@ -7,6 +7,7 @@ ghost use Rattle.fzn_meaning.specs.Solutions.{declared_sets};
 ghost use Rattle.fzn_meaning.specs.WellFormed.{IsWellFormed};
 ghost use Rattle.fzn_table.specs.Propagator.{table_number, TableIsFor, TableFits};
 
+use crate::pass::Pass;
 use crate::supports::Supports;
 use crate::table::bar_unsupported;
 use fzn_domain::Memory;
@@ -97,15 +98,18 @@ impl Propagator for TablePropagator {
     {
         let places = self.places.as_slice();
         let rows = self.rows.constants();
-        bar_unsupported(
+        let possible = self.supports.possible(alloc, trail, places)?;
+        let pass = Pass {
             alloc,
+            number: self.number,
             trail,
             places,
             rows,
-            &self.supports,
-            self.number,
-            found,
-        )
+            count: rows.len() / places.len(),
+            supports: &self.supports,
+            possible: possible.as_slice(),
+        };
+        bar_unsupported(&pass, found)
     }
 }
 

@@ -6,7 +6,7 @@ ghost use Rattle.fzn_meaning.specs.Term.{IsTerm};
 use crate::words::first_common;
 use fzn_domain::Memory;
 use fzn_meaning::Term;
-use fzn_terms::may_be;
+use fzn_terms::{Interval, may_be};
 use fzn_trail::Trail;
 use std::alloc::Global;
 
@@ -205,33 +205,33 @@ impl Supports {
     }
 
     /// The least value of the place from its least on that a row among these has there, or any row behind its greatest.
-    pub fn next_from(&self, possible: &[u64], place: usize, least: i64, greatest: i64) -> i64 {
-        for k in self.before(place, least)..self.entries.len() {
+    pub fn next_from(&self, possible: &[u64], place: usize, ends: Interval) -> i64 {
+        for k in self.before(place, ends.low)..self.entries.len() {
             let entry = self.entries[k];
             if entry.place != place {
                 break;
             }
-            if greatest < entry.value || self.first_among(entry.rows, possible).is_some() {
+            if ends.high < entry.value || self.first_among(entry.rows, possible).is_some() {
                 return entry.value;
             }
         }
-        greatest.saturating_add(1)
+        ends.high.saturating_add(1)
     }
 
     /// The greatest value of the place up to its greatest that a row among these has there, or any row before its least.
-    pub fn last_up_to(&self, possible: &[u64], place: usize, least: i64, greatest: i64) -> i64 {
-        for k in (0..self.before(place, greatest.saturating_add(1))).rev() {
+    pub fn last_up_to(&self, possible: &[u64], place: usize, ends: Interval) -> i64 {
+        for k in (0..self.before(place, ends.high.saturating_add(1))).rev() {
             let Some(entry) = self.entries.get(k) else {
                 break;
             };
             if entry.place != place {
                 break;
             }
-            if entry.value < least || self.first_among(entry.rows, possible).is_some() {
+            if entry.value < ends.low || self.first_among(entry.rows, possible).is_some() {
                 return entry.value;
             }
         }
-        least.saturating_sub(1)
+        ends.low.saturating_sub(1)
     }
 }
 

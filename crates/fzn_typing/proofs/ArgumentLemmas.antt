@@ -1,6 +1,6 @@
 -- What arguments stand for is within the variables and the limits.
-use Rattle.std.proofs.Common.{◌≡◌, ℕ, zero, suc, ◌≤◌, Bool, true, false, ◌||◌, ℤ, List, [], ◌∷◌, Option, Some, None, map, length, slice_get, unsigned_abs, refl, arith}
-use Rattle.std.specs.List.{All, list_any}
+use Rattle.std.proofs.Common.{◌≡◌, ℕ, zero, suc, ◌≤◌, true, ℤ, List, [], ◌∷◌, Option, Some, None, map, length, slice_get, unsigned_abs, refl, arith}
+use Rattle.std.specs.List.{All}
 use Rattle.std.proofs.lemmas.Int.{ints}
 use Rattle.std.proofs.lemmas.List.{length-map}
 use Rattle.std.proofs.lemmas.List.Elements.{All-nil, All-cons, All-head, All-tail}
@@ -12,7 +12,6 @@ use Rattle.fzn_meaning.specs.Meaning.{IsBoolean, AreTerms}
 use Rattle.fzn_meaning.specs.Term.{number_in, weighted, IsTerm, IsPlace}
 use Rattle.fzn_names.specs.Positions.{position_of}
 use Rattle.fzn_names.specs.Types.{is_wanted}
-use Rattle.fzn_names.specs.Signs.{is_negative}
 use Rattle.fzn_names.specs.Values.{NameList, value_of, terms_in, set_in}
 use Rattle.fzn_names.specs.declared.names.Declared.{Declared}
 use Rattle.fzn_names.proofs.FirstLemmas.{left_empty, right_empty}

@@ -1,5 +1,5 @@
 -- Constraints that are given what they take are well formed.
-use Rattle.std.proofs.Common.{◌≡◌, ℕ, ◌≤◌, ◌%◌, true, false, ◌||◌, List, [], ◌∷◌, Option, Some, None, length, slice_get, nat_eq, nat_lt, unsigned_abs, inl, refl, arith}
+use Rattle.std.proofs.Common.{◌≡◌, ℕ, ◌≤◌, ◌%◌, true, false, List, [], ◌∷◌, Option, Some, None, length, slice_get, nat_eq, nat_lt, unsigned_abs, inl, refl, arith}
 use Rattle.std.specs.List.{All, list_any}
 use Rattle.std.proofs.lemmas.Bool.{and_parts}
 use Rattle.std.proofs.lemmas.List.{length-map}
@@ -21,7 +21,6 @@ use Rattle.fzn_meaning.specs.declared.relation.Relation.TheVariants as r
 use Rattle.fzn_meaning.specs.declared.term.Term.{Term}
 use Rattle.fzn_meaning.specs.Meaning.{IsBoolean, HasBooleanSets, booleans_of, AreTerms, IsSum, IsWellFormed}
 use Rattle.fzn_meaning.specs.Term.{IsTerm}
-use Rattle.fzn_names.specs.Signs.{is_negative}
 use Rattle.fzn_names.specs.Values.{NameList}
 use Rattle.fzn_names.proofs.MeaningLemmas.{AreMeanings}
 use Rattle.fzn_tree.specs.declared.tree.Arg.{Arg}
@@ -30,7 +29,7 @@ use Rattle.fzn_registry.specs.declared.name.Name.TheVariants as n
 use Rattle.fzn_registry.specs.declared.signature.Argument.{Argument}
 use Rattle.fzn_registry.specs.declared.signature.Argument.TheVariants.{Boolean, BooleanList}
 use Rattle.fzn_registry.specs.Registry.{row, arguments_of, lengths_of, non_negative_of}
-use Rattle.fzn_typing.specs.Arguments.{wrong_arguments, term_given, terms_given, term_at, terms_at, set_at, number_at, numbers_at, length_at, has_lengths, has_negative}
+use Rattle.fzn_typing.specs.Arguments.{wrong_arguments, term_given, terms_given, set_at, number_at, numbers_at, length_at, has_lengths, has_negative}
 use Rattle.fzn_typing.specs.Constraints.{term, list, sum, by, constraint_for}
 use Rattle.fzn_typing.specs.Limits.{IsArgWithin}
 use Rattle.fzn_typing.proofs.ArgumentLemmas.{amount, number-within, numbers-within, weighted-within, weighted-length, IsGivenWithin, given-within, right_at, term-within, list-within, set-within, boolean-given, booleans-given}

@@ -14,26 +14,26 @@ use Rattle.fzn_circuit.proofs.circuit.follow.Goals as goal
 
 pub returns-then-next-start-clause-end : goal.returns-then-next-start-clause-end
 returns-then-next-start-clause-end c =
-    let trail = c.args.trail.now in
+    let trail = c.args.pass.now.trail.now in
     let fits_next : FitsSigned w64 c.in-Some.next = search rules in
     let fits_start : FitsSigned w64 c.args.start = search rules in
     let start_is : to_z w64 (of_z w64 c.args.start) ≡ c.args.start = to_z-of_z w64 c.args.start fits_start in
-    let way = subst (λ (x : ℤ). IsWay trail c.args.successors.now x (to_z w64 c.loop-count.last-bits) c.loop-count.places.items c.loop-count.clause) start_is c.loop-count.invariant.way in
+    let way = subst (λ (x : ℤ). IsWay trail c.args.pass.now.successors.now x (to_z w64 c.loop-count.last-bits) c.loop-count.places.items c.loop-count.clause) start_is c.loop-count.invariant.way in
     let leads = c.in-Some.ensures.fixed in
-    comes_back trail c.args.successors.now c.args.start (to_z w64 c.loop-count.last-bits) c.loop-count.places.items c.loop-count.clause way c.in-Some.next (same_of c.in-Some.next c.args.start fits_next fits_start c.if-next-start.true) leads
+    comes_back trail c.args.pass.now.successors.now c.args.start (to_z w64 c.loop-count.last-bits) c.loop-count.places.items c.loop-count.clause way c.in-Some.next (same_of c.in-Some.next c.args.start fits_next fits_start c.if-next-start.true) leads
 
 pub explain-requires-clause-present : goal.explain-requires-clause-present
 explain-requires-clause-present c =
-    let trail = c.args.trail.now in
+    let trail = c.args.pass.now.trail.now in
     let fits_next : FitsSigned w64 c.in-Some.next = search rules in
     let next_is : to_z w64 (of_z w64 c.in-Some.next) ≡ c.in-Some.next = to_z-of_z w64 c.in-Some.next fits_next in
     subst (IsEntailed trail.sets) (sym (c.equal-leads.ensures.value ∙ ap₂ (λ (t : Term) (x : ℤ). that t Equal x) c.term_at.ensures.value next_is))
-    (all_fixed trail.sets (term_at c.args.successors.now (to_z w64 c.loop-count.last-bits)) c.in-Some.next c.in-Some.ensures.fixed)
+    (all_fixed trail.sets (term_at c.args.pass.now.successors.now (to_z w64 c.loop-count.last-bits)) c.in-Some.next c.in-Some.ensures.fixed)
 
 pub loop-count-preserved : goal.loop-count-preserved
 loop-count-preserved c =
-    let trail = c.args.trail.now in
-    let xs = c.args.successors.now in
+    let trail = c.args.pass.now.trail.now in
+    let xs = c.args.pass.now.successors.now in
     let next = c.in-Some.next in
     let fits_next : FitsSigned w64 c.in-Some.next = search rules in
     let fits_start : FitsSigned w64 c.args.start = search rules in

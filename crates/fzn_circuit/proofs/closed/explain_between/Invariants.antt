@@ -7,5 +7,5 @@ use Rattle.fzn_circuit.proofs.closed.explain_between.Given as goal
 abbrev pub invariant-loop : goal.invariant-loop
 invariant-loop l = record {
   limits : IsInLimits l.value;
-  below : IsGrown l.trail (LeadsIntoBelow l.places l.var l.low l.value) l.fn.clause l.clause;
+  below : IsGrown l.pass.trail.now (LeadsIntoBelow l.places l.var l.low l.value) l.fn.clause l.clause;
 }

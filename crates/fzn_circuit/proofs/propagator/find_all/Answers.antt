@@ -8,9 +8,9 @@ on_ok_of (Err e) p = tt
 
 pub returns-clause-none : goal.returns-clause-none
 returns-clause-none c =
-    let trail = c.args.trail.now in
-    let xs = c.args.successors.now in
+    let trail = c.args.pass.now.trail.now in
+    let xs = c.args.pass.now.successors.now in
     let inside = c.in_ok-find_outside.ensures.none c.if-not-is_empty.ensures in
     let different = c.in_ok-find_same.ensures.none c.if-not-is_empty-2.ensures in
     let none = c.in_ok-find_cuts.ensures.none c.if-not-is_empty-3.ensures in
-    on_ok_of c.find_closed.result (λ empty given same booleans. exhausted trail xs c.requires.terms inside different none given same)
+    on_ok_of c.find_closed.result (λ empty given same booleans. exhausted trail xs c.args.pass.now.terms inside different none given same)

@@ -5,4 +5,4 @@ use Rattle.fzn_circuit.specs.Circuits.{owner_of}
 use Rattle.fzn_circuit.proofs.same.are_owned.Given as goal
 
 abbrev pub invariant-loop-k : goal.invariant-loop-k
-invariant-loop-k l = (i : ℕ) → i < l.k → owner_of l.owners (least_value l.trail.sets (get_or l.successors i (Constant (pos 0)))) ≡ i
+invariant-loop-k l = (i : ℕ) → i < l.k → owner_of l.owners (least_value l.pass.trail.now.sets (get_or l.pass.successors.now i (Constant (pos 0)))) ≡ i

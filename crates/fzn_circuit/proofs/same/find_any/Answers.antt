@@ -1,35 +1,32 @@
-use Rattle.std.proofs.Common.{rules, ◌≡◌, ℤ, Option, sym, subst, IfSome, IfNone, w64, to_z, of_z, FitsSigned}
-use Rattle.std.proofs.lemmas.Int.{to_z-of_z}
-use Rattle.fzn_domain.specs.Limits.{IsInLimits}
-use Rattle.fzn_meaning.specs.declared.constraint.Constraint.TheVariants.{Circuit}
-use Rattle.fzn_rules.specs.declared.rule.Rule.TheVariants.{Hall}
-use Rattle.fzn_propagator.specs.Inference.{HasWritableHints, AreFoundOf}
+use Rattle.std.proofs.Common.{◌≡◌, ℕ, inl, inr, arith, subst}
+use Rattle.std.proofs.lemmas.Bool.{cases_lt}
 use Rattle.fzn_circuit.specs.Circuits.{AreApart}
-use Rattle.fzn_circuit.proofs.SameLemmas.{apart_different, hall_hints}
+use Rattle.fzn_circuit.proofs.SameLemmas.{apart_different}
 use Rattle.fzn_circuit.proofs.same.find_any.Goals as goal
-use Rattle.fzn_circuit.proofs.same.find_any.Goals.{After-hand_over}
 
--- what is handed over is justified
-found : (c : After-hand_over) → AreFoundOf c.args.number (Circuit c.args.successors.now) c.args.trail.now c.hand_over.new.self
-found c =
-    let fits : FitsSigned w64 c.in-Some.value = search rules in
-    let same : to_z w64 (of_z w64 c.in-Some.value) ≡ c.in-Some.value = to_z-of_z w64 c.in-Some.value fits in
-    let justified = rw c.in-Some.is at c.in_ok-value.ensures.found in
-    c.hand_over.ensures.found c.args.trail.now (Circuit c.args.successors.now) (rw same justified) c.requires.before
+pub loop-j-preserved : goal.loop-j-preserved
+loop-j-preserved c = record {
+  found = c.in_ok-find_pair.ensures.found;
+  apart = λ j below. elim (cases_lt j c.loop-j.j) [
+    | inl before ↦ c.loop-j.invariant.apart j before
+    | inr past ↦
+        let here : c.loop-j.j ≡ j = omega arith in
+        subst (AreApart c.args.pass.now.trail.now.sets c.args.pass.now.successors.now c.loop-i.i) here (c.in_ok-find_pair.ensures.none c.if-not-is_empty.ensures)
+  ];
+}
 
-pub returns-in_err-hand_over-clause-found : goal.returns-in_err-hand_over-clause-found
-returns-in_err-hand_over-clause-found c = found (goal.at.returns-in_err-hand_over-clause-found c).After-hand_over
+pub loop-i-preserved : goal.loop-i-preserved
+loop-i-preserved c = record {
+  found = c.loop-j.invariant.found;
+  apart = λ i j below. elim (cases_lt i c.loop-i.i) [
+    | inl before ↦ c.loop-i.invariant.apart i j before
+    | inr past ↦
+        let here : c.loop-i.i ≡ i = omega arith in
+        subst (λ (n : ℕ). AreApart c.args.pass.now.trail.now.sets c.args.pass.now.successors.now n j) here
+        (λ d v apart one other. c.loop-j.invariant.apart j (omega (arith, other, c.loop-j-test.false, c.loop-j.auto.j-end)) d v apart one other)
+  ];
+}
 
-pub returns-in_ok-hand_over-clause-found : goal.returns-in_ok-hand_over-clause-found
-returns-in_ok-hand_over-clause-found c = found (goal.at.returns-in_ok-hand_over-clause-found c).After-hand_over
-
-pub hand_over-requires : goal.hand_over-requires
-hand_over-requires c =
-    let fits : FitsSigned w64 c.in-Some.value = search rules in
-    let same : to_z w64 (of_z w64 c.in-Some.value) ≡ c.in-Some.value = to_z-of_z w64 c.in-Some.value fits in
-    record { hints = subst (λ (x : ℤ). HasWritableHints (Hall x x)) (sym same) (hall_hints c.in-Some.value (subst (λ (o : Option ℤ). IfSome o IsInLimits) c.in-Some.is c.in_ok-value.ensures.limits)) }
-
-pub returns-in_default-clause-none : goal.returns-in_default-clause-none
-returns-in_default-clause-none c = λ empty.
-    apart_different c.args.trail.now.sets c.args.successors.now
-    (subst (λ (o : Option ℤ). IfNone o (AreApart c.args.trail.now.sets c.args.successors.now)) c.in_default.is c.in_ok-value.ensures.none)
+pub returns-clause-none : goal.returns-clause-none
+returns-clause-none c = λ empty.
+    apart_different c.args.pass.now.trail.now.sets c.args.pass.now.successors.now (λ i j below. c.loop-i.invariant.apart i j (omega (arith, below, c.loop-i-test.false, c.loop-i.auto.i-end)))

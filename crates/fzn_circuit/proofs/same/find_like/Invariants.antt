@@ -1,6 +1,5 @@
-use Rattle.fzn_propagator.specs.Inference.{AreFoundOf}
+use Rattle.fzn_circuit.specs.Passes.{AreFoundIn}
 use Rattle.fzn_circuit.proofs.same.find_like.Given as goal
-use Rattle.fzn_meaning.specs.declared.constraint.Constraint.TheVariants.{Circuit}
 
 abbrev pub invariant-loop-j : goal.invariant-loop-j
-invariant-loop-j l = AreFoundOf l.number (Circuit l.successors) l.trail l.found
+invariant-loop-j l = AreFoundIn l.pass l.found

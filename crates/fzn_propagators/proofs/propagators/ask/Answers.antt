@@ -1,6 +1,5 @@
 -- What the propagator at this place finds.
-use Rattle.std.proofs.Common.{◌≡◌, get_or, ap, ◌∙◌}
-use Rattle.fzn_propagator.specs.declared.propagator.Inference.{Inference}
+use Rattle.std.proofs.Common.{get_or, ap, ◌∙◌}
 use Rattle.fzn_propagator.specs.Inference.{AreExhausted}
 use Rattle.fzn_propagator.specs.Constraints.{IsInference, IsJustified}
 use Rattle.fzn_kinds.specs.AnyCrate.{AnyIsFor}

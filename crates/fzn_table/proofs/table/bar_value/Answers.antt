@@ -1,9 +1,8 @@
 use Rattle.std.proofs.Common.{subst, inl, inr, arith}
 use Rattle.std.proofs.lemmas.Bool.{cases_Bool}
 use Rattle.std.proofs.lemmas.Int.{ints}
-use Rattle.fzn_meaning.specs.Term.{numbers_in}
 use Rattle.fzn_terms.proofs.OrderLemmas.{equal_of}
-use Rattle.fzn_table.specs.Supports.{IsSupported}
+use Rattle.fzn_table.specs.Passes.{HasSupport}
 use Rattle.fzn_table.proofs.TableLemmas.{equal_test}
 use Rattle.fzn_table.proofs.table.bar_value.Goals as goal
 
@@ -19,5 +18,5 @@ returns-clause-none c = λ nothing.
       | inl barred ↦ absurd (c.in_ok-bar_claim.ensures.some barred nothing)
       | inr not_barred ↦
           let support = c.in_ok-bar_claim.ensures.none not_barred in
-          subst (IsSupported c.args.trail.now.sets c.args.places.now (numbers_in c.args.rows.now) c.args.p) (equal_of support.0 c.args.value.now support.1) support.2
+          subst (HasSupport c.args.pass.now c.args.p) (equal_of support.0 c.args.value.now support.1) support.2
     ]

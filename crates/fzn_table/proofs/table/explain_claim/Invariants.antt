@@ -5,6 +5,6 @@ use Rattle.fzn_table.proofs.table.explain_claim.Given as goal
 
 abbrev pub invariant-loop-r : goal.invariant-loop-r
 invariant-loop-r l = record {
-  still : IsFalseClause l.trail l.clause;
-  out : Says l.trail.declared l.clause (λ sets. AreMatchesOut sets l.places (numbers_in l.rows) l.p l.op l.bound l.r);
+  still : IsFalseClause l.pass.trail.now l.clause;
+  out : Says l.pass.trail.now.declared l.clause (λ sets. AreMatchesOut sets l.pass.places.now (numbers_in l.pass.rows.now) l.p l.op l.bound l.r);
 }

@@ -1,8 +1,6 @@
-use Rattle.std.proofs.Common.{ℕ, ◌+◌, ◌*◌, ◌<◌, length, get_or, pos}
-use Rattle.fzn_meaning.specs.declared.term.Term.TheVariants.{Constant}
-use Rattle.fzn_meaning.specs.Term.{number_in}
-use Rattle.fzn_sets.specs.Terms.{MayBe}
+use Rattle.fzn_meaning.specs.Term.{numbers_in}
+use Rattle.fzn_table.specs.Supports.{IsOpenUpTo}
 use Rattle.fzn_table.proofs.table.is_open.Given as goal
 
 abbrev pub invariant-loop-k : goal.invariant-loop-k
-invariant-loop-k l = (i : ℕ) → i < l.k → MayBe l.trail.sets (get_or l.places i (Constant (pos 0))) (number_in (get_or l.rows (l.r * length l.places + i) (Constant (pos 0))))
+invariant-loop-k l = IsOpenUpTo l.pass.trail.now.sets l.pass.places.now (numbers_in l.pass.rows.now) l.r l.k

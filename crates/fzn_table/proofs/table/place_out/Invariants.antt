@@ -5,6 +5,6 @@ use Rattle.fzn_table.proofs.table.place_out.Given as goal
 
 abbrev pub invariant-loop-k : goal.invariant-loop-k
 invariant-loop-k l = record {
-  out : IfSome l.found (IsOutAt l.trail.sets l.places (numbers_in l.rows) l.r);
-  open_so_far : IfNone l.found (IsOpenUpTo l.trail.sets l.places (numbers_in l.rows) l.r l.k);
+  out : IfSome l.found (IsOutAt l.pass.trail.now.sets l.pass.places.now (numbers_in l.pass.rows.now) l.r);
+  open_so_far : IfNone l.found (IsOpenUpTo l.pass.trail.now.sets l.pass.places.now (numbers_in l.pass.rows.now) l.r l.k);
 }
