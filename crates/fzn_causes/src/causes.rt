@@ -133,6 +133,7 @@ impl Causes {
 
     /// Adds the entries that made the literal false. None is added where it is false on the declared set. It answers `Err` where memory
     /// runs out, and some may be added then.
+    #[inline(always)]
     pub fn add(&mut self, graph: Implications, lit: Lit) -> Result<(), Memory> {
         let Some(declared) = graph.declared(lit.var) else {
             return Ok(());
@@ -165,6 +166,7 @@ impl Causes {
     }
 
     /// The earliest of the entries on a variable, from this one down, after which the literal is true; none where it always was.
+    #[inline(always)]
     fn first_true(
         &mut self,
         graph: Implications,
@@ -184,6 +186,7 @@ impl Causes {
     }
 
     /// Adds the entry after which a literal that is no equation is true, where there is one; at level 0 also what stands behind it.
+    #[inline(always)]
     fn add_from(
         &mut self,
         graph: Implications,

@@ -83,6 +83,7 @@ impl<'a> Implications<'a> {
 
     /// Finds what made the literals of the reason's clause false, but for the one that it forced. It answers `Err` where memory runs out,
     /// and some may be found then.
+    #[inline(always)]
     pub fn find_causes(
         self,
         causes: &mut Causes,

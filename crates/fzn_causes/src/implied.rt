@@ -19,6 +19,7 @@ pub fn opposite(lit: Lit) -> Lit
 }
 
 /// The literal that is true at the same values of the declared set: a bound where it compares with an end, and bounds that are members.
+#[inline(always)]
 pub fn canonical(lit: Lit, declared: &Domain) -> Lit
     ensures same { AreAlike declared.now result lit }
     ensures variable { result.var ≡ lit.var }

@@ -442,6 +442,7 @@ impl Clauses {
 
     /// The last watcher before this one, in the list at this place of the variable, whose literal the entry may have made false, and whose
     /// clause the literal beside does not satisfy.
+    #[inline(always)]
     fn last_fallen(&self, entry: Lit, place: usize, end: usize, trail: &Trail) -> Option<usize>
         requires var { IsVariable (length trail.now.declared) entry.var }
         requires in_range { place < 18 }
@@ -483,6 +484,7 @@ impl Clauses {
 
     /// The last watcher before this one, in the list at this place of the variable, whose number is one of these, and whose clause the
     /// literal beside does not satisfy.
+    #[inline(always)]
     fn last_between(
         &self,
         var: VarId,
@@ -514,6 +516,7 @@ impl Clauses {
     }
 
     /// Whether the clause watches the literal, and the one beside is true at every value that is left.
+    #[inline(always)]
     fn is_satisfied(&self, k: usize, lit: Lit, trail: &Trail) -> bool
         requires { IsReady self.now trail.now }
         ensures { OnTrue result (IsSatisfiedAt self.now.arena trail.now.sets k) }
@@ -535,6 +538,7 @@ impl Clauses {
     }
 
     /// Visits a clause in the list of this key.
+    #[inline(always)]
     fn visit(&mut self, watcher: Watcher, key: usize, trail: &mut Trail) -> Result<Visit, Memory>
         requires { IsReady self.old trail.old }
         ensures ran { Ran self.old self.new trail.old trail.new }
@@ -584,6 +588,7 @@ impl Clauses {
     }
 
     /// Whether the clause is held and watches the literal of this key and this value.
+    #[inline(always)]
     fn is_watching(&self, watcher: Watcher, key: usize) -> bool
         ensures { IsTrue result ↔ IsOn self.now.arena watcher key }
     {
@@ -597,6 +602,7 @@ impl Clauses {
     }
 
     /// Watches two possible literals of the clause; or asserts the one that is possible, if it is not yet true.
+    #[inline(always)]
     fn settle(&mut self, k: usize, trail: &mut Trail) -> Result<Look, Memory>
         requires in_range { k < length self.old.arena }
         requires live { (watched_at self.old.arena k).live ≡ true }
@@ -644,6 +650,7 @@ impl Clauses {
     }
 
     /// Whether the clause watches these two places, in this order.
+    #[inline(always)]
     fn is_watched(&self, k: usize, pair: Pair) -> bool
         requires in_range { k < length self.now.arena }
         requires tidy { IsTidy self.now.arena self.now.lists }
@@ -675,6 +682,7 @@ impl Clauses {
     }
 
     /// Whether the clause watches this place, and so is in the list of the literal there.
+    #[inline(always)]
     fn is_enlisted(&self, k: usize, place: usize) -> bool
         requires in_range { k < length self.now.arena }
         requires tidy { IsTidy self.now.arena self.now.lists }

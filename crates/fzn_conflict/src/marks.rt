@@ -181,6 +181,7 @@ impl Marks {
     }
 
     /// Adds what stands behind a marked entry to the causes.
+    #[inline(always)]
     fn add_behind(&mut self, graph: Implications, place: usize) -> Result<(), Memory> {
         match self.need(place) {
             Some(need) => self.causes.add_behind(graph, Cause { place, need }),
@@ -189,6 +190,7 @@ impl Marks {
     }
 
     /// Notes the equations that make literals of the reason's clause false, but for the one that it forced.
+    #[inline(always)]
     fn note_equations(
         &mut self,
         graph: Implications,
@@ -350,6 +352,7 @@ impl Marks {
         }
     }
 
+    #[inline(always)]
     fn mark_causes(&mut self, graph: Implications) -> Result<(), Memory> {
         for i in 0..self.causes.len() {
             if let Some(cause) = self.causes.get(i) {
@@ -391,6 +394,7 @@ impl Marks {
     }
 
     /// Whether the causes after the first so many are kept.
+    #[inline(always)]
     fn are_kept_from(&self, graph: Implications, count: usize) -> bool {
         for i in count..self.causes.len() {
             if let Some(cause) = self.causes.get(i)

@@ -83,6 +83,7 @@ impl Queue {
 
     /// The place of the next one, which stays queued: of those that cost least of all that are queued, or where these went on for long of
     /// the others.
+    #[inline(always)]
     pub fn first(&mut self) -> Option<usize> {
         self.asked = self.asked.wrapping_add(1);
         self.turn = if self.small.len() > 0 && !self.is_turn_of_others() {

@@ -32,6 +32,7 @@ impl RankSet {
     }
 
     /// This rank is in, where it is below the number of all.
+    #[inline(always)]
     pub fn insert(&mut self, rank: usize) {
         let at = rank / WORD;
         if at >= self.words.len() {
@@ -49,6 +50,7 @@ impl RankSet {
     }
 
     /// This rank is not in.
+    #[inline(always)]
     pub fn remove(&mut self, rank: usize) {
         let at = rank / WORD;
         if at >= self.words.len() {
@@ -63,6 +65,7 @@ impl RankSet {
     }
 
     /// The bits of this rank and of those that share a word with it, where it is below the number of all.
+    #[inline(always)]
     pub fn word(&self, rank: usize) -> Option<u64> {
         self.words.get(rank / WORD).copied()
     }
@@ -73,6 +76,7 @@ impl RankSet {
     }
 
     /// The first that is in behind the word of this rank.
+    #[inline(always)]
     pub fn behind(&mut self, rank: usize) -> Option<usize> {
         let mut next = (rank / WORD).saturating_add(1);
         for _ in next..self.words.len() {
@@ -93,6 +97,7 @@ impl RankSet {
     }
 
     /// The last that is in ahead of the word of this rank.
+    #[inline(always)]
     pub fn ahead_of(&mut self, rank: usize) -> Option<usize> {
         let at = rank / WORD;
         for _ in 0..at {

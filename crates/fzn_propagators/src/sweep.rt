@@ -29,11 +29,13 @@ impl Sweep {
     }
 
     /// The one of this rank is to be asked.
+    #[inline(always)]
     pub fn push(&mut self, rank: usize) {
         self.waiting.insert(rank);
     }
 
     /// The rank of the one that is to be asked next, where the sweep is then: it turns where none is ahead.
+    #[inline(always)]
     pub fn first(&mut self) -> Option<usize> {
         let word = self.waiting.word(self.at)?;
         let rank = if self.is_downward {
@@ -46,6 +48,7 @@ impl Sweep {
     }
 
     /// The next on the way up, or the first on the way back. The word is that of the rank at which the sweep is.
+    #[inline(always)]
     fn above_or_turn(&mut self, word: u64) -> Option<usize> {
         if let Some(rank) = first_in(word, self.at) {
             return Some(rank);
@@ -63,6 +66,7 @@ impl Sweep {
     }
 
     /// The next on the way down, or the first on the way back. The word is that of the rank at which the sweep is.
+    #[inline(always)]
     fn below_or_turn(&mut self, word: u64) -> Option<usize> {
         if let Some(rank) = last_in(word, self.at) {
             return Some(rank);
@@ -92,6 +96,7 @@ impl Sweep {
     }
 
     /// Takes out the one at which the sweep is.
+    #[inline(always)]
     pub fn pop(&mut self) {
         self.waiting.remove(self.at);
     }

@@ -1,4 +1,4 @@
-//! The bytes of a file.
+// The bytes of a file.
 
 ghost use Rattle.std.specs.Prelude.{◌≡◌, ◌⊎◌, true, IfOk, IfErr, IfSome};
 ghost use Rattle.fzn_reading.specs.declared.fault.ModelFault.TheVariants.{Memory, Read as Failed};
@@ -12,7 +12,8 @@ use std::alloc::Global;
 /// How many bytes one read asks for.
 const CHUNK_LEN: usize = 16_384;
 
-/// All bytes that the reader has left, or more of them than a file may have.
+/// All bytes that the reader has left, or more of them than a file may have. It answers `Memory` where memory runs out, and `Read` only
+/// after a read that failed. After an error the reader stands anywhere.
 pub fn read_bytes<R: TrackedRead>(alloc: Global, input: &mut R) -> Result<Vec<u8>, ModelFault>
     ensures bytes { IfOk result (λ bytes. IfSome (R.remaining input.old) (λ whole. IsEnoughOf whole bytes.items)) }
     ensures err { IfErr result (λ fault. (fault ≡ Memory) ⊎ (fault ≡ Failed)) }

@@ -17,5 +17,6 @@ mod written;
 
 pub use annotated::{Annotated, read_annotated};
 pub use fault::ModelFault;
+pub use input::read_bytes;
 pub use law::{one_model, within_limits};
 pub use model::read_model;

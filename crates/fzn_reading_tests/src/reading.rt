@@ -1,6 +1,6 @@
 // Reading a file from a reader that gives its bytes in pieces or fails.
 use fzn_lexer::{Fault, FaultKind, Position};
-use fzn_reading::{ModelFault, one_model, read_model};
+use fzn_reading::{ModelFault, one_model, read_bytes, read_model};
 use fzn_streams::TrackedReader;
 use std::alloc::{AllocError, Global};
 use std::io;
@@ -59,11 +59,25 @@ fn is_model(alloc: Global, most: usize) -> bool {
     fault_of(alloc, "solve satisfy;", most, None).is_none()
 }
 
+/// Whether all three bytes of a file are read.
+fn are_read(alloc: Global, most: usize) -> bool {
+    let mut input = TrackedReader::new(Pieces {
+        bytes: "x1;".as_bytes(),
+        most,
+        fails: None,
+    });
+    match read_bytes(alloc, &mut input) {
+        Ok(bytes) => bytes.len() == 3,
+        Err(_) => false,
+    }
+}
+
 #[test]
 fn however_the_bytes_are_cut(rt: HostRuntime) {
     for most in [1, 2, 7, 20_000] {
         assert!(rt; has_float(rt.alloc(), most), "by {most}");
         assert!(rt; is_model(rt.alloc(), most), "by {most}");
+        assert!(rt; are_read(rt.alloc(), most), "by {most}");
     }
 }
 

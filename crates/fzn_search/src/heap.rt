@@ -136,6 +136,7 @@ impl Heap {
     }
 
     /// Moves the number at this place up to where it belongs.
+    #[inline(always)]
     fn rise(&mut self, place: usize) {
         let Some(rising) = self.pool.at(place) else {
             return;
@@ -154,6 +155,7 @@ impl Heap {
     }
 
     /// Moves the number at this place down to where it belongs.
+    #[inline(always)]
     fn sink(&mut self, place: usize) {
         let Some(sinking) = self.pool.at(place) else {
             return;

@@ -1,27 +1,16 @@
 -- Rows of a table, on the sets of a trail.
 use Rattle.std.specs.Prelude.{◌≡◌, Bool, true, false, ℕ, ◌+◌, ◌*◌, ◌/◌, ◌<◌, ◌≤◌, ℤ, pos, List, length, slice_index_or}
 use Rattle.std.specs.List.{All, Contains}
-use Rattle.std.proofs.Props.{props}
 use Rattle.fzn_domain.specs.declared.literal.VarId.{VarId}
 use Rattle.fzn_domain.specs.declared.literal.Op.{Op}
 use Rattle.fzn_domain.specs.declared.literal.Lit.{Lit}
 use Rattle.fzn_domain.specs.Literal.{compares, is_true_at}
 use Rattle.fzn_domain.specs.IntSet.{IntSet}
 use Rattle.fzn_meaning.specs.declared.term.Term.{Term}
-use Rattle.fzn_meaning.specs.declared.term.Term.TheVariants.{Constant, Variable}
-use Rattle.fzn_meaning.specs.Term.{IsTerm}
 use Rattle.fzn_sets.specs.Terms.{MayBe, least_value, greatest_value}
 use Rattle.fzn_rules.specs.GlobalRows.{IsRowOut, AreRowsOut}
 use Rattle.fzn_terms.specs.Values.{place_at}
 use Rattle.fzn_terms.specs.Narrow.{IsNarrow}
-
--- of terms over this many variables there is one proof at most
-IsTerm-prop : (count : ℕ) (term : Term) → IsProp (IsTerm count term)
-IsTerm-prop count (Constant k) = Prim.hlevel props
-IsTerm-prop count (Variable var) = Prim.hlevel props
-
-pub AreTerms-prop : (count : ℕ) (terms : List Term) → IsProp (All (IsTerm count) terms)
-AreTerms-prop count terms = Prim.hlevel (props, IsTerm-prop)
 
 -- the rule `rows` of these places and rows
 abbrev pub AreRowsOutOn : List Term → List ℤ → List IntSet → Type 0

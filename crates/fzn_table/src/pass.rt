@@ -4,7 +4,7 @@ ghost use Rattle.std.specs.List.{All};
 ghost use Rattle.fzn_domain.specs.Limits.{IsInLimits};
 ghost use Rattle.fzn_domain.specs.Narrow.{NoneEmpty};
 ghost use Rattle.fzn_meaning.specs.Term.{IsTerm, numbers_in};
-ghost use Rattle.fzn_table.specs.Supports.{AreTerms-prop};
+ghost use Rattle.fzn_terms.specs.Values.{AreTerms-prop};
 
 use crate::supports::Supports;
 use fzn_meaning::Term;

@@ -19,13 +19,20 @@ use Rattle.fzn_propagator.specs.Clause.{IsWritable, IsFalseClause, AreLeft}
 use Rattle.fzn_propagator.proofs.CallerLemmas.{last_fails, some_value, forcing_of_false, false_push, forcing_push, left-more}
 use Rattle.fzn_terms.specs.Denied.{IsEntailed, IsDenied, IsExplained, IsForced}
 use Rattle.fzn_terms.specs.declared.claim.Claim.{Claim}
-use Rattle.fzn_terms.proofs.ExplanationLemmas.{literal_of}
+use Rattle.fzn_terms.proofs.ExplanationLemmas.{literal_of, never_variable}
 
 writable_of : (op : Op) (var : VarId) (number v w : ℤ) → IsInLimits v → IsInLimits w → compares op v number ≡ true → compares op w number ≡ false → IsWritable (negated (record { var = var; op = op; value = number }))
 writable_of AtMost var number v w a b h k = (grind (arith, ints, a.0, a.1, b.0, b.1), grind (arith, ints, a.0, a.1, b.0, b.1))
 writable_of AtLeast var number v w a b h k = (grind (arith, ints, a.0, a.1, b.0, b.1), grind (arith, ints, a.0, a.1, b.0, b.1))
 writable_of Equal var number v w a b h k = (grind (arith, ints, a.0, a.1, b.0, b.1), grind (arith, ints, a.0, a.1, b.0, b.1))
 writable_of NotEqual var number v w a b h k = (grind (arith, ints, a.0, a.1, b.0, b.1), grind (arith, ints, a.0, a.1, b.0, b.1))
+
+-- where a claim is not denied, some value makes its literal true
+pub possible_of : (trail : Levels) (claim : Claim) (var : VarId) → claim.term ≡ Variable var → (IsDenied trail.sets claim → ⊥) → is_possible (set_of trail.sets var) (literal_of claim var) ≡ true
+possible_of trail claim var of may = elim (cases_Bool (is_possible (set_of trail.sets var) (literal_of claim var))) [
+  | inl yes ↦ yes
+  | inr no ↦ absurd (may ((never_variable trail.sets claim var true of (sym (ap not no))).0 refl))
+]
 
 module _ (trail : Levels) (claim : Claim) (old : List Lit) (still : IsFalseClause trail old) where
   -- nothing is to be added for a constant

@@ -1,8 +1,11 @@
 -- Values of terms.
 use Rattle.std.specs.Prelude.{◌≡◌, ◌≢◌, ℕ, ℤ, pos, ◌≤ℤ◌, ◌<ℤ◌, List, slice_index_or}
+use Rattle.std.specs.List.{All}
+use Rattle.std.proofs.Props.{props}
 use Rattle.fzn_domain.specs.IntSet.{IntSet}
 use Rattle.fzn_meaning.specs.declared.term.Term.{Term}
-use Rattle.fzn_meaning.specs.declared.term.Term.TheVariants.{Constant}
+use Rattle.fzn_meaning.specs.declared.term.Term.TheVariants.{Constant, Variable}
+use Rattle.fzn_meaning.specs.Term.{IsTerm}
 use Rattle.fzn_sets.specs.Terms.{MayBe, least_value, greatest_value}
 
 -- the term at an index
@@ -27,3 +30,11 @@ pub record IsOnly (sets : List IntSet) (term : Term) (value : ℤ) : Type 0 wher
 -- the term has another value
 abbrev pub HasOther : List IntSet → Term → ℤ → Type 0
 HasOther sets term value = (v : ℤ) × MayBe sets term v × (v ≢ value)
+
+-- of a term's being one on so many variables there is one proof at most, and so of a list's
+pub IsTerm-prop : (count : ℕ) (term : Term) → IsProp (IsTerm count term)
+IsTerm-prop count (Constant k) = Prim.hlevel props
+IsTerm-prop count (Variable var) = Prim.hlevel props
+
+pub AreTerms-prop : (count : ℕ) (terms : List Term) → IsProp (All (IsTerm count) terms)
+AreTerms-prop count terms = Prim.hlevel (props, IsTerm-prop)

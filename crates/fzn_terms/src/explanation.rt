@@ -78,26 +78,41 @@ pub fn force(trail: &Trail, claim: Claim, clause: &mut Items<Lit>) -> Result<boo
     requires still { IsFalseClause trail.now clause.old }
     ensures { IfOk result (λ forces. MatchBool forces (IsForced trail.now claim clause.old clause.new) (IsDenied trail.now.sets claim)) }
 {
-    let var = match claim.term {
-        Term::Constant(k) => return Ok(claim.op.compares(k, claim.number)),
-        Term::Variable(var) => var,
+    if is_denied(trail, claim) {
+        return Ok(false);
+    }
+    force_possible(trail, claim, clause)?;
+    Ok(true)
+}
+
+/// Adds to a false clause the literal without which the claim is true of each value of its term. It has to be true of one on the trail,
+/// at which the literal is false. Its number lies from -4 * 10^9 to 4 * 10^9. It answers `Err` where memory runs out, and nothing is said
+/// of the clause then.
+pub fn force_possible(trail: &Trail, claim: Claim, clause: &mut Items<Lit>) -> Result<(), Memory>
+    requires term { IsTerm (length trail.now.declared) claim.term }
+    requires filled { NoneEmpty trail.now.sets }
+    requires above { negsuc 3999999999 ≤ℤ claim.number }
+    requires below { claim.number ≤ℤ pos 4000000000 }
+    requires possible { IsDenied trail.now.sets claim → ⊥ }
+    requires still { IsFalseClause trail.now clause.old }
+    ensures { OnOk result (IsForced trail.now claim clause.old clause.new) }
+{
+    let Term::Variable(var) = claim.term else {
+        return Ok(());
     };
     let possible = Lit {
         var,
         op: claim.op,
         value: claim.number,
     };
-    let domain = trail.domain(var);
-    if domain.is_false(possible) {
-        return Ok(false);
-    }
+    let _domain = trail.domain(var); // Its values are declared ones.
     let declared = trail.declared(var);
     let _none = declared.is_empty(); // Its values lie within the limits.
     let lit = possible.negated();
     if !declared.is_false(lit) {
         clause.push(lit)?;
     }
-    Ok(true)
+    Ok(())
 }
 
 /// Adds to a false clause what it takes to say the claims but for the one at an index, each of which is true of each value of its term on

@@ -9,7 +9,8 @@
 
 pub use claim::Claim;
 pub use explanation::{
-    explain, explain_claims, explanation_of, force, force_claims, is_denied, is_never,
+    explain, explain_claims, explanation_of, force, force_claims, force_possible, is_denied,
+    is_never,
 };
 pub use interval::{Interval, interval_of};
 pub use narrow::{MOST_VALUES, is_narrow, is_thinned, is_thinned_beside};

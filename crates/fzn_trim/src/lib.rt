@@ -17,7 +17,6 @@ pub use listing::{Listed, core, core_tracked};
 pub use trimming::{Trimmed, trim, trim_tracked};
 
 mod cited;
-mod input;
 mod item;
 mod kept;
 mod listing;

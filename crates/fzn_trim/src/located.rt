@@ -6,13 +6,12 @@ ghost use Rattle.fzn_reading.specs.Reads.{Answers, Reads};
 ghost use Rattle.fzn_trim.specs.Items.{AreSources};
 ghost use Rattle.fzn_trim.specs.Files.{model_in, model_told};
 
-use crate::input::read_bytes;
 use crate::item::items_of;
 use crate::source::sources_of;
 use fzn_lexer::{Fault, Halt, Span, tokens};
 use fzn_meaning::Model;
 use fzn_parser::parse;
-use fzn_reading::{ModelFault, within_limits};
+use fzn_reading::{ModelFault, read_bytes, within_limits};
 use fzn_streams::TrackedRead;
 use fzn_typing::type_check;
 use std::alloc::Global;

@@ -3,7 +3,7 @@ ghost use Rattle.std.specs.Prelude.{length};
 ghost use Rattle.std.specs.List.{All};
 ghost use Rattle.fzn_domain.specs.Narrow.{NoneEmpty};
 ghost use Rattle.fzn_meaning.specs.Term.{IsTerm};
-ghost use Rattle.fzn_globals.specs.Ready.{AreTerms-prop};
+ghost use Rattle.fzn_terms.specs.Values.{AreTerms-prop};
 
 use fzn_meaning::Term;
 use fzn_trail::Trail;

@@ -14,7 +14,7 @@ use fzn_meaning::Term;
 use fzn_propagator::Findings;
 use fzn_rules::Rule;
 use fzn_sets::term_at;
-use fzn_terms::{Claim, explain, force, has_other, least_of, may_be, next_value};
+use fzn_terms::{Claim, explain, force, force_possible, has_other, least_of, may_be, next_value};
 
 /// Adds to a clause that is false, or forces a literal, that the term is this number, which it cannot be on the trail.
 fn push_missing(
@@ -52,7 +52,7 @@ fn explain_pair(pass: &Pass, i: &i64, j: &i64) -> Result<Option<Items<Lit>>, Mem
     let target = term_at(pass.back, j);
     if !may_be(pass.trail, target, i) {
         let mut clause = Items::with_capacity(pass.alloc, 2)?;
-        force(pass.trail, Claim::equal(entry, *j), &mut clause)?;
+        force_possible(pass.trail, Claim::equal(entry, *j), &mut clause)?;
         push_missing(pass, target, i, &mut clause)?;
         return Ok(Some(clause));
     }

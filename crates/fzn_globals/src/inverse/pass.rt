@@ -4,7 +4,7 @@ ghost use Rattle.std.specs.List.{All};
 ghost use Rattle.fzn_domain.specs.Narrow.{NoneEmpty};
 ghost use Rattle.fzn_list.specs.Limits.{longest};
 ghost use Rattle.fzn_meaning.specs.Term.{IsTerm};
-ghost use Rattle.fzn_globals.specs.Ready.{AreTerms-prop};
+ghost use Rattle.fzn_terms.specs.Values.{AreTerms-prop};
 ghost use Rattle.fzn_globals.specs.Ways.{other_side};
 
 use fzn_meaning::Term;

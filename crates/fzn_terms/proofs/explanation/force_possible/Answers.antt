@@ -1,23 +1,26 @@
-use Rattle.std.proofs.Common.{rules, w64, to_z, of_z, FitsSigned, ℤ, ◌≡◌, ◌∷◌, [], ◌++◌, true, false, not, List, length, sym, ap, ap₂, subst, ◌∙◌}
+use Rattle.std.proofs.Common.{rules, w64, to_z, of_z, FitsSigned, ℤ, ◌≡◌, ◌∷◌, [], ◌++◌, true, false, not, List, length, sym, ap, ap₂, subst, ◌∙◌, inl, inr}
 use Rattle.std.proofs.lemmas.Int.{to_z-of_z}
-use Rattle.std.proofs.lemmas.Bool.{not-true, not-false}
+use Rattle.std.proofs.lemmas.Bool.{cases_Bool, not-true, not-false}
 use Rattle.fzn_domain.specs.declared.literal.Lit.{Lit}
 use Rattle.fzn_domain.specs.Limits.{IsLimited}
-use Rattle.fzn_domain.specs.Literal.{negated}
-use Rattle.fzn_domain.specs.IntSet.{IntSet, is_possible}
+use Rattle.fzn_domain.specs.Literal.{compares, negated}
+use Rattle.fzn_domain.specs.IntSet.{is_possible}
 use Rattle.fzn_domain.specs.Narrow.{set_of}
 use Rattle.fzn_meaning.specs.Term.{IsTerm}
 use Rattle.fzn_terms.specs.Denied.{IsForced}
-use Rattle.fzn_terms.proofs.DeniedLemmas.{forced_declared, forced_push}
-use Rattle.fzn_terms.proofs.ExplanationLemmas.{never_variable}
-use Rattle.fzn_terms.proofs.explanation.force.Goals as goal
+use Rattle.fzn_terms.proofs.DeniedLemmas.{forced_constant, forced_declared, forced_push, none_constant, possible_of}
+use Rattle.fzn_terms.proofs.explanation.force_possible.Goals as goal
 
-pub returns-then-is_false : goal.returns-then-is_false
-returns-then-is_false c =
-    let fits : FitsSigned w64 c.args.claim.number = search rules in
-    let same : to_z w64 (of_z w64 c.args.claim.number) ≡ c.args.claim.number = to_z-of_z w64 c.args.claim.number fits in
-    (never_variable c.args.trail.now.sets c.args.claim c.in-Variable.var _ c.in-Variable.is
-    (c.is_false.ensures ∙ ap₂ (λ (s : IntSet) (x : ℤ). not (is_possible s (record { var = c.in-Variable.var; op = c.args.claim.op; value = x }))) c.domain-domain.ensures.value same)).0 c.if-is_false.true
+-- a constant that does not meet the claim would deny it
+pub returns-in_default : goal.returns-in_default
+returns-in_default c =
+    let trail = c.args.trail.now in
+    let claim = c.args.claim in
+    let clause = c.args.clause.now in
+    elim (cases_Bool (compares claim.op c.in_default.field-0 claim.number)) [
+      | inl holds ↦ forced_constant trail claim clause c.requires.still c.in_default.field-0 _ c.in_default.is refl holds
+      | inr fails ↦ absurd (c.requires.possible (none_constant trail claim clause c.requires.still c.in_default.field-0 _ c.in_default.is refl fails))
+    ]
 
 pub returns-in_ok-push : goal.returns-in_ok-push
 returns-in_ok-push c =
@@ -26,14 +29,12 @@ returns-in_ok-push c =
     let same : to_z w64 (of_z w64 c.args.claim.number) ≡ c.args.claim.number = to_z-of_z w64 c.args.claim.number fits in
     let opposite : c.negated-lit.result ≡ negated (record { var = c.in-Variable.var; op = c.args.claim.op; value = c.args.claim.number }) = c.negated-lit.ensures.value ∙ ap (λ (x : ℤ). negated (record { var = c.in-Variable.var; op = c.args.claim.op; value = x })) same in
     let variable = subst (IsTerm (length trail.declared)) c.in-Variable.is c.requires.term in
-    let able : is_possible (set_of trail.sets c.in-Variable.var) (record { var = c.in-Variable.var; op = c.args.claim.op; value = c.args.claim.number }) ≡ true =
-    sym (ap₂ (λ (s : IntSet) (x : ℤ). is_possible s (record { var = c.in-Variable.var; op = c.args.claim.op; value = x })) c.domain-domain.ensures.value same) ∙ not-false _ (sym c.is_false.ensures ∙ c.if-is_false.false) in
     let possible : is_possible (set_of trail.declared c.in-Variable.var) (negated (record { var = c.in-Variable.var; op = c.args.claim.op; value = c.args.claim.number })) ≡ true =
-    sym (ap₂ is_possible c.declared-declared.ensures opposite) ∙ not-false _ (sym c.is_false-2.ensures ∙ c.if-not-is_false.true) in
+    sym (ap₂ is_possible c.declared-declared.ensures opposite) ∙ not-false _ (sym c.is_false.ensures ∙ c.if-not-is_false.true) in
     let limited : IsLimited (set_of trail.declared c.in-Variable.var) = subst IsLimited c.declared-declared.ensures c.is_empty-none.ensures.limited in
     subst (λ (xs : List Lit). IsForced trail c.args.claim c.args.clause.now xs)
     (sym (c.in_ok-push.ensures.ok ∙ ap (λ (l : Lit). c.args.clause.now ++ l ∷ []) opposite))
-    (forced_push trail c.args.claim c.args.clause.now c.requires.still c.in-Variable.var c.in-Variable.is variable c.domain-domain.ensures.narrower limited able possible)
+    (forced_push trail c.args.claim c.args.clause.now c.requires.still c.in-Variable.var c.in-Variable.is variable c.domain-domain.ensures.narrower limited (possible_of trail c.args.claim c.in-Variable.var c.in-Variable.is c.requires.possible) possible)
 
 pub returns-else-not-is_false : goal.returns-else-not-is_false
 returns-else-not-is_false c =
@@ -43,5 +44,5 @@ returns-else-not-is_false c =
     let opposite : c.negated-lit.result ≡ negated (record { var = c.in-Variable.var; op = c.args.claim.op; value = c.args.claim.number }) = c.negated-lit.ensures.value ∙ ap (λ (x : ℤ). negated (record { var = c.in-Variable.var; op = c.args.claim.op; value = x })) same in
     let variable = subst (IsTerm (length trail.declared)) c.in-Variable.is c.requires.term in
     let impossible : is_possible (set_of trail.declared c.in-Variable.var) (negated (record { var = c.in-Variable.var; op = c.args.claim.op; value = c.args.claim.number })) ≡ false =
-    sym (ap₂ is_possible c.declared-declared.ensures opposite) ∙ not-true _ (sym c.is_false-2.ensures ∙ c.if-not-is_false.false) in
+    sym (ap₂ is_possible c.declared-declared.ensures opposite) ∙ not-true _ (sym c.is_false.ensures ∙ c.if-not-is_false.false) in
     forced_declared trail c.args.claim c.args.clause.now c.requires.still c.in-Variable.var c.in-Variable.is variable impossible
