@@ -1,5 +1,5 @@
 -- A clause grows by one literal.
-use Rattle.std.proofs.Common.{◌≡◌, ◌-◌, Bool, true, false, not, List, [], ◌∷◌, ◌++◌, length, sym, ap, subst, ◌∙◌, inl, inr, arith, ℤ}
+use Rattle.std.proofs.Common.{◌≡◌, ◌-◌, Bool, true, false, not, List, [], ◌∷◌, ◌++◌, length, refl, sym, ap, subst, ◌∙◌, inl, inr, arith, ℤ}
 use Rattle.std.proofs.lemmas.Int.{ints}
 use Rattle.std.proofs.lemmas.Bool.{cases_Bool, true≢false, not-true, not-false}
 use Rattle.fzn_domain.specs.declared.literal.VarId.{VarId}
@@ -30,8 +30,8 @@ writable_of NotEqual var number v w a b h k = (grind (arith, ints, a.0, a.1, b.0
 -- where a claim is not denied, some value makes its literal true
 pub possible_of : (trail : Levels) (claim : Claim) (var : VarId) → claim.term ≡ Variable var → (IsDenied trail.sets claim → ⊥) → is_possible (set_of trail.sets var) (literal_of claim var) ≡ true
 possible_of trail claim var of may = elim (cases_Bool (is_possible (set_of trail.sets var) (literal_of claim var))) [
-  | inl yes ↦ yes
-  | inr no ↦ absurd (may ((never_variable trail.sets claim var true of (sym (ap not no))).0 refl))
+  | inl able ↦ able
+  | inr never ↦ absurd (may ((never_variable trail.sets claim var true of (sym (ap not never))).0 refl))
 ]
 
 module _ (trail : Levels) (claim : Claim) (old : List Lit) (still : IsFalseClause trail old) where
