@@ -1,6 +1,7 @@
 -- Where the fixed successors of places lead.
 use Rattle.std.specs.Prelude.{◌≡◌, ◌≢◌, ◌⊎◌, ℕ, ◌+◌, ◌-◌, ◌<◌, ◌≤◌, ℤ, pos, negsuc, List, length, slice_index_or}
 use Rattle.std.specs.List.{All}
+use Rattle.std.proofs.Props.{props}
 use Rattle.fzn_domain.specs.declared.literal.Lit.{Lit}
 use Rattle.fzn_domain.specs.IntSet.{IntSet}
 use Rattle.fzn_domain.specs.Narrow.{AllFixed, IsWithin}
@@ -10,12 +11,18 @@ use Rattle.fzn_meaning.specs.AllDifferent.{IsAllDifferent}
 use Rattle.fzn_meaning.specs.Circuit.{reached_from}
 use Rattle.fzn_meaning.specs.Entries.{IsIndex}
 use Rattle.fzn_meaning.specs.Term.{IsTerm, values_of}
+use Rattle.fzn_meaning.specs.Meaning.{AreTerms}
 use Rattle.fzn_sets.specs.Terms.{IsFixedTo, term_at}
 use Rattle.fzn_rules.specs.Cut.{LeadsInto}
 use Rattle.fzn_trail.specs.Levels.{Levels}
 use Rattle.fzn_domain.specs.declared.literal.Op.TheVariants.{AtMost, AtLeast, Equal}
 use Rattle.fzn_propagator.specs.Clause.{Says, IsFalseClause}
 use Rattle.fzn_terms.specs.Denied.{that, IsDenied}
+use Rattle.fzn_terms.specs.Values.{IsTerm-prop}
+
+-- of a constraint's list of terms on so many variables there is one proof at most
+pub AreTerms-prop : (count : ℕ) (terms : List Term) → IsProp (AreTerms count terms)
+AreTerms-prop count terms = Prim.hlevel (props, IsTerm-prop)
 
 -- each successor has one value, these in order, and each is a place
 pub record AreFixedPlaces (sets : List IntSet) (successors : List Term) (values : List ℤ) : Type 0 where

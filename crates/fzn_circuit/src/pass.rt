@@ -2,7 +2,7 @@
 ghost use Rattle.std.specs.Prelude.{length};
 ghost use Rattle.fzn_domain.specs.Narrow.{NoneEmpty};
 ghost use Rattle.fzn_meaning.specs.Meaning.{AreTerms};
-ghost use Rattle.fzn_terms.specs.Values.{AreTerms-prop};
+ghost use Rattle.fzn_circuit.specs.Circuits.{AreTerms-prop};
 
 use fzn_meaning::Term;
 use fzn_trail::Trail;
