@@ -113,6 +113,7 @@ impl Causes {
     }
 
     /// Notes that all that were found are marked. It answers `Err` where memory runs out, and nothing is said then of what is marked.
+    #[inline(always)]
     pub fn note_marked(&mut self) -> Result<(), Memory> {
         for (place, crossing) in &self.fresh {
             for _ in self.crossings.len()..place.saturating_add(1) {
@@ -247,6 +248,7 @@ impl Causes {
 
     /// Adds the entries before this one that took out the values that a bound moved over, and gives the bound before it where that
     /// is needed too.
+    #[inline(always)]
     fn add_crossed(
         &mut self,
         graph: Implications,

@@ -85,6 +85,7 @@ impl Orders {
 
     /// Goes back over the entries on a variable, in at most so many steps, to the earliest after which the literal is true. From a bound that
     /// shows it the way leads to the entry that moved this bound.
+    #[inline(always)]
     fn walk_back(&self, graph: Implications, truth: Lit, last: usize, most: usize) -> Walk {
         let mut at = last;
         for _ in 0..most {

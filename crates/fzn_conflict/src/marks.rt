@@ -124,6 +124,7 @@ impl Marks {
     }
 
     /// Marks an entry. Of one that is marked already the stronger of both literals is needed, or its own.
+    #[inline(always)]
     pub fn mark(&mut self, graph: Implications, cause: Cause) -> Result<(), Memory> {
         let Some(entry) = graph.entry(cause.place) else {
             return Ok(());

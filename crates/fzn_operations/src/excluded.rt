@@ -26,6 +26,7 @@ pub enum Shape {
 }
 
 /// Whether it is sure that no values in the intervals meet the constraint.
+#[inline(always)]
 pub fn is_excluded(shape: Shape, left: Interval, right: Interval, of: Interval) -> bool
     ensures { IsTrue result → IsExcluded shape left right of }
 {

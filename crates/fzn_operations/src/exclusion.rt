@@ -127,6 +127,7 @@ fn all_excluded(alloc: Global, shape: Shape, now: Intervals) -> Result<Items<Int
 }
 
 /// Adds the same with the interval of this place cut down.
+#[inline(always)]
 fn add_excluded(
     shape: Shape,
     now: Intervals,
@@ -181,6 +182,7 @@ fn weakened_at(shape: Shape, found: Intervals, declared: Intervals, place: Argum
 }
 
 /// The intervals with one end moved towards a number as far as they are excluded: where they are, so are all that are narrower.
+#[inline(always)]
 fn widened(shape: Shape, intervals: Intervals, place: Argument, end: End, far: i64) -> Intervals {
     let mut good = match end {
         End::Low => intervals.at(place).low,
@@ -221,6 +223,7 @@ fn moved(intervals: Intervals, place: Argument, end: End, number: i64) -> Interv
     intervals.with(place, moved)
 }
 
+#[inline(always)]
 fn are_excluded(shape: Shape, intervals: Intervals) -> bool {
     seems_excluded(shape, intervals.left, intervals.right, intervals.of)
 }

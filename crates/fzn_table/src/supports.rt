@@ -190,11 +190,13 @@ impl Supports {
     }
 
     /// A row among these that has the value at the place.
+    #[inline(always)]
     pub fn row_of(&self, possible: &[u64], place: usize, value: i64) -> Option<usize> {
         self.first_among(self.entry_of(place, value)?.rows, possible)
     }
 
     /// The first of these rows that is among the possible.
+    #[inline(always)]
     fn first_among(&self, rows: RowSet, possible: &[u64]) -> Option<usize> {
         match rows {
             RowSet::Bits { start } => first_common(self.bits_from(start)?, possible),

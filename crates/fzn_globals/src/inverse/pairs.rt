@@ -14,7 +14,9 @@ use fzn_meaning::Term;
 use fzn_propagator::Findings;
 use fzn_rules::Rule;
 use fzn_sets::term_at;
-use fzn_terms::{Claim, explain, force, force_possible, has_other, least_of, may_be, next_value};
+use fzn_terms::{
+    Claim, explain, force, force_possible, has_other, is_fixed, least_of, may_be, next_value,
+};
 
 /// Adds to a clause that is false, or forces a literal, that the term is this number, which it cannot be on the trail.
 fn push_missing(
@@ -79,21 +81,21 @@ fn pair_rule(side: Side, i: &i64, j: &i64) -> Rule
 }
 
 /// Whether nothing follows of an entry at i that may be j and of the other list's entry at j: that one is i, or may be while the first has
-/// another value.
-fn is_silent(pass: &Pass, i: &i64, j: &i64) -> bool
-    requires first { HasEntry pass.now i.now }
-    requires second { HasEntry pass.now j.now }
+/// other values (it is `open`).
+fn is_silent(pass: &Pass, i: &i64, j: &i64, open: bool) -> bool
+    requires { HasEntry pass.now j.now }
     ensures { IsTrue result → MayLeadBack pass.now i.now j.now }
 {
     let target = term_at(pass.back, j);
     if !has_other(pass.trail, target, i) {
         return true;
     }
-    has_other(pass.trail, term_at(pass.there, i), j) && may_be(pass.trail, target, i)
+    open && may_be(pass.trail, target, i)
 }
 
-/// Finds what follows from the entry at i with its value j.
-fn find_pair(pass: &Pass, i: &i64, j: &i64, found: &mut Findings) -> Result<(), Memory>
+/// Finds what follows from the entry at i with its value j. Whether the entry has other values (it is `open`) says which pairs are passed
+/// over early.
+fn find_pair(pass: &Pass, i: &i64, j: &i64, open: bool, found: &mut Findings) -> Result<(), Memory>
     requires first { HasEntry pass.now i.now }
     requires second { HasEntry pass.now j.now }
     requires may { MayLead pass.now i.now j.now }
@@ -102,7 +104,7 @@ fn find_pair(pass: &Pass, i: &i64, j: &i64, found: &mut Findings) -> Result<(), 
     ensures kept { found.new ≡ [] → found.old ≡ [] }
     ensures none { OnOk result (found.new ≡ [] → MayLeadBack pass.now i.now j.now) }
 {
-    if is_silent(pass, i, j) {
+    if is_silent(pass, i, j, open) {
         return Ok(());
     }
     let Some(clause) = explain_pair(pass, i, j)? else {
@@ -122,9 +124,10 @@ pub(crate) fn find_pairs(pass: &Pass, i: &i64, found: &mut Findings) -> Result<(
     ensures none { OnOk result (found.new ≡ [] → LeadsBackAt pass.now i.now) }
 {
     let entry = term_at(pass.there, i);
+    let open = !is_fixed(pass.trail, entry);
     let mut value = least_of(pass.trail, entry);
     loop {
-        find_pair(pass, i, &value, found)?;
+        find_pair(pass, i, &value, open, found)?;
         match next_value(pass.trail, entry, &value) {
             Some(next) => value = next,
             None => return Ok(()),
