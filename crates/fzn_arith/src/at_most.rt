@@ -126,7 +126,7 @@ fn explain(
     requires filled { NoneEmpty trail.now.sets }
     ensures { IfOk result (IsExplanation trail.now places.now (length places.now) except) }
 {
-    let mut clause = Items::with_capacity(alloc, places.len().min(ROOM))?;
+    let mut clause = Items::with_capacity(alloc, places.len().saturating_add(1).min(ROOM))?;
     for i in 0..places.len() {
         if i != except {
             if let Some(lit) = floor(trail, places[i]) {

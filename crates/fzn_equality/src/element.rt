@@ -27,6 +27,9 @@ use fzn_terms::{
 use fzn_trail::Trail;
 use std::alloc::Global;
 
+/// For how many claims a list has room at first.
+const ROOM: usize = 32;
+
 /// Appends to `found` clauses that are false or force a literal each, where the ends and small sets of the places show some.
 /// What shows one ends the pass: that the index may lie outside of the list, an entry and the result that have no value in common, an end
 /// of the result, or a value of it. Where the index leads to one place, all that is left to show is that the entry there is the result.
@@ -430,7 +433,7 @@ fn value_or_entries(
     ensures { IfOk result (λ found. IfSome found (IsJustified trail.now (constraint.Element index entries.now value) rule.Rows)) }
 {
     let (low, high) = (least_of(trail, index), greatest_of(trail, index));
-    let mut claims = Items::new(alloc);
+    let mut claims = Items::with_capacity(alloc, entries.len().saturating_add(3).min(ROOM))?;
     claims.push(claim)?;
     claims.push(Claim::below(index, low))?;
     claims.push(Claim::above(index, high))?;

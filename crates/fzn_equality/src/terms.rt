@@ -338,7 +338,7 @@ fn first_difference(set: &Domain, other: &Domain, common: i64) -> Option<i64>
 
 /// That a term is another than each of these values, if they are few.
 pub fn other_than_each(alloc: Global, values: &Domain) -> Result<Items<Bound>, Memory> {
-    let mut bounds = Items::new(alloc);
+    let mut bounds = Items::with_capacity(alloc, values.len().min(MOST_VALUES as usize))?;
     let mut passed = i64::MIN;
     for _ in 0..MOST_VALUES {
         let Some(value) = values.above(passed) else {

@@ -15,7 +15,7 @@ loop-k-init c =
     let count = length c.args.trail.now.declared in
     let low = to_z w64 (of_z w64 c.least_of-low.result) in
     let high = to_z w64 (of_z w64 c.greatest_of-high.result) in
-    let first : c.push.new.self ≡ c.args.claim ∷ [] = c.in_ok-push.ensures.ok ∙ ap (λ (xs : List Claim). xs ++ c.args.claim ∷ []) c.new-claims.ensures in
+    let first : c.push.new.self ≡ c.args.claim ∷ [] = c.in_ok-push.ensures.ok ∙ ap (λ (xs : List Claim). xs ++ c.args.claim ∷ []) c.in_ok-claims.ensures in
     let all : c.push-3.new.self ≡ ((c.args.claim ∷ []) ++ c.below.result ∷ []) ++ c.above.result ∷ [] =
     c.in_ok-push-3.ensures.ok ∙ ap (λ (xs : List Claim). xs ++ c.above.result ∷ []) (c.in_ok-push-2.ensures.ok ∙ ap (λ (xs : List Claim). xs ++ c.below.result ∷ []) first) in
     subst (λ (xs : List Claim). IsAgainst count c.args.index c.args.entries.now c.args.value low high c.args.claim xs 0) (sym all)
