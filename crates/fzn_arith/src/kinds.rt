@@ -1,5 +1,5 @@
 // One type for all kinds of propagators of this crate, and which constraint gets which.
-ghost use Rattle.std.specs.Prelude.{◌≡◌, ℕ, ◌-◌, ◌≤◌, List, length, IfOk, IfSome, IfNone, IsSome, None, slice_index_or};
+ghost use Rattle.std.specs.Prelude.{◌≡◌, ℕ, ◌-◌, ◌≤◌, List, length, IfOk, IfSome, IfNone, None, slice_index_or};
 ghost use Rattle.std.specs.Option.{option_copied};
 ghost use Rattle.fzn_meaning.specs.declared.constraint.Constraint.{Constraint};
 ghost use Rattle.fzn_domain.specs.IntSet.{IntSet};
@@ -34,25 +34,6 @@ pub enum ArithPropagator {
 }
 
 impl ArithPropagator {
-    /// The propagator of the constraint of this number, which has a form.
-    pub fn new(
-        alloc: Global,
-        number: u64,
-        constraint: &Constraint,
-    ) -> Result<ArithPropagator, Memory>
-        requires formed { (count : ℕ) × IsFormed count constraint.now }
-        requires form { IsSome (form_of constraint.now) }
-        ensures number { IfOk result (λ propagator. kind_number propagator ≡ number) }
-        ensures is_for { IfOk result (λ propagator. KindIsFor propagator constraint.now) }
-        ensures fits { IfOk result (λ propagator. (declared : List IntSet) → IsFormed (length declared) constraint.now → KindFits propagator declared) }
-        ensures wake { IfOk result (λ propagator. (sum_in propagator).wake ≡ wake_of constraint.now (form_in (sum_in propagator).form)) }
-    {
-        match form_of(alloc, constraint)? {
-            Some(form) => with_form(alloc, number, constraint, form),
-            None => unreachable!(), // It has one.
-        }
-    }
-
     /// The form of its constraint, where nothing but the ends of that sum is reasoned of: `None` of two terms that are compared.
     pub fn form(&self) -> Option<&SumForm>
         ensures { option_copied result ≡ form_alone self.now }
@@ -112,6 +93,7 @@ pub fn propagator_of(
     ensures is_for { IfOk result (λ found. IfSome found (λ propagator. (default : Constraint) → KindIsFor propagator (slice_index_or model.now.constraints (c - 1) default))) }
     ensures fits { IfOk result (λ found. IfSome found (λ propagator. KindFits propagator (declared_sets model.now.vars))) }
     ensures none { IfOk result (λ found. IfNone found ((default : Constraint) → form_of (slice_index_or model.now.constraints (c - 1) default) ≡ None)) }
+    ensures wake { IfOk result (λ found. IfSome found (λ propagator. (default : Constraint) → (sum_in propagator).wake ≡ wake_of (slice_index_or model.now.constraints (c - 1) default) (form_in (sum_in propagator).form))) }
 {
     let constraint = &model.constraints.as_slice()[c - 1];
     let Some(form) = form_of(alloc, constraint)? else {

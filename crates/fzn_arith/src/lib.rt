@@ -14,7 +14,7 @@ pub use at_most::{
 pub use ends::ends_of;
 pub use equal::refute_equal;
 pub use form::SumForm;
-pub use fzn_propagator::{Findings, Inference, Propagator};
+pub use fzn_propagator::{Inference, Propagator};
 pub use kinds::{ArithPropagator, propagator_of};
 pub use not_equal::{conflict_not_equal, refute_not_equal};
 

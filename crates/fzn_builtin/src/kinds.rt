@@ -1,9 +1,8 @@
 // The propagator of any such constraint, and which constraint gets one.
-ghost use Rattle.std.specs.Prelude.{◌≡◌, ◌-◌, ◌≤◌, ◌++◌, List, length, IfOk, IfSome, IfNone, IsSome, None, slice_index_or};
+ghost use Rattle.std.specs.Prelude.{◌≡◌, ◌-◌, ◌≤◌, ◌++◌, List, length, IfOk, IfSome, IfNone, None, slice_index_or};
 ghost use Rattle.fzn_domain.specs.IntSet.{IntSet};
 ghost use Rattle.fzn_meaning.specs.declared.constraint.Constraint.{Constraint};
 ghost use Rattle.fzn_meaning.specs.Solutions.{declared_sets};
-ghost use Rattle.fzn_meaning.specs.Meaning.{IsWellFormed as IsFormed};
 ghost use Rattle.fzn_meaning.specs.WellFormed.{IsWellFormed};
 ghost use Rattle.fzn_builtin_rules.specs.Choices.{inputs_of};
 ghost use Rattle.fzn_builtin_rules.specs.Form.{form_of};
@@ -15,7 +14,7 @@ ghost use Rattle.fzn_builtin.specs.Kinds.{builtin_number, BuiltinIsFor, BuiltinF
 use crate::narrow::narrow;
 use fzn_domain::Memory;
 use fzn_fixed::{Parts, parts_of, refute_fixed};
-use fzn_meaning::{Constraint, Model};
+use fzn_meaning::Model;
 use fzn_propagator::{Cost, Event, Findings, Propagator, Subscriptions};
 use fzn_rules::Rule;
 use fzn_trail::Trail;
@@ -28,26 +27,6 @@ pub struct BuiltinPropagator {
     pub number: u64,
     /// The constraint, with its inputs and its result.
     pub parts: Parts,
-}
-
-impl BuiltinPropagator {
-    /// The propagator of the constraint of this number, which is no sum and none of the five globals.
-    pub fn new(
-        alloc: Global,
-        number: u64,
-        constraint: &Constraint,
-    ) -> Result<BuiltinPropagator, Memory>
-        requires other { form_of constraint.now ≡ None }
-        requires inputs { IsSome (inputs_of constraint.now) }
-        ensures number { IfOk result (λ propagator. builtin_number propagator ≡ number) }
-        ensures is_for { IfOk result (λ propagator. BuiltinIsFor propagator constraint.now) }
-        ensures fits { IfOk result (λ propagator. (declared : List IntSet) → IsFormed (length declared) constraint.now → BuiltinFits propagator declared) }
-    {
-        match parts_of(alloc, constraint)? {
-            Some(parts) => Ok(BuiltinPropagator { number, parts }),
-            None => unreachable!(), // It has inputs, and is no sum.
-        }
-    }
 }
 
 impl Propagator for BuiltinPropagator {

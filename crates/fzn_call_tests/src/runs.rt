@@ -6,6 +6,7 @@ use std::io::{Read, Write};
 use std::str::from_utf8;
 
 mod answers;
+mod choices;
 mod faults;
 mod learning;
 mod progress;

@@ -12,6 +12,7 @@ use crate::judge::fault_of;
 use crate::solution::note;
 use fzn_cert::{Refusal, Step};
 use fzn_domain::Memory;
+use fzn_list::Items;
 use fzn_meaning::{Model, cut};
 use fzn_sets::Sets;
 use std::alloc::Global;
@@ -60,8 +61,9 @@ pub fn accept(
         Step::Infer { clause, .. } => history.add_clause(clause),
         Step::Resolve { clause, .. } => history.add_clause(clause),
         Step::Solution(values) => {
-            let cut = cut(alloc, model, values.as_slice())?;
+            let clause = cut(alloc, model, values.as_slice())?;
             note(alloc, model, given, values.as_slice())?;
+            let cut = Items::from_vec(clause.into_vec()?);
             history.add_solution(cut, values)
         }
         Step::Delete { ids } => history.delete(ids.as_slice()),

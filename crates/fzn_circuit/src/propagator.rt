@@ -42,7 +42,7 @@ pub struct CircuitPropagator {
 
 impl CircuitPropagator {
     /// The propagator of the circuit of these successors, which has this number.
-    pub fn new(number: u64, successors: &Shared<Term>) -> Result<CircuitPropagator, Memory>
+    fn new(number: u64, successors: &Shared<Term>) -> Result<CircuitPropagator, Memory>
         ensures { IfOk result (λ propagator. propagator ≡ record { number = number; successors = successors.now }) }
     {
         Ok(CircuitPropagator {

@@ -2,7 +2,7 @@
 // Nothing is promised of it: what is learned is tested.
 use crate::marks::{Marks, Wanted};
 use fzn_causes::{Implications, canonical, implies, opposite};
-use fzn_domain::{Lit, Memory};
+use fzn_domain::{Clause, Lit, Memory};
 use fzn_learned::Learned;
 use fzn_list::Items;
 use fzn_trail::{ClauseId, Reason};
@@ -207,17 +207,17 @@ fn denied(
     alloc: Global,
     graph: Implications,
     marks: &Marks,
-    clause: &[usize],
-) -> Result<Items<Lit>, Memory> {
-    let mut items = Items::with_capacity(alloc, clause.len())?;
-    for place in clause {
+    places: &[usize],
+) -> Result<Clause, Memory> {
+    let mut clause = Clause::with_capacity(alloc, places.len())?;
+    for place in places {
         if let Some(need) = marks.need(*place)
             && let Some(declared) = graph.declared(need.var)
         {
-            items.push(canonical(opposite(need), declared))?;
+            clause.push(canonical(opposite(need), declared))?;
         }
     }
-    Ok(items)
+    Ok(clause)
 }
 
 /// The clauses that stand for entries of level 0, the reasons of the other entries in the order of the trail, each before the clauses of
@@ -330,7 +330,7 @@ fn at_level_0(
     antecedents: Items<Reason>,
 ) -> Result<Learned, Memory> {
     Ok(Learned {
-        clause: Items::from_slice(alloc, clause)?,
+        clause: Clause::from_slice(alloc, clause)?,
         antecedents,
         level: 0,
         block_distance: 1,

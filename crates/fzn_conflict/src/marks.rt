@@ -317,7 +317,7 @@ impl Marks {
     ) -> Result<Items<Reason>, Memory> {
         self.causes.begin(graph)?;
         graph.find_causes(&mut self.causes, entry.reason, Some(entry.lit))?;
-        let mut places = Vec::new(alloc);
+        let mut places = Vec::with_capacity(alloc, self.causes.len())?;
         for i in 0..self.causes.len() {
             if let Some(cause) = self.causes.get(i) {
                 places.push(cause.place)?;
@@ -336,7 +336,7 @@ impl Marks {
         mut places: Vec<usize>,
     ) -> Result<Items<Reason>, Memory> {
         places.sort_unstable();
-        let mut antecedents = Items::new(alloc);
+        let mut antecedents = Items::with_capacity(alloc, places.len().saturating_add(1))?;
         for place in &places {
             if let Some(cited) = self.cited(graph, *place) {
                 antecedents.push(cited)?;

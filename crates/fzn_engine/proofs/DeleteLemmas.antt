@@ -2,7 +2,7 @@
 use Rattle.std.proofs.Common.{◌≡◌, ◌≢◌, ℕ, ◌+◌, ◌-◌, ◌*◌, ◌^◌, ◌<◌, ◌≤◌, ◌==◌, ◌⊎◌, cond, List, [], ◌∷◌, ◌++◌, length, get_or, set, All, Contains, Option, Some, None, IfSome, is_some, refl, sym, ap, ◌∙◌, subst, inl, inr, arith}
 use Rattle.std.specs.List.{AllByRecursion}
 use Rattle.std.proofs.lemmas.List.{append-nil, get_or-set_other}
-use Rattle.std.proofs.lemmas.List.Elements.{All-head, All-tail, All-weaker, All-get_or, All-from_get_or, Contains-get_or}
+use Rattle.std.proofs.lemmas.List.Elements.{All-head, All-tail, All-weaker, All-get_or, All-from_get_or, All-contains, Contains-get_or}
 use Rattle.fzn_domain.specs.declared.literal.Lit.{Lit}
 use Rattle.fzn_meaning.specs.declared.model.Model.{Model}
 use Rattle.fzn_cert.specs.declared.step.Step.{Step}
@@ -19,12 +19,13 @@ use Rattle.fzn_learned.specs.Reasoned.{opens}
 use Rattle.fzn_upkeep.specs.declared.deletion.Deletion.{Deletion}
 use Rattle.fzn_upkeep.specs.declared.notes.Notes.{Notes}
 use Rattle.fzn_engine.specs.declared.solver.Solver.{Solver}
-use Rattle.fzn_upkeep.specs.Deletion.{IsInUse, IsDeletion}
+use Rattle.fzn_upkeep.specs.declared.written.Given.{Given}
+use Rattle.fzn_upkeep.specs.Deletion.{IsInUse, IsDeletion, IsThinned}
 use Rattle.fzn_engine.specs.Volume.{slack}
 use Rattle.fzn_engine.specs.Learned.{resolved}
 use Rattle.fzn_engine.specs.Changes.{IsTended}
 use Rattle.fzn_engine.specs.Search.{IsAfter, stock_of}
-use Rattle.fzn_engine.specs.State.{Stock, AreNumbered, IsJustified, CoreOf, PlainOf, StateOf}
+use Rattle.fzn_engine.specs.State.{Stock, AreNumbered, IsGivenBy, IsJustified, CoreOf, PlainOf, StateOf}
 use Rattle.fzn_engine.proofs.AcceptedLemmas.{resolved-append, logged-accepted, length-past_of}
 use Rattle.fzn_engine.proofs.StateLemmas.{Core-more}
 use Rattle.fzn_engine.proofs.SolverLemmas.{order-step}
@@ -111,13 +112,26 @@ module _ {model : Model} {stock : Stock} {steps : List Step} {trail : Levels} {n
   pub same_learned : resolved (steps ++ Delete ids ∷ []) ≡ resolved steps
   same_learned = resolved-append steps (Delete ids ∷ []) ∙ append-nil (resolved steps)
 
-  pub Core-deleted : (used : List ℕ) → All (IsInUse stock.held stock.numbers stock.stack) used → CoreOf model (record stock { alive = used }) (steps ++ Delete ids ∷ []) trail nodes
-  Core-deleted used only =
+  -- the clauses of written inferences that are left
+  written_left : (left : List Given) → IsThinned stock.held stock.numbers stock.stack stock.written left → All (IsGivenBy model now) left
+  written_left left thinned = All-from_get_or (IsGivenBy model now) left none (λ i below. one (get_or left i none) (All-get_or (Contains stock.written) left i none below thinned.among) (All-get_or (λ (it : Given). IsInUse stock.held stock.numbers stock.stack it.number) left i none below thinned.in_use))
+    where
+      none : Given
+      none = record { clause = []; number = 0 }
+
+      one : (it : Given) → Contains stock.written it → IsInUse stock.held stock.numbers stock.stack it.number → IsGivenBy model now it
+      one it there in_use =
+          let was = All-contains (IsGivenBy model past) stock.written it core.written there in
+          (was.0, clause_held-left past ids ones it.number it.clause (apart it.number in_use) was.1)
+
+  pub Core-deleted : (used : List ℕ) → All (IsInUse stock.held stock.numbers stock.stack) used → (left : List Given) → IsThinned stock.held stock.numbers stock.stack stock.written left → CoreOf model (record stock { written = left; alive = used }) (steps ++ Delete ids ∷ []) trail nodes
+  Core-deleted used only left thinned =
       let N : List (List Lit) → Type 0 = λ cs. nodes + slack trail.sets ≤ (length cs + 1) * slack trail.declared in
-      Core-more core (Delete ids) given (record stock { alive = used })
+      Core-more core (Delete ids) given (record stock { written = left; alive = used })
       (record {
         numbered = numbered_left;
         justified = justified_left;
+        written = written_left left thinned;
         alive = All-weaker (IsInUse stock.held stock.numbers stock.stack) (IsGiven now) used_left used only;
         cuts_held = core.cuts_held;
         held_over = core.held_over;
@@ -157,11 +171,12 @@ module _ {model : Model} {old : Solver} {before : List Step} (h : IsAfter model 
   pub delete-logged : (now : List Step) → (now ≡ before) ⊎ (now ≡ before ++ Delete ids ∷ []) → AllAccepted model now
   delete-logged now log = logged-accepted model before now (Delete ids) h.state.core.accepted (delete-accepted h.state.core ids d.among d.idle) log
 
-  pub deleted-tended : {now : List Step} → now ≡ before ++ Delete ids ∷ [] → length now < 10 ^ 18 → (number : ℕ) → number ≡ old.steps + 1 → (notes : Notes) → IsTended model old (record old { alive = it.left; notes = notes; steps = number }) now
-  deleted-tended now_is few number newest notes =
-      let core = Core-deleted h.state.core ids d.among d.idle it.left d.in_use in
+  pub deleted-tended : {now : List Step} → now ≡ before ++ Delete ids ∷ [] → length now < 10 ^ 18 → (number : ℕ) → number ≡ old.steps + 1 → (written : List Given) → IfSome found (λ _. IsThinned (held_by old.clauses) old.numbers old.inferences old.written written) → (notes : Notes) → IsTended model old (record old { written = written; alive = it.left; notes = notes; steps = number }) now
+  deleted-tended now_is few number newest written thinned notes =
+      let T : Option Deletion → Type 0 = λ o. IfSome o (λ _. IsThinned (held_by old.clauses) old.numbers old.inferences old.written written) in
+      let core = Core-deleted h.state.core ids d.among d.idle it.left d.in_use written (subst T is thinned) in
       let R : List (List Lit) → Type 0 = λ cs. PlainOf old.trail.declared old.trail.sets (opens old.trail.declared old.trail.entries) cs old.search.nodes in
-      let S : List Step → Type 0 = λ s. StateOf model old.learn (record (stock_of old) { alive = it.left }) s old.trail old.search.nodes in
+      let S : List Step → Type 0 = λ s. StateOf model old.learn (record (stock_of old) { written = written; alive = it.left }) s old.trail old.search.nodes in
       let state : S (before ++ Delete ids ∷ []) = record { core = core; plain = λ plain. subst R (sym (same_learned h.state.core ids d.among d.idle)) (h.state.plain plain) } in
       record {
         state = record {

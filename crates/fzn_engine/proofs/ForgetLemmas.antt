@@ -1,6 +1,6 @@
 -- Other clauses are held.
 use Rattle.std.proofs.Common.{◌≡◌, ◌≢◌, ℕ, ◌<◌, List, [], ◌∷◌, ◌++◌, length, All, Option, Some, is_some, refl, sym, ap, ◌∙◌, subst, inl, inr}
-use Rattle.std.specs.Prelude.{IsSome, IfSome}
+use Rattle.std.specs.Prelude.{IsSome}
 use Rattle.std.specs.Option.{unwrap_or}
 use Rattle.std.proofs.lemmas.Bool.{cases_Bool, false≢true}
 use Rattle.std.proofs.lemmas.List.{length-map}
@@ -13,7 +13,6 @@ use Rattle.fzn_sets.specs.Sets.{Narrowed, start}
 use Rattle.fzn_cert.specs.declared.step.Step.{Step}
 use Rattle.fzn_cert.specs.Past.{clause_held}
 use Rattle.fzn_cert.specs.Accepted.{past_of}
-use Rattle.fzn_propagator.specs.Inferences.{inference_at}
 use Rattle.fzn_trail.specs.declared.trail.ClauseId.{ClauseId}
 use Rattle.fzn_trail.specs.declared.trail.Entry.{Entry}
 use Rattle.fzn_trail.specs.declared.trail.Reason.{Reason}
@@ -27,10 +26,12 @@ use Rattle.fzn_learned.specs.Reasoned.{IsReasoned}
 use Rattle.fzn_learned.proofs.CallerLemmas.{IsReasoned-grown, IsReasoned-still, IsStill}
 use Rattle.fzn_upkeep.specs.declared.notes.Notes.{Notes}
 use Rattle.fzn_engine.specs.declared.solver.Solver.{Solver}
+use Rattle.fzn_upkeep.specs.declared.written.Given.{Given}
 use Rattle.fzn_upkeep.specs.Forgetting.{HasForgotten}
+use Rattle.fzn_upkeep.specs.Written.{given_at}
 use Rattle.fzn_engine.specs.Changes.{IsTended}
 use Rattle.fzn_engine.specs.Search.{IsAfter, stock_of}
-use Rattle.fzn_engine.specs.State.{known_in, IsHeldCut, IsJustified, IsStocked, StateOf}
+use Rattle.fzn_engine.specs.State.{known_in, IsGivenBy, IsHeldCut, IsStocked, StateOf}
 use Rattle.fzn_engine.proofs.HeldCutLemmas.{IsHeldCut-left}
 use Rattle.fzn_engine.proofs.NumberLemmas.{AreNumbered-push}
 use Rattle.fzn_engine.proofs.StateLemmas.{cuts-grown, Core-restocked}
@@ -111,6 +112,7 @@ module _ {model : Model} {old : Solver} {steps : List Step} (h : IsAfter model o
             gives = λ id is. core.numbered.gives id (was_held id is) ∙ ap Some (sym (clause_left id is));
           };
           justified = core.justified;
+          written = core.written;
           alive = core.alive;
           cuts_held = All-weaker (λ values. IsHeldCut held old.cuts (cut_of model values)) (λ values. IsHeldCut left old.cuts (cut_of model values))
               (λ values cut. IsHeldCut-left held old.cuts (cut_of model values) cut left
@@ -125,32 +127,35 @@ module _ {model : Model} {old : Solver} {steps : List Step} (h : IsAfter model o
 
   -- ---- the clause of a written inference
 
-  module _ (place : ℕ) (stacked : place < length old.inferences) (number : ℕ) (written : (inference_at old.inferences place).number ≡ Some number) where
-    is_justified : IsJustified model (past_of model steps) (inference_at old.inferences place)
-    is_justified = All-get_or (IsJustified model (past_of model steps)) old.inferences place _ stacked h.state.core.justified
+  module _ (place : ℕ) (within : place < length old.written) where
+    abbrev it : Given
+    it = given_at old.written place
 
-    -- the step of the number gives it
-    pub inference-given : clause_held (past_of model steps) number ≡ Some (inference_at old.inferences place).clause
-    inference-given = let W : Option ℕ → Type 0 = λ o. IfSome o (λ n. clause_held (past_of model steps) n ≡ Some (inference_at old.inferences place).clause) in subst W written is_justified.written
+    is_given : IsGivenBy model (past_of model steps) (given_at old.written place)
+    is_given = All-get_or (IsGivenBy model (past_of model steps)) old.written place _ within h.state.core.written
 
-    pub inference-over : IsClauseOver (length old.trail.declared) (inference_at old.inferences place).clause
-    inference-over =
+    -- the step of its number gives it
+    pub written-given : clause_held (past_of model steps) (given_at old.written place).number ≡ Some (given_at old.written place).clause
+    written-given = is_given.1
+
+    pub written-over : IsClauseOver (length old.trail.declared) (given_at old.written place).clause
+    written-over =
         let sizes : length old.trail.declared ≡ length model.vars = ap length h.state.core.declared ∙ length-map model.vars (λ var. var.domain) in
-        let O : ℕ → Type 0 = λ n. IsClauseOver n (inference_at old.inferences place).clause in
-        subst O (sym sizes) is_justified.over
+        let O : ℕ → Type 0 = λ n. IsClauseOver n (given_at old.written place).clause in
+        subst O (sym sizes) is_given.0
 
     -- it is held too
-    pub more-tended : (clauses : Clauses) → held_by clauses ≡ held_by old.clauses ++ Some (inference_at old.inferences place).clause ∷ [] → KeepsWatching old.clauses clauses → (notes : Notes) → IsTended model old (record old { clauses = clauses; numbers = old.numbers ++ number ∷ []; notes = notes }) steps
+    pub more-tended : (clauses : Clauses) → held_by clauses ≡ held_by old.clauses ++ Some (given_at old.written place).clause ∷ [] → KeepsWatching old.clauses clauses → (notes : Notes) → IsTended model old (record old { clauses = clauses; numbers = old.numbers ++ (given_at old.written place).number ∷ []; notes = notes }) steps
     more-tended clauses held_is keeps notes =
         let core = h.state.core in
         let held = held_by old.clauses in
-        let clause = (inference_at old.inferences place).clause in
-        restocked-tended clauses keeps (held ++ Some clause ∷ []) held_is (old.numbers ++ number ∷ [])
+        restocked-tended clauses keeps (held ++ Some it.clause ∷ []) held_is (old.numbers ++ it.number ∷ [])
         (record {
-          numbered = AreNumbered-push (past_of model steps) old.numbers held number clause core.numbered inference-given;
+          numbered = AreNumbered-push (past_of model steps) old.numbers held it.number it.clause core.numbered written-given;
           justified = core.justified;
+          written = core.written;
           alive = core.alive;
-          cuts_held = cuts-grown core.stocked clause;
-          held_over = AllHeld-push (IsClauseOver (length old.trail.declared)) held clause core.held_over inference-over;
+          cuts_held = cuts-grown core.stocked it.clause;
+          held_over = AllHeld-push (IsClauseOver (length old.trail.declared)) held it.clause core.held_over written-over;
         })
-        (IsReasoned-grown (known_in (stock_of old)) (Some clause ∷ []) old.trail core.reasoned) notes
+        (IsReasoned-grown (known_in (stock_of old)) (Some it.clause ∷ []) old.trail core.reasoned) notes

@@ -74,8 +74,8 @@ module _ {model : Model} {mid : Solver} {before : List Step} {learned : Learned}
   pub derives-accepted : IsAccepted model (past_of model before) (Resolve learned.clause numbers)
   derives-accepted = derived-accepted h.state.state learned.clause learned.antecedents h.derived.over h.derived.accepted numbers h.give
 
-  pub derives-spelled : IsWellFormed model → IsSpelled Two (Resolve learned.clause numbers)
-  derives-spelled good =
+  spelled : IsWellFormed model → IsSpelled Two (Resolve learned.clause numbers)
+  spelled good =
       let few = good.few_vars in
       let sizes : length mid.trail.declared ≡ length model.vars = ap length h.state.state.core.declared ∙ length-map model.vars (λ var. var.domain) in
       let each = length-past_of model before in
@@ -85,8 +85,15 @@ module _ {model : Model} {mid : Solver} {before : List Step} {learned : Learned}
       few_by : (a b : ℕ) → a ≡ b → b < 10 ^ 18 → a < 10 ^ 18
       few_by a b e k = omega arith
 
-  pub derives-logged : (now : List Step) → (now ≡ before) ⊎ (now ≡ before ++ Resolve learned.clause numbers ∷ []) → AllAccepted model now
-  derives-logged now log = logged-accepted model before now (Resolve learned.clause numbers) h.state.state.core.accepted derives-accepted log
+  module _ {step : Step} (is : step ≡ Resolve learned.clause numbers) where
+    pub derives-spelled : IsWellFormed model → IsSpelled Two step
+    derives-spelled good = subst (IsSpelled Two) (sym is) (spelled good)
+
+    pub derives-logged : (now : List Step) → (now ≡ before) ⊎ (now ≡ before ++ step ∷ []) → AllAccepted model now
+    derives-logged now log = logged-accepted model before now step h.state.state.core.accepted (subst (IsAccepted model (past_of model before)) (sym is) derives-accepted) log
+
+    pub derives-now : {now : List Step} → now ≡ before ++ step ∷ [] → now ≡ before ++ Resolve learned.clause numbers ∷ []
+    derives-now now_is = now_is ∙ ap (λ (s : Step). before ++ s ∷ []) is
 
 module _ {model : Model} {mid : Solver} {before : List Step} {conflict : Reason} {learned : Learned} {numbers : List ℕ} (h : Learns model mid before conflict learned numbers) {now : List Step} (now_is : now ≡ before ++ Resolve learned.clause numbers ∷ []) where
   pub learn-closed : learned.clause ≡ [] → (new : Solver) → Holds learned.clause mid new → IsClosed model mid new now

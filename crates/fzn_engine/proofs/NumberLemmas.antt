@@ -11,7 +11,8 @@ use Rattle.fzn_meaning.specs.declared.model.Model.{Model}
 use Rattle.fzn_propagator.specs.declared.inferences.Inferred.{Inferred}
 use Rattle.fzn_clauses.specs.Held.{Held, clause_of}
 use Rattle.fzn_clauses.proofs.HeldLemmas.{IsHeld-within, IsHeld-cases, clause_of-grown, clause_of-newest}
-use Rattle.fzn_engine.specs.State.{Give, AreNumbered, IsJustified}
+use Rattle.fzn_upkeep.specs.declared.written.Given.{Given}
+use Rattle.fzn_engine.specs.State.{Give, AreNumbered, IsJustified, IsGivenBy}
 
 -- a past with one more entry among the clauses
 abbrev pub Grows : Past → Past → Option (List Lit) → Type 0
@@ -119,6 +120,11 @@ IsJustified-grown model old new entry it grows h = record {
     still : (number : Option ℕ) → IfSome number (λ n. clause_held old n ≡ Some it.clause) → IfSome number (λ n. clause_held new n ≡ Some it.clause)
     still None w = tt
     still (Some n) w = clause_held-grown old new entry n it.clause grows w
+
+-- the clauses of written inferences stay given
+pub AreGivenBy-grown : (model : Model) (old new : Past) (entry : Option (List Lit)) (written : List Given) → Grows old new entry → All (IsGivenBy model old) written → All (IsGivenBy model new) written
+AreGivenBy-grown model old new entry written grows all =
+    All-weaker (IsGivenBy model old) (IsGivenBy model new) (λ it h. (h.0, clause_held-grown old new entry it.number it.clause grows h.1)) written all
 
 -- ---- steps that may be deleted
 

@@ -12,7 +12,6 @@ use Rattle.fzn_meaning.specs.Solutions.{cut_of}
 use Rattle.fzn_cert.specs.declared.step.Step.{Step}
 use Rattle.fzn_cert.specs.Past.{Past, clause_held}
 use Rattle.fzn_cert.specs.Accepted.{past_of}
-use Rattle.fzn_propagator.specs.Inferences.{inference_at}
 use Rattle.fzn_trail.specs.declared.trail.ClauseId.{ClauseId}
 use Rattle.fzn_trail.specs.declared.trail.Entry.{Entry}
 use Rattle.fzn_trail.specs.declared.trail.Reason.{Reason}
@@ -25,12 +24,13 @@ use Rattle.fzn_clauses.specs.Watching.{held_by}
 use Rattle.fzn_learned.specs.Reasoned.{IsReasoned}
 use Rattle.fzn_learned.proofs.CallerLemmas.{IsReasoned-still, IsStill}
 use Rattle.fzn_upkeep.specs.declared.notes.Notes.{Notes}
+use Rattle.fzn_upkeep.specs.Written.{given_at}
 use Rattle.fzn_engine.specs.declared.solver.Solver.{Solver}
 use Rattle.fzn_engine.specs.Changes.{IsTended}
 use Rattle.fzn_engine.specs.Search.{IsAfter, stock_of}
 use Rattle.fzn_engine.specs.State.{known_in, IsHeldCut, AreNumbered}
 use Rattle.fzn_engine.proofs.HeldCutLemmas.{IsHeldCut-put}
-use Rattle.fzn_engine.proofs.ForgetLemmas.{restocked-tended, inference-given, inference-over}
+use Rattle.fzn_engine.proofs.ForgetLemmas.{restocked-tended, written-given, written-over}
 
 -- ---- one more clause, under a free number
 
@@ -89,19 +89,21 @@ module _ (held : Held) (id : ClauseId) (clause : List Lit) (free : IsHeld held i
 
 -- ---- the search that has it
 
-pub put-tended : {model : Model} {old : Solver} {steps : List Step} (h : IsAfter model old steps) (place : ℕ) (stacked : place < length old.inferences) (number : ℕ) (written : (inference_at old.inferences place).number ≡ Some number) (clauses : Clauses) (id : ClauseId) → id.0 < length (held_by old.clauses) → (IsHeld (held_by old.clauses) id → ⊥) → held_by clauses ≡ set (held_by old.clauses) id.0 (Some (inference_at old.inferences place).clause) → KeepsWatching old.clauses clauses → (notes : Notes) → IsTended model old (record old { clauses = clauses; numbers = set old.numbers id.0 number; notes = notes }) steps
-put-tended {model = model} {old = old} {steps = steps} h place stacked number written clauses id within free held_is keeps notes =
+pub put-tended : {model : Model} {old : Solver} {steps : List Step} (h : IsAfter model old steps) (place : ℕ) (within_written : place < length old.written) (clauses : Clauses) (id : ClauseId) → id.0 < length (held_by old.clauses) → (IsHeld (held_by old.clauses) id → ⊥) → held_by clauses ≡ set (held_by old.clauses) id.0 (Some (given_at old.written place).clause) → KeepsWatching old.clauses clauses → (notes : Notes) → IsTended model old (record old { clauses = clauses; numbers = set old.numbers id.0 (given_at old.written place).number; notes = notes }) steps
+put-tended {model = model} {old = old} {steps = steps} h place within_written clauses id within free held_is keeps notes =
     let core = h.state.core in
     let held = held_by old.clauses in
-    let clause = (inference_at old.inferences place).clause in
-    let put = set (held_by old.clauses) id.0 (Some (inference_at old.inferences place).clause) in
+    let clause = (given_at old.written place).clause in
+    let number = (given_at old.written place).number in
+    let put = set (held_by old.clauses) id.0 (Some (given_at old.written place).clause) in
     restocked-tended h clauses keeps put held_is (set old.numbers id.0 number)
     (record {
-      numbered = AreNumbered-put held id clause free within (past_of model steps) old.numbers number core.numbered (inference-given h place stacked number written);
+      numbered = AreNumbered-put held id clause free within (past_of model steps) old.numbers number core.numbered (written-given h place within_written);
       justified = core.justified;
+      written = core.written;
       alive = core.alive;
       cuts_held = All-weaker (λ values. IsHeldCut held old.cuts (cut_of model values)) (λ values. IsHeldCut put old.cuts (cut_of model values))
           (λ values cut. IsHeldCut-put held old.cuts (cut_of model values) cut id clause free) (past_of model steps).solutions core.cuts_held;
-      held_over = AllHeld-put held id clause free within (IsClauseOver (length old.trail.declared)) core.held_over (inference-over h place stacked number written);
+      held_over = AllHeld-put held id clause free within (IsClauseOver (length old.trail.declared)) core.held_over (written-over h place within_written);
     })
     (IsReasoned-put held id clause free (known_in (stock_of old)).stacked old.trail core.reasoned) notes

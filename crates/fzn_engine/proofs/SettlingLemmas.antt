@@ -38,7 +38,7 @@ use Rattle.fzn_engine.specs.State.{Stock, known_in, with_held, IsHeldCut, IsJust
 use Rattle.fzn_engine.proofs.AcceptedLemmas.{resolved-append, length-past_of}
 use Rattle.fzn_engine.proofs.ChangeLemmas.{Core-resolved, State-cut}
 use Rattle.fzn_engine.proofs.HeldCutLemmas.{IsHeldCut-put}
-use Rattle.fzn_engine.proofs.NumberLemmas.{clause_held-newest, AreNumbered-grown, AreGiven-push, IsJustified-grown}
+use Rattle.fzn_engine.proofs.NumberLemmas.{clause_held-newest, AreNumbered-grown, AreGiven-push, IsJustified-grown, AreGivenBy-grown}
 use Rattle.fzn_engine.proofs.PutLemmas.{AllHeld-put, AreNumbered-put, IsReasoned-put}
 use Rattle.fzn_engine.proofs.SolverLemmas.{solver-is, order-step}
 use Rattle.fzn_engine.proofs.StateLemmas.{Core-moved, Core-more}
@@ -216,6 +216,7 @@ module _ {model : Model} {old : Solver} {steps : List Step} (h : IsAfter model o
         record {
           numbered = AreNumbered-put held id clause free within now old.numbers (old.steps + 1) (AreNumbered-grown past now (Some clause) old.numbers held refl core.numbered) gives;
           justified = All-weaker (IsJustified model past) (IsJustified model now) (λ it j. IsJustified-grown model past now (Some clause) it refl j) old.inferences core.justified;
+          written = AreGivenBy-grown model past now (Some clause) old.written refl core.written;
           alive = AreGiven-push past now old.alive (old.steps + 1) clause refl core.alive gives;
           cuts_held = All-weaker (λ values. IsHeldCut held old.cuts (cut_of model values)) Cut
               (λ values cut. IsHeldCut-put held old.cuts (cut_of model values) cut id clause free) (past_of model steps).solutions core.cuts_held;

@@ -22,7 +22,7 @@ use Rattle.fzn_engine.specs.Learned.{resolved, FreshAfter, negations, AllCertain
 use Rattle.fzn_engine.specs.State.{Stock, known_in, with_held, with_cuts, with_inference, with_stack, IsHeldCut, IsJustified, IsStocked, CoreOf, PlainOf}
 use Rattle.fzn_engine.proofs.AcceptedLemmas.{past_of-push, AllAccepted-push, length-past_of}
 use Rattle.fzn_engine.proofs.HeldCutLemmas.{IsHeldCut-grown}
-use Rattle.fzn_engine.proofs.NumberLemmas.{Grows, clause_held-newest, AreGiven-push, AreNumbered-grown, AreNumbered-push, IsJustified-grown}
+use Rattle.fzn_engine.proofs.NumberLemmas.{Grows, clause_held-newest, AreGiven-push, AreNumbered-grown, AreNumbered-push, IsJustified-grown, AreGivenBy-grown}
 use Rattle.fzn_engine.proofs.VolumeLemmas.{decided-accounts}
 use Rattle.fzn_engine.proofs.WithinLemmas.{Within, Within-narrowed, backed-within}
 use Rattle.fzn_engine.proofs.FreshLemmas.{learned-fresh, LevelsBacked-push, LevelsBacked-back, backed-back}
@@ -35,6 +35,7 @@ module _ {model : Model} {past : Past} {variables : ℕ} {stock : Stock} (h : Is
   Stocked-held now clause number flags grows gives cuts over = record {
     numbered = AreNumbered-push now stock.numbers stock.held number clause (AreNumbered-grown past now (Some clause) stock.numbers stock.held grows h.numbered) gives;
     justified = All-weaker (IsJustified model past) (IsJustified model now) (λ it j. IsJustified-grown model past now (Some clause) it grows j) stock.stack h.justified;
+    written = AreGivenBy-grown model past now (Some clause) stock.written grows h.written;
     alive = AreGiven-push past now stock.alive number clause grows h.alive gives;
     cuts_held = cuts;
     held_over = AllHeld-push (IsClauseOver variables) stock.held clause h.held_over over;
@@ -48,7 +49,7 @@ module _ {model : Model} {past : Past} {variables : ℕ} {stock : Stock} (h : Is
 
   -- another stack
   pub Stocked-over : (stack : List Inferred) → All (IsJustified model past) stack → IsStocked model past variables (record stock { stack = stack })
-  Stocked-over stack justified = record { numbered = h.numbered; justified = justified; alive = h.alive; cuts_held = h.cuts_held; held_over = h.held_over }
+  Stocked-over stack justified = record { numbered = h.numbered; justified = justified; written = h.written; alive = h.alive; cuts_held = h.cuts_held; held_over = h.held_over }
 
 -- ---- the search
 

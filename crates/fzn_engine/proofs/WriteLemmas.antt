@@ -1,8 +1,8 @@
 -- An inference is written.
-use Rattle.std.proofs.Common.{◌≡◌, ℕ, ◌+◌, ◌*◌, ◌<◌, ◌≤◌, List, [], ◌∷◌, ◌++◌, length, Some, refl, sym, ap, ◌∙◌, subst}
+use Rattle.std.proofs.Common.{◌≡◌, ℕ, ◌+◌, ◌*◌, ◌<◌, ◌≤◌, List, [], ◌∷◌, ◌++◌, length, set, Some, refl, sym, ap, ◌∙◌, subst}
 use Rattle.std.proofs.Math.Seq.{map-set_same}
 use Rattle.std.proofs.lemmas.List.{append-nil}
-use Rattle.std.proofs.lemmas.List.Elements.{All-get_or, All-set, All-weaker}
+use Rattle.std.proofs.lemmas.List.Elements.{All-get_or, All-push, All-set, All-weaker}
 use Rattle.fzn_domain.specs.declared.literal.Lit.{Lit}
 use Rattle.fzn_meaning.specs.declared.model.Model.{Model}
 use Rattle.fzn_cert.specs.declared.step.Step.{Step}
@@ -15,10 +15,10 @@ use Rattle.fzn_trail.specs.Levels.{Levels}
 use Rattle.fzn_learned.specs.Reasoned.{Known, IsReasoned}
 use Rattle.fzn_engine.specs.Volume.{slack}
 use Rattle.fzn_engine.specs.Learned.{resolved}
-use Rattle.fzn_engine.specs.State.{Stock, known_in, with_step, IsJustified, CoreOf}
+use Rattle.fzn_engine.specs.State.{Stock, known_in, with_given, with_step, IsGivenBy, IsJustified, CoreOf}
 use Rattle.fzn_engine.proofs.AcceptedLemmas.{past_of-push, resolved-append, length-past_of}
-use Rattle.fzn_engine.proofs.StateLemmas.{Core-more}
-use Rattle.fzn_engine.proofs.NumberLemmas.{clause_held-grown, clause_held-newest, AreGiven-push, AreNumbered-grown, IsJustified-grown}
+use Rattle.fzn_engine.proofs.StateLemmas.{Core-more, Core-restocked, Stocked-over}
+use Rattle.fzn_engine.proofs.NumberLemmas.{clause_held-grown, clause_held-newest, AreGiven-push, AreNumbered-grown, IsJustified-grown, AreGivenBy-grown}
 
 module _ {model : Model} {stock : Stock} {steps : List Step} {trail : Levels} {nodes : ℕ} (core : CoreOf model stock steps trail nodes) (place : ℕ) (stacked : place < length stock.stack) where
   abbrev pub it : Inferred
@@ -71,8 +71,20 @@ module _ {model : Model} {stock : Stock} {steps : List Step} {trail : Levels} {n
         numbered = AreNumbered-grown (past_of model steps) now (Some it.clause) stock.numbers stock.held refl core.numbered;
         justified = All-set J stock.stack place (with_number number it) (newest number e)
             (All-weaker (IsJustified model (past_of model steps)) J (λ i j. IsJustified-grown model (past_of model steps) now (Some it.clause) i refl j) stock.stack core.justified);
+        written = All-push (IsGivenBy model now) stock.written (record { clause = it.clause; number = number })
+            (AreGivenBy-grown model (past_of model steps) now (Some it.clause) stock.written refl core.written) (is_justified.over, gives-now number e);
         alive = AreGiven-push (past_of model steps) now stock.alive number it.clause refl core.alive (gives-now number e);
         cuts_held = core.cuts_held;
         held_over = core.held_over;
       })
       trail refl (subst R (sym (known-written number)) core.reasoned) (subst N (sym same_resolved) core.nodes_by_conflicts)
+
+  -- a step that was written before gives its clause
+  pub Core-given : (number : ℕ) → clause_held (past_of model steps) number ≡ Some it.clause → CoreOf model (with_given place number stock) steps trail nodes
+  Core-given number gives =
+      let J : Inferred → Type 0 = IsJustified model (past_of model steps) in
+      let R : Known → Type 0 = λ k. IsReasoned k trail in
+      let one : J (with_number number it) = record { over = is_justified.over; numbered = is_justified.numbered; justified = is_justified.justified; spelled = is_justified.spelled; written = gives } in
+      Core-restocked core (with_given place number stock)
+      (Stocked-over core.stocked (set stock.stack place (with_number number it)) (All-set J stock.stack place (with_number number it) one core.justified))
+      (subst R (sym (known-written number)) core.reasoned)

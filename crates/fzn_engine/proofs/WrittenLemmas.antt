@@ -11,6 +11,7 @@ use Rattle.fzn_propagator.specs.declared.inferences.Inferred.{Inferred}
 use Rattle.fzn_propagator.specs.Inferences.{inference_at, with_number}
 use Rattle.fzn_trail.specs.declared.trail.Reason.{Reason}
 use Rattle.fzn_learned.specs.Reasoned.{Known, clause_of, opens}
+use Rattle.fzn_upkeep.specs.declared.notes.Notes.{Notes}
 use Rattle.fzn_engine.specs.declared.solver.Solver.{Solver}
 use Rattle.fzn_engine.specs.State.{Give, with_step, PlainOf, StateOf}
 use Rattle.fzn_engine.specs.Search.{IsAfter, stock_of}
@@ -18,7 +19,7 @@ use Rattle.fzn_engine.specs.Antecedents.{GiveAntecedents, StillGive, IsWritten}
 use Rattle.fzn_engine.proofs.AcceptedLemmas.{logged-accepted}
 use Rattle.fzn_engine.proofs.NumberLemmas.{Give-push}
 use Rattle.fzn_engine.proofs.SolverLemmas.{order-step}
-use Rattle.fzn_engine.proofs.WriteLemmas.{infer-accepted, known-written, written-there, still-gives, Core-written, same_resolved}
+use Rattle.fzn_engine.proofs.WriteLemmas.{infer-accepted, known-written, written-there, still-gives, Core-given, Core-written, same_resolved}
 
 -- a copy makes the same step
 pub infer_same : (copy it : Inferred) → copy ≡ it → Infer copy.constraint copy.rule copy.clause ≡ Infer it.constraint it.rule it.clause
@@ -57,14 +58,28 @@ module _ {model : Model} {old : Solver} {before : List Step} (h : IsAfter model 
   pub infer-logged : (now : List Step) → (now ≡ before) ⊎ (now ≡ before ++ step ∷ []) → AllAccepted model now
   infer-logged now log = logged-accepted model before now step h.state.core.accepted (infer-accepted h.state.core place stacked) log
 
+  -- a step that was written before gives it
+  pub infer-given : (number : ℕ) → clause_held (past_of model before) number ≡ Some it.clause → (notes : Notes) → IsWritten model before old (record old { inferences = set old.inferences place (with_number number it); notes = notes }) before
+  infer-given number gives notes = record {
+    state = record {
+      state = record { core = Core-given h.state.core place stacked number gives; plain = h.state.plain };
+      watching = h.watching;
+      order = h.order;
+    };
+    kept = λ n clause given. given;
+    known = known-written h.state.core place stacked number;
+    trail = refl;
+    tally = refl;
+  }
+
   module _ {now : List Step} (now_is : now ≡ before ++ step ∷ []) (few : length now < 10 ^ 18) where
     pub infer-number : (number : ℕ) → number ≡ old.steps + 1 → clause_held (past_of model now) number ≡ Some it.clause
     infer-number number e =
         let C : List Step → Type 0 = λ s. clause_held (past_of model s) number ≡ Some it.clause in
         subst C (sym now_is) (written-there h.state.core place stacked number (e ∙ ap (λ (n : ℕ). n + 1) h.steps_are))
 
-    pub infer-written : (number : ℕ) → number ≡ old.steps + 1 → (new : Solver) → new ≡ record old { inferences = set old.inferences place (with_number number it); alive = old.alive ++ number ∷ []; steps = number } → IsWritten model before old new now
-    infer-written number e new new_is =
+    pub infer-written : (number : ℕ) → number ≡ old.steps + 1 → (notes : Notes) (new : Solver) → new ≡ record old { inferences = set old.inferences place (with_number number it); written = old.written ++ record { clause = it.clause; number = number } ∷ []; alive = old.alive ++ number ∷ []; notes = notes; steps = number } → IsWritten model before old new now
+    infer-written number e notes new new_is =
         let P : Solver → Type 0 = λ s. IsWritten model before old s now in
         let core = Core-written h.state.core place stacked number (e ∙ ap (λ (n : ℕ). n + 1) h.steps_are) in
         let R : List (List Lit) → Type 0 = λ cs. PlainOf old.trail.declared old.trail.sets (opens old.trail.declared old.trail.entries) cs old.search.nodes in

@@ -21,7 +21,7 @@ use Rattle.fzn_engine.specs.declared.solver.Solver.{Solver}
 
 -- the clauses that a search has
 abbrev pub stock_of : Solver → Stock
-stock_of solver = record { held = held_by solver.clauses; numbers = solver.numbers; cuts = solver.cuts; stack = solver.inferences; alive = solver.alive }
+stock_of solver = record { held = held_by solver.clauses; numbers = solver.numbers; cuts = solver.cuts; stack = solver.inferences; written = solver.written; alive = solver.alive }
 
 -- the sets on which learned clauses are tested, and what is counted, are in order after these steps
 pub record IsInOrder (model : Model) (tested : Narrowed) (variables solutions number : ℕ) (steps : List Step) : Type 0 where

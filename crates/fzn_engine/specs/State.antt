@@ -20,17 +20,19 @@ use Rattle.fzn_clauses.specs.Held.{Held, IsHeld, AllHeld, at_number, clause_of}
 use Rattle.fzn_strategy.specs.declared.learn.Learn.{Learn}
 use Rattle.fzn_strategy.specs.declared.learn.Learn.TheVariants.{Plain}
 use Rattle.fzn_learned.specs.Reasoned.{Known, known_from, IsReasoned, Open, opens}
+use Rattle.fzn_upkeep.specs.declared.written.Given.{Given}
 use Rattle.fzn_upkeep.specs.Forgetting.{is_cut}
 use Rattle.fzn_engine.specs.Volume.{volume, slack}
 use Rattle.fzn_engine.specs.Learned.{resolved, FreshAfter, HasCertain, LevelsBacked, left_open}
 
 -- the clauses that a search has: those that it holds, with the numbers of their steps and flags of those that are cuts, its
--- inferences, and the numbers of the steps that may be deleted once nothing of it is theirs
+-- inferences and those that were written, and the numbers of the steps that may be deleted once nothing of it is theirs
 pub record Stock : Type 0 where
   pub held : Held
   pub numbers : List ℕ
   pub cuts : List Bool
   pub stack : List Inferred
+  pub written : List Given
   pub alive : List ℕ
 
 abbrev pub known_in : Stock → Known
@@ -52,10 +54,14 @@ with_cuts cuts stock = record stock { cuts = cuts }
 abbrev pub with_inference : Inferred → Stock → Stock
 with_inference it stock = record stock { stack = stock.stack ++ it ∷ [] }
 
--- the inference at this place was written as the step of this number
+-- the inference at this place is given by the step of this number
+abbrev pub with_given : ℕ → ℕ → Stock → Stock
+with_given place number stock = record stock { stack = slice_set stock.stack place (with_number number (inference_at stock.stack place)) }
+
+-- and was written as this step
 abbrev pub with_step : ℕ → ℕ → Stock → Stock
-with_step place number stock = record stock {
-  stack = slice_set stock.stack place (with_number number (inference_at stock.stack place));
+with_step place number stock = record (with_given place number stock) {
+  written = stock.written ++ record { clause = (inference_at stock.stack place).clause; number = number } ∷ [];
   alive = stock.alive ++ number ∷ [];
 }
 
@@ -82,6 +88,10 @@ pub record IsJustified (model : Model) (past : Past) (it : Inferred) : Type 0 wh
   pub spelled : IsSpelled One (Infer it.constraint it.rule it.clause)
   pub written : IfSome it.number (λ n. clause_held past n ≡ Some it.clause)
 
+-- the step of its number gives the clause of a written inference
+abbrev pub IsGivenBy : Model → Past → Given → Type 0
+IsGivenBy model past it = IsClauseOver (length model.vars) it.clause × (clause_held past it.number ≡ Some it.clause)
+
 -- the clause is held under a number that has the flag of cuts
 abbrev pub IsHeldCut : Held → List Bool → List Lit → Type 0
 IsHeldCut held cuts clause = (id : ClauseId) × (is_cut cuts id ≡ true) × (at_number held id ≡ Some clause)
@@ -91,6 +101,8 @@ pub record IsStocked (model : Model) (past : Past) (variables : ℕ) (stock : St
   -- each held clause has the number of its step, and each inference is justified
   pub numbered : AreNumbered past stock.numbers stock.held
   pub justified : All (IsJustified model past) stock.stack
+  -- each written clause is given by its step
+  pub written : All (IsGivenBy model past) stock.written
   -- each step that may be deleted gives a clause
   pub alive : All (IsGiven past) stock.alive
   -- the cut of each solution is held as one

@@ -33,7 +33,7 @@ impl Solver {
     {
         let values = values_of(alloc, &self.trail, model.vars.len())?;
         let clause = cut(alloc, model, values.as_slice())?;
-        let id = self.hold(clause.as_slice(), [].as_slice(), [].as_slice(), None)?;
+        let id = self.hold(clause.as_slice(), [].as_slice(), None)?;
         self.cuts.add(id)?;
         let step = Step::Solution(values);
         sink.step(alloc, model, &step)?;
@@ -151,6 +151,7 @@ impl Solver {
         requires ready { IsReady model.now self.old (S.written sink.old) (S.keeps model.now sink.old × C.is_for constraints.old model.now) }
         requires within { IsWithinLimits model.now limits self.old }
         ensures over { IfOk result (IsOver model.now self.old.learn limits self.new (S.written sink.new)) }
+        ensures told { IfOk result (λ _. S.told sink.new ≡ self.new.search.nodes) }
         ensures left { IsLeft model.now (S.written sink.new) (S.keeps model.now sink.new) (S.origin sink.new ≡ S.origin sink.old) }
     {
         'changes: loop {

@@ -13,7 +13,8 @@ use fzn_upkeep::next_deletion;
 use std::alloc::Global;
 
 impl Solver {
-    /// Deletes the steps that are of no held clause and of no inference that stands, where they are many.
+    /// Deletes the steps that are of no held clause and of no inference that stands, where they are many, or where the search restarted and
+    /// clauses were forgotten.
     pub fn delete<S: Sink>(
         &mut self,
         alloc: Global,
@@ -24,12 +25,14 @@ impl Solver {
         ensures tended { OnOk result (IsTended model.now self.old self.new (S.written sink.new)) }
         ensures left { IsLeft model.now (S.written sink.new) (S.keeps model.now sink.new) (S.origin sink.new ≡ S.origin sink.old) }
     {
+        self.notes.drop_cited(); // The places of written clauses change.
         let found = next_deletion(
             alloc,
             &self.clauses,
             &self.numbers,
             &self.inferences,
             &self.alive,
+            &mut self.written,
             &mut self.notes,
         )?;
         let Some(deletion) = found else {

@@ -12,19 +12,18 @@ use crate::solver::Solver;
 use fzn_cert::Step;
 use fzn_domain::{Lit, Memory};
 use fzn_meaning::Model;
-use fzn_trail::{ClauseId, Reason};
+use fzn_trail::ClauseId;
 
 /// How many literals the clause of an inference has at most that is held.
 const SHORT: usize = 4;
 
 impl Solver {
-    /// Holds the clause of the next step, and tells the search which literals its conflict rests on, and notes on which antecedents the
-    /// clause rests. One with a literal block distance may be forgotten.
+    /// Holds the clause of the next step, and tells the search which literals its conflict rests on. One with a literal block distance may
+    /// be forgotten.
     pub fn hold(
         &mut self,
         clause: &[Lit],
         marked: &[Lit],
-        antecedents: &[Reason],
         block_distance: Option<usize>,
     ) -> Result<ClauseId, Memory>
         requires room { self.old.steps < 10 ^ 18 }
@@ -33,7 +32,6 @@ impl Solver {
     {
         self.search.bump(marked)?;
         let id = self.clauses.add(clause)?;
-        self.notes.cite(antecedents)?;
         if let Some(block_distance) = block_distance {
             self.notes.learn(id, block_distance)?;
         }
@@ -43,32 +41,29 @@ impl Solver {
         Ok(id)
     }
 
-    /// Holds the clauses of inferences that were just written, where they are short: they are not inferred and written again.
+    /// Holds the clauses of inferences that a learned clause was the first to rest on, where they are short: they are not inferred again.
     pub fn hold_cited(&mut self) -> Result<(), Memory>
         ensures tended { OnOk result ((model : Model) (steps : List Step) → IsAfter model self.old steps → IsTended model self.old self.new steps) }
     {
         'cited: for _ in 0..self.notes.count_cited() {
             if let Some(place) = self.notes.next_cited() {
-                self.hold_inference(place)?;
+                self.hold_written(place)?;
             }
         }
-        self.notes.ask_up_to(self.steps);
         Ok(())
     }
 
-    /// Holds the clause of the inference at this place, if it was just written and is short.
-    fn hold_inference(&mut self, place: usize) -> Result<(), Memory>
+    /// Holds the written clause at this place, if it is short.
+    fn hold_written(&mut self, place: usize) -> Result<(), Memory>
         ensures tended { OnOk result ((model : Model) (steps : List Step) → IsAfter model self.old steps → IsTended model self.old self.new steps) }
     {
-        if place >= self.inferences.len() {
+        if place >= self.written.len() {
             return Ok(());
         }
-        let inference = self.inferences.get(place);
-        let clause = inference.clause.as_slice();
-        let Some(number) = inference.number else {
-            return Ok(());
-        };
-        if clause.len() < 2 || SHORT < clause.len() || !self.notes.is_new(number) {
+        let given = self.written.get(place);
+        let clause = given.clause.as_slice();
+        let number = given.number;
+        if clause.len() < 2 || SHORT < clause.len() {
             return Ok(());
         }
         let Some(free) = self.notes.next_free(&self.clauses, &self.numbers) else {

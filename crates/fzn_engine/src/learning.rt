@@ -2,6 +2,7 @@
 ghost use Rattle.std.specs.Prelude.{◌≡◌, ◌<◌, IfOk, IsTrue, Some, false};
 ghost use Rattle.fzn_meaning.specs.declared.model.Model.{Model};
 ghost use Rattle.fzn_cert.specs.declared.step.Step.{Step};
+ghost use Rattle.fzn_cert.specs.declared.step.Step.TheVariants.{Resolve};
 ghost use Rattle.fzn_strategy.specs.declared.learn.Learn.TheVariants.{First};
 ghost use Rattle.fzn_learned.specs.Learned.{IsConflicting};
 ghost use Rattle.fzn_propagator.specs.Constraints.{IsInference};
@@ -15,6 +16,7 @@ use crate::sink::Sink;
 use crate::solver::Solver;
 use fzn_cert::Step;
 use fzn_conflict::analyse;
+use fzn_domain::{Clause, Memory};
 use fzn_learned::Learned;
 use fzn_list::Items;
 use fzn_meaning::Model;
@@ -75,19 +77,15 @@ impl Solver {
         let (learned, ids) = self.derive(alloc, model, sink, conflict)?;
         let Learned {
             clause,
-            antecedents,
+            antecedents: _,
             level,
             block_distance,
             marked,
         } = learned;
-        let id = self.hold(
-            clause.as_slice(),
-            marked.as_slice(),
-            antecedents.as_slice(),
-            Some(block_distance),
-        )?;
+        let id = self.hold(clause.as_slice(), marked.as_slice(), Some(block_distance))?;
         let is_empty = clause.len() == 0;
-        sink.step(alloc, model, &Step::Resolve { clause, ids })?;
+        let resolved = step_of(clause, ids)?;
+        sink.step(alloc, model, &resolved)?;
         if is_empty {
             return Ok(None);
         }
@@ -158,4 +156,12 @@ impl Solver {
         }
         self.resolve(alloc, model, sink, reason)
     }
+}
+
+/// The step of a clause that follows from those of the steps of these numbers.
+pub fn step_of(clause: Clause, ids: Items<u64>) -> Result<Step, Memory>
+    ensures { IfOk result (λ step. step ≡ Resolve clause ids) }
+{
+    let clause = Items::from_vec(clause.into_vec()?);
+    Ok(Step::Resolve { clause, ids })
 }

@@ -24,7 +24,8 @@ use std::alloc::Global;
 
 /// Searches for solutions of the model, and hands on each step of the argument. How decisions are made is up to the choice and the
 /// annotations; where the choice asks for restarts, they come only where the first unique implication point is learned. It answers `Memory`
-/// where memory runs out, and else the fault that the sink answered. The steps that the sink has taken are accepted then too.
+/// where memory runs out, and else the fault that the sink answered. The steps that the sink has taken are accepted then too. The sink is
+/// told last of as many decisions as the report.
 pub fn solve<S: Sink, C: Constraints>(
     alloc: Global,
     model: &Model,
@@ -42,11 +43,13 @@ pub fn solve<S: Sink, C: Constraints>(
     requires kept { S.keeps model.now sink.old }
     ensures outcome { IfOk result (λ report. IsOutcome model.now learn limits (S.written sink.new) report.nodes report.ending) }
     ensures solutions { IfOk result (λ report. report.solutions ≡ count model.now (S.written sink.new)) }
+    ensures told { IfOk result (λ report. report.nodes ≡ S.told sink.new) }
     ensures accepted { AllAccepted model.now (S.written sink.new) }
     ensures kept { S.keeps model.now sink.new × (S.origin sink.new ≡ S.origin sink.old) }
 {
     if has_empty(model.vars.as_slice()) {
         refute(alloc, model, sink)?;
+        sink.tell(0, 0, 0);
         return Ok(Report {
             solutions: 0,
             nodes: 0,

@@ -14,11 +14,12 @@ use fzn_search::{Choice, Search};
 use fzn_sets::Sets;
 use fzn_strategy::{Annotation, Learn};
 use fzn_trail::Trail;
-use fzn_upkeep::{Cuts, Notes, Numbers};
+use fzn_upkeep::{Cuts, Notes, Numbers, Written};
 use std::alloc::Global;
 
 /// A search: the trail, the clauses that are held with the numbers of their steps, which of them are cuts, the inferences that stand,
-/// the numbers of the steps that are not deleted, what decides, and how many solutions were found and steps written.
+/// those that were written, the numbers of the steps that are not deleted, what decides, and how many solutions were found and steps
+/// written.
 #[derive(Drop)]
 pub struct Solver {
     pub trail: Trail,
@@ -26,6 +27,7 @@ pub struct Solver {
     pub numbers: Numbers,
     pub cuts: Cuts,
     pub inferences: Inferences,
+    pub written: Written,
     pub alive: Items<u64>,
     pub search: Search,
     /// The declared sets, on which learned clauses are tested.
@@ -66,6 +68,7 @@ impl Solver {
             numbers: Numbers::new(alloc),
             cuts: Cuts::new(alloc),
             inferences: Inferences::new(alloc),
+            written: Written::new(alloc),
             alive: Items::new(alloc),
             search,
             scratch,

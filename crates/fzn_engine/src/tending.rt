@@ -8,6 +8,7 @@ ghost use Rattle.fzn_engine.specs.Search.{IsReady, IsLeft};
 ghost use Rattle.fzn_engine.specs.Antecedents.{IsWritten, Derives};
 
 use crate::fault::Fault;
+use crate::learning::step_of;
 use crate::sink::Sink;
 use crate::solver::Solver;
 use fzn_cert::Step;
@@ -22,15 +23,16 @@ use fzn_upkeep::forget;
 use std::alloc::Global;
 
 impl Solver {
-    /// Serves the next conflicts: clauses stand for entries of level 0 on which conflicts rested, what is of little use is forgotten, and
-    /// where the first unique implication point is learned the entries of level 0 are settled and the steps on which nothing rests deleted.
+    /// Serves the next conflicts: short clauses of inferences that were written for one are held, clauses stand for entries of level 0 on
+    /// which conflicts rested, what is of little use is forgotten, and where the first unique implication point is learned the entries of
+    /// level 0 are settled and the steps on which nothing rests deleted.
     pub fn tend<S: Sink>(&mut self, alloc: Global, model: &Model, sink: &mut S) -> Result<(), Fault>
         requires ready { IsReady model.now self.old (S.written sink.old) (S.keeps model.now sink.old) }
         ensures kept { OnOk result (IsKeptBy model.now (S.written sink.new) self.old self.new) }
         ensures left { IsLeft model.now (S.written sink.new) (S.keeps model.now sink.new) (S.origin sink.new ≡ S.origin sink.old) }
     {
-        self.prove_units(alloc, model, sink)?;
         self.hold_cited()?;
+        self.prove_units(alloc, model, sink)?;
         forget(
             alloc,
             &self.trail,
@@ -120,7 +122,7 @@ impl Solver {
         ensures tended { OnOk result ((model : Model) (steps : List Step) → HoldsNext model clause.now steps self.old self.new) }
     {
         let Some(free) = self.notes.next_free(&self.clauses, &self.numbers) else {
-            let id = self.hold(clause, [].as_slice(), [].as_slice(), None)?;
+            let id = self.hold(clause, [].as_slice(), None)?;
             return Ok(id);
         };
         self.clauses.put(free, clause)?;
@@ -150,8 +152,8 @@ impl Solver {
         let (unit, ids) = derived;
         let clause = unit.clause;
         let id = self.hold_unit(clause.as_slice())?;
-        let step = Step::Resolve { clause, ids };
-        sink.step(alloc, model, &step)?;
+        let resolved = step_of(clause, ids)?;
+        sink.step(alloc, model, &resolved)?;
         self.notes.marks.stand_for(wanted, id);
         Ok(())
     }

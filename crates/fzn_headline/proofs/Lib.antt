@@ -1,1 +1,2 @@
 mod AgreeLemmas
+mod TruthLemmas

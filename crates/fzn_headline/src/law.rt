@@ -1,20 +1,16 @@
 // What follows from the contracts of the solver and of the checker.
-ghost use Rattle.std.specs.Prelude.{ℕ, List, Result};
-ghost use Rattle.fzn_checker.specs.declared.certificate.Verdict.{Verdict};
-ghost use Rattle.fzn_checker.specs.declared.fault.CheckFault.{CheckFault};
-ghost use Rattle.fzn_engine.specs.declared.report.Report.{Report};
+ghost use Rattle.std.specs.Prelude.{ℕ, List};
 ghost use Rattle.fzn_words.specs.declared.solve.Options.{Options};
-ghost use Rattle.fzn_headline.specs.Headline.{Ran, Checked, Agrees};
+ghost use Rattle.fzn_headline.specs.Headline.{Headline};
 
 use fzn_cert::one_verdict;
 use fzn_reading::one_model;
 
-/// Where `run` answered Ok, `check` on the same file, the bytes of the run's certificate and the same `-a` answers Ok, with as many
-/// solutions and an answer that is closed or open as the run's, and adds the same bytes to its output; unless memory runs out or a read or
-/// a write fails.
+/// For every file and all options: what a run that ends without a fault has printed is a true answer of the file, left open only where the
+/// node limit or the limit of solutions was reached. A check of the same file, the bytes of the run's certificate and the same `-a` accepts
+/// and prints the same bytes, unless memory runs out or a read or a write fails. What a check prints of any other bytes is a true answer too.
 pub fn headline()
-    ensures { (file answer certificate printed : List ℕ) (options : Options) (report : Report) (result : Result Verdict CheckFault)
-        → Ran file options answer certificate report → Checked file certificate options.all printed result → Agrees report answer printed result }
+    ensures { (file : List ℕ) (options : Options) → Headline file options }
 {
     one_model();
     one_verdict();

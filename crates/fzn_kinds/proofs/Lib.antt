@@ -1,1 +1,1 @@
-mod GlobalLemmas
+mod CrateLemmas

@@ -1,6 +1,6 @@
 // What is learned.
 
-use fzn_domain::Lit;
+use fzn_domain::{Clause, Lit};
 use fzn_list::Items;
 use fzn_trail::Reason;
 
@@ -8,7 +8,7 @@ use fzn_trail::Reason;
 #[derive(Debug, Drop)]
 pub struct Learned {
     /// What is learned. It forces a literal at `level`, or is empty.
-    pub clause: Items<Lit>,
+    pub clause: Clause,
     /// The reasons whose clauses it follows from, none of them a decision, in the order of the propagation.
     pub antecedents: Items<Reason>,
     /// The level, counted from 0, where the search goes back to: below the present one.

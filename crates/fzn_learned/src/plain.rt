@@ -7,7 +7,7 @@ ghost use Rattle.fzn_learned.specs.Reasoned.{known_of, IsReasoned, negated_decis
 
 use crate::learned::Learned;
 use fzn_clauses::Clauses;
-use fzn_domain::{Lit, Memory};
+use fzn_domain::{Clause, Memory};
 use fzn_list::Items;
 use fzn_propagator::Inferences;
 use fzn_trail::{Reason, Trail};
@@ -43,12 +43,12 @@ fn plain_clause(
     trail: &Trail,
     clauses: &Clauses,
     inferences: &Inferences,
-) -> Result<Items<Lit>, Memory>
+) -> Result<Clause, Memory>
     requires reasoned { IsReasoned (known_of clauses.now inferences.now) trail.now }
     requires limited { All IsLimited trail.now.declared }
     ensures { IfOk result (λ it. it ≡ negated_decisions trail.now.declared trail.now.entries) }
 {
-    let mut clause = Items::new(alloc);
+    let mut clause = Clause::with_capacity(alloc, trail.level())?;
     for i in 0..trail.len() {
         let entry = trail.entry(i);
         match entry.reason {
@@ -68,7 +68,7 @@ fn plain_antecedents(
 ) -> Result<Items<Reason>, Memory>
     ensures { IfOk result (λ it. it ≡ reasons trail.now.entries ++ conflict ∷ []) }
 {
-    let mut antecedents = Items::new(alloc);
+    let mut antecedents = Items::with_capacity(alloc, trail.len())?;
     for place in 0..trail.len() {
         let reason = trail.entry(place).reason;
         match reason {

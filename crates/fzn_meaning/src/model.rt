@@ -4,7 +4,7 @@ ghost use Rattle.std.specs.List.{All};
 ghost use Rattle.fzn_domain.specs.Narrow.{IsWithin};
 ghost use Rattle.fzn_meaning.specs.Meaning.{Meets, IsWellFormed as IsWellFormedConstraint};
 ghost use Rattle.fzn_meaning.specs.Solutions.{IsSolution, IsBetter, declared_sets};
-ghost use Rattle.fzn_meaning.specs.WellFormed.{IsWellFormed, IsGoal};
+ghost use Rattle.fzn_meaning.specs.WellFormed.{IsGoal};
 
 use crate::constraint::Constraint;
 use crate::meaning::holds;
@@ -87,7 +87,7 @@ pub struct Model {
 
 /// Whether the values, one for each variable in order, are a solution. A list of another length than that of the variables is none.
 pub fn is_solution(model: &Model, values: &[i64]) -> bool
-    requires { IsWellFormed model.now }
+    requires { All (IsWellFormedConstraint (length model.now.vars)) model.now.constraints }
     ensures { IsTrue result ↔ IsSolution model.now values.now }
 {
     is_assignment(model.vars.as_slice(), values) && meets_all(model.constraints.as_slice(), values)

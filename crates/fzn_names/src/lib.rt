@@ -7,6 +7,7 @@
 //! declaration, in the order in which they count, and the names) and `specs/Outputs.antt`.
 #![tactic(auto)]
 
+pub use annotation::{is_array_mark, is_marked, ranges_of};
 pub use declaration::names_of;
 pub use domain::{kind_of, no_values, set_of, values_in, vars_of};
 pub use entry::{first_set_in, first_unknown_in, first_wrong_in};

@@ -19,7 +19,7 @@ pub enum Ending {
     Complete,
     /// There is no solution.
     Unsatisfiable,
-    /// A decision was wanted, and the node limit was reached.
+    /// As many decisions were made as the node limit says.
     NodeLimit,
     /// As many solutions as were asked for were found.
     SolutionLimit,

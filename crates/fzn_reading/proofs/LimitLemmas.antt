@@ -1,7 +1,7 @@
 -- What the tokens of a file spell is within the limits.
 use Rattle.std.proofs.Common.{◌≡◌, ℕ, suc, ◌+◌, ◌≤◌, Bool, true, false, List, [], ◌∷◌, ◌++◌, length, Option, Some, None, inl, inr, sym, subst, refl, Ok, arith, nat_lt}
 use Rattle.std.proofs.lemmas.Int.{ints}
-use Rattle.std.proofs.lemmas.List.Elements.{All-cons, All-nil}
+use Rattle.std.proofs.lemmas.List.Elements.{All-cons, All-head, All-nil, All-tail}
 use Rattle.std.specs.Prelude.{ℤ}
 use Rattle.std.specs.List.{All}
 use Rattle.fzn_domain.specs.Limits.{IsInLimits}
@@ -43,13 +43,12 @@ abbrev AreFine : List Piece → Type 0
 AreFine [] = Unit {0}
 AreFine (p ∷ ps) = (IsSmall p.kind × (p.past ≡ None)) × AreFine ps
 
--- what the tokens of a file spell
-fine_from : (bytes : List ℕ) (from upto : ℕ) (front : List Token) (last : Token) (ps : List Piece) → Stand bytes from front upto → IsSmall last.kind → AreSpelled (front ++ last ∷ []) ps → AreWithin ps → AreFine ps
-fine_from bytes from upto front last [] stand small spelled within = tt
-fine_from bytes from upto [] last (p ∷ []) stand small spelled within = ((subst IsSmall spelled.0.0 small, within.0), tt)
-fine_from bytes from upto [] last (p ∷ q ∷ ps) stand small spelled within = absurd spelled.1
-fine_from bytes from upto (t ∷ front) last (p ∷ ps) stand small spelled within =
-    ((subst IsSmall spelled.0.0 stand.0.small, within.0), fine_from bytes t.span.end upto front last ps stand.1 small spelled.1 within.1)
+-- what tokens spell whose numbers are small
+fine_small : (tokens : List Token) (ps : List Piece) → All (λ (t : Token). IsSmall t.kind) tokens → AreSpelled tokens ps → AreWithin ps → AreFine ps
+fine_small tokens [] small spelled within = tt
+fine_small [] (p ∷ ps) small spelled within = absurd spelled
+fine_small (t ∷ tokens) (p ∷ ps) small spelled within =
+    ((subst IsSmall spelled.0.0 (All-head (λ (x : Token). IsSmall x.kind) t tokens small), within.0), fine_small tokens ps (All-tail (λ (x : Token). IsSmall x.kind) t tokens small) spelled.1 within.1)
 
 fine_split : (ps qs : List Piece) → AreFine (ps ++ qs) → AreFine ps × AreFine qs
 fine_split [] qs f = (tt, f)
@@ -205,11 +204,10 @@ arg_within (args.Array a) f = array_within a f
 con_within : (con : Con) → AreFine (G.con con) → IsConWithin con
 con_within con f = listed_all IsArgWithin (λ n. G.arg) s.CloseParen (λ n arg g. arg_within arg g) con.args (fine_split (G.listed (λ n. G.arg) s.CloseParen con.args) _ f.1.1.1).0
 
--- the tree of the tokens of a file
-pub tree_within : (bytes : List ℕ) (tokens : List Token) (tree : Tree) → Lexes bytes (Ok tokens) → IsTree tokens tree → IsWithinLimits tree
-tree_within bytes tokens tree lexed parsed =
-    let spelled = subst (λ (z : List Token). AreSpelled z (G.tree tree)) lexed.parts parsed.spelled in
-    let fine = fine_from bytes 0 lexed.upto lexed.front lexed.last (G.tree tree) lexed.stand (subst IsSmall (sym lexed.is_end.kind) tt) spelled parsed.within in
+-- the tree of tokens whose numbers are small
+pub small_within : (tokens : List Token) (tree : Tree) → All (λ (t : Token). IsSmall t.kind) tokens → IsTree tokens tree → IsWithinLimits tree
+small_within tokens tree small parsed =
+    let fine = fine_small tokens (G.tree tree) small parsed.spelled parsed.within in
     let items = (fine_split (G.items tree) (sign s.End) fine).0 in
     let past_predicates = (fine_split (each (λ n. G.predicate) 0 tree.predicates) _ items).1 in
     let parts = fine_split (G.declarations (tree.params, tree.vars)) _ past_predicates in
@@ -226,3 +224,18 @@ tree_within bytes tokens tree lexed parsed =
       cons = each_by_all IsConWithin one_more (λ n c. marked (nat_lt n G.most) (G.con c)) (λ n c g. con_within c (fine_marked (nat_lt n G.most) (G.con c) g)) 0 tree.cons constraints;
       few_cons = omega (arith, few_cons);
     }
+
+-- ---- the tokens of a file
+
+stand_small : (bytes : List ℕ) (from upto : ℕ) (front : List Token) (last : Token) → Stand bytes from front upto → IsSmall last.kind → All (λ (t : Token). IsSmall t.kind) (front ++ last ∷ [])
+stand_small bytes from upto [] last stand small = All-cons (λ (x : Token). IsSmall x.kind) last [] small (All-nil (λ (x : Token). IsSmall x.kind))
+stand_small bytes from upto (t ∷ front) last stand small =
+    All-cons (λ (x : Token). IsSmall x.kind) t (front ++ last ∷ []) stand.0.small (stand_small bytes t.span.end upto front last stand.1 small)
+
+pub lexed_small : (bytes : List ℕ) (tokens : List Token) → Lexes bytes (Ok tokens) → All (λ (t : Token). IsSmall t.kind) tokens
+lexed_small bytes tokens lexed =
+    subst (λ (z : List Token). All (λ (t : Token). IsSmall t.kind) z) (sym lexed.parts) (stand_small bytes 0 lexed.upto lexed.front lexed.last lexed.stand (subst IsSmall (sym lexed.is_end.kind) tt))
+
+-- the tree of the tokens of a file
+pub tree_within : (bytes : List ℕ) (tokens : List Token) (tree : Tree) → Lexes bytes (Ok tokens) → IsTree tokens tree → IsWithinLimits tree
+tree_within bytes tokens tree lexed parsed = small_within tokens tree (lexed_small bytes tokens lexed) parsed

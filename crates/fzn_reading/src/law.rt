@@ -1,9 +1,11 @@
 // A file has one model or one fault, and its tree keeps the limits.
 ghost use Rattle.std.specs.Prelude.{◌≡◌, ◌≢◌, ℕ, List, Result, Ok, Err};
+ghost use Rattle.std.specs.List.{All};
 ghost use Rattle.fzn_lexer.specs.declared.fault.Fault.{Fault};
 ghost use Rattle.fzn_lexer.specs.declared.halt.Halt.{Halt};
 ghost use Rattle.fzn_lexer.specs.declared.halt.Halt.TheVariants.{Memory};
 ghost use Rattle.fzn_lexer.specs.declared.token.Token.{Token};
+ghost use Rattle.fzn_lexer.specs.Lexemes.{IsSmall};
 ghost use Rattle.fzn_lexer.specs.Tokens.{Lexes};
 ghost use Rattle.fzn_meaning.specs.declared.model.Model.{Model};
 ghost use Rattle.fzn_tree.specs.declared.tree.Tree.{Tree};
@@ -21,4 +23,14 @@ pub fn one_model()
 pub fn within_limits()
     ensures { (bytes : List ℕ) (tokens : List Token) (tree : Tree) → Lexes bytes (Ok tokens) → IsTree tokens tree
         → IsWithinLimits tree }
+{}
+
+/// Each number among the tokens of a file is small.
+pub fn small_tokens()
+    ensures { (bytes : List ℕ) (tokens : List Token) → Lexes bytes (Ok tokens) → All (λ (token : Token). IsSmall token.kind) tokens }
+{}
+
+/// What tokens spell whose numbers are small keeps the limits that looking at types requires.
+pub fn small_within_limits()
+    ensures { (tokens : List Token) (tree : Tree) → All (λ (token : Token). IsSmall token.kind) tokens → IsTree tokens tree → IsWithinLimits tree }
 {}

@@ -18,5 +18,6 @@ mod written;
 pub use annotated::{Annotated, read_annotated};
 pub use fault::ModelFault;
 pub use input::read_bytes;
-pub use law::{one_model, within_limits};
+pub use law::{one_model, small_tokens, small_within_limits, within_limits};
 pub use model::read_model;
+pub use taken::annotations_of;

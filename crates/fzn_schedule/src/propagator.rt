@@ -41,7 +41,7 @@ pub struct CumulativePropagator {
 
 impl CumulativePropagator {
     /// The propagator of the cumulative of these tasks, which has this number.
-    pub fn new(
+    fn new(
         number: u64,
         starts: &Shared<Term>,
         durations: &Shared<Term>,

@@ -23,8 +23,8 @@ wanted all (Some limit) = Some (max limit 1)
 wanted true None = None
 wanted false None = Some 1
 
--- Complete after a solution and unsatisfiable without, and neither limit reached; open where a decision was wanted at the node limit, or
--- where there are as many solutions as are wanted.
+-- Complete after a solution and unsatisfiable without, and neither limit reached; open where as many decisions were made as the node limit
+-- says, or where there are as many solutions as are wanted.
 abbrev pub EndsTruly : Model → Options → List (List ℤ) → ℕ → Ending → Type 0
 EndsTruly model options found nodes Complete = (found ≢ []) × HasRoom model.goal (wanted options.all options.limit) (length found)
 EndsTruly model options found nodes Unsatisfiable = found ≡ []

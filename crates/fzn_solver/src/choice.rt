@@ -1,10 +1,19 @@
 // How decisions are made.
+ghost use Rattle.std.specs.Prelude.{◌≡◌, Some, None};
+ghost use Rattle.fzn_strategy.specs.declared.learn.Learn.TheVariants.{Plain, First};
+
 use fzn_search::Choice;
 use fzn_strategy::Learn;
 use fzn_words::Options;
 
 /// What the options ask for. Only a search that learns the first unique implication point restarts.
-pub fn choice_for(options: &Options) -> Choice {
+pub fn choice_for(options: &Options) -> Choice
+    ensures free { result.free ≡ options.now.free }
+    ensures seed { result.seed ≡ options.now.seed }
+    ensures keep { result.keep ≡ options.now.keep }
+    ensures first { options.now.learn ≡ First → result.restart_after ≡ Some options.now.restart_after }
+    ensures plain { options.now.learn ≡ Plain → result.restart_after ≡ None }
+{
     Choice {
         free: options.free,
         seed: options.seed,

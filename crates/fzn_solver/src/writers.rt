@@ -279,6 +279,8 @@ impl<W: TrackedWrite, C: TrackedWrite, P: Observer> Sink for Writers<'_, '_, '_,
 
     ghost origin = { λ writers. origin writers };
 
+    ghost told = { λ writers. writers.progress.nodes };
+
     ghost keeps = { λ model writers. IsKept W.contents C.contents model writers
         × IsUnderWay W.has_failed C.has_failed model writers
         × AreStreamsAsAtFirst W.stream C.stream writers };

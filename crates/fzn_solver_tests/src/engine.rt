@@ -16,10 +16,11 @@ use fzn_strategy::Learn;
 use std::alloc::Global;
 use std::test::*;
 
-/// Steps without inferences, kept.
+/// Steps without inferences, kept, and how many decisions it was told of.
 #[derive(Drop)]
 struct Log {
     steps: Items<Step>,
+    nodes: u64,
 }
 
 impl Sink for Log {
@@ -29,6 +30,8 @@ impl Sink for Log {
 
     ghost origin = { λ _. tt };
 
+    ghost told = { λ log. log.nodes };
+
     ghost keeps = { λ _ _. Unit {0} };
 
     fn step(&mut self, alloc: Global, _model: &Model, step: &Step) -> Result<(), Fault> {
@@ -37,6 +40,10 @@ impl Sink for Log {
         }
         self.steps.push(copied(alloc, step)?)?;
         Ok(())
+    }
+
+    fn tell(&mut self, nodes: u64, _conflicts: u64, _inferences: u64) {
+        self.nodes = nodes;
     }
 }
 
@@ -76,6 +83,7 @@ fn report_of(
     let mut propagators = Propagators::new(alloc, model)?;
     let mut log = Log {
         steps: Items::new(alloc),
+        nodes: 0,
     };
     let choice = Choice {
         free: false,

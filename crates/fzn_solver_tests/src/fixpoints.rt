@@ -80,6 +80,18 @@ cccc var 1..4: a; var 0..4: b; var 1..5: c; var 1..4: d; | constraint fzn_circui
 ccccc var 1..5: a; var 1..5: b; var 1..5: c; var 1..5: d; var 1..5: e; | constraint fzn_circuit([a,b,c,d,e]);
 ";
 
+/// Declarations and a table of three rows; behind them how many values are left of the first variable. Each value has support where the
+/// variable is declared over at most 4,096 numbers; else each end has.
+static SPANS: &str = "
+var 0..100: a; var 0..1: b; | constraint fzn_table_int([a,b],[10,0,50,1,90,0]); | 3
+var -2000..2095: a; var 0..1: b; | constraint fzn_table_int([a,b],[-1990,0,50,1,2090,0]); | 3
+var {0,7,4000,4095}: a; var 0..1: b; | constraint fzn_table_int([a,b],[7,0,4000,1,9,0]); | 2
+var 0..4096: a; var 0..1: b; | constraint fzn_table_int([a,b],[10,0,50,1,4090,0]); | 4081
+";
+
+/// So many inferences lead to a fixpoint at the most.
+const STEPS: usize = 5_000;
+
 /// All values of so many are chosen one by one.
 const BITS: usize = 9;
 
@@ -210,7 +222,7 @@ fn narrow(
     ensures is_for { StandFor propagators.new model.now }
     ensures declared { OnOk result (trail.new.declared ≡ trail.old.declared) }
 {
-    for _ in 0..1000 {
+    for _ in 0..STEPS {
         match advance(alloc, model, propagators, trail)? {
             Progress::Narrowed => {}
             Progress::AtFixpoint => return Ok(true),
@@ -556,6 +568,46 @@ fn what_is_left_has_support(rt: HostRuntime) -> Result<(), Fail> {
     for row in ROWS.trim().lines() {
         let choice = weak_choice_of(rt.alloc(), row)?;
         assert!(rt; choice.is_none(), "{row}, choice {choice:?}");
+    }
+    Ok(())
+}
+
+/// How many values the first variable has.
+fn first_len(trail: &Trail, count: usize) -> usize
+    requires { count ≡ length trail.now.declared }
+{
+    if count == 0 {
+        return 0;
+    }
+    trail.domain(VarId(1)).len()
+}
+
+/// How many values of the first variable are left where nothing is inferred.
+fn values_left(alloc: Global, model: &Model) -> Result<usize, Memory>
+    requires { IsWellFormed model.now }
+{
+    let mut propagators = Propagators::new(alloc, model)?;
+    let mut trail = trail_of(alloc, model)?;
+    if !narrow(alloc, model, &mut propagators, &mut trail)? {
+        return Ok(0);
+    }
+    Ok(first_len(&trail, model.vars.len()))
+}
+
+/// What is left of the row's first variable, and how many values are wanted.
+fn left_and_wanted(alloc: Global, row: &str) -> Result<(usize, usize), Fail> {
+    let (declarations, rest) = row.split_once('|').unwrap_or((row, ""));
+    let (constraint, wanted) = rest.split_once('|').unwrap_or((rest, ""));
+    let model = model_with(alloc, declarations, constraint)?;
+    let left = values_left(alloc, &model)?;
+    Ok((left, wanted.trim().parse().unwrap_or(0)))
+}
+
+#[test]
+fn what_is_left_of_tables(rt: HostRuntime) -> Result<(), Fail> {
+    for row in SPANS.trim().lines() {
+        let (left, wanted) = left_and_wanted(rt.alloc(), row)?;
+        assert_eq!(rt; left, wanted, "{row}");
     }
     Ok(())
 }

@@ -17,7 +17,7 @@ fn plainly(words: &[u64], others: &[u64]) -> Option<usize> {
     None
 }
 
-/// So many words with every other bit, and one word of its own.
+/// So many words with every other bit, and one of its own where the place is among them.
 fn words_of(
     alloc: Global,
     count: usize,
@@ -34,7 +34,7 @@ fn words_of(
 
 const EVEN: u64 = 0x5555_5555_5555_5555;
 
-/// Whether the first bit in common is that of the plain loop, where one word of so many is the list's own.
+/// Whether the first bit in common is that of the plain loop, where of so many words the one at the place, if any, is the lists' own.
 fn is_plain(alloc: Global, count: usize, place: usize, own: u64) -> Result<bool, Memory> {
     let words = words_of(alloc, count, EVEN, place, own)?;
     let others = words_of(alloc, count, !EVEN, place, own)?;
@@ -44,7 +44,7 @@ fn is_plain(alloc: Global, count: usize, place: usize, own: u64) -> Result<bool,
 #[test]
 fn common_bits_are_those_of_the_plain_loop(rt: HostRuntime) -> Result<(), Fail> {
     for count in 0..34 {
-        for place in 0..count {
+        for place in 0..count + 1 {
             for own in [0, 1, 2, 1 << 31, 1 << 32, 1 << 63, u64::MAX] {
                 assert!(rt;
                     is_plain(rt.alloc(), count, place, own)?,

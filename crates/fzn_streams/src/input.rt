@@ -63,12 +63,8 @@ impl<R: Read> TrackedRead for TrackedReader<R> {
     ghost has_failed = { λ reader. has_failed reader };
 
     fn read_some(&mut self, buffer: &mut [u8]) -> Result<usize, ReadFailed> {
-        match self.input.read(buffer) {
-            Ok(count) => Ok(count),
-            Err(_) => {
-                self.failed = true;
-                Err(ReadFailed)
-            }
-        }
+        let result = self.input.read(buffer);
+        self.failed |= result.is_err();
+        result.or(Err(ReadFailed))
     }
 }

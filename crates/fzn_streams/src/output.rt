@@ -99,13 +99,9 @@ impl<'w, W: Write> TrackedWrite for TrackedWriter<'w, W> {
     }
 
     fn flush_all(&mut self) -> Result<(), WriteFailed> {
-        match self.out.flush() {
-            Ok(()) => Ok(()),
-            Err(_) => {
-                self.failed = true;
-                Err(WriteFailed)
-            }
-        }
+        let result = self.out.flush();
+        self.failed |= result.is_err();
+        result.or(Err(WriteFailed))
     }
 }
 

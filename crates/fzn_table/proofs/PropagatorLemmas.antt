@@ -21,7 +21,7 @@ use Rattle.fzn_propagator.specs.Inference.{AllFixed, HoldsWhereFixed, IsExhauste
 use Rattle.fzn_propagator.specs.Clause.{IsJustifiedBy, IsJustified}
 use Rattle.fzn_propagator.proofs.CallerLemmas.{justified_by, exhausted}
 use Rattle.fzn_terms.proofs.FixedLemmas.{fixed_only, now_fit}
-use Rattle.fzn_table.specs.Supports.{AreRowsOutOn, AreSupported, number_at}
+use Rattle.fzn_table.specs.Supports.{AreRowsOutOn, AreSupported, IsSupported, number_at}
 
 pub table_justified : (trail : Levels) (places : List Term) (rows : List ℤ) (clause : List Lit) → IsJustifiedBy trail (AreRowsOutOn places rows) clause → IsJustified trail (Table places rows) rule.Rows clause
 unfolding IsMet IsGlobalRowsMet
@@ -30,10 +30,9 @@ table_justified trail places rows clause explained = justified_by trail (Table p
 -- ---- where all variables are fixed
 
 module _ (sets : List IntSet) (values : List ℤ) (within : IsWithin sets values) (fixed : AllFixed sets) where
-  table_holds : (places : List Term) (rows : List ℤ) → All (IsTerm (length sets)) places → 0 < length places → AreSupported sets places rows (length places) → (r : ℕ) × (r * length (values_of values places) + length (values_of values places) ≤ length rows) × (row_at (length (values_of values places)) rows r ≡ values_of values places)
-  table_holds places rows fit some supported =
+  table_holds : (places : List Term) (rows : List ℤ) (v : ℤ) → All (IsTerm (length sets)) places → IsSupported sets places rows 0 v → (r : ℕ) × (r * length (values_of values places) + length (values_of values places) ≤ length rows) × (row_at (length (values_of values places)) rows r ≡ values_of values places)
+  table_holds places rows v fit support =
       let e : Term = Constant (pos 0) in
-      let support = (supported 0 some).least in
       let r = support.0 in
       let count : length (values_of values places) ≡ length places = length-values_of values places in (
         r,
@@ -55,12 +54,12 @@ module _ (sets : List IntSet) (values : List ℤ) (within : IsWithin sets values
           ∙ get_or-drop (r * length xs) rows k (pos 0)
           ∙ same k (omega arith))
 
-table_met : (trail : Levels) (places : List Term) (rows : List ℤ) → All (IsTerm (length trail.declared)) places → 0 < length places → AreSupported trail.sets places rows (length places) → HoldsWhereFixed trail (Table places rows)
+table_met : (trail : Levels) (places : List Term) (rows : List ℤ) → All (IsTerm (length trail.declared)) places → 0 < length places → AreSupported trail places rows (length places) → HoldsWhereFixed trail (Table places rows)
 unfolding Meets
-table_met trail places rows fit some supported fixed values declared present = table_holds trail.sets values present fixed places rows (now_fit trail values places declared present fit) some supported
+table_met trail places rows fit some supported fixed values declared present = table_holds trail.sets values present fixed places rows _ (now_fit trail values places declared present fit) (supported 0 some).least
 
 -- ---- by the law of propagators
 
-pub table_exhausted : (trail : Levels) (places : List Term) (rows : List ℤ) → All (IsTerm (length trail.declared)) places → 0 < length places → AreSupported trail.sets places rows (length places) → (constraint : Constraint) → Table places rows ≡ constraint → IsExhausted constraint trail
+pub table_exhausted : (trail : Levels) (places : List Term) (rows : List ℤ) → All (IsTerm (length trail.declared)) places → 0 < length places → AreSupported trail places rows (length places) → (constraint : Constraint) → Table places rows ≡ constraint → IsExhausted constraint trail
 unfolding form_of
 table_exhausted trail places rows fit some supported constraint same = exhausted trail (Table places rows) constraint refl same (table_met trail places rows fit some supported)

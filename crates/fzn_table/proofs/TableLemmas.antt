@@ -1,15 +1,19 @@
 -- The clauses of a table.
-use Rattle.std.proofs.Common.{◌≡◌, ◌≢◌, ℕ, ◌+◌, ◌*◌, ◌/◌, ◌<◌, ◌≤◌, rules, true, false, List, length, below_more, sym, ◌∙◌, inl, inr, arith, ℤ, to_z, of_z, w64}
-use Rattle.std.specs.Ordering.{int_eq}
+use Rattle.std.proofs.Common.{◌≡◌, ◌≢◌, ◌↔◌, ℕ, ◌+◌, ◌*◌, ◌/◌, ◌<◌, ◌≤◌, rules, true, false, ◌||◌, IsTrue, List, [], ◌∷◌, length, below_more, refl, sym, ap, subst, ◌∙◌, inl, inr, arith, ℤ, pos, ◌-ℤ◌, ◌<ℤ◌, int_cmp, int_lt, to_z, of_z, w64}
+use Rattle.std.specs.FinSet as set
+use Rattle.std.specs.List.{list_any}
+use Rattle.std.specs.Ordering.{int_eq, eq_by_cmp}
 use Rattle.std.proofs.lemmas.Int.{ints}
 use Rattle.std.proofs.lemmas.Bool.{cases_Bool, true≢false}
+use Rattle.std.proofs.lemmas.Bool.Decides.{Decides-int_eq}
 use Rattle.std.proofs.lemmas.List.{length-map}
 use Rattle.fzn_domain.specs.declared.literal.Lit.{Lit}
 use Rattle.fzn_domain.specs.declared.literal.Op.{Op}
-use Rattle.fzn_domain.specs.IntSet.{IntSet}
-use Rattle.fzn_domain.specs.Limits.{IsNearLimits}
+use Rattle.fzn_domain.specs.IntSet.{IntSet, size, no_values, least, greatest, least_in, greatest_in}
+use Rattle.fzn_domain.specs.Limits.{IsInLimits, IsNearLimits}
 use Rattle.fzn_domain.specs.Literal.{compares}
 use Rattle.fzn_domain.specs.Narrow.{denied}
+use Rattle.fzn_domain.proofs.SetLemmas.{contains-no_values}
 use Rattle.fzn_meaning.specs.declared.term.Term.{Term}
 use Rattle.fzn_meaning.specs.Term.{number_in}
 use Rattle.fzn_rules.specs.GlobalRows.{IsRowOut}
@@ -31,6 +35,31 @@ equal_test v = grind (arith, ints)
 -- the bound of a literal, as the machine keeps it
 pub real_near : (v : ℤ) → IsNearLimits v → to_z w64 (of_z w64 v) ≡ v
 real_near v near = omega (arith, ints, near.0, near.1)
+
+-- ---- spans
+
+none_listed : (xs : List ℤ) → ((v : ℤ) → list_any (eq_by_cmp int_cmp v) xs ≡ false) → xs ≡ []
+none_listed [] none = refl
+none_listed (x ∷ xs) none = absurd (true≢false (sym (ap (λ b. b || list_any (eq_by_cmp int_cmp x) xs) ((Decides-int_eq x x).1 refl)) ∙ none x))
+
+no_items : set.items no_values ≡ []
+no_items = none_listed (set.items no_values) (λ v. sym (set.contains-items no_values v) ∙ contains-no_values v)
+
+no_least : least no_values ≡ pos 0
+unfolding least
+no_least = ap least_in no_items
+
+no_greatest : greatest no_values ≡ pos 0
+unfolding greatest
+no_greatest = ap greatest_in no_items
+
+-- the ends of an empty set are one
+pub empty_span : (s : IntSet) → size s ≡ 0 → (greatest s -ℤ least s) <ℤ pos 4096
+empty_span s none = subst (λ (t : IntSet). (greatest t -ℤ least t) <ℤ pos 4096) (sym (set.empty_of_len s none)) (omega (arith, ints, no_least, no_greatest))
+
+-- as the machine reckons it
+pub span_computed : (low high : ℤ) → IsInLimits low → IsInLimits high → IsTrue (int_lt (to_z w64 (of_z w64 (high -ℤ low))) (pos 4096)) ↔ ((high -ℤ low) <ℤ pos 4096)
+span_computed low high l h = (λ told. grind (arith, ints, l.0, l.1, h.0, h.1), λ told. grind (arith, ints, l.0, l.1, h.0, h.1))
 
 -- ---- rows
 

@@ -1,5 +1,5 @@
 -- Rows of a table, on the sets of a trail.
-use Rattle.std.specs.Prelude.{◌≡◌, Bool, true, false, ℕ, ◌+◌, ◌*◌, ◌/◌, ◌<◌, ◌≤◌, ℤ, pos, List, length, slice_index_or}
+use Rattle.std.specs.Prelude.{◌≡◌, ◌⊎◌, Bool, true, false, ℕ, ◌+◌, ◌*◌, ◌/◌, ◌<◌, ◌≤◌, ℤ, pos, ◌-ℤ◌, ◌<ℤ◌, List, length, slice_index_or}
 use Rattle.std.specs.List.{All, Contains}
 use Rattle.fzn_domain.specs.declared.literal.VarId.{VarId}
 use Rattle.fzn_domain.specs.declared.literal.Op.{Op}
@@ -8,9 +8,11 @@ use Rattle.fzn_domain.specs.Literal.{compares, is_true_at}
 use Rattle.fzn_domain.specs.IntSet.{IntSet}
 use Rattle.fzn_meaning.specs.declared.term.Term.{Term}
 use Rattle.fzn_sets.specs.Terms.{MayBe, least_value, greatest_value}
+use Rattle.fzn_trail.specs.Levels.{Levels}
 use Rattle.fzn_rules.specs.GlobalRows.{IsRowOut, AreRowsOut}
 use Rattle.fzn_terms.specs.Values.{place_at}
 use Rattle.fzn_terms.specs.Narrow.{IsNarrow}
+use Rattle.fzn_terms.specs.declared.narrow.TheConstants.{MOST_VALUES}
 
 -- the rule `rows` of these places and rows
 abbrev pub AreRowsOutOn : List Term → List ℤ → List IntSet → Type 0
@@ -55,19 +57,26 @@ HasSupportThat sets places rows p op bound = (v : ℤ) × (compares op v bound �
 
 -- ---- narrow places
 
+-- the declared set of the term spans, from its least to its greatest value, at most 4,096 numbers
+abbrev pub IsDeclaredNarrow : List IntSet → Term → Type 0
+IsDeclaredNarrow declared term = (greatest_value declared term -ℤ least_value declared term) <ℤ MOST_VALUES
+
 -- the place has few values, or a short span beside the number of rows
-abbrev pub IsNarrowPlace : List IntSet → List Term → List ℤ → ℕ → Type 0
-IsNarrowPlace sets places rows p = IsNarrow sets (place_at places p) (length rows / length places)
+abbrev pub IsClosePlace : List IntSet → List Term → List ℤ → ℕ → Type 0
+IsClosePlace sets places rows p = IsNarrow sets (place_at places p) (length rows / length places)
+
+abbrev pub IsNarrowPlace : Levels → List Term → List ℤ → ℕ → Type 0
+IsNarrowPlace trail places rows p = IsDeclaredNarrow trail.declared (place_at places p) ⊎ IsClosePlace trail.sets places rows p
 
 -- the ends of a place are supported, and each value of a narrow one
-pub record HasSupports (sets : List IntSet) (places : List Term) (rows : List ℤ) (p : ℕ) : Type 0 where
-  pub least : IsSupported sets places rows p (least_value sets (place_at places p))
-  pub greatest : IsSupported sets places rows p (greatest_value sets (place_at places p))
-  pub each_where_narrow : IsNarrowPlace sets places rows p → (v : ℤ) → MayBe sets (place_at places p) v → IsSupported sets places rows p v
+pub record HasSupports (trail : Levels) (places : List Term) (rows : List ℤ) (p : ℕ) : Type 0 where
+  pub least : IsSupported trail.sets places rows p (least_value trail.sets (place_at places p))
+  pub greatest : IsSupported trail.sets places rows p (greatest_value trail.sets (place_at places p))
+  pub each_where_narrow : IsNarrowPlace trail places rows p → (v : ℤ) → MayBe trail.sets (place_at places p) v → IsSupported trail.sets places rows p v
 
 -- so it is of each of the first places
-abbrev pub AreSupported : List IntSet → List Term → List ℤ → ℕ → Type 0
-AreSupported sets places rows count = (p : ℕ) → p < count → HasSupports sets places rows p
+abbrev pub AreSupported : Levels → List Term → List ℤ → ℕ → Type 0
+AreSupported trail places rows count = (p : ℕ) → p < count → HasSupports trail places rows p
 
 -- ---- clauses
 

@@ -32,7 +32,7 @@ pub struct TablePropagator {
 
 impl TablePropagator {
     /// The propagator of the table of these places and rows, which has this number.
-    pub fn new(
+    fn new(
         alloc: Global,
         number: u64,
         places: &Shared<Term>,
@@ -85,8 +85,9 @@ impl Propagator for TablePropagator {
     }
 
     /// One pass, by the law of the trait. Where it finds nothing, the least and the greatest value of each place stand there in a row whose
-    /// values are all in their places' sets, and so does each value of a place that has at most 64, or whose greatest value less its least
-    /// is at most four times the number of rows and at most 4,095.
+    /// values are all in their places' sets, and so does each value of a place that is declared over at most 4,096 numbers, counted from the
+    /// least to the greatest. Of a wider place each does where it has at most 64, or where its greatest value less its least is at most four
+    /// times the number of rows and at most 4,095.
     #[tactic(auto, unfolding(fzn_meaning::specs::Meaning::IsWellFormed))]
     fn propagate(&self, alloc: Global, trail: &Trail, found: &mut Findings) -> Result<(), Memory>
         requires fits { TableFits self.now trail.now.declared }
@@ -94,7 +95,7 @@ impl Propagator for TablePropagator {
         requires before { AreInferencesOf (table_number self.now) (TableIsFor self.now) trail.now found.old }
         ensures found { AreInferencesOf (table_number self.now) (TableIsFor self.now) trail.now found.new }
         ensures none { OnOk result (found.new ≡ [] → AreExhausted (TableIsFor self.now) trail.now) }
-        ensures supported { OnOk result (found.new ≡ [] → AreSupported trail.now.sets self.now.places self.now.rows (length self.now.places)) }
+        ensures supported { OnOk result (found.new ≡ [] → AreSupported trail.now self.now.places self.now.rows (length self.now.places)) }
     {
         let places = self.places.as_slice();
         let rows = self.rows.constants();

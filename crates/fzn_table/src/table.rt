@@ -1,5 +1,6 @@
 // What follows from the rows of a table: by the rule `rows`.
-ghost use Rattle.std.specs.Prelude.{◌≡◌, ◌≢◌, ◌↔◌, ◌<◌, false, true, ℤ, [], IsTrue, MatchBool, IfOk, IfSome, IfNone, OnOk, length};
+ghost use Rattle.std.specs.Prelude.{◌≡◌, ◌≢◌, ◌↔◌, ◌<◌, ◌-ℤ◌, ◌<ℤ◌, false, true, ℤ, [], IsTrue, MatchBool, IfOk, IfSome, IfNone, OnOk, length};
+ghost use Rattle.fzn_domain.specs.IntSet.{least, greatest};
 ghost use Rattle.fzn_domain.specs.Limits.{IsInLimits, IsNearLimits};
 ghost use Rattle.fzn_domain.specs.Literal.{compares};
 ghost use Rattle.fzn_meaning.specs.Term.{IsTerm, numbers_in};
@@ -9,17 +10,18 @@ ghost use Rattle.fzn_propagator.specs.Clause.{IsFalseClause};
 ghost use Rattle.fzn_terms.specs.Values.{place_at};
 ghost use Rattle.fzn_terms.specs.Denied.{IsEntailed, IsGrown};
 ghost use Rattle.fzn_terms.specs.Intervals.{IsLimitedInterval, ends_of};
-ghost use Rattle.fzn_table.specs.Supports.{IsOutAt, IsNarrowPlace, MayStand, HasSupports, AreSupported, IsBarred};
+ghost use Rattle.fzn_table.specs.Supports.{IsOutAt, IsDeclaredNarrow, IsClosePlace, MayStand, HasSupports, AreSupported, IsBarred};
 ghost use Rattle.fzn_table.specs.Passes.{MayHave, IsRow, number_in_row, IsOpenRow, AreOpenRows, IsOutOn, HasSupport, IsClaimSupported, IsInferred, AreFoundIn};
 
 use crate::pass::Pass;
-use fzn_domain::{GREATEST_BOUND, LEAST_BOUND, Lit, Memory, Op, VarId};
+use fzn_domain::{Domain, GREATEST_BOUND, LEAST_BOUND, Lit, Memory, Op, VarId};
 use fzn_list::Items;
 use fzn_meaning::Term;
 use fzn_propagator::Findings;
 use fzn_rules::Rule;
 use fzn_terms::{
-    Claim, Interval, explain, force, interval_of, is_narrow, least_of, may_be, next_value,
+    Claim, Interval, MOST_VALUES, explain, force, interval_of, is_narrow, least_of, may_be,
+    next_value,
 };
 use fzn_trail::Trail;
 
@@ -69,18 +71,36 @@ fn nearest(pass: &Pass, k: usize, op: Op, value: &i64, end: &i64) -> i64
     nearest
 }
 
+/// Whether the set spans no more numbers, from its least to its greatest value, than are looked at one by one.
+fn is_short(set: &Domain) -> bool
+    ensures { IsTrue result ↔ ((greatest set.now -ℤ least set.now) <ℤ MOST_VALUES) }
+{
+    set.is_empty() || set.max() - set.min() < MOST_VALUES
+}
+
+/// Whether the declared set of the term does.
+fn is_declared_narrow(trail: &Trail, term: Term) -> bool
+    requires { IsTerm (length trail.now.declared) term }
+    ensures { IsTrue result ↔ IsDeclaredNarrow trail.now.declared term }
+{
+    match term {
+        Term::Constant(_) => true,
+        Term::Variable(var) => is_short(trail.declared(var)),
+    }
+}
+
 /// Whether the place, which has these ends, has few values, or values that lie close together beside the number of rows.
-fn is_narrow_place(pass: &Pass, p: usize, ends: Interval) -> bool
+fn is_close_place(pass: &Pass, p: usize, ends: Interval) -> bool
     requires in_range { p < length pass.now.places.now }
     requires ends { ends ≡ ends_of pass.now.trail.now.sets (place_at pass.now.places.now p) }
     requires limited { IsLimitedInterval ends }
-    ensures { IsTrue result ↔ IsNarrowPlace pass.now.trail.now.sets pass.now.places.now (numbers_in pass.now.rows.now) p }
+    ensures { IsTrue result ↔ IsClosePlace pass.now.trail.now.sets pass.now.places.now (numbers_in pass.now.rows.now) p }
 {
     is_narrow(pass.trail, pass.places[p], ends, pass.count())
 }
 
-/// A claim that is true of each value that the place has, and not of this value: of a wide place a bound, where the value lies beyond its
-/// ends.
+/// A claim that is true of each value that the place has, and not of this value: a bound, where the value lies beyond the ends of a place
+/// whose values are many and far apart.
 fn claim_out(pass: &Pass, k: usize, value: &i64) -> Claim
     requires in_range { k < length pass.now.places.now }
     requires number { IsInLimits value.now }
@@ -92,7 +112,7 @@ fn claim_out(pass: &Pass, k: usize, value: &i64) -> Claim
 {
     let term = pass.places[k];
     let ends = interval_of(pass.trail, term);
-    if !is_narrow_place(pass, k, ends) {
+    if !is_close_place(pass, k, ends) {
         if *value < ends.low {
             let nearest = nearest(pass, k, Op::AtMost, value, &ends.low);
             return Claim {
@@ -304,18 +324,18 @@ fn bar_claim(
     Ok(true)
 }
 
-/// Appends to `found` the inference that the place has not this value, where no row that stands has it there.
-fn bar_value(pass: &Pass, p: usize, value: &i64, found: &mut Findings) -> Result<(), Memory>
+/// Appends to `found` the inference that the place has not this value. `false` where a row stands that has it there.
+fn bar_value(pass: &Pass, p: usize, value: &i64, found: &mut Findings) -> Result<bool, Memory>
     requires in_range { p < length pass.now.places.now }
     requires limits { IsInLimits value.now }
     requires may { MayHave pass.now p value.now }
     requires before { AreFoundIn pass.now found.old }
     ensures found { AreFoundIn pass.now found.new }
     ensures kept { found.new ≡ [] → found.old ≡ [] }
+    ensures some { IfOk result (λ barred. IsTrue barred → found.new ≢ []) }
     ensures none { OnOk result (found.new ≡ [] → HasSupport pass.now p value.now) }
 {
-    bar_claim(pass, p, Op::Equal, value, found)?;
-    Ok(())
+    bar_claim(pass, p, Op::Equal, value, found)
 }
 
 /// The same, where the row that is looked at first does not show that the place may have the value.
@@ -340,7 +360,8 @@ fn test_value(
     if is_support(pass, p, value, row, marks) {
         return Ok(());
     }
-    bar_value(pass, p, value, found)
+    bar_value(pass, p, value, found)?;
+    Ok(())
 }
 
 /// An inference for each value of the place that no row supports.
@@ -392,8 +413,8 @@ fn bar_beyond(
     bar_claim(pass, p, op, &bound, found)
 }
 
-/// The inference that the place goes no further than the next value that the rows may support, where none supports its end. Where the
-/// bound that is proposed does not do, it is that the place has not the end.
+/// The inference that the place goes no further than the next value that the rows may support. Where the bound that is proposed does not
+/// do, it is that the place has not the end. `false` where a row supports the end.
 fn bar_end(
     pass: &Pass,
     p: usize,
@@ -403,7 +424,7 @@ fn bar_end(
     row: Option<usize>,
     marks: &mut Vec<bool>,
     found: &mut Findings,
-) -> Result<(), Memory>
+) -> Result<bool, Memory>
     requires in_range { p < length pass.now.places.now }
     requires limits { IsInLimits end.now }
     requires may { MayHave pass.now p end.now }
@@ -411,19 +432,51 @@ fn bar_end(
     requires before { AreFoundIn pass.now found.old }
     ensures found { AreFoundIn pass.now found.new }
     ensures kept { found.new ≡ [] → found.old ≡ [] }
+    ensures some { IfOk result (λ barred. IsTrue barred → found.new ≢ []) }
     ensures none { OnOk result (found.new ≡ [] → HasSupport pass.now p end.now) }
     ensures marks { AreOpenRows pass.now marks.new.items }
 {
     if is_support(pass, p, end, row, marks) {
-        return Ok(());
+        return Ok(false);
     }
     if bar_beyond(pass, p, op, bound, end, found)? {
-        return Ok(());
+        return Ok(true);
     }
     bar_value(pass, p, end, found)
 }
 
-/// An inference for each value of a narrow place, and for each end of a wide one, that no row supports.
+/// The inference that the place goes no further, for each of its ends that no row supports. `false` where there is none.
+fn bar_ends(
+    pass: &Pass,
+    p: usize,
+    ends: Interval,
+    marks: &mut Vec<bool>,
+    found: &mut Findings,
+) -> Result<bool, Memory>
+    requires in_range { p < length pass.now.places.now }
+    requires limited { IsLimitedInterval ends }
+    requires may { MayHave pass.now p ends.low × MayHave pass.now p ends.high }
+    requires marks { AreOpenRows pass.now marks.old.items }
+    requires before { AreFoundIn pass.now found.old }
+    ensures found { AreFoundIn pass.now found.new }
+    ensures kept { found.new ≡ [] → found.old ≡ [] }
+    ensures some { IfOk result (λ barred. IsTrue barred → found.new ≢ []) }
+    ensures none { OnOk result (found.new ≡ [] → HasSupport pass.now p ends.low × HasSupport pass.now p ends.high) }
+    ensures marks { AreOpenRows pass.now marks.new.items }
+{
+    let next = pass.supports.next_from(pass.possible, p, ends);
+    let bound = next.saturating_sub(1);
+    let row = pass.supports.row_of(pass.possible, p, ends.low);
+    let is_low_barred = bar_end(pass, p, Op::AtMost, bound, &ends.low, row, marks, found)?;
+    let last = pass.supports.last_up_to(pass.possible, p, ends);
+    let bound = last.saturating_add(1);
+    let row = pass.supports.row_of(pass.possible, p, ends.high);
+    let is_high_barred = bar_end(pass, p, Op::AtLeast, bound, &ends.high, row, marks, found)?;
+    Ok(is_low_barred || is_high_barred)
+}
+
+/// An inference for each value of a narrow place, and for each end of a wide one, that no row supports. Of many values that lie far apart
+/// the ends come first, and those between them in a later pass.
 fn bar_place(
     pass: &Pass,
     p: usize,
@@ -435,28 +488,27 @@ fn bar_place(
     requires before { AreFoundIn pass.now found.old }
     ensures found { AreFoundIn pass.now found.new }
     ensures kept { found.new ≡ [] → found.old ≡ [] }
-    ensures none { OnOk result (found.new ≡ [] → HasSupports pass.now.trail.now.sets pass.now.places.now (numbers_in pass.now.rows.now) p) }
+    ensures none { OnOk result (found.new ≡ [] → HasSupports pass.now.trail.now pass.now.places.now (numbers_in pass.now.rows.now) p) }
     ensures marks { AreOpenRows pass.now marks.new.items }
 {
     let ends = interval_of(pass.trail, pass.places[p]);
-    if is_narrow_place(pass, p, ends) {
+    if is_close_place(pass, p, ends) {
         return bar_values(pass, p, marks, found);
     }
-    let next = pass.supports.next_from(pass.possible, p, ends);
-    let bound = next.saturating_sub(1);
-    let row = pass.supports.row_of(pass.possible, p, ends.low);
-    bar_end(pass, p, Op::AtMost, bound, &ends.low, row, marks, found)?;
-    let last = pass.supports.last_up_to(pass.possible, p, ends);
-    let bound = last.saturating_add(1);
-    let row = pass.supports.row_of(pass.possible, p, ends.high);
-    bar_end(pass, p, Op::AtLeast, bound, &ends.high, row, marks, found)
+    if bar_ends(pass, p, ends, marks, found)? {
+        return Ok(());
+    }
+    if is_declared_narrow(pass.trail, pass.places[p]) {
+        return bar_values(pass, p, marks, found);
+    }
+    Ok(())
 }
 
 /// An inference for each value of a narrow place, and for each end of a wide one, that no row supports.
 pub(crate) fn bar_unsupported(pass: &Pass, found: &mut Findings) -> Result<(), Memory>
     requires before { AreFoundIn pass.now found.old }
     ensures found { AreFoundIn pass.now found.new }
-    ensures none { OnOk result (found.new ≡ [] → AreSupported pass.now.trail.now.sets pass.now.places.now (numbers_in pass.now.rows.now) (length pass.now.places.now)) }
+    ensures none { OnOk result (found.new ≡ [] → AreSupported pass.now.trail.now pass.now.places.now (numbers_in pass.now.rows.now) (length pass.now.places.now)) }
 {
     let mut marks = Vec::from_elem(pass.alloc, false, pass.supports.rows())?;
     for p in 0..pass.places.len() {

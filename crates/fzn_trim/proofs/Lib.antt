@@ -1,10 +1,6 @@
 mod CoreLemmas
-mod FrontLemmas
-mod ItemLemmas
 mod ListLemmas
 mod ListingLemmas
-mod NameLemmas
-mod SourceLemmas
 mod TrialLemmas
 mod TrimLemmas
 mod WriteLemmas

@@ -1,6 +1,4 @@
 pub mod Core
-pub mod Files
-pub mod Items
 pub mod Kept
 pub mod Listing
 pub mod Planned

@@ -9,21 +9,18 @@
 //!
 //! Out, of `core`: on the writer a line for each constraint that the closed answer was found to rest on, with its item as it stands in the
 //! file, and how many there are; or the fault that a check finds. Proved against `specs/Core.antt`: the answer follows from the constraints
-//! listed alone, in the words of `fzn_meaning` on lists of solutions; and against `specs/Items.antt`: the item that states a constraint
-//! goes from its first token to its `;`.
+//! listed alone, in the words of `fzn_meaning` on lists of solutions; and in the words of `fzn_items`, which
+//! finds the item that states a constraint.
 #![tactic(auto)]
 
 pub use listing::{Listed, core, core_tracked};
 pub use trimming::{Trimmed, trim, trim_tracked};
 
 mod cited;
-mod item;
 mod kept;
 mod listing;
-mod located;
 mod plan;
 mod print;
-mod source;
 mod trial;
 mod trimming;
 mod write;

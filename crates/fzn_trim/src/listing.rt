@@ -6,10 +6,10 @@ ghost use Rattle.fzn_checker.specs.Checked.{IsUnread};
 ghost use Rattle.fzn_trim.specs.Listing.{IsListed, IsListFault};
 
 use crate::cited::core_numbers;
-use crate::located::read_located;
 use crate::print::put_core;
 use fzn_cert_reader::StepReader;
 use fzn_checker::{CheckFault, hold_certificate};
+use fzn_items::read_located;
 use fzn_streams::{TrackedRead, TrackedReader, TrackedWrite, TrackedWriter, WriteFailed};
 use std::alloc::Global;
 use std::io::{Read, Write};

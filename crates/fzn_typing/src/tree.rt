@@ -1,6 +1,8 @@
 // From a tree to its model.
-ghost use Rattle.std.specs.Prelude.{IfOk};
+ghost use Rattle.std.specs.Prelude.{◌≡◌, IfOk};
 ghost use Rattle.fzn_meaning.specs.WellFormed.{IsWellFormed};
+ghost use Rattle.fzn_names.specs.Known.{known};
+ghost use Rattle.fzn_typing.specs.Faults.{tree_names};
 ghost use Rattle.fzn_typing.specs.Limits.{IsWithinLimits};
 ghost use Rattle.fzn_typing.specs.Typed.{IsTyped, model_in};
 
@@ -27,6 +29,7 @@ pub struct Named {
 pub fn type_check(alloc: Global, tree: &Tree) -> Result<Named, Halt<Fault>>
     requires { IsWithinLimits tree.now }
     ensures right { IsTyped tree.now (model_in result) }
+    ensures names { IfOk result (λ named. known named.names ≡ tree_names tree.now) }
     ensures well_formed { IfOk result (λ named. IsWellFormed named.model) }
 {
     let declared = tree.vars.as_slice();

@@ -1,2 +1,3 @@
 mod DeletionLemmas
 pub mod ForgetLemmas
+mod WrittenLemmas

@@ -4,6 +4,7 @@ use Rattle.std.specs.List.{All, Contains}
 use Rattle.fzn_cert.specs.Spelling.{IdsRise}
 use Rattle.fzn_propagator.specs.declared.inferences.Inferred.{Inferred}
 use Rattle.fzn_propagator.specs.Inferences.{IsStacked, inference_at}
+use Rattle.fzn_upkeep.specs.declared.written.Given.{Given}
 use Rattle.fzn_trail.specs.declared.trail.ClauseId.{ClauseId}
 use Rattle.fzn_clauses.specs.Held.{Held, IsHeld}
 
@@ -27,3 +28,8 @@ pub record IsDeletion (held : Held) (numbers : List ℕ) (stack : List Inferred)
   pub idle : (n : ℕ) → IsInUse held numbers stack n → Contains ids n → ⊥
   pub in_use : All (IsInUse held numbers stack) left
   pub all : (n : ℕ) → IsInUse held numbers stack n → Contains left n
+
+-- of the clauses of written inferences those are left whose steps are in use
+pub record IsThinned (held : Held) (numbers : List ℕ) (stack : List Inferred) (old new : List Given) : Type 0 where
+  pub in_use : All (λ (it : Given). IsInUse held numbers stack it.number) new
+  pub among : All (Contains old) new

@@ -1,2 +1,3 @@
 pub mod Deletion
 pub mod Forgetting
+pub mod Written

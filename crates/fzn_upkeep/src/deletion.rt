@@ -1,11 +1,12 @@
 // Which steps are deleted.
-ghost use Rattle.std.specs.Prelude.{◌≡◌, length, IfOk, IfSome};
+ghost use Rattle.std.specs.Prelude.{◌≡◌, length, IfOk, IfSome, IfNone};
 ghost use Rattle.fzn_clauses.specs.Watching.{held_by};
-ghost use Rattle.fzn_upkeep.specs.Deletion.{IsDeletion};
+ghost use Rattle.fzn_upkeep.specs.Deletion.{IsDeletion, IsThinned};
 
 use crate::idle::{idle_among, numbers_in_use};
 use crate::notes::Notes;
 use crate::numbers::Numbers;
+use crate::written::Written;
 use fzn_clauses::Clauses;
 use fzn_domain::Memory;
 use fzn_list::Items;
@@ -20,17 +21,20 @@ pub struct Deletion {
 }
 
 /// The steps that are deleted next, where those that are not deleted are many: some of those of no held clause and of no inference that
-/// stands, if there is one. It answers `Err` where memory runs out.
+/// stands, if there is one; then the clauses of `written` are left whose steps are in use. It answers `Err` where memory runs out.
 pub fn next_deletion(
     alloc: Global,
     clauses: &Clauses,
     numbers: &Numbers,
     inferences: &Inferences,
     alive: &Items<u64>,
+    written: &mut Written,
     notes: &mut Notes,
 ) -> Result<Option<Deletion>, Memory>
     requires { length numbers.now ≡ length (held_by clauses.now) }
-    ensures { IfOk result (λ found. IfSome found (λ it. IsDeletion (held_by clauses.now) numbers.now inferences.now alive.now it.ids it.left)) }
+    ensures deletion { IfOk result (λ found. IfSome found (λ it. IsDeletion (held_by clauses.now) numbers.now inferences.now alive.now it.ids it.left)) }
+    ensures thinned { IfOk result (λ found. IfSome found (λ _. IsThinned (held_by clauses.now) numbers.now inferences.now written.old written.new)) }
+    ensures same { IfOk result (λ found. IfNone found (written.new ≡ written.old)) }
 {
     if !notes.has_many_steps(alive.len()) {
         return Ok(None);
@@ -42,5 +46,6 @@ pub fn next_deletion(
         return Ok(None);
     }
     let left = Items::from_slice(alloc, used.as_slice())?;
+    written.keep(used.as_slice())?;
     Ok(Some(Deletion { ids, left }))
 }

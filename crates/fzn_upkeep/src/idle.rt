@@ -95,9 +95,10 @@ fn is_next(used: &[u64], count: usize, last: u64, number: u64) -> bool
 }
 
 /// Whether the number is among these, which stand in order.
-fn is_among(numbers: &[u64], number: u64) -> bool
+pub fn is_among(numbers: &[u64], number: u64) -> bool
     requires { IsNonDecreasing numbers.now }
-    ensures { IsFalse result → Contains numbers.now number → ⊥ }
+    ensures among { IsTrue result → Contains numbers.now number }
+    ensures apart { IsFalse result → Contains numbers.now number → ⊥ }
 {
     numbers.binary_search(&number).is_ok()
 }

@@ -10,7 +10,7 @@ use fzn_clauses::Clauses;
 use fzn_conflict::Marks;
 use fzn_domain::Memory;
 use fzn_strategy::Learn;
-use fzn_trail::{ClauseId, Reason};
+use fzn_trail::ClauseId;
 use std::alloc::Global;
 
 /// With more learned clauses than these some are forgotten, at first.
@@ -47,14 +47,14 @@ pub struct Notes {
     keep: usize,
     /// Whether the search restarted since clauses were forgotten last.
     has_restarted: bool,
+    /// Whether clauses were forgotten since steps were deleted last.
+    has_forgotten: bool,
     /// With how many steps that are not deleted some are.
     next_deletion: usize,
     /// What is learned: in plain learning no step is ever deleted.
     learn: Learn,
-    /// The places of the inferences on which the last learned clause rests.
+    /// The places, among the written clauses, of those that the last learned clause was the first to rest on.
     cited: Vec<usize>,
-    /// The number of the last step of which it was asked whether its clause is to be held.
-    last_step: u64,
     /// How many conflicts there were.
     conflicts: u64,
     /// The clauses that stand for entries of level 0 since these were settled.
@@ -83,10 +83,10 @@ impl Notes {
             forgotten: 0,
             keep: keep as usize,
             has_restarted: false,
+            has_forgotten: false,
             next_deletion: IDLE,
             learn,
             cited: Vec::new(alloc),
-            last_step: 0,
             conflicts: 0,
             units: Vec::new(alloc),
             next_settling: 0,
@@ -111,6 +111,7 @@ impl Notes {
     pub(crate) fn forget(&mut self, ids: &[ClauseId]) -> Result<(), Memory> {
         self.held = self.held.saturating_sub(ids.len());
         self.forgotten = self.forgotten.saturating_add(ids.len());
+        self.has_forgotten |= !ids.is_empty();
         self.free.extend_from_slice(ids)?;
         Ok(())
     }
@@ -192,34 +193,25 @@ impl Notes {
         settled
     }
 
-    /// A clause rests on these antecedents.
-    pub fn cite(&mut self, antecedents: &[Reason]) -> Result<(), Memory> {
-        for antecedent in antecedents {
-            if let Reason::Inference(place) = *antecedent {
-                self.cited.push(place)?;
-            }
-        }
+    /// A clause rests on the written one at this place.
+    pub fn cite(&mut self, place: usize) -> Result<(), Memory> {
+        self.cited.push(place)?;
         Ok(())
     }
 
-    /// How many inferences were cited.
+    /// How many were cited.
     pub fn count_cited(&self) -> usize {
         self.cited.len()
     }
 
-    /// The place of an inference that was cited, which is no longer noted.
+    /// The place of one that was cited, which is no longer noted.
     pub fn next_cited(&mut self) -> Option<usize> {
         self.cited.pop()
     }
 
-    /// Whether the step of this number is newer than those of which it was asked before.
-    pub fn is_new(&self, number: u64) -> bool {
-        number > self.last_step
-    }
-
-    /// It was asked of the steps up to this number.
-    pub fn ask_up_to(&mut self, number: u64) {
-        self.last_step = number;
+    /// None of those that were cited is noted any longer.
+    pub fn drop_cited(&mut self) {
+        self.cited.clear();
     }
 
     /// Whether some of so many steps are to be deleted.
@@ -229,6 +221,7 @@ impl Notes {
 
     /// So many steps are in use.
     pub(crate) fn expect_steps(&mut self, used: usize) {
+        self.has_forgotten = false;
         self.next_deletion = used
             .saturating_add(used.min(MOST_IDLE))
             .saturating_add(IDLE);
@@ -239,7 +232,8 @@ impl Notes {
         self.has_restarted || self.learned.has_many() || self.inferred.has_many()
     }
 
-    /// The clauses to be forgotten.
+    /// The clauses to be forgotten: at a restart also the oldest learned ones beyond those that it keeps. Where some are forgotten then, or
+    /// were before, steps are deleted.
     pub(crate) fn take_worst(
         &mut self,
         alloc: Global,
@@ -250,24 +244,12 @@ impl Notes {
         self.inferred.take_older(alloc, are_reasons, &mut worst)?;
         if self.has_restarted {
             self.has_restarted = false;
-            self.take_oldest(alloc, are_reasons, &mut worst)?;
+            self.learned
+                .take_oldest(alloc, self.keep, are_reasons, &mut worst)?;
+            if self.has_forgotten || !worst.is_empty() {
+                self.next_deletion = 0;
+            }
         }
         Ok(worst)
-    }
-
-    /// Adds the oldest learned clauses beyond those that a restart keeps. Where there are some, steps are deleted.
-    fn take_oldest(
-        &mut self,
-        alloc: Global,
-        are_reasons: &[bool],
-        oldest: &mut Vec<ClauseId>,
-    ) -> Result<(), Memory> {
-        let count = oldest.len();
-        self.learned
-            .take_oldest(alloc, self.keep, are_reasons, oldest)?;
-        if oldest.len() > count {
-            self.next_deletion = 0;
-        }
-        Ok(())
     }
 }

@@ -24,6 +24,10 @@ named_option id = record (new_rule id) { long = Some id; value_names = 1 }
 abbrev pub path : Text → Rule
 path id = record (new_rule id) { value_names = 1; required = true }
 
+-- a path, which stands by itself and may be left out
+abbrev pub optional_path : Text → Rule
+optional_path id = record (new_rule id) { value_names = 1 }
+
 abbrev pub all_rule : Rule
 all_rule = letter_flag (codes "all") 97
 
@@ -48,7 +52,7 @@ solve_line =
     line_of (codes "fznsolve") (all_rule ∷ letter_option (codes "limit") 110 ∷ letter_flag (codes "free") 102 ∷ letter_option (codes "seed") 114
     ∷ named_option (codes "nodes") ∷ named_option (codes "learn") ∷ named_option (codes "cert") ∷ named_flag (codes "progress") ∷ path (codes "model") ∷ help_rule ∷ version_rule ∷ [])
 
--- -a, --to2, --trim NEW, --core, and two paths, --help, --version
+-- -a, --to2, --trim NEW, --core, --items, and two paths, --help, --version
 unfoldable pub check_line : App
 check_line =
-    line_of (codes "fzncheck") (all_rule ∷ named_flag (codes "to2") ∷ named_option (codes "trim") ∷ named_flag (codes "core") ∷ path (codes "model") ∷ path (codes "cert") ∷ help_rule ∷ version_rule ∷ [])
+    line_of (codes "fzncheck") (all_rule ∷ named_flag (codes "to2") ∷ named_option (codes "trim") ∷ named_flag (codes "core") ∷ named_flag (codes "items") ∷ path (codes "model") ∷ optional_path (codes "cert") ∷ help_rule ∷ version_rule ∷ [])

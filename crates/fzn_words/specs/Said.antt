@@ -4,7 +4,7 @@ use Rattle.std.specs.Option.{option_map_or}
 use Rattle.std.specs.Prelude.{false, true}
 use Rattle.clap.specs.Words.{Row, Text, first_of}
 use Rattle.fzn_words.specs.declared.check.CheckOptions.{CheckOptions}
-use Rattle.fzn_words.specs.declared.check.CheckOptions.TheVariants.{Check, ToVersion2, Trim, Core}
+use Rattle.fzn_words.specs.declared.check.CheckOptions.TheVariants.{Check, ToVersion2, Trim, Core, Items}
 use Rattle.fzn_strategy.specs.declared.learn.Learn.{Learn}
 use Rattle.fzn_strategy.specs.declared.learn.Learn.TheVariants.{First}
 use Rattle.fzn_words.specs.declared.solve.Options.{Options}
@@ -53,18 +53,21 @@ pub record AreFit (options : Options) : Type 0 where
 
 -- the form is the one that the words ask for, and its paths are those that they say
 abbrev pub IsSaid : List Row → CheckOptions → Type 0
-IsSaid rows (Check all model cert) = (is_set (first_of (codes "to2") rows) ≡ false) × (first_of (codes "trim") rows ≡ None) × (is_set (first_of (codes "core") rows) ≡ false) × (all ≡ is_set (first_of (codes "all") rows))
+IsSaid rows (Check all model cert) = (is_set (first_of (codes "to2") rows) ≡ false) × (first_of (codes "trim") rows ≡ None) × (is_set (first_of (codes "core") rows) ≡ false) × (is_set (first_of (codes "items") rows) ≡ false) × (all ≡ is_set (first_of (codes "all") rows))
     × (first_of (codes "model") rows ≡ Some (string_bytes model)) × (first_of (codes "cert") rows ≡ Some (string_bytes cert))
-IsSaid rows (ToVersion2 old new) = (is_set (first_of (codes "to2") rows) ≡ true) × (first_of (codes "trim") rows ≡ None) × (is_set (first_of (codes "core") rows) ≡ false)
+IsSaid rows (ToVersion2 old new) = (is_set (first_of (codes "to2") rows) ≡ true) × (first_of (codes "trim") rows ≡ None) × (is_set (first_of (codes "core") rows) ≡ false) × (is_set (first_of (codes "items") rows) ≡ false)
     × (first_of (codes "model") rows ≡ Some (string_bytes old)) × (first_of (codes "cert") rows ≡ Some (string_bytes new))
-IsSaid rows (Trim model cert new) = (is_set (first_of (codes "to2") rows) ≡ false) × (first_of (codes "trim") rows ≡ Some (string_bytes new)) × (is_set (first_of (codes "core") rows) ≡ false)
+IsSaid rows (Trim model cert new) = (is_set (first_of (codes "to2") rows) ≡ false) × (first_of (codes "trim") rows ≡ Some (string_bytes new)) × (is_set (first_of (codes "core") rows) ≡ false) × (is_set (first_of (codes "items") rows) ≡ false)
     × (first_of (codes "model") rows ≡ Some (string_bytes model)) × (first_of (codes "cert") rows ≡ Some (string_bytes cert))
-IsSaid rows (Core model cert) = (is_set (first_of (codes "to2") rows) ≡ false) × (first_of (codes "trim") rows ≡ None) × (is_set (first_of (codes "core") rows) ≡ true)
+IsSaid rows (Core model cert) = (is_set (first_of (codes "to2") rows) ≡ false) × (first_of (codes "trim") rows ≡ None) × (is_set (first_of (codes "core") rows) ≡ true) × (is_set (first_of (codes "items") rows) ≡ false)
     × (first_of (codes "model") rows ≡ Some (string_bytes model)) × (first_of (codes "cert") rows ≡ Some (string_bytes cert))
+IsSaid rows (Items model) = (is_set (first_of (codes "to2") rows) ≡ false) × (first_of (codes "trim") rows ≡ None) × (is_set (first_of (codes "core") rows) ≡ false) × (is_set (first_of (codes "items") rows) ≡ true)
+    × (first_of (codes "model") rows ≡ Some (string_bytes model)) × (first_of (codes "cert") rows ≡ None)
 
 -- no path is named twice
 abbrev pub AreOtherPaths : CheckOptions → Type 0
 AreOtherPaths (Check all model cert) = string_bytes cert ≢ string_bytes model
 AreOtherPaths (ToVersion2 old new) = string_bytes new ≢ string_bytes old
 AreOtherPaths (Core model cert) = string_bytes cert ≢ string_bytes model
+AreOtherPaths (Items model) = Unit {0}
 AreOtherPaths (Trim model cert new) = (string_bytes cert ≢ string_bytes model) × (string_bytes new ≢ string_bytes model) × (string_bytes new ≢ string_bytes cert)

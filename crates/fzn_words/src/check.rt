@@ -1,12 +1,12 @@
 // The words of `fzncheck`.
-ghost use Rattle.std.specs.Prelude.{◌≡◌, ◌≢◌, true, IfOk, IfSome, None, Some, codes, map, option_map, string_bytes};
+ghost use Rattle.std.specs.Prelude.{◌≡◌, ◌≢◌, true, false, IfOk, IfSome, None, Some, codes, map, option_map, string_bytes};
 ghost use Rattle.clap.specs.Words.{app_of, first_of, found_of, matches_of, rows_of};
 ghost use Rattle.fzn_words.specs.CommandLines.{check_line};
 ghost use Rattle.fzn_words.specs.Said.{AreOtherPaths, IsSaid, is_set};
 
 use crate::fault::{OptionsFault, fault_of};
 use crate::parts;
-use crate::parts::{all, bare, help, named_flag, named_option, version, with};
+use crate::parts::{all, bare, help, named_flag, named_option, optional_path, version, with};
 use crate::said::{is_set, path, said};
 use clap::{ArgMatches, Command};
 use std::alloc::{AllocError, Global};
@@ -21,6 +21,8 @@ const TRIM: &str =
 
 const CORE: &str =
     "Check CERT, and print the constraints that its closed answer was found to rest on: number, place, text";
+
+const ITEMS: &str = "Print what MODEL declares, states and asks for, and where; without CERT";
 
 const MODEL: &str = "The FlatZinc file; OLD with --to2";
 
@@ -73,10 +75,16 @@ pub enum CheckOptions {
         /// The path of its certificate.
         cert: String,
     },
+    /// Print the items of a file.
+    Items {
+        /// The path of the file.
+        model: String,
+    },
 }
 
 /// The options that the words after the program's name give. It answers `CommandLine` where they are not as the help says, ask for two of
-/// `--to2`, `--trim` and `--core` or name one path twice, `Help` where they ask for help or the version, and `Memory` where memory runs out.
+/// `--to2`, `--trim`, `--core` and `--items`, name one path twice, or a certificate where `--items` asks for none, `Help` where they ask for
+/// help or the version, and `Memory` where memory runs out.
 pub fn check_options_of<S: AsStr>(alloc: Global, words: &[S]) -> Result<CheckOptions, OptionsFault>
     ensures said { IfOk result (IsSaid (matches_of check_line (map S.text words.now))) }
     ensures paths { IfOk result AreOtherPaths }
@@ -96,8 +104,9 @@ fn command<'a>(alloc: Global) -> Result<Command<'a>, AllocError>
     let command = with(command, named_flag(alloc, "to2", TO2))?;
     let command = with(command, named_option(alloc, "trim", "NEW", TRIM))?;
     let command = with(command, named_flag(alloc, "core", CORE))?;
+    let command = with(command, named_flag(alloc, "items", ITEMS))?;
     let command = with(command, parts::path(alloc, "model", "MODEL", MODEL))?;
-    let command = with(command, parts::path(alloc, "cert", "CERT", CERT))?;
+    let command = with(command, optional_path(alloc, "cert", "CERT", CERT))?;
     let command = with(command, help(alloc))?;
     let command = with(command, version(alloc))?;
     Ok(command)
@@ -108,6 +117,9 @@ fn options_in(alloc: Global, matches: &ArgMatches<'_>) -> Result<CheckOptions, O
     ensures paths { IfOk result AreOtherPaths }
 {
     let first = path(alloc, matches, "model")?;
+    if is_set(matches, "items") {
+        return items_options(matches, first);
+    }
     let second = path(alloc, matches, "cert")?;
     if second.as_str() == first.as_str() {
         return Err(OptionsFault::CommandLine);
@@ -133,12 +145,29 @@ fn options_in(alloc: Global, matches: &ArgMatches<'_>) -> Result<CheckOptions, O
     }
 }
 
+/// The items of a file are asked for, and nothing else may be.
+fn items_options(matches: &ArgMatches<'_>, model: String) -> Result<CheckOptions, OptionsFault>
+    requires items { is_set (first_of (codes "items") (rows_of (found_of matches.now))) ≡ true }
+    requires model { first_of (codes "model") (rows_of (found_of matches.now)) ≡ Some (string_bytes model) }
+    ensures said { IfOk result (IsSaid (rows_of (found_of matches.now))) }
+    ensures paths { IfOk result AreOtherPaths }
+{
+    if is_set(matches, "to2") || is_set(matches, "core") {
+        return Err(OptionsFault::CommandLine);
+    }
+    match (said(matches, "trim"), said(matches, "cert")) {
+        (None, None) => Ok(CheckOptions::Items { model }),
+        _ => Err(OptionsFault::CommandLine),
+    }
+}
+
 /// The core of an answer is asked for, and no new certificate may be.
 fn core_options(
     matches: &ArgMatches<'_>,
     model: String,
     cert: String,
 ) -> Result<CheckOptions, OptionsFault>
+    requires items { is_set (first_of (codes "items") (rows_of (found_of matches.now))) ≡ false }
     requires core { is_set (first_of (codes "core") (rows_of (found_of matches.now))) ≡ true }
     requires trim { first_of (codes "trim") (rows_of (found_of matches.now)) ≡ None }
     requires model { first_of (codes "model") (rows_of (found_of matches.now)) ≡ Some (string_bytes model) }

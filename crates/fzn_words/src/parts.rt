@@ -1,7 +1,7 @@
 // What both command lines have.
 ghost use Rattle.std.specs.Prelude.{◌≡◌, [], ◌∷◌, IfOk, false};
 ghost use Rattle.clap.specs.Words.{app_of, rule_of, with_rule};
-ghost use Rattle.fzn_words.specs.CommandLines.{all_rule, letter_flag, letter_option, named_flag, named_option, path, line_of, help_rule, version_rule};
+ghost use Rattle.fzn_words.specs.CommandLines.{all_rule, letter_flag, letter_option, named_flag, named_option, path, optional_path, line_of, help_rule, version_rule};
 
 use clap::{Arg, ArgAction, Command};
 use std::alloc::{AllocError, Global};
@@ -83,6 +83,14 @@ pub fn path<'a>(alloc: Global, id: &'a str, value: &'a str, help: &'a str) -> Ar
         .value_name(value)
         .required(true)
         .help(help)
+}
+
+/// A path that stands by itself, and may be left out.
+pub fn optional_path<'a>(alloc: Global, id: &'a str, value: &'a str, help: &'a str) -> Arg<'a>
+    ensures rule { rule_of result ≡ optional_path id.entry.now }
+    ensures own { result.global ≡ false }
+{
+    Arg::new(alloc, id).value_name(value).help(help)
 }
 
 /// The flag for all solutions.

@@ -1,17 +1,26 @@
 //! `fzncheck`: reads a FlatZinc file and a certificate of its answer, and prints the answer that the certificate shows, or what is wrong.
-//! It also writes certificates anew, as version 2 or trimmed, and prints the constraints that an answer rests on.
+//! It also writes certificates anew, as version 2 or trimmed, and prints the constraints that an answer rests on, or the items of a file.
 //!
 //! In: the command line. Out: the answer on standard output, or one line on standard error, and the status that goes with it. What is
-//! printed and when is proved on `check` and `to2` of `fzn_checker`, `trim` and `core` of `fzn_trim`; here the paths are opened.
+//! printed and when is proved on `check` and `to2` of `fzn_checker`, `trim` and `core` of `fzn_trim`, and `items` of `fzn_items`; here the
+//! paths are opened. A new certificate is written to no file that is read, and its file is made by the first write.
 #![tactic(auto)]
 
+use crate::fault::Fault;
 use fzn_checker::{CheckFault, check, to2};
+use fzn_items::items;
+use fzn_paths::{LateWriter, NewFile, file_at, file_of, is_among};
 use fzn_trim::{core, trim};
 use fzn_words::{CheckOptions, OptionsFault, check_options_of};
 use std::env;
 use std::fs::File;
 use std::io::{BufWriter, Write};
 use std::process::ExitCode;
+
+mod fault;
+
+/// The file of a new certificate, which is made by the first write.
+type NewCertificate<'f> = LateWriter<File, NewFile<'f, HostRuntime>>;
 
 fn main(rt: HostRuntime) -> ExitCode {
     let options = match options(&rt) {
@@ -45,16 +54,17 @@ fn options(rt: &HostRuntime) -> Result<CheckOptions, OptionsFault> {
     check_options_of(alloc, words.as_slice())
 }
 
-fn act(rt: &HostRuntime, options: &CheckOptions) -> Result<(), CheckFault> {
+fn act(rt: &HostRuntime, options: &CheckOptions) -> Result<(), Fault> {
     match options {
         CheckOptions::Check { all, model, cert } => {
-            check_files(rt, *all, model.as_str(), cert.as_str())
+            Ok(check_files(rt, *all, model.as_str(), cert.as_str())?)
         }
         CheckOptions::ToVersion2 { old, new } => convert_file(rt, old.as_str(), new.as_str()),
         CheckOptions::Trim { model, cert, new } => {
             trim_file(rt, model.as_str(), cert.as_str(), new.as_str())
         }
-        CheckOptions::Core { model, cert } => list_core(rt, model.as_str(), cert.as_str()),
+        CheckOptions::Core { model, cert } => Ok(list_core(rt, model.as_str(), cert.as_str())?),
+        CheckOptions::Items { model } => Ok(list_items(rt, model.as_str())?),
     }
 }
 
@@ -74,36 +84,38 @@ fn check_files(rt: &HostRuntime, all: bool, model: &str, cert: &str) -> Result<(
     Ok(())
 }
 
-/// Opens the certificate, then makes the new one's file, and writes it.
-fn convert_file(rt: &HostRuntime, old: &str, new: &str) -> Result<(), CheckFault> {
+/// Opens the certificate, and writes it anew.
+fn convert_file(rt: &HostRuntime, old: &str, new: &str) -> Result<(), Fault> {
     let alloc = rt.alloc();
     let Ok(old) = File::open(rt, old) else {
-        return Err(CheckFault::Read);
+        return Err(Fault::Check(CheckFault::Read));
     };
-    let Ok(file) = File::create(rt, new) else {
-        return Err(CheckFault::WriteCert);
-    };
-    let Ok(mut new) = BufWriter::new(alloc, file) else {
-        return Err(CheckFault::Memory);
+    if is_among(file_at(rt, new), &[file_of(&old)]) {
+        return Err(Fault::SameFile);
+    }
+    let new: NewCertificate<'_> = LateWriter::new(NewFile::new(rt, new));
+    let Ok(mut new) = BufWriter::new(alloc, new) else {
+        return Err(Fault::Check(CheckFault::Memory));
     };
     to2(alloc, old, &mut new)?;
     Ok(())
 }
 
-/// Opens the file and its certificate, then makes the new one's file, checks and writes it.
-fn trim_file(rt: &HostRuntime, model: &str, cert: &str, new: &str) -> Result<(), CheckFault> {
+/// Opens the file and its certificate, in this order, checks them and writes the trimmed one.
+fn trim_file(rt: &HostRuntime, model: &str, cert: &str, new: &str) -> Result<(), Fault> {
     let alloc = rt.alloc();
     let Ok(model) = File::open(rt, model) else {
-        return Err(CheckFault::Read);
+        return Err(Fault::Check(CheckFault::Read));
     };
     let Ok(cert) = File::open(rt, cert) else {
-        return Err(CheckFault::Read);
+        return Err(Fault::Check(CheckFault::Read));
     };
-    let Ok(file) = File::create(rt, new) else {
-        return Err(CheckFault::WriteCert);
-    };
-    let Ok(mut new) = BufWriter::new(alloc, file) else {
-        return Err(CheckFault::Memory);
+    if is_among(file_at(rt, new), &[file_of(&model), file_of(&cert)]) {
+        return Err(Fault::SameFile);
+    }
+    let new: NewCertificate<'_> = LateWriter::new(NewFile::new(rt, new));
+    let Ok(mut new) = BufWriter::new(alloc, new) else {
+        return Err(Fault::Check(CheckFault::Memory));
     };
     trim(alloc, model, cert, &mut new)?;
     Ok(())
@@ -122,5 +134,18 @@ fn list_core(rt: &HostRuntime, model: &str, cert: &str) -> Result<(), CheckFault
         return Err(CheckFault::Memory);
     };
     core(alloc, model, cert, &mut out)?;
+    Ok(())
+}
+
+/// Opens the file, and prints its items.
+fn list_items(rt: &HostRuntime, model: &str) -> Result<(), CheckFault> {
+    let alloc = rt.alloc();
+    let Ok(model) = File::open(rt, model) else {
+        return Err(CheckFault::Read);
+    };
+    let Ok(mut out) = BufWriter::new(alloc, rt.stdout()) else {
+        return Err(CheckFault::Memory);
+    };
+    items(alloc, model, &mut out)?;
     Ok(())
 }

@@ -2,19 +2,26 @@
 //!
 //! In: the command line. Out: the answer on standard output and the certificate in its file, or one line on standard error, and the
 //! status that goes with it; where it is asked for, also lines on standard error that tell how far the search has come. What is written
-//! and when is proved on `run` of `fzn_solver`; here the paths are opened.
+//! and when is proved on `run` of `fzn_solver`; here the paths are opened, that of the certificate only where it does not lead to the file
+//! that is read.
 #![tactic(auto)]
 
+use crate::fault::Fault;
 use crate::progress::{Counted, Teller};
+use fzn_paths::{CutFile, LateWriter, file_at, file_of, is_among};
 use fzn_solver::{Report, RunFault, run};
 use fzn_words::{Options, OptionsFault, options_of};
 use std::cell::Cell;
 use std::env;
 use std::fs::File;
-use std::io::{BufWriter, sink};
+use std::io::{BufWriter, Write, sink};
 use std::process::ExitCode;
 
+mod fault;
 mod progress;
+
+/// The certificate's file, which is cut to nothing by the first write.
+type Certificate<'f> = LateWriter<&'f File, CutFile<'f>>;
 
 fn main(rt: HostRuntime) -> ExitCode {
     let options = match options(&rt) {
@@ -52,31 +59,73 @@ fn options(rt: &HostRuntime) -> Result<Options, OptionsFault> {
     options_of(alloc, words.as_slice())
 }
 
-/// Opens the file, makes the certificate's file where one is wanted, whose bytes are counted, and runs.
+/// Opens the file and, where a certificate is wanted, its file, and runs.
 fn solve_file(
     rt: &HostRuntime,
     options: &Options,
     bytes: &Cell<u64>,
     teller: &mut Teller<'_>,
+) -> Result<Report, Fault> {
+    let Ok(model) = File::open(rt, options.model.as_str()) else {
+        return Err(Fault::Run(RunFault::Read));
+    };
+    let Some(path) = &options.cert else {
+        return Ok(solve(rt, model, options, &mut sink(), teller)?);
+    };
+    if is_among(file_at(rt, path.as_str()), &[file_of(&model)]) {
+        return Err(Fault::SameFile);
+    }
+    let Ok(file) = File::options()
+        .write(true)
+        .create(true)
+        .open(rt, path.as_str())
+    else {
+        return Err(Fault::Run(RunFault::WriteCert));
+    };
+    let mut cert: Certificate<'_> = LateWriter::new(CutFile::new(&file));
+    let solved = solve_certified(rt, model, options, &mut cert, bytes, teller);
+    if let Err(fault) = &solved {
+        settle(*fault, &mut cert);
+    }
+    Ok(solved?)
+}
+
+/// Runs with a certificate, whose bytes are counted.
+fn solve_certified(
+    rt: &HostRuntime,
+    model: File,
+    options: &Options,
+    cert: &mut Certificate<'_>,
+    bytes: &Cell<u64>,
+    teller: &mut Teller<'_>,
+) -> Result<Report, RunFault> {
+    let Ok(cert) = BufWriter::new(rt.alloc(), cert) else {
+        return Err(RunFault::Memory);
+    };
+    solve(rt, model, options, &mut Counted::new(cert, bytes), teller)
+}
+
+fn solve<C: Write>(
+    rt: &HostRuntime,
+    model: File,
+    options: &Options,
+    cert: &mut C,
+    teller: &mut Teller<'_>,
 ) -> Result<Report, RunFault> {
     let alloc = rt.alloc();
-    let Ok(model) = File::open(rt, options.model.as_str()) else {
-        return Err(RunFault::Read);
-    };
     let Ok(mut out) = BufWriter::new(alloc, rt.stdout()) else {
         return Err(RunFault::Memory);
     };
-    match &options.cert {
-        None => run(alloc, model, options, &mut out, &mut sink(), teller),
-        Some(path) => {
-            let Ok(file) = File::create(rt, path.as_str()) else {
-                return Err(RunFault::WriteCert);
-            };
-            let Ok(cert) = BufWriter::new(alloc, file) else {
-                return Err(RunFault::Memory);
-            };
-            let mut cert = Counted::new(cert, bytes);
-            run(alloc, model, options, &mut out, &mut cert, teller)
+    run(alloc, model, options, &mut out, cert, teller)
+}
+
+/// After a fault that is none of the file the certificate's file holds what the run has written, even where that is nothing. After the
+/// others it is as it was.
+fn settle(fault: RunFault, cert: &mut Certificate<'_>) {
+    match fault {
+        RunFault::File(_) | RunFault::Read => {}
+        RunFault::Memory | RunFault::WriteOutput | RunFault::WriteCert | RunFault::StepTooLong => {
+            let _ = cert.open();
         }
     }
 }

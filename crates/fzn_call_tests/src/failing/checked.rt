@@ -1,7 +1,8 @@
-// The calls of `check`, of `trim` and of `core`.
+// The calls of `check`, of `trim`, of `core` and of `items`.
 use super::{CASES, Case, Trial, case_of, trial_of};
 use fzn_checker::{CheckFault, check};
 use fzn_checker_tests::{Calls, Flaw, Sink, Source};
+use fzn_items::items;
 use fzn_trim::{core, trim};
 use std::alloc::Global;
 use std::io::{Read, Write};
@@ -14,6 +15,7 @@ enum Asked {
     Check(bool),
     Trim,
     Core,
+    Items,
 }
 
 /// What is asked of a case, and what is written where nothing fails.
@@ -24,14 +26,15 @@ struct Question {
     wanted: Vec<u8>,
 }
 
-/// The questions of a case: the answer, the certificate trimmed, and the core.
-const QUESTIONS: usize = 3;
+/// The questions of a case: the answer, the certificate trimmed, the core, and the items of the file.
+const QUESTIONS: usize = 4;
 
 fn asked_of(case: &Case, number: usize) -> Asked {
     match number {
         0 => Asked::Check(case.options.all),
         1 => Asked::Trim,
-        _ => Asked::Core,
+        2 => Asked::Core,
+        _ => Asked::Items,
     }
 }
 
@@ -72,6 +75,7 @@ fn fault_of<R: Read + Drop, C: Read + Drop, W: Write>(
         Asked::Check(all) => check(alloc, file, cert, all, out).err(),
         Asked::Trim => trim(alloc, file, cert, out).err(),
         Asked::Core => core(alloc, file, cert, out).err(),
+        Asked::Items => items(alloc, file, out).err(),
     }
 }
 
@@ -225,12 +229,14 @@ fn writes(rt: HostRuntime) -> Result<(), Fail> {
     Ok(())
 }
 
-/// Whether all is as promised, whichever read of the file or of the certificate fails, or gives one byte less.
+/// Whether all is as promised, whichever read of the file or of the certificate fails, or gives one byte less. For its items no certificate
+/// is read.
 fn are_reads_promised(alloc: Global, question: &Question, most: usize) -> bool {
     is_promised_for_reads(alloc, question, most, true, Flaw::Fails)
         && is_promised_for_reads(alloc, question, most, true, Flaw::OneLess)
-        && is_promised_for_reads(alloc, question, most, false, Flaw::Fails)
-        && is_promised_for_reads(alloc, question, most, false, Flaw::OneLess)
+        && (question.asked == Asked::Items
+            || is_promised_for_reads(alloc, question, most, false, Flaw::Fails)
+                && is_promised_for_reads(alloc, question, most, false, Flaw::OneLess))
 }
 
 /// The reads of one question of each case, so many bytes each at most.
@@ -253,6 +259,12 @@ fn reads_for_the_answer(rt: HostRuntime) -> Result<(), Fail> {
 #[test]
 fn reads_for_trimming(rt: HostRuntime) -> Result<(), Fail> {
     assert!(rt; are_all_reads_promised(rt.alloc(), 1)?);
+    Ok(())
+}
+
+#[test]
+fn reads_for_the_items(rt: HostRuntime) -> Result<(), Fail> {
+    assert!(rt; are_all_reads_promised(rt.alloc(), 3)?);
     Ok(())
 }
 

@@ -6,7 +6,7 @@ use Rattle.fzn_table.proofs.table.bar_unsupported.Given as goal
 
 abbrev pub invariant-loop-p : goal.invariant-loop-p
 invariant-loop-p l = record {
-  supported : l.found ≡ [] → AreSupported l.pass.trail.now.sets l.pass.places.now (numbers_in l.pass.rows.now) l.p;
+  supported : l.found ≡ [] → AreSupported l.pass.trail.now l.pass.places.now (numbers_in l.pass.rows.now) l.p;
   marks : AreOpenRows l.pass l.marks.items;
   found : AreFoundIn l.pass l.found;
 }

@@ -4,7 +4,7 @@ use Rattle.fzn_engine.specs.declared.solver.Solver.{Solver}
 use Rattle.fzn_engine.specs.Changes.{IsTended}
 use Rattle.fzn_engine.proofs.ForgetLemmas.{nothing-tended, tended-through}
 use Rattle.fzn_engine.proofs.solver.Solver.hold_cited.Goals as goal
-use Rattle.fzn_engine.proofs.solver.Solver.hold_cited.Goals.{in-Some+in_ok-hold_inference, in_default}
+use Rattle.fzn_engine.proofs.solver.Solver.hold_cited.Goals.{in-Some+in_ok-hold_written, in_default}
 
 pub cited-preserved : goal.cited-preserved
 cited-preserved c = λ model steps h.
@@ -12,11 +12,6 @@ cited-preserved c = λ model steps h.
     let t = c.cited.invariant model steps h in
     let u = tended-through t (nothing-tended t.state c.next_cited.new.self) in
     elim c.match-next_cited.branch [
-      | in-Some+in_ok-hold_inference w ↦ subst F (sym w.self-is) (tended-through u (w.in_ok-hold_inference.ensures.tended model steps u.state))
+      | in-Some+in_ok-hold_written w ↦ subst F (sym w.self-is) (tended-through u (w.in_ok-hold_written.ensures.tended model steps u.state))
       | in_default w ↦ subst F (sym w.self-is) u
     ]
-
-pub returns : goal.returns
-returns c = record {
-  tended = λ model steps h. let t = c.cited.invariant model steps h in tended-through t (nothing-tended t.state c.ask_up_to.new.self);
-}

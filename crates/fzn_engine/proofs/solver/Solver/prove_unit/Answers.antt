@@ -6,30 +6,30 @@ use Rattle.fzn_learned.specs.declared.learned.Learned.{Learned}
 use Rattle.fzn_engine.specs.Antecedents.{Derives}
 use Rattle.fzn_engine.specs.Changes.{HoldsNext}
 use Rattle.fzn_engine.specs.Search.{Tally}
-use Rattle.fzn_engine.proofs.LessonLemmas.{derives-accepted, derives-spelled, derives-logged}
+use Rattle.fzn_engine.proofs.LessonLemmas.{derives-accepted, derives-spelled, derives-logged, derives-now}
 use Rattle.fzn_engine.proofs.UnitLemmas.{room-before, unit-tended}
 use Rattle.fzn_engine.proofs.solver.Solver.prove_unit.Goals as goal
 
 pub step-requires-clause-spelled : goal.step-requires-clause-spelled
 step-requires-clause-spelled g c =
     let D : Option (Learned × List ℕ) → Type 0 = λ found. IfSome found (λ derived. Derives c.args.model.now c.derive_unit.new.self (g.S.Sink.written c.derive_unit.new.sink) derived.0 derived.1) in
-    derives-spelled (subst D c.in-Some.is c.in_ok-found.ensures.derives) c.requires.ready.good
+    derives-spelled (subst D c.in-Some.is c.in_ok-found.ensures.derives) c.in_ok-resolved.ensures c.requires.ready.good
 
 pub step-requires-clause-accepted : goal.step-requires-clause-accepted
 step-requires-clause-accepted g c =
     let D : Option (Learned × List ℕ) → Type 0 = λ found. IfSome found (λ derived. Derives c.args.model.now c.derive_unit.new.self (g.S.Sink.written c.derive_unit.new.sink) derived.0 derived.1) in
-    derives-logged (subst D c.in-Some.is c.in_ok-found.ensures.derives) _ (inr refl)
+    derives-logged (subst D c.in-Some.is c.in_ok-found.ensures.derives) c.in_ok-resolved.ensures _ (inr refl)
 
 pub returns-in_err-step-clause-left : goal.returns-in_err-step-clause-left
 returns-in_err-step-clause-left g c =
     let D : Option (Learned × List ℕ) → Type 0 = λ found. IfSome found (λ derived. Derives c.args.model.now c.derive_unit.new.self (g.S.Sink.written c.derive_unit.new.sink) derived.0 derived.1) in
-    let accepted = derives-logged (subst D c.in-Some.is c.in_ok-found.ensures.derives) (g.S.Sink.written c.step.new.self) c.step.ensures.logged in
+    let accepted = derives-logged (subst D c.in-Some.is c.in_ok-found.ensures.derives) c.in_ok-resolved.ensures (g.S.Sink.written c.step.new.self) c.step.ensures.logged in
     record { accepted = accepted; kept = c.step.ensures.kept; same = c.step.ensures.same ∙ c.derive_unit.ensures.left.same }
 
 pub returns-clause-left : goal.returns-clause-left
 returns-clause-left g c =
     let D : Option (Learned × List ℕ) → Type 0 = λ found. IfSome found (λ derived. Derives c.args.model.now c.derive_unit.new.self (g.S.Sink.written c.derive_unit.new.sink) derived.0 derived.1) in
-    let accepted = derives-logged (subst D c.in-Some.is c.in_ok-found.ensures.derives) (g.S.Sink.written c.step.new.self) c.step.ensures.logged in
+    let accepted = derives-logged (subst D c.in-Some.is c.in_ok-found.ensures.derives) c.in_ok-resolved.ensures (g.S.Sink.written c.step.new.self) c.step.ensures.logged in
     record { accepted = accepted; kept = c.step.ensures.kept; same = c.step.ensures.same ∙ c.derive_unit.ensures.left.same }
 
 pub returns-clause-tended : goal.returns-clause-tended
@@ -41,5 +41,6 @@ returns-clause-tended g c =
     let first : c.derive_unit.new.self.learn ≡ First = ap (λ (t : Tally). t.learn) w.tally ∙ c.requires.first in
     let H : List Lit → Type 0 = λ cl. HoldsNext c.args.model.now cl (g.S.Sink.written c.derive_unit.new.sink) c.derive_unit.new.self c.hold_unit.new.self in
     let holds = subst H clause (c.in_ok-id.ensures.tended c.args.model.now (g.S.Sink.written c.derive_unit.new.sink)) in
-    let room = room-before (g.S.Sink.written c.derive_unit.new.sink) (g.S.Sink.written c.step.new.self) _ c.in_ok-step.ensures.ok c.in_ok-step.ensures.few in
-    unit-tended c.in-Some.derived.0.clause c.in-Some.derived.1 w c.in_ok-step.ensures.ok (holds c.in-Some.derived.1 first d.state (derives-accepted d) room) _
+    let now_is = derives-now d c.in_ok-resolved.ensures c.in_ok-step.ensures.ok in
+    let room = room-before (g.S.Sink.written c.derive_unit.new.sink) (g.S.Sink.written c.step.new.self) _ now_is c.in_ok-step.ensures.few in
+    unit-tended c.in-Some.derived.0.clause c.in-Some.derived.1 w now_is (holds c.in-Some.derived.1 first d.state (derives-accepted d) room) _

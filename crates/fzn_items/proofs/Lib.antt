@@ -1,0 +1,9 @@
+mod FrontLemmas
+mod ItemLemmas
+mod ItemizedLemmas
+mod ListedLemmas
+mod MendLemmas
+mod NameLemmas
+mod SourceLemmas
+mod TextLemmas
+mod WalkLemmas
