@@ -1,7 +1,7 @@
 #!/usr/bin/env python3
 """What our MiniZinc library gains: the time to solve what it compiles, over that with MiniZinc's standard library.
 
-    bench/library.py [--solve PATH] [--configuration PATH] [--runs N] [--seconds N] [MODEL.mzn ..]
+    bench/library.py [--solve PATH] [--check PATH] [--configuration PATH] [--runs N] [--seconds N] [MODEL.mzn ..]
 
 Each model, of examples/ where none is named, is compiled with both (`minizinc` and, for ours, what ./install has installed) and solved N
 times (3) within the seconds (60); the least processor time counts, 0.01 s at the least. Below stand the geometric mean of the ratios and
@@ -18,6 +18,10 @@ import sys
 import tempfile
 
 TOP = os.path.dirname(os.path.dirname(os.path.abspath(__file__)))
+sys.path.insert(0, os.path.join(TOP, 'lib'))
+
+from nickelmouse.items import items_of
+from nickelmouse.running import Refused
 
 
 def standard(folder, solve):
@@ -28,7 +32,13 @@ def standard(folder, solve):
     return path
 
 
-def solved(solve, flat, seconds):
+def objective_of(check, flat):
+    """How the objective of a compiled file is called; nothing, where there is none."""
+    items = items_of(check, flat)
+    return items.variable(items.goal.variable).name if items.goal.variable else None
+
+
+def solved(solve, flat, goal, seconds):
     """Processor seconds of one run, and the value of its last solution; None and what happened, where it does not end well."""
     def limit():
         resource.setrlimit(resource.RLIMIT_CPU, (seconds, seconds))
@@ -38,8 +48,7 @@ def solved(solve, flat, seconds):
     spent = resource.getrusage(resource.RUSAGE_CHILDREN).ru_utime - before
     if done.returncode != 0:
         return None, done.stderr.strip() or 'no end'
-    goal = re.search(r'(?:minimize|maximize)\s+(\w+)', open(flat).read())
-    values = re.findall(r'^%s = (-?\d+);' % goal[1], done.stdout, re.M) if goal else []
+    values = re.findall(r'^%s = (-?\d+);' % goal, done.stdout, re.M) if goal else []
     return max(spent, 0.01), values[-1] if values else ''
 
 
@@ -47,9 +56,13 @@ def measured(configuration, model, options, folder):
     """The least time of the runs with one library, and the best value."""
     flat = os.path.join(folder, 'model.fzn')
     subprocess.run(['minizinc', '-c', '--solver', configuration, model, '--fzn', flat, '--no-output-ozn'], check=True, stderr=subprocess.DEVNULL)
+    try:
+        goal = objective_of(options.check, flat)
+    except Refused as fault:
+        return None, str(fault)
     best = None, ''
     for _ in range(options.runs):
-        seconds, value = solved(options.solve, flat, options.seconds)
+        seconds, value = solved(options.solve, flat, goal, options.seconds)
         if seconds is None:
             return None, value
         best = min(best[0] or seconds, seconds), value
@@ -59,6 +72,7 @@ def measured(configuration, model, options, folder):
 def main():
     parser = argparse.ArgumentParser(description=__doc__, formatter_class=argparse.RawDescriptionHelpFormatter)
     parser.add_argument('--solve', default=os.path.join(TOP, 'crates/fznsolve/out/fznsolve'))
+    parser.add_argument('--check', default=os.path.join(TOP, 'crates/fzncheck/out/fzncheck'))
     parser.add_argument('--configuration', default='nickelmouse')
     parser.add_argument('--runs', type=int, default=3)
     parser.add_argument('--seconds', type=int, default=60)

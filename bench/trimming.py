@@ -12,8 +12,6 @@ Then all together, and last the largest ratios of memory and time, trimming and 
 more. The status is 1 where something went wrong, and a line says what."""
 import argparse
 import csv
-import importlib.machinery
-import importlib.util
 import os
 import re
 import signal
@@ -25,18 +23,11 @@ from dataclasses import dataclass, field
 
 TOP = os.path.dirname(os.path.dirname(os.path.abspath(__file__)))
 sys.dont_write_bytecode = True
+sys.path.insert(0, os.path.join(TOP, 'lib'))
 
-
-def loaded(path):
-    """The script `why`, which tells the constraints of a file apart."""
-    loader = importlib.machinery.SourceFileLoader('why', path)
-    module = importlib.util.module_from_spec(importlib.util.spec_from_loader('why', loader))
-    sys.modules['why'] = module
-    loader.exec_module(module)
-    return module
-
-
-why = loaded(os.path.join(TOP, 'why'))
+from nickelmouse import why
+from nickelmouse.certificates import shown_by
+from nickelmouse.items import items_of
 
 
 class Wrong(Exception):
@@ -124,34 +115,33 @@ class Bench:
     def solved(self, model, words, cert, limit):
         return run([self.options.solve, *words, '--cert', cert, model], limit)
 
-    def core_of(self, text, listed):
+    def core_of(self, text, items, listed):
         """A file's text with the constraints that are listed, those of declarations among them."""
-        model = why.Model(text)
-        places = {(int(found[2]), int(found[3])) for found in map(why.LISTED.match, listed.split('\n')) if found}
-        return model.only([part for part in model.parts if part.constraints[0] in places])
+        model = why.Model(text, items)
+        cited = why.cited_in(listed, model, model.numbered(model.parts))
+        return model.only([part for part in model.parts if part.constraints[0] in cited])
 
     def solve_core(self, model, listed, words, wanted):
         """Solves the constraints of a core alone, which has to end the same way."""
         alone, cert = self.path('core.fzn'), self.path('core.fzc')
-        with open(model, encoding='latin-1') as file, open(alone, 'w', encoding='latin-1') as out:
-            out.write(self.core_of(file.read(), listed))
+        items = items_of(self.options.check, model)
+        with open(model, 'rb') as file, open(alone, 'wb') as out:
+            out.write(self.core_of(file.read(), items, listed))
         came = self.solved(alone, words, cert, 3 * self.options.seconds)
         if came.status != 0:
             raise Wrong(f'its core alone: {"not ended" if came.status is None else came.err.decode().strip()}')
         checked = sound([self.options.check, *words, alone, cert], 600)
         if checked.out != came.out:
             raise Wrong('its core alone: the certificate shows another answer')
-        if self.end_of(model, came.out) != self.end_of(model, wanted):
+        if self.end_of(items, came.out, cert) != self.end_of(items, wanted, self.path('model.fzc')):
             raise Wrong('its core alone ends otherwise')
 
-    def end_of(self, model, out):
+    def end_of(self, items, out, cert):
         """How an answer ends: the best value, or else the solutions."""
-        with open(model, encoding='latin-1') as file:
-            goal = why.GOAL.search(file.read())
-        if goal is None:
+        if items.goal.variable is None:
             return answers(out)
-        values = re.findall(rb'^%s = (.*);$' % goal[2].encode(), out, re.M)
-        return (values[-1:] or answers(out)[0] == set()), answers(out)[1]
+        shown = shown_by(cert)
+        return shown.value(items.goal.variable), shown.is_closed
 
     def found_of(self, model, words):
         """What is found of a model, or nothing where it does not end."""
@@ -165,10 +155,9 @@ class Bench:
         core = sound([check, '--core', model, cert], 600)
         if checked.out != solved.out or sound([check, *words, model, trimmed], 600).out != solved.out:
             raise Wrong('the certificate shows another answer')
-        listed = core.out.decode('latin-1')
-        count = re.search(r'^(\d+) of (\d+)(, open)?\n\Z', listed, re.M)
+        count = re.search(rb'^(\d+) of (\d+)(, open)?\n\Z', core.out, re.M)
         if not count[3]:
-            self.solve_core(model, listed, words, solved.out)
+            self.solve_core(model, core.out, words, solved.out)
         return Found(1, 0 if count[3] else 1, [os.path.getsize(cert), os.path.getsize(trimmed)], [steps_in(cert), steps_in(trimmed)],
                      [0, 0] if count[3] else [int(count[2]), int(count[1])], [checked.seconds, trim.seconds, core.seconds],
                      [checked.memory, trim.memory, core.memory])

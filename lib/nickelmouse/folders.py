@@ -1,0 +1,28 @@
+"""A folder that is gone when we are, however we end."""
+import os
+import subprocess
+import tempfile
+
+# Ends when nobody can write to its standard input any more, which is when we end; then the folder goes.
+KEEPER = ['sh', '-c', 'trap "" INT TERM HUP; read _; rm -rf "$1"', 'sh']
+
+
+class Temporary:
+    """A new folder, which is removed at the end, also where we are killed."""
+
+    def __enter__(self):
+        folder = tempfile.mkdtemp(prefix='nickelmouse-')
+        try:
+            self.keeper = subprocess.Popen([*KEEPER, folder], stdin=subprocess.PIPE, stdout=subprocess.DEVNULL, stderr=subprocess.DEVNULL,
+                                           start_new_session=True, cwd='/')
+        except OSError:
+            os.rmdir(folder)
+            raise
+        # Other temporary files of ours lie within.
+        self.former, tempfile.tempdir = tempfile.tempdir, folder
+        return folder
+
+    def __exit__(self, *_):
+        tempfile.tempdir = self.former
+        self.keeper.stdin.close()
+        self.keeper.wait()

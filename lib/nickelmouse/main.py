@@ -1,0 +1,89 @@
+"""The command `nickelmouse`, from its words to its status."""
+import contextlib
+import os
+import sys
+
+from nickelmouse import compiling, kept
+from nickelmouse.answering import Answering
+from nickelmouse.command import Words, ended
+from nickelmouse.files import Files
+from nickelmouse.folders import Temporary
+from nickelmouse.limits import Limits
+from nickelmouse.processes import PROCESSES
+from nickelmouse.running import Ended, Programs, Refused, program
+from nickelmouse.words import asked
+
+
+def programs():
+    """The two proved programs. Refused, where one is not there."""
+    found = Programs(program('fznsolve'), program('fzncheck'))
+    for path in (found.solve, found.check):
+        if not os.access(path, os.X_OK):
+            raise Refused(4, f'{path} is not there, or cannot be run: ./build, then ./install')
+    return found
+
+
+def to_its_end(run, mark=''):
+    """Runs to the end, and prints the last line, behind a mark. Returns the status."""
+    try:
+        run()
+    except Ended as end:
+        sys.stdout.flush()
+        if end.last is not None:
+            print(mark + end.last)
+            sys.stdout.flush()
+        return end.status
+
+
+def answered(words, mark=''):
+    """Answers a command line, its last line behind a mark. Returns the status."""
+    for path in words.files:
+        with open(path, 'rb'):
+            pass
+    found = programs()
+    kept_folder = contextlib.nullcontext(kept.empty_folder(words.keep)) if words.keep is not None else None
+    with Limits(words.time_limit) as limits, kept_folder or Temporary() as folder:
+        status = None
+        try:
+            status = to_its_end(Answering(words, found, Files(folder), limits).run, mark)
+            return status
+        finally:
+            limits.close()
+            PROCESSES.cleared()
+            if words.keep is not None:
+                kept.tidy(Files(folder), status)
+
+
+def checked_again(given):
+    """Checks a kept folder again. Returns the status."""
+    words = Words(prog='nickelmouse check', usage='nickelmouse check FOLDER', description=kept.__doc__)
+    words.add_argument('folder', metavar='FOLDER')
+    folder = words.parse_args(given).folder
+    return to_its_end(lambda: kept.check_again(programs().check, Files(folder)))
+
+
+def settled(command):
+    """Runs a command, and gives its status: whatever goes wrong that is nobody's fault here is one line and 4."""
+    try:
+        status = ended(command)
+    except Exception as fault:
+        print(f'nickelmouse: {type(fault).__name__}: {" ".join(str(fault).split())}', file=sys.stderr)
+        return 4
+    return 4 if status == 2 else status
+
+
+def main():
+    """The command, and what MiniZinc starts for it."""
+    if os.environ.get(compiling.FOLDER):
+        return ended(compiling.relay)
+    given = sys.argv[1:]
+    if given[:1] == ['check']:
+        return settled(lambda: checked_again(given[1:]))
+    words = asked(given)
+    return settled(lambda: answered(words))
+
+
+def main_of_solver():
+    """What MiniZinc starts as its solver: the last line is a comment, which MiniZinc hands on."""
+    words = asked(sys.argv[1:])
+    return settled(lambda: answered(words, '% '))

@@ -1,0 +1,93 @@
+"""The programs that we have started: none of them outlives us."""
+import ctypes
+import os
+import signal
+import subprocess
+
+ENDING = (signal.SIGINT, signal.SIGTERM, signal.SIGHUP)
+PR_SET_PDEATHSIG = 1
+LIBC = ctypes.CDLL(None)
+
+
+class Interrupted(Exception):
+    """A signal that ended a run before there was an answer."""
+
+    def __init__(self, number):
+        super().__init__('interrupted')
+        self.status = 128 + number
+
+
+def dies_with_its_parent():
+    """Has this process killed where the one that started it ends."""
+    LIBC.prctl(PR_SET_PDEATHSIG, signal.SIGKILL)
+
+
+def in_the_child(parent, is_alone):
+    """Has the program end where we are killed, and leaves to us what a signal to the whole group means: where it is alone, it gets none."""
+    if is_alone:
+        os.setsid()
+    for number in ENDING:
+        signal.signal(number, signal.SIG_DFL if is_alone else signal.SIG_IGN)
+    dies_with_its_parent()
+    if os.getppid() != parent:
+        os._exit(1)
+
+
+class Processes:
+    """The programs that were started and have not ended yet, and the exception that all of them were ended for."""
+
+    def __init__(self):
+        self.going, self.ended_for = {}, None
+
+    def start(self, words, end=subprocess.Popen.kill, is_alone=False, **options):
+        """Starts a program. `end` ends it, without waiting; where it is alone, it has a group of its own."""
+        parent = os.getpid()
+        process = subprocess.Popen(words, preexec_fn=lambda: in_the_child(parent, is_alone), **options)
+        self.going[process] = end
+        if self.ended_for is not None:
+            end(process)
+        return process
+
+    def end(self, reason):
+        """Ends all of them, and those that are started from now on. Who waits for one gets the exception."""
+        self.ended_for = reason
+        for process, end in list(self.going.items()):
+            end(process)
+
+    def go_on(self):
+        """Raises the exception that all of them were ended for, if they were."""
+        if self.ended_for is not None:
+            raise self.ended_for
+
+    def left(self, process):
+        """Takes note that a program has ended."""
+        self.going.pop(process, None)
+        self.go_on()
+
+    def wait(self, process):
+        """Waits for the end of a program, and gives its status."""
+        status = process.wait()
+        self.left(process)
+        return status
+
+    def heard(self, process):
+        """What a program printed on standard output and on standard error, to its end."""
+        try:
+            heard = process.communicate()
+        except BaseException:
+            process.kill()
+            process.wait()
+            self.going.pop(process, None)
+            raise
+        self.left(process)
+        return heard
+
+    def cleared(self):
+        """Ends those that go on, and waits for their ends."""
+        for process, end in list(self.going.items()):
+            end(process)
+            process.wait()
+            self.going.pop(process, None)
+
+
+PROCESSES = Processes()

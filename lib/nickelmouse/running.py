@@ -1,0 +1,80 @@
+"""The two proved programs: where they are, how they are run, and what they say."""
+import os
+import re
+import subprocess
+import sys
+from dataclasses import dataclass
+
+from nickelmouse.processes import PROCESSES
+
+FAULT_AT = re.compile(r'^line (\d+) column (\d+): fault (\d+) ', re.M)
+
+
+class Refused(Exception):
+    """A program that ended with a fault: its status, and what it said."""
+
+    def __init__(self, status, said):
+        super().__init__(said or f'status {status}')
+        self.status = status
+
+
+class Broken(Exception):
+    """A program that said what it never says, so that nothing can be told."""
+
+
+class Ended(Exception):
+    """How a run ends: the last line, if there is one, and the status."""
+
+    def __init__(self, status, last=None):
+        super().__init__(last)
+        self.status, self.last = status, last
+
+
+@dataclass(frozen=True)
+class Programs:
+    """The paths of the solver and of the checker."""
+    solve: str
+    check: str
+
+
+@dataclass(frozen=True)
+class Fault:
+    """A fault that stands at a place of a file."""
+    line: int
+    column: int
+    number: int
+
+
+def fault_in(said):
+    """The first fault with a place in what a program said, or nothing."""
+    found = FAULT_AT.search(said)
+    return Fault(*map(int, found.groups())) if found else None
+
+
+def launcher_folder():
+    """The folder of the script that was started."""
+    return os.path.dirname(os.path.realpath(sys.argv[0]))
+
+
+def program(name):
+    """The path of a program of ours: as the environment says, beside the script that was started, or where ./build puts it."""
+    here = launcher_folder()
+    beside = os.path.join(here, name)
+    return os.environ.get(name.upper()) or (beside if os.path.isfile(beside) else os.path.join(here, 'crates', name, 'out', name))
+
+
+def started(words, **options):
+    """Starts a program, which ends with us. Refused, where it is not there."""
+    try:
+        return PROCESSES.start(words, **options)
+    except OSError as fault:
+        raise Refused(4, f'{words[0]}: {fault.strerror}') from fault
+
+
+def output_of(words):
+    """What a program prints, to its end. A status other than 0 is a refusal."""
+    process = started(words, stdin=subprocess.DEVNULL, stdout=subprocess.PIPE, stderr=subprocess.PIPE)
+    printed, said = PROCESSES.heard(process)
+    if process.returncode != 0:
+        raise Refused(process.returncode, said.decode('utf-8', 'replace').strip())
+    return printed

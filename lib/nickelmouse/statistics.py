@@ -1,0 +1,21 @@
+"""What fznsolve tells of its search, in the words of MiniZinc."""
+import re
+
+TOLD = re.compile(r'^(?:in all )?([0-9.]+) s, (\d+) nodes, (\d+) conflicts, (\d+) inferences, (\d+) solutions, (?:best (-?\d+), )?'
+                  r'(\d+) bytes of certificate$', re.M)
+NAMES = ('solveTime', 'nodes', 'failures', 'propagations', 'nSolutions', 'objective', 'certificateBytes')
+
+
+def statistics_in(said):
+    """The lines for MiniZinc of the last that `fznsolve --progress` has told."""
+    last = None
+    for last in TOLD.finditer(said):
+        pass
+    values = last.groups() if last is not None else ()
+    lines = [f'%%%mzn-stat: {name}={value}\n' for name, value in zip(NAMES, values) if value is not None]
+    return ''.join(lines) + '%%%mzn-stat-end\n'
+
+
+def without_progress(said):
+    """What fznsolve has said beside how far it has come."""
+    return TOLD.sub('', said).strip()

@@ -1,0 +1,150 @@
+"""The command line of `nickelmouse`."""
+import argparse
+import os
+import re
+from dataclasses import dataclass, field
+
+from nickelmouse.command import Words
+from nickelmouse.limits import seconds_in
+
+DESCRIPTION = """Solves a model and has the answer checked: what is printed, fzncheck has accepted.
+
+    nickelmouse [OPTION ..] MODEL [DATA ..]
+    nickelmouse --why [OPTION ..] MODEL [DATA ..]
+    nickelmouse check FOLDER
+
+MODEL is a MiniZinc model (.mzn), with its data (.dzn, .json), or a FlatZinc file (.fzn). The last line is `checked`; `checked within -N..N`
+where a variable needed --bounds; or it says what is wrong. A time limit, Ctrl-C and SIGTERM end the search, and what it has found is checked
+and printed; a second Ctrl-C ends all. `nickelmouse check FOLDER` checks again what --keep has left."""
+# The words that go to the compiler: those with a value, and those without.
+VALUED = ('-D', '--cmdline-data', '--cmdline-json-data', '-d', '--data', '-I', '--search-dir', '--stdlib-dir', '--output-mode', '--only-sections',
+          '--not-sections', '--pre-passes')
+BARE = ('-O0', '-O1', '-O2', '-O3', '-O4', '-O5', '--no-optimize', '--no-optimise', '--two-pass', '--use-gecode', '--shave', '--sac',
+        '--no-chain-compression', '--only-range-domains', '--allow-multiple-assignments', '--no-half-reifications', '--output-objective',
+        '--output-output-item', '--verbose-compilation', '--compiler-statistics', '-Werror')
+MODELS, DATA = ('.mzn', '.fzn'), ('.dzn', '.json', '.mpc')
+
+
+@dataclass
+class Asked:
+    """What a command line asks for: the words for the compiler and for the search, and the rest."""
+    files: list
+    compiling: list = field(default_factory=list)
+    solving: list = field(default_factory=list)
+    every: bool = False
+    nodes: int = 10_000_000
+    try_nodes: int = None
+    bounds: int = None
+    keep: str = None
+    explaining: bool = False
+    unchecked: bool = False
+    time_limit: float = None
+    intermediate: bool = False
+    statistics: bool = False
+
+    @property
+    def is_flat(self):
+        """Whether the model is a FlatZinc file."""
+        return self.files[0].endswith('.fzn')
+
+
+class ForTheCompiler(argparse.Action):
+    """Hands a word on to the compiler, in its order."""
+
+    def __call__(self, parser, options, values, word=None):
+        options.compiling = (options.compiling or []) + [word] + ([] if values in (None, []) else [values])
+
+
+def number(least, greatest):
+    """What reads a number from the least to the greatest."""
+    def read(text):
+        if not re.fullmatch('[0-9]{1,20}', text) or not least <= int(text) <= greatest:
+            raise argparse.ArgumentTypeError(f'a number from {least} to {greatest} is wanted, not {text!r}')
+        return int(text)
+    return read
+
+
+def duration(text):
+    """A time, in seconds."""
+    try:
+        return seconds_in(text)
+    except ValueError as fault:
+        raise argparse.ArgumentTypeError(str(fault)) from fault
+
+
+def parser():
+    """The parser of the command line."""
+    words = Words(prog='nickelmouse', usage=argparse.SUPPRESS, description=DESCRIPTION)
+    words.add_argument('files', nargs='*', metavar='MODEL, DATA', help=argparse.SUPPRESS)
+    solving = words.add_argument_group('the search')
+    solving.add_argument('-a', action='store_true', help='every solution; in an optimisation each better one too')
+    solving.add_argument('-n', type=number(1, 10 ** 9), metavar='N', help='N solutions; an optimisation goes on to its end')
+    solving.add_argument('-f', action='store_true', help="the search need not follow the model's annotations")
+    solving.add_argument('-r', type=number(0, 2 ** 64 - 1), metavar='SEED', help='break ties by chance, from this seed')
+    solving.add_argument('--nodes', type=number(0, 10 ** 12), metavar='N', help='make at most N decisions (10000000)')
+    solving.add_argument('--time-limit', type=duration, metavar='T', help='end the search after T: seconds, or as 10m, 2h')
+    solving.add_argument('-t', type=number(0, 10 ** 11), metavar='MS', help='end the search after MS milliseconds; 0 is no limit')
+    solving.add_argument('-p', type=number(1, 10 ** 6), metavar='N', help='use at most N processors: one is used')
+    solving.add_argument('--learn', choices=['first', 'plain'], help='which clause is learned (first)')
+    solving.add_argument('--progress', '-v', action='store_true', help='tell on standard error how far the search has come')
+    answer = words.add_argument_group('the answer')
+    answer.add_argument('-i', action='store_true', help='in an optimisation, each better solution too')
+    answer.add_argument('-s', action='store_true', help='print statistics of the search, as MiniZinc does')
+    answer.add_argument('--bounds', type=number(1, 10 ** 9), metavar='N', help='integers without bounds lie in -N..N')
+    answer.add_argument('--keep', metavar='FOLDER', help='leave the compiled file, the certificate and the answer in FOLDER, a new or an empty one')
+    answer.add_argument('--unchecked', action='store_true', help='print solutions as they are found; they are checked at the end all the same')
+    answer.add_argument('--why', action='store_true', help='say why there is no solution, or none better')
+    answer.add_argument('--try-nodes', type=number(0, 10 ** 12), metavar='N',
+                        help='with --why: at most N decisions for the question whether one constraint is needed (100000)')
+    compiling = words.add_argument_group('words that go to MiniZinc', f'{" ".join(VALUED)}, each with a value; {" ".join(BARE)}')
+    for word in VALUED:
+        compiling.add_argument(word, action=ForTheCompiler, dest='compiling', help=argparse.SUPPRESS)
+    for word in BARE:
+        compiling.add_argument(word, action=ForTheCompiler, dest='compiling', nargs=0, help=argparse.SUPPRESS)
+    return words
+
+
+def search_words(options):
+    """The words for fznsolve."""
+    words = [word for word, is_there in (('-a', options.a), ('-f', options.f), ('--progress', options.progress)) if is_there]
+    for word, value in (('-n', options.n), ('-r', options.r), ('--nodes', options.nodes), ('--learn', options.learn)):
+        words += [word, str(value)] if value is not None else []
+    return words
+
+
+def time_limit_of(options):
+    """The shorter one of both time limits, in seconds, or nothing."""
+    return min([seconds for seconds in (options.time_limit, options.t and options.t / 1000) if seconds], default=None)
+
+
+def wrong_with(options):
+    """What is wrong with words that are each right, or nothing."""
+    models = [path for path in options.files if path.endswith(MODELS)]
+    others = [path for path in options.files if not path.endswith(MODELS + DATA)]
+    alone = (options.a, options.n, options.f, options.r, options.p, options.i, options.s, options.learn, options.progress, options.unchecked)
+    if others:
+        return f'{others[0]}: the name of a model ends in .mzn or .fzn, that of data in .dzn or .json'
+    if not models:
+        return 'no model: nickelmouse --help'
+    if any(path.endswith('.fzn') for path in models) and (len(options.files) > 1 or options.compiling):
+        return 'a FlatZinc file has no data, and nothing of it is compiled'
+    if options.why and any(word not in (None, False) for word in alone):
+        return '--why goes with --nodes, --try-nodes, --bounds, --keep and the words for MiniZinc alone'
+    if options.try_nodes is not None and not options.why:
+        return '--try-nodes goes with --why'
+    return None
+
+
+def asked(given):
+    """What a command line asks for. A faulty one ends the program with one line and status 3."""
+    words, last = parser(), given.index('--') if '--' in given else len(given)
+    options = words.parse_intermixed_args(given[:last])
+    options.files += given[last + 1:]
+    wrong = wrong_with(options)
+    if wrong is not None:
+        words.error(wrong)
+    # MiniZinc takes a name that begins like a word for one.
+    files = [os.path.join('.', path) if path.startswith('-') else path for path in options.files]
+    return Asked(files, (options.compiling or []) + files, search_words(options), options.a,
+                 10_000_000 if options.nodes is None else options.nodes, options.try_nodes, options.bounds, options.keep, options.why,
+                 options.unchecked, time_limit_of(options), options.i, options.s)

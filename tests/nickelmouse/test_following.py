@@ -1,0 +1,82 @@
+"""Following: the whole lines of a file that another program writes."""
+import io
+import os
+import tempfile
+import threading
+import unittest
+
+from nickelmouse.following import Follower, Lines
+
+
+class Sink(io.BytesIO):
+    """Takes bytes until it has had enough."""
+
+    def __init__(self, enough=None):
+        super().__init__()
+        self.enough = enough
+
+    def write(self, piece):
+        if self.enough is not None and self.tell() + len(piece) > self.enough:
+            raise BrokenPipeError
+        return super().write(piece)
+
+
+class LinesTest(unittest.TestCase):
+    """Pieces that end anywhere."""
+
+    def test_pieces(self):
+        cases = [
+            # pieces, what is whole, how many of the first two lines, how the last begins, what is left
+            ([b'fz', b'c 2'], b'', 0, b'', b'fzc 2'),
+            ([b'fzc 2', b'\nva'], b'fzc 2\n', 1, b'fz', b'va'),
+            ([b'fzc 2\nvars 1 cons 1\ns', b' 3\n', b'e op'], b'fzc 2\nvars 1 cons 1\ns 3\n', 2, b's ', b'e op'),
+            ([b'fzc 2\nvars 1 cons 1\n', b'e open\n'], b'fzc 2\nvars 1 cons 1\ne open\n', 2, b'e ', b''),
+        ]
+        for pieces, whole, heading, last, rest in cases:
+            lines = Lines()
+            self.assertEqual(b''.join(map(lines.take, pieces)), whole)
+            self.assertEqual((lines.bytes, lines.heading, lines.last, lines.rest), (len(whole), heading, last, rest))
+            self.assertEqual(lines.has_end(), whole.endswith(b'e open\n'))
+
+
+class FollowerTest(unittest.TestCase):
+    """A file that grows."""
+
+    def setUp(self):
+        self.folder = tempfile.TemporaryDirectory()
+        self.path = os.path.join(self.folder.name, 'model.fzc')
+
+    def tearDown(self):
+        self.folder.cleanup()
+
+    def test_growing(self):
+        sink, began = Sink(), threading.Event()
+        follower = Follower(self.path, sink, began.set)
+        follower.start()
+        with open(self.path, 'wb', buffering=0) as file:
+            for piece in (b'fzc 2\nva', b'rs 1 cons 1\n', b's 1\ns'):
+                file.write(piece)
+        follower.finish()
+        self.assertEqual((sink.getvalue(), follower.lines.rest), (b'fzc 2\nvars 1 cons 1\ns 1\n', b's'))
+        self.assertFalse(began.is_set())
+
+    def test_never_there(self):
+        sink = Sink()
+        follower = Follower(self.path, sink, lambda: None)
+        follower.start()
+        follower.finish()
+        self.assertEqual((sink.getvalue(), follower.lines.heading), (b'', 0))
+
+    def test_refused(self):
+        refused = threading.Event()
+        with open(self.path, 'wb') as file:
+            file.write(b'fzc 2\n' * 9)
+        follower = Follower(self.path, Sink(7), refused.set)
+        follower.start()
+        follower.finish()
+        self.assertTrue(refused.is_set())
+        self.assertIsInstance(follower.fault, BrokenPipeError)
+
+
+if __name__ == '__main__':
+    unittest.main()

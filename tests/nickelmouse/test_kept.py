@@ -1,0 +1,77 @@
+"""Folders that are kept."""
+import contextlib
+import io
+import os
+import tempfile
+import unittest
+
+from nickelmouse.files import Files
+from nickelmouse.kept import Record, check_again, empty_folder, record_of, tidy, write_record
+from nickelmouse.running import Ended, Refused
+
+
+class KeptTest(unittest.TestCase):
+    """What is made, written and read again."""
+
+    def setUp(self):
+        self.folder = tempfile.TemporaryDirectory()
+        self.path = os.path.join(self.folder.name, 'kept')
+
+    def tearDown(self):
+        self.folder.cleanup()
+
+    def test_nothing_is_written_over(self):
+        self.assertEqual(empty_folder(self.path), os.path.realpath(self.path))
+        self.assertEqual(empty_folder(self.path), os.path.realpath(self.path))
+        Files(self.path).write('plan.txt', b'mine')
+        for path in (self.path, os.path.join(self.path, 'plan.txt')):
+            with self.assertRaises(Refused) as end:
+                empty_folder(path)
+            self.assertEqual((end.exception.status, str(end.exception).count('\n')), (4, 0))
+
+    def test_record(self):
+        files = Files(empty_folder(self.path))
+        for record in (Record(True, None), Record(False, 99)):
+            write_record(files, record)
+            self.assertEqual(record_of(files), record)
+        self.assertEqual([Record(True, None).last_line(), Record(False, 99).last_line()], ['checked', 'checked within -99..99'])
+
+    def test_tidy(self):
+        """What is left, by the status, of files of a run."""
+        whole, early = ['answer.pipe', 'model.fzc', 'model.fzn'], ['compiled.pipe', 'model.fzn']
+        for status, names, left in ((0, whole, whole[1:]), (0, early, early[1:]), (1, whole, whole[1:]), (1, early, []), (None, whole, [])):
+            files = Files(empty_folder(self.path))
+            for name in names:
+                files.write(name, b'')
+            tidy(files, status)
+            self.assertEqual(sorted(os.listdir(self.path)), left, (status, names))
+            files.remove(*left)
+
+    def test_no_record(self):
+        files = Files(empty_folder(self.path))
+        for text in (None, b'', b'[]', b'{}', b'{"every": 1, "bounds": null}', b'{"every": true, "bounds": "x"}', b'\xff'):
+            if text is not None:
+                files.write('kept.json', text)
+            with self.assertRaises(Refused):
+                record_of(files)
+
+    def test_checked_again(self):
+        files = Files(empty_folder(self.path))
+        write_record(files, Record(False, None))
+        files.write('model.fzc', b'x = 3;\n')
+        files.write('check', b'#!/bin/sh\ncat "$2"\n')
+        os.chmod(files.path('check'), 0o755)
+        for answer, wanted in ((b'x = 3;\n', (0, 'checked')), (b'x = 4;\n', (1, 'the certificate shows another answer'))):
+            files.write('model.answer', answer)
+            with self.assertRaises(Ended) as end:
+                self.checked(files)
+            self.assertEqual((end.exception.status, end.exception.last), wanted)
+
+    def checked(self, files):
+        """Checks again, and shows nothing."""
+        with contextlib.redirect_stdout(io.TextIOWrapper(io.BytesIO())):
+            check_again(files.path('check'), files)
+
+
+if __name__ == '__main__':
+    unittest.main()
