@@ -58,12 +58,19 @@ def booleans(n, constraint, choice='indomain_min', more=''):
     return Model(''.join(f'var bool: {x};\n' for x in xs) + more, constraint, xs, choice, 'bool_search')
 
 
+def numbered(template, letters, k):
+    """The template with the names of one copy's variables: x3 for {x} in the third."""
+    for letter in letters:
+        template = template.replace('{' + letter + '}', f'{letter}{k}')
+    return template
+
+
 def copies(kinds, constraint, choice='indomain_min'):
     """The same constraint a few times, each on variables of its own, named in order x, y, z; each decision fixes the first of one of them."""
     numbers = range(1, COPIES + 1)
     letters = 'xyz'[:len(kinds)]
     declared = ''.join(f'var {kind}: {letter}{k};\n' for k in numbers for kind, letter in zip(kinds, letters))
-    constraints = [re.sub(r'{([xyz])}', rf'\g<1>{k}', constraint) for k in numbers]
+    constraints = [numbered(constraint, letters, k) for k in numbers]
     search = 'bool_search' if kinds[0] == 'bool' else 'int_search'
     return Model(declared, constraints, [f'x{k}' for k in numbers], choice, search)
 
