@@ -6,6 +6,7 @@ use std::io::{Read, Write};
 use std::str::from_utf8;
 
 mod answers;
+mod bounds;
 mod choices;
 mod faults;
 mod learning;
@@ -36,6 +37,7 @@ pub(crate) fn options_of(alloc: Global, all: bool, nodes: u64) -> Options {
         progress: false,
         model: String::new(alloc),
         cert: None,
+        hints: None,
     }
 }
 

@@ -1,4 +1,5 @@
 pub mod Accepted
+pub mod Begun
 pub mod Parts
 pub mod Past
 pub mod Reading

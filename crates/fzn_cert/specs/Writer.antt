@@ -3,10 +3,10 @@ use Rattle.std.specs.Prelude.{ℕ, Bool, List, Option}
 use Rattle.std.specs.Io.KnownBytes.{Keeps}
 use Rattle.std.specs.Borrow.{GName}
 use Rattle.fzn_streams.specs.Output.{AppendsFront}
-use Rattle.fzn_cert.specs.declared.fault.FaultKind.{FaultKind}
-use Rattle.fzn_cert.specs.declared.fault.FaultKind.TheVariants.{Memory, Write, StepTooLong}
 use Rattle.fzn_cert.specs.declared.step.Step.{Step}
 use Rattle.fzn_cert.specs.declared.step.Version.{Version}
+use Rattle.fzn_cert.specs.declared.write_fault.WriteFault.{WriteFault}
+use Rattle.fzn_cert.specs.declared.write_fault.WriteFault.TheVariants.{Memory, Write, StepTooLong}
 use Rattle.fzn_cert.specs.declared.writer.Stage.{Stage}
 use Rattle.fzn_cert.specs.declared.writer.StepWriter.{StepWriter}
 use Rattle.fzn_cert.specs.Spelling.{HasRoom}
@@ -38,18 +38,18 @@ abbrev pub stage_of : {W : Type 0} → StepWriter W → Stage
 stage_of writer = writer.stage
 
 -- a fault leaves a beginning of the text after a failed write, and else nothing of it
-abbrev pub Leaves : List ℕ → Option (List ℕ) → Option (List ℕ) → FaultKind → Type 0
+abbrev pub Leaves : List ℕ → Option (List ℕ) → Option (List ℕ) → WriteFault → Type 0
 Leaves text old new Write = AppendsFront old new text
 Leaves text old new _ = Keeps old new
 
 -- a fault of the first two lines, of the last line or of a flush
-abbrev pub IsLineFault : FaultKind → Type 0
+abbrev pub IsLineFault : WriteFault → Type 0
 IsLineFault Memory = Unit {0}
 IsLineFault Write = Unit {0}
 IsLineFault _ = ⊥
 
 -- a fault of a step, after this many steps
-abbrev pub IsStepFault : ℕ → Step → FaultKind → Type 0
+abbrev pub IsStepFault : ℕ → Step → WriteFault → Type 0
 IsStepFault steps step Memory = Unit {0}
 IsStepFault steps step Write = Unit {0}
 IsStepFault steps step StepTooLong = ¬ HasRoom steps step

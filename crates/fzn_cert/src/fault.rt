@@ -1,46 +1,42 @@
-// Why a certificate is refused, or can't be read or written.
+// Why a certificate is not read.
 ghost use Rattle.std.specs.Prelude.{◌≡◌};
 ghost use Rattle.fzn_cert.specs.declared.fault.FaultKind.TheVariants.{Memory};
 
+use crate::refusal::Refusal;
+use fzn_fault::Stop;
 use std::alloc::{AllocError, AllocFailed};
 use thiserror::Error;
 
-/// What is wrong.
+/// What a reader answers in the place of a step.
 #[derive(Clone, Copy, Debug, PartialEq, Eq, Error)]
 pub enum FaultKind {
     /// No memory was left.
-    #[error("fault 19 Memory")]
+    #[error("{}", Stop::Memory)]
     Memory,
     /// The reader below failed.
-    #[error("fault 20 Read")]
+    #[error("{}", Stop::Read)]
     Read,
-    /// The writer below failed.
-    #[error("fault 22 WriteCert")]
-    Write,
-    /// The line of the step to be written is longer than a line may be, or its number larger than that of the last step.
-    #[error("fault 24 StepTooLong")]
-    StepTooLong,
     /// The first or the second line has another spelling.
-    #[error("fault 30 Header")]
+    #[error("{}", Refusal::Header)]
     Header,
     /// The line spells no step and no end.
-    #[error("fault 31 Spelling")]
+    #[error("{}", Refusal::Spelling)]
     Spelling,
     /// The input ends before the line does, or before the last line.
-    #[error("fault 32 Truncated")]
+    #[error("{}", Refusal::Truncated)]
     Truncated,
     /// A byte stands after the last line.
-    #[error("fault 33 Trailing")]
+    #[error("{}", Refusal::Trailing)]
     Trailing,
     /// The line is longer than a line may be.
-    #[error("fault 34 LineTooLong")]
+    #[error("{}", Refusal::LineTooLong)]
     LineTooLong,
-    /// A call after a fault, or after the last line was written.
+    /// A call after a fault.
     #[error("failed before")]
     Failed,
 }
 
-/// A fault, and the line where it stands, counted from 1.
+/// A fault of a reader, and the line where it stands, counted from 1.
 #[derive(Clone, Copy, Debug, PartialEq, Eq)]
 pub struct CertFault {
     /// What is wrong.

@@ -12,7 +12,8 @@ pub use limits::{LAST_STEP, LINE_LIMIT};
 pub use line::push_step;
 pub use refusal::Refusal;
 pub use step::{Step, Version};
-pub use writer::{Stage, StepWriter, header_of, put_end};
+pub use write_fault::WriteFault;
+pub use writer::{NotBegun, Stage, StepWriter, header_of, put_end};
 
 mod fault;
 mod header;
@@ -21,4 +22,5 @@ mod limits;
 mod line;
 mod refusal;
 mod step;
+mod write_fault;
 mod writer;

@@ -7,10 +7,11 @@ ghost use Rattle.fzn_cert.specs.declared.writer.Stage.TheVariants.{Fresh, Open, 
 ghost use Rattle.fzn_cert.specs.Spelling.{step_line, IsSpelled, HasRoom, version_text, header_text, end_line};
 ghost use Rattle.fzn_cert.specs.Writer.{contents_of, stream_of, has_failed_in, out_name, version_of, step_count, stage_of, Leaves, IsLineFault, IsStepFault};
 
-use crate::fault::FaultKind;
 use crate::limits::{LAST_STEP, LINE_LIMIT, USUAL_LINE};
 use crate::line::push_step;
 use crate::step::{Step, Version};
+use crate::write_fault::WriteFault;
+use fzn_domain::Memory;
 use fzn_streams::{TrackedWrite, WriteFailed, put};
 use std::alloc::Global;
 
@@ -34,8 +35,19 @@ pub struct StepWriter<'w, W: TrackedWrite> {
     stage: Stage,
 }
 
+/// The first two lines were not written.
+#[derive(Drop)]
+pub struct NotBegun<'w, W: TrackedWrite> {
+    /// Why: `Memory` or `Write`.
+    pub fault: WriteFault,
+    /// The writer, which is shut. Where it is let go of, the stream below is the caller's again, with what stands on it.
+    pub writer: StepWriter<'w, W>,
+}
+
 impl<'w, W: TrackedWrite> StepWriter<'w, W> {
-    /// Writes nothing: `begin` writes the first two lines. So what stands after its fault is known too, and whether the writer below failed.
+    ghost use Rattle.fzn_cert.specs.Begun.{IsBegun, IsNotBegun};
+
+    /// Writes nothing: `begin` writes the first two lines.
     pub fn over(out: &'w mut W) -> StepWriter<'w, W>
         ensures same { contents_of W.contents result ≡ W.contents out.old }
         ensures same_stream { stream_of W.stream result ≡ W.stream out.old }
@@ -50,43 +62,40 @@ impl<'w, W: TrackedWrite> StepWriter<'w, W> {
         }
     }
 
-    /// Writes the first two lines of version 1, with counts of at most 18 digits. Its faults are `Memory` and `Write`.
+    /// Writes the first two lines of version 1, with counts of at most 18 digits. Its faults are `Memory` and `Write`, each with the writer
+    /// that is shut then: a beginning of the lines stands after a failed write, and nothing of them where memory ran out.
     pub fn new(
         alloc: Global,
         out: &'w mut W,
         variables: u64,
         constraints: u64,
-    ) -> Result<StepWriter<'w, W>, FaultKind>
+    ) -> Result<StepWriter<'w, W>, NotBegun<'w, W>>
         requires variables { variables < 10 ^ 18 }
         requires constraints { constraints < 10 ^ 18 }
-        ensures ok { IfOk result (λ writer. Appends (W.contents out.old) (contents_of W.contents writer) (header_text One variables constraints)) }
-        ensures begun { IfOk result (λ writer. (stage_of writer ≡ Open) × (version_of writer ≡ One) × (step_count writer ≡ 0)) }
-        ensures same_stream { IfOk result (λ writer. stream_of W.stream writer ≡ W.stream out.old) }
-        ensures same_writer { IfOk result (λ writer. out_name writer ≡ out.entry.ghost_name) }
-        ensures fault { IfErr result IsLineFault }
+        ensures ok { IfOk result (IsBegun W.contents W.stream One variables constraints out.entry) }
+        ensures err { IfErr result (IsNotBegun W.contents W.stream W.has_failed One variables constraints out.entry) }
     {
         StepWriter::with_version(alloc, out, Version::One, variables, constraints)
     }
 
-    /// Writes the first two lines, with counts of at most 18 digits. Its faults are `Memory` and `Write`.
+    /// Writes the first two lines, with counts of at most 18 digits. It answers as `new` does.
     pub fn with_version(
         alloc: Global,
         out: &'w mut W,
         version: Version,
         variables: u64,
         constraints: u64,
-    ) -> Result<StepWriter<'w, W>, FaultKind>
+    ) -> Result<StepWriter<'w, W>, NotBegun<'w, W>>
         requires variables { variables < 10 ^ 18 }
         requires constraints { constraints < 10 ^ 18 }
-        ensures ok { IfOk result (λ writer. Appends (W.contents out.old) (contents_of W.contents writer) (header_text version variables constraints)) }
-        ensures begun { IfOk result (λ writer. (stage_of writer ≡ Open) × (version_of writer ≡ version) × (step_count writer ≡ 0)) }
-        ensures same_stream { IfOk result (λ writer. stream_of W.stream writer ≡ W.stream out.old) }
-        ensures same_writer { IfOk result (λ writer. out_name writer ≡ out.entry.ghost_name) }
-        ensures fault { IfErr result IsLineFault }
+        ensures ok { IfOk result (IsBegun W.contents W.stream version variables constraints out.entry) }
+        ensures err { IfErr result (IsNotBegun W.contents W.stream W.has_failed version variables constraints out.entry) }
     {
         let mut writer = StepWriter::over(out);
-        writer.begin(alloc, version, variables, constraints)?;
-        Ok(writer)
+        match writer.begin(alloc, version, variables, constraints) {
+            Ok(()) => Ok(writer),
+            Err(fault) => Err(NotBegun { fault, writer }),
+        }
     }
 
     /// Writes the first two lines, with counts of at most 18 digits. Its faults are `Memory` and `Write`, and `Failed` after an
@@ -97,7 +106,7 @@ impl<'w, W: TrackedWrite> StepWriter<'w, W> {
         version: Version,
         variables: u64,
         constraints: u64,
-    ) -> Result<(), FaultKind>
+    ) -> Result<(), WriteFault>
         requires variables { variables < 10 ^ 18 }
         requires constraints { constraints < 10 ^ 18 }
         ensures ok { OnOk result (Appends (contents_of W.contents self.old) (contents_of W.contents self.new) (header_text version variables constraints)) }
@@ -106,19 +115,19 @@ impl<'w, W: TrackedWrite> StepWriter<'w, W> {
         ensures same_writer { out_name self.new ≡ out_name self.old }
         ensures err { IfErr result (Leaves (header_text version variables constraints) (contents_of W.contents self.old) (contents_of W.contents self.new)) }
         ensures fault { stage_of self.old ≡ Fresh → IfErr result IsLineFault }
-        ensures due { IfErr result (λ fault. fault ≡ FaultKind.Write → has_failed_in W.has_failed self.new ≡ true) }
-        ensures failed { ¬ (stage_of self.old ≡ Fresh) → result ≡ Err FaultKind.Failed }
+        ensures due { IfErr result (λ fault. fault ≡ WriteFault.Write → has_failed_in W.has_failed self.new ≡ true) }
+        ensures failed { ¬ (stage_of self.old ≡ Fresh) → result ≡ Err WriteFault.Failed }
         ensures shut { OnErr result (stage_of self.new ≡ Shut) }
     {
         let stage = self.stage;
         self.stage = Stage::Shut;
         match stage {
             Stage::Fresh => {}
-            _ => return Err(FaultKind::Failed),
+            _ => return Err(WriteFault::Failed),
         }
         let text = header_of(alloc, version, variables, constraints)?;
         if put(self.out, text.as_bytes()).is_err() {
-            return Err(FaultKind::Write);
+            return Err(WriteFault::Write);
         }
         self.version = version;
         self.steps = 0;
@@ -128,7 +137,7 @@ impl<'w, W: TrackedWrite> StepWriter<'w, W> {
 
     /// Writes the line of a step. Its faults are `Memory` and `Write`, `StepTooLong` where the line has more than `LINE_LIMIT` bytes or
     /// `LAST_STEP` steps were written, and `Failed` before the first two lines and after a fault or the last line.
-    pub fn write(&mut self, alloc: Global, step: &Step) -> Result<(), FaultKind>
+    pub fn write(&mut self, alloc: Global, step: &Step) -> Result<(), WriteFault>
         requires { IsSpelled (version_of self.old) step.now }
         ensures ok { OnOk result (Appends (contents_of W.contents self.old) (contents_of W.contents self.new) (step_line step.now)) }
         ensures counted { OnOk result ((stage_of self.new ≡ Open) × (step_count self.new ≡ step_count self.old + 1) × HasRoom (step_count self.old) step.now) }
@@ -136,22 +145,22 @@ impl<'w, W: TrackedWrite> StepWriter<'w, W> {
         ensures same_writer { (out_name self.new ≡ out_name self.old) × (version_of self.new ≡ version_of self.old) }
         ensures err { IfErr result (Leaves (step_line step.now) (contents_of W.contents self.old) (contents_of W.contents self.new)) }
         ensures fault { stage_of self.old ≡ Open → IfErr result (IsStepFault (step_count self.old) step.now) }
-        ensures due { IfErr result (λ fault. fault ≡ FaultKind.Write → has_failed_in W.has_failed self.new ≡ true) }
-        ensures failed { ¬ (stage_of self.old ≡ Open) → result ≡ Err FaultKind.Failed }
+        ensures due { IfErr result (λ fault. fault ≡ WriteFault.Write → has_failed_in W.has_failed self.new ≡ true) }
+        ensures failed { ¬ (stage_of self.old ≡ Open) → result ≡ Err WriteFault.Failed }
         ensures shut { OnErr result (stage_of self.new ≡ Shut) }
     {
         self.take_open()?;
         if self.steps >= LAST_STEP {
-            return Err(FaultKind::StepTooLong);
+            return Err(WriteFault::StepTooLong);
         }
         let mut line = String::with_capacity(alloc, USUAL_LINE)?;
         push_step(&mut line, step)?;
         if line.len() > LINE_LIMIT {
-            return Err(FaultKind::StepTooLong);
+            return Err(WriteFault::StepTooLong);
         }
         line.push_str("\n")?;
         if put(self.out, line.as_bytes()).is_err() {
-            return Err(FaultKind::Write);
+            return Err(WriteFault::Write);
         }
         self.steps += 1;
         self.stage = Stage::Open;
@@ -160,14 +169,14 @@ impl<'w, W: TrackedWrite> StepWriter<'w, W> {
 
     /// Flushes the writer below. It answers `Write` only where the flush failed, and `Failed` before the first two lines and after a fault
     /// or the last line.
-    pub fn flush(&mut self) -> Result<(), FaultKind>
+    pub fn flush(&mut self) -> Result<(), WriteFault>
         ensures kept { Keeps (contents_of W.contents self.old) (contents_of W.contents self.new) }
         ensures ok { OnOk result ((stage_of self.new ≡ Open) × (step_count self.new ≡ step_count self.old)) }
         ensures same_stream { stream_of W.stream self.new ≡ stream_of W.stream self.old }
         ensures same_writer { (out_name self.new ≡ out_name self.old) × (version_of self.new ≡ version_of self.old) }
-        ensures fault { stage_of self.old ≡ Open → IfErr result (λ fault. fault ≡ FaultKind.Write) }
-        ensures due { IfErr result (λ fault. fault ≡ FaultKind.Write → has_failed_in W.has_failed self.new ≡ true) }
-        ensures failed { ¬ (stage_of self.old ≡ Open) → result ≡ Err FaultKind.Failed }
+        ensures fault { stage_of self.old ≡ Open → IfErr result (λ fault. fault ≡ WriteFault.Write) }
+        ensures due { IfErr result (λ fault. fault ≡ WriteFault.Write → has_failed_in W.has_failed self.new ≡ true) }
+        ensures failed { ¬ (stage_of self.old ≡ Open) → result ≡ Err WriteFault.Failed }
         ensures shut { OnErr result (stage_of self.new ≡ Shut) }
     {
         self.take_open()?;
@@ -176,33 +185,33 @@ impl<'w, W: TrackedWrite> StepWriter<'w, W> {
                 self.stage = Stage::Open;
                 Ok(())
             }
-            Err(_) => Err(FaultKind::Write),
+            Err(_) => Err(WriteFault::Write),
         }
     }
 
     /// Writes the last line, and flushes the writer below. It answers `Write` only where a write or the flush failed, and `Failed` before
     /// the first two lines and after a fault or the last line.
-    pub fn finish(&mut self, closed: bool) -> Result<(), FaultKind>
+    pub fn finish(&mut self, closed: bool) -> Result<(), WriteFault>
         ensures ok { OnOk result (Appends (contents_of W.contents self.old) (contents_of W.contents self.new) (end_line closed)) }
         ensures same_stream { stream_of W.stream self.new ≡ stream_of W.stream self.old }
         ensures same_writer { out_name self.new ≡ out_name self.old }
         ensures err { IfErr result (Leaves (end_line closed) (contents_of W.contents self.old) (contents_of W.contents self.new)) }
-        ensures fault { stage_of self.old ≡ Open → IfErr result (λ fault. fault ≡ FaultKind.Write) }
-        ensures due { IfErr result (λ fault. fault ≡ FaultKind.Write → has_failed_in W.has_failed self.new ≡ true) }
-        ensures failed { ¬ (stage_of self.old ≡ Open) → result ≡ Err FaultKind.Failed }
+        ensures fault { stage_of self.old ≡ Open → IfErr result (λ fault. fault ≡ WriteFault.Write) }
+        ensures due { IfErr result (λ fault. fault ≡ WriteFault.Write → has_failed_in W.has_failed self.new ≡ true) }
+        ensures failed { ¬ (stage_of self.old ≡ Open) → result ≡ Err WriteFault.Failed }
         ensures shut { stage_of self.new ≡ Shut }
     {
         self.take_open()?;
         if put_end(self.out, closed).is_err() {
-            return Err(FaultKind::Write);
+            return Err(WriteFault::Write);
         }
         Ok(())
     }
 
     // Shuts the writer, so that only a call that goes well opens it again.
-    fn take_open(&mut self) -> Result<(), FaultKind>
+    fn take_open(&mut self) -> Result<(), WriteFault>
         ensures ok { OnOk result (stage_of self.old ≡ Open) }
-        ensures err { IfErr result (λ fault. fault ≡ FaultKind.Failed × ¬ (stage_of self.old ≡ Open)) }
+        ensures err { IfErr result (λ fault. fault ≡ WriteFault.Failed × ¬ (stage_of self.old ≡ Open)) }
         ensures same { contents_of W.contents self.new ≡ contents_of W.contents self.old }
         ensures same_stream { stream_of W.stream self.new ≡ stream_of W.stream self.old }
         ensures same_writer { (out_name self.new ≡ out_name self.old) × (version_of self.new ≡ version_of self.old) }
@@ -213,20 +222,19 @@ impl<'w, W: TrackedWrite> StepWriter<'w, W> {
         self.stage = Stage::Shut;
         match stage {
             Stage::Open => Ok(()),
-            _ => Err(FaultKind::Failed),
+            _ => Err(WriteFault::Failed),
         }
     }
 }
 
-/// The first two lines. It answers `Memory` where memory runs out.
+/// The first two lines. It answers `Err` where memory runs out.
 pub fn header_of(
     alloc: Global,
     version: Version,
     variables: u64,
     constraints: u64,
-) -> Result<String, FaultKind>
-    ensures ok { IfOk result (λ text. string_bytes text ≡ header_text version variables constraints) }
-    ensures err { IfErr result (λ fault. fault ≡ FaultKind.Memory) }
+) -> Result<String, Memory>
+    ensures { IfOk result (λ text. string_bytes text ≡ header_text version variables constraints) }
 {
     let first = version_text(version);
     Ok(format!(in alloc; "{first}\nvars {variables} cons {constraints}\n")?)

@@ -6,7 +6,7 @@
 //! `Stream` (the fault of a line). Whether a step is accepted is not asked here.
 #![tactic(auto)]
 
-pub use parse::is_deletion;
+pub use parse::{is_deletion, read_line};
 pub use reader::StepLines;
 pub use script::Script;
 pub use stream::{StepReader, line_of};

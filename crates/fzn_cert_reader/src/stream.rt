@@ -8,7 +8,7 @@ ghost use Rattle.fzn_cert_reader.specs.Told.{TakesNoHeader};
 ghost use Rattle.fzn_cert.specs.Stream.{IsHeaderFault, line_of};
 
 use crate::reader::StepLines;
-use fzn_cert::{CertFault, FaultKind, Header, Step, Version};
+use fzn_cert::{CertFault, FaultKind, Header, Step};
 use fzn_streams::TrackedRead;
 use std::alloc::Global;
 
@@ -52,14 +52,6 @@ impl<R: TrackedRead + Drop> StepReader<R> {
         Some((header.variables, header.constraints))
     }
 
-    /// The version, once the first two lines were read.
-    pub fn version(&self) -> Option<Version>
-        ensures { result ≡ option_map (λ header. header.version) (progress R.remaining self.now).header }
-    {
-        let header = self.header?;
-        Some(header.version)
-    }
-
     /// Whether the last line says that the answer is closed, once it was read.
     pub fn closed(&self) -> Option<bool>
         ensures { result ≡ (progress R.remaining self.now).closing }
@@ -70,7 +62,7 @@ impl<R: TrackedRead + Drop> StepReader<R> {
     /// The next step, and none once the last line was read and nothing follows it. The first call reads the first two lines too.
     /// Its faults are `Memory`, `Read`, `Truncated` and `LineTooLong`, `Header` at the first two lines, `Spelling` at each later one,
     /// `Trailing` at a byte after the last line, and `Failed` after a fault. `Read` is answered only after a read that failed. After a fault
-    /// `header`, `counts`, `version` and `closed` still tell of the lines that were read, and of no others.
+    /// `header`, `counts` and `closed` still tell of the lines that were read, and of no others.
     pub fn next(&mut self, alloc: Global) -> Result<Option<Step>, CertFault>
         ensures step { IfOk result (λ found. IfSome found (Gives (progress R.remaining self.old) (progress R.remaining self.new))) }
         ensures end { IsReading (progress R.remaining self.old) → IfOk result (λ found. IfNone found (Ends (progress R.remaining self.old) (progress R.remaining self.new))) }

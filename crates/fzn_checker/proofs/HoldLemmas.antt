@@ -101,7 +101,8 @@ certificate-is : (model : Model) (header : Header) (steps : List Step) (closed :
 certificate-is model header steps closed counts =
     append_assoc _ (flat_map step_line steps) (end_line closed) ∙ ap₂ (λ (h t : List ℕ). h ++ (t ++ end_line closed)) (header_is model header counts) (flat-lines steps)
 
-certificate-read : (model : Model) (bytes : Option (List ℕ)) (old new : Progress) (steps : List Step) → HasRead bytes old steps → AreSpelled old steps → (ends : Ends old new) → HasCounts model ends.header → (IsSome old.header → new.header ≡ old.header)
+-- the lines that were read up to the ending are a certificate of the steps
+pub certificate-read : (model : Model) (bytes : Option (List ℕ)) (old new : Progress) (steps : List Step) → HasRead bytes old steps → AreSpelled old steps → (ends : Ends old new) → HasCounts model ends.header → (IsSome old.header → new.header ≡ old.header)
     → IsCertificate model ends.header.version bytes steps ends.closed
 certificate-read model bytes old new steps read spelled ends counts same = record {
   sized = (subst IsSized counts.0 counts.2.0, subst IsSized counts.1 counts.2.1);

@@ -19,23 +19,10 @@ use Rattle.fzn_cert.specs.Verdict.{lines_of, AllHaveLines, BeginsWith, line_afte
 use Rattle.fzn_checker.specs.declared.fault.CheckFault.{CheckFault}
 use Rattle.fzn_checker.specs.declared.fault.CheckFault.TheVariants.{File, Refused, NotVersionOne, Memory, Read, WriteOutput, WriteCert}
 use Rattle.fzn_checker.specs.Faults.{fault_of_kind}
-use Rattle.fzn_checker.specs.Checked.{IsReadFault}
 use Rattle.fzn_checker.specs.Rewritten.{first_line, second_line, IsRewritten, IsCountsFault, IsLineFault, IsFaulty, first, second, later, Begins, nothing, some_of, IsRewriteFault, IsFirstFault, CopiesCounts, CopiesStep, CopiesEnd, IsCopyFault, IsCountsCopyFault, IsLineCopyFault}
 use Rattle.fzn_checker.proofs.VersionLemmas.{same_verdict}
 
 -- ---- the faults of one line
-
-pub header-read_fault : (IsText : List ℕ → Type 0) (left : Option (List ℕ)) (kind : FaultKind) → IsHeaderFaultOf IsText left kind → IsReadFault kind
-header-read_fault IsText left faults.Write f = f
-header-read_fault IsText left faults.StepTooLong f = f
-header-read_fault IsText left faults.Failed f = f
-header-read_fault IsText left _ f = tt
-
-pub line-read_fault : (count : ℕ) (left : Option (List ℕ)) (kind : FaultKind) → IsFaultOf One count left kind → IsReadFault kind
-line-read_fault count left faults.Write f = f
-line-read_fault count left faults.StepTooLong f = f
-line-read_fault count left faults.Failed f = f
-line-read_fault count left _ f = tt
 
 pub first-fault : (left : Option (List ℕ)) (kind : FaultKind) → IsHeaderFaultOf IsVersionText left kind → IsFirstFault left (fault_of_kind kind 1 None true)
 first-fault left faults.Header f = (refl, f)

@@ -1,8 +1,6 @@
 -- How far the check of a certificate came, and what its faults say.
 use Rattle.std.specs.Prelude.{◌≡◌, ◌+◌, ◌<◌, Bool, true, length, Some, None, IfSome, MatchOption}
 use Rattle.fzn_meaning.specs.declared.model.Model.{Model}
-use Rattle.fzn_cert.specs.declared.fault.FaultKind.{FaultKind}
-use Rattle.fzn_cert.specs.declared.fault.FaultKind.TheVariants as faults
 use Rattle.fzn_cert.specs.declared.header.Header.{Header}
 use Rattle.fzn_cert.specs.declared.limits.TheConstants.{LAST_STEP}
 use Rattle.fzn_cert.specs.declared.refusal.Refusal.{Refusal}
@@ -58,10 +56,3 @@ pub record Offers (model : Model) (past : Past) (old new : Progress) (step : Ste
 -- the next line is an ending that is right, and nothing follows it
 abbrev pub Accepts : Model → Past → Progress → Progress → Type 0
 Accepts model past old new = (closed : Bool) × (new.closing ≡ Some closed) × MayEnd past closed × Standing model past old (accepted past.solutions closed)
-
--- the faults that a reader may answer
-abbrev pub IsReadFault : FaultKind → Type 0
-IsReadFault faults.Write = ⊥
-IsReadFault faults.StepTooLong = ⊥
-IsReadFault faults.Failed = ⊥
-IsReadFault _ = Unit {0}

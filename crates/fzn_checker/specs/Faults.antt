@@ -16,6 +16,7 @@ abbrev pub after_ending : ℕ → Option Bool → Bool → CheckFault
 after_ending line closed is_refuted =
     if may_end closed is_refuted then Refused line refusals.Trailing else Refused (line - 1) refusals.NotClosed
 
+-- of the first fault of a reader, which is never `Failed`
 abbrev pub fault_of_kind : FaultKind → ℕ → Option Bool → Bool → CheckFault
 fault_of_kind faults.Memory line closed is_refuted = Memory
 fault_of_kind faults.Read line closed is_refuted = Read
@@ -24,8 +25,6 @@ fault_of_kind faults.Spelling line closed is_refuted = Refused line refusals.Spe
 fault_of_kind faults.Truncated line closed is_refuted = Refused line refusals.Truncated
 fault_of_kind faults.LineTooLong line closed is_refuted = Refused line refusals.LineTooLong
 fault_of_kind faults.Trailing line closed is_refuted = after_ending line closed is_refuted
-fault_of_kind faults.Write line closed is_refuted = Memory
-fault_of_kind faults.StepTooLong line closed is_refuted = Memory
 fault_of_kind faults.Failed line closed is_refuted = Memory
 
 abbrev pub fault_after : CertFault → Option Bool → Bool → CheckFault

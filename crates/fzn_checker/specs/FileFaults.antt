@@ -1,5 +1,7 @@
 -- Faults of reading a model as those of checking, and their exit statuses.
 use Rattle.std.specs.Prelude.{ℕ}
+use Rattle.fzn_fault.specs.declared.stop.Stop.TheVariants as stops
+use Rattle.fzn_fault.specs.Stops.{status_of as stop_status}
 use Rattle.fzn_reading.specs.declared.fault.ModelFault.{ModelFault}
 use Rattle.fzn_reading.specs.declared.fault.ModelFault.TheVariants as reading
 use Rattle.fzn_checker.specs.declared.fault.CheckFault.{CheckFault}
@@ -15,7 +17,7 @@ abbrev pub status_of : CheckFault → ℕ
 status_of (Refused line refusal) = 1
 status_of NotVersionOne = 1
 status_of (File fault) = 2
-status_of Read = 4
-status_of WriteOutput = 4
-status_of WriteCert = 4
-status_of Memory = 5
+status_of Memory = stop_status stops.Memory
+status_of Read = stop_status stops.Read
+status_of WriteOutput = stop_status stops.WriteOutput
+status_of WriteCert = stop_status stops.WriteCert

@@ -1,5 +1,5 @@
 // A file and its certificate checked from their bytes, and the answer printed.
-ghost use Rattle.std.specs.Prelude.{◌≡◌, IfOk, IfErr};
+ghost use Rattle.std.specs.Prelude.{◌≡◌, false, IfOk, IfErr};
 ghost use Rattle.fzn_cert_reader.specs.Reader.{progress, input_of};
 ghost use Rattle.fzn_checker.specs.Checked.{IsUnread};
 ghost use Rattle.fzn_checker.specs.Answered.{IsAnswered, IsCheckFault, IsCheckDue};
@@ -35,7 +35,8 @@ pub fn check<R: Read + Drop, C: Read + Drop, W: Write>(
     check_tracked(alloc, &mut file, &mut cert, show_all, &mut out)
 }
 
-/// Checks as `check` does, on streams that remember whether a call on them failed. Of the certificate no line may have been read before.
+/// Checks as `check` does, on streams that remember whether a call on them failed. Of the certificate no line may have been read before,
+/// and on none of the streams may a call have failed: where one had, a fault could be answered of it without another failed call. So
 /// `Read` is answered only after a failed read of the file or of the certificate, and `WriteOutput` only after a failed write or flush
 /// of `out`.
 pub fn check_tracked<R: TrackedRead, C: TrackedRead + Drop, W: TrackedWrite>(
@@ -46,6 +47,7 @@ pub fn check_tracked<R: TrackedRead, C: TrackedRead + Drop, W: TrackedWrite>(
     out: &mut W,
 ) -> Result<Verdict, CheckFault>
     requires unread { IsUnread (progress C.remaining cert.old) }
+    requires fresh { (R.has_failed file.old ≡ false) × (C.has_failed (input_of cert.old) ≡ false) × (W.has_failed out.old ≡ false) }
     ensures answered { IfOk result (IsAnswered (R.remaining file.old) (progress C.remaining cert.old).left show_all (W.contents out.old) (W.contents out.new)) }
     ensures fault { IfErr result (IsCheckFault (R.remaining file.old) (progress C.remaining cert.old).left show_all (W.contents out.old) (W.contents out.new)) }
     ensures due { IfErr result (IsCheckDue (R.has_failed file.new) (C.has_failed (input_of cert.new)) (W.has_failed out.new)) }

@@ -4,6 +4,7 @@ ghost use Rattle.fzn_checker.specs.declared.fault.CheckFault.TheVariants.{Memory
 ghost use Rattle.fzn_checker.specs.FileFaults.{fault_from, status_of};
 
 use fzn_cert::Refusal;
+use fzn_fault::Stop;
 use fzn_lexer::Fault;
 use fzn_reading::ModelFault;
 use std::alloc::AllocError;
@@ -22,16 +23,16 @@ pub enum CheckFault {
     #[error("certificate line 1: fault 50 NotVersionOne")]
     NotVersionOne,
     /// Memory was wanted and not there.
-    #[error("fault 19 Memory")]
+    #[error("{}", Stop::Memory)]
     Memory,
     /// A read of the file or of the certificate failed.
-    #[error("fault 20 Read")]
+    #[error("{}", Stop::Read)]
     Read,
     /// A write or a flush of the answer failed.
-    #[error("fault 21 WriteOutput")]
+    #[error("{}", Stop::WriteOutput)]
     WriteOutput,
     /// A write or a flush of the certificate that is written anew failed.
-    #[error("fault 22 WriteCert")]
+    #[error("{}", Stop::WriteCert)]
     WriteCert,
 }
 
@@ -44,8 +45,10 @@ impl CheckFault {
         match self {
             CheckFault::Refused { .. } | CheckFault::NotVersionOne => 1,
             CheckFault::File(_) => 2,
-            CheckFault::Read | CheckFault::WriteOutput | CheckFault::WriteCert => 4,
-            CheckFault::Memory => 5,
+            CheckFault::Memory => Stop::Memory.status(),
+            CheckFault::Read => Stop::Read.status(),
+            CheckFault::WriteOutput => Stop::WriteOutput.status(),
+            CheckFault::WriteCert => Stop::WriteCert.status(),
         }
     }
 }

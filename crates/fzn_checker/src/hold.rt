@@ -1,13 +1,13 @@
 // A certificate checked from its bytes, with its steps held.
-ghost use Rattle.std.specs.Prelude.{◌≡◌, List, [], ◌∷◌, ◌++◌, None, IfOk, IfErr};
+ghost use Rattle.std.specs.Prelude.{◌≡◌, ◌+◌, List, [], ◌∷◌, ◌++◌, None, IfOk, IfErr, IfSome, IfNone, OnOk, IsSome};
 ghost use Rattle.fzn_meaning.specs.WellFormed.{IsWellFormed};
 ghost use Rattle.fzn_cert.specs.declared.step.Step.{Step};
 ghost use Rattle.fzn_cert.specs.declared.step.Version.TheVariants.{Two};
 ghost use Rattle.fzn_cert.specs.Spelling.{IsSpelled};
 ghost use Rattle.fzn_cert.specs.Accepted.{IsJudged, after};
 ghost use Rattle.fzn_cert.specs.Verdict.{VerdictOn};
-ghost use Rattle.fzn_cert_reader.specs.Reader.{progress, input_of};
-ghost use Rattle.fzn_checker.specs.Checked.{IsUnread, IsFaultWhere, IsReadDue};
+ghost use Rattle.fzn_cert_reader.specs.Reader.{progress, input_of, Gives, Ends};
+ghost use Rattle.fzn_checker.specs.Checked.{IsUnread, IsFaultWhere, IsReadDue, HasCounts, Standing, IsMidway, Offers, Accepts};
 ghost use Rattle.fzn_checker.specs.Held.{past_in, MayTake, HasTaken, IsHeld};
 
 use crate::certificate::first_sets;
@@ -60,6 +60,31 @@ impl Taken {
             sets,
             has_empty,
         })
+    }
+
+    /// The step of the next line of a certificate whose earlier steps were taken, where the lines up to it are right; none after an ending
+    /// that is right. `line` is the number of that line. It answers `Refused` with the first faulty line, `Memory` where memory runs out,
+    /// and `Read` only after a failed read.
+    pub fn next_step<C: TrackedRead + Drop>(
+        &self,
+        alloc: Global,
+        model: &Model,
+        line: u64,
+        cert: &mut StepReader<C>,
+    ) -> Result<Option<Step>, CheckFault>
+        requires midway { IsMidway model.now (past_in self.now) (progress C.remaining cert.old) }
+        requires line { line ≡ (progress C.remaining cert.old).steps + 3 }
+        ensures step { IfOk result (λ found. IfSome found (Offers model.now (past_in self.now) (progress C.remaining cert.old) (progress C.remaining cert.new))) }
+        ensures end { IfOk result (λ found. IfNone found (Accepts model.now (past_in self.now) (progress C.remaining cert.old) (progress C.remaining cert.new))) }
+        // What the reader took for it.
+        ensures gives { IfOk result (λ found. IfSome found (Gives (progress C.remaining cert.old) (progress C.remaining cert.new))) }
+        ensures ends { IfOk result (λ found. IfNone found (Ends (progress C.remaining cert.old) (progress C.remaining cert.new))) }
+        ensures counts { OnOk result (IfSome (progress C.remaining cert.new).header (HasCounts model.now)) }
+        ensures same_header { IsSome (progress C.remaining cert.old).header → (progress C.remaining cert.new).header ≡ (progress C.remaining cert.old).header }
+        ensures err { IfErr result (IsFaultWhere (Standing model.now (past_in self.now) (progress C.remaining cert.old))) }
+        ensures due { IfErr result (IsReadDue (C.has_failed (input_of cert.new))) }
+    {
+        next_step(alloc, model, &self.history, line, cert)
     }
 
     /// Takes the next step, one that version 2 spells, where it is accepted, and else answers what is wrong with it and takes none. It

@@ -2,7 +2,7 @@
 ghost use Rattle.std.specs.Prelude.{◌≡◌, ◌↔◌, ◌+◌, ◌≤◌, IfOk, IfErr, IfSome, IfNone, OnOk, IsSome, IsTrue};
 ghost use Rattle.fzn_cert_reader.specs.Reader.{progress, input_of, Gives, Ends};
 ghost use Rattle.fzn_cert.specs.Spelling.{IsHeader};
-ghost use Rattle.fzn_checker.specs.Checked.{IsFaultWhere, HasCounts, Standing, IsMidway, Offers, Accepts, IsReadFault, IsReadDue};
+ghost use Rattle.fzn_checker.specs.Checked.{IsFaultWhere, HasCounts, Standing, IsMidway, Offers, Accepts, IsReadDue};
 ghost use Rattle.fzn_checker.specs.Faults.{may_end, fault_after};
 
 use crate::fault::CheckFault;
@@ -78,7 +78,6 @@ fn has_counts<R: TrackedRead + Drop>(model: &Model, reader: &StepReader<R>) -> b
 /// What a reader's fault says of the certificate. An ending that says closed without the empty clause is wrong by itself, before the byte
 /// after it.
 pub fn fault_after(fault: CertFault, closed: Option<bool>, is_refuted: bool) -> CheckFault
-    requires kind { IsReadFault fault.kind }
     requires line { 1 ≤ fault.line }
     ensures { result ≡ fault_after fault closed is_refuted }
 {
@@ -99,7 +98,8 @@ pub fn fault_after(fault: CertFault, closed: Option<bool>, is_refuted: bool) -> 
             }
             Refusal::Trailing
         }
-        FaultKind::Write | FaultKind::StepTooLong | FaultKind::Failed => unreachable!(),
+        // Not reached: a check ends at the first fault of its reader.
+        FaultKind::Failed => return CheckFault::Memory,
     };
     CheckFault::Refused { line, refusal }
 }

@@ -1,12 +1,12 @@
 // A certificate of version 1 written anew as one of version 2.
-ghost use Rattle.std.specs.Prelude.{◌≡◌, ◌≤◌, ◌+◌, ◌++◌, ◌∷◌, [], OnOk, None, true, IfOk, IfErr};
+ghost use Rattle.std.specs.Prelude.{◌≡◌, ◌≤◌, ◌+◌, ◌++◌, ◌∷◌, [], OnOk, None, true, false, IfOk, IfErr};
 ghost use Rattle.std.specs.Bool.{OnTrue, OnFalse};
 ghost use Rattle.std.specs.Io.KnownBytes.{Consumes, Appends};
 ghost use Rattle.fzn_streams.specs.Output.{AppendsFront, IsDue};
 ghost use Rattle.fzn_cert_reader.specs.Input.{left_in, input_of};
 ghost use Rattle.fzn_cert.specs.declared.step.Version.TheVariants.{One};
 ghost use Rattle.fzn_checker.specs.Faults.{fault_of_kind};
-ghost use Rattle.fzn_checker.specs.Checked.{IsReadFault, IsReadDue};
+ghost use Rattle.fzn_checker.specs.Checked.{IsReadDue};
 ghost use Rattle.fzn_checker.specs.declared.fault.CheckFault.TheVariants.{WriteCert};
 ghost use Rattle.fzn_checker.specs.Rewritten.{first_line, IsRewritten, IsRewriteFault, IsRewriteDue, IsFirstFault, CopiesCounts, CopiesStep, CopiesEnd, IsCountsCopyFault, IsLineCopyFault};
 
@@ -32,7 +32,8 @@ pub fn to2<C: Read + Drop, W: Write>(alloc: Global, old: C, new: &mut W) -> Resu
     to2_tracked(alloc, &mut lines, &mut new)
 }
 
-/// Writes as `to2` does, on streams that remember whether a call on them failed. Of the lines none may have been read before. `Read` is
+/// Writes as `to2` does, on streams that remember whether a call on them failed. Of the lines none may have been read before, and on
+/// neither stream may a call have failed: where one had, a fault could be answered of it without another failed call. So `Read` is
 /// answered only after a failed read, and `WriteCert` only after a failed write or flush of `new`. Its faults are those of `to2`.
 pub fn to2_tracked<C: TrackedRead + Drop, W: TrackedWrite>(
     alloc: Global,
@@ -40,6 +41,7 @@ pub fn to2_tracked<C: TrackedRead + Drop, W: TrackedWrite>(
     new: &mut W,
 ) -> Result<u64, CheckFault>
     requires unread { lines.old.steps ≡ 0 }
+    requires fresh { (C.has_failed (input_of lines.old.bytes) ≡ false) × (W.has_failed new.old ≡ false) }
     ensures ok { IfOk result (IsRewritten (left_in C.remaining lines.old.bytes) (W.contents new.old) (W.contents new.new)) }
     ensures err { IfErr result (IsRewriteFault (left_in C.remaining lines.old.bytes) (W.contents new.old) (W.contents new.new)) }
     ensures due { IfErr result (IsRewriteDue (C.has_failed (input_of lines.new.bytes)) (W.has_failed new.new)) }
@@ -130,7 +132,6 @@ fn put_line<W: TrackedWrite>(out: &mut W, line: &[u8]) -> Result<(), CheckFault>
 
 /// The fault that a line has by itself.
 fn fault_at(kind: FaultKind, line: u64) -> CheckFault
-    requires kind { IsReadFault kind }
     requires line { 1 ≤ line }
     ensures { result ≡ fault_of_kind kind line None true }
 {

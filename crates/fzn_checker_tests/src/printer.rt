@@ -1,12 +1,13 @@
 ghost use Rattle.std.specs.Prelude.{IfOk};
 ghost use Rattle.fzn_meaning.specs.Solutions.{IsProper};
 ghost use Rattle.fzn_meaning.specs.WellFormed.{IsWellFormed};
+ghost use Rattle.fzn_printer.specs.Showable.{CanBeShown};
 
 use crate::checker::least_bit;
 use fzn_cert_reader::StepReader;
 use fzn_checker::{Accepted, CheckFault, check_certificate};
 use fzn_meaning::{Model, is_solution};
-use fzn_printer::{Ending, PrintFault, Printer, put_answer};
+use fzn_printer::{Ending, PrintFault, Printer, put_answer, well_formed_can_be_shown};
 use fzn_streams::{TrackedReader, TrackedWriter};
 use std::alloc::Global;
 use std::test::Fail;
@@ -85,12 +86,17 @@ fn both(alloc: Global, model: &Model) -> Result<Accepted, CheckFault>
 
 /// Prints the last of the solutions, and then all of them and the end; says whether all is printed.
 fn prints_both(model: &Model, answer: &Accepted, text: &mut Vec<u8>) -> bool
-    requires model { IsWellFormed model.now }
+    requires model { CanBeShown model.now }
     requires answer { IsProper model.now answer.now.solutions.items }
 {
     let mut out = TrackedWriter::new(text);
     put_answer(&mut out, model, answer.solutions.as_slice(), false, false).is_ok()
         && put_answer(&mut out, model, answer.solutions.as_slice(), true, true).is_ok()
+}
+
+#[test]
+fn what_is_well_formed_can_be_shown(rt: HostRuntime) {
+    assert!(rt; well_formed_can_be_shown() == ());
 }
 
 const BOTH: &[u8] = b"x = 0;\n----------\nx = 1;\n----------\nx = 0;\n----------\n==========\n";

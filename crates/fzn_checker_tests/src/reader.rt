@@ -1,5 +1,5 @@
 use crate::writer::LINES;
-use fzn_cert::{CertFault, FaultKind, Step, StepWriter, Version};
+use fzn_cert::{CertFault, FaultKind, Step, StepWriter, Version, WriteFault};
 use fzn_cert_reader::StepReader;
 use fzn_list::Items;
 use fzn_rules::Rule;
@@ -121,16 +121,20 @@ fn a_failed_read_comes_after_what_was_read(rt: HostRuntime) {
 
 /// Whether the reader tells nothing of the first two lines and of the last.
 fn is_untold(reader: &Steps<'_>) -> bool {
-    reader.header().is_none()
-        && reader.counts().is_none()
-        && reader.version().is_none()
-        && reader.closed().is_none()
+    reader.header().is_none() && reader.counts().is_none() && reader.closed().is_none()
+}
+
+fn is_of_version(reader: &Steps<'_>, version: Version) -> bool {
+    match reader.header() {
+        Some(header) => header.version == version,
+        None => false,
+    }
 }
 
 /// Whether it tells the first two lines, and nothing of the last.
 fn is_told(reader: &Steps<'_>) -> bool {
-    reader.counts() == Some((2, 2))
-        && reader.version() == Some(Version::One)
+    is_of_version(reader, Version::One)
+        && reader.counts() == Some((2, 2))
         && reader.closed().is_none()
 }
 
@@ -157,7 +161,7 @@ fn tells_what_the_lines_say(rt: HostRuntime) {
 fn write_two(
     alloc: Global,
     writer: &mut StepWriter<'_, TrackedWriter<'_, Vec<u8>>>,
-) -> Result<(), FaultKind> {
+) -> Result<(), WriteFault> {
     let step = Step::Infer {
         constraint: 8,
         rule: Rule::Hall(2, -3),
@@ -185,14 +189,23 @@ fn begins_with_hall(alloc: Global, bytes: &[u8]) -> bool {
     has_hall(alloc, &mut reader) && reader.counts() == Some((2, 8))
 }
 
-#[test]
-fn reads_what_was_written(rt: HostRuntime) -> Result<(), Fail> {
-    let mut text: Vec<u8> = Vec::new(rt.alloc());
+/// A certificate with these lines.
+fn two_steps(alloc: Global) -> Result<Vec<u8>, WriteFault> {
+    let mut text: Vec<u8> = Vec::new(alloc);
     let mut out = TrackedWriter::new(&mut text);
-    let mut writer = StepWriter::new(rt.alloc(), &mut out, 2, 8)?;
-    write_two(rt.alloc(), &mut writer)?;
+    let mut writer = match StepWriter::new(alloc, &mut out, 2, 8) {
+        Ok(writer) => writer,
+        Err(failed) => return Err(failed.fault),
+    };
+    write_two(alloc, &mut writer)?;
     let _ = writer;
     let _ = out;
+    Ok(text)
+}
+
+#[test]
+fn reads_what_was_written(rt: HostRuntime) -> Result<(), Fail> {
+    let text = two_steps(rt.alloc())?;
     assert!(rt; is_read(rt.alloc(), &text, 4096, 2, true));
     assert!(rt; begins_with_hall(rt.alloc(), &text));
     Ok(())

@@ -4,7 +4,7 @@ ghost use Rattle.fzn_cert.specs.declared.step.Version.TheVariants.{Two};
 ghost use Rattle.fzn_cert.specs.Spelling.{IsNumber, IsSpelled};
 ghost use Rattle.fzn_cert.specs.Writer.{version_of};
 
-use fzn_cert::{FaultKind, Refusal, Step, StepWriter, Version, one_line, one_verdict};
+use fzn_cert::{FaultKind, Refusal, Step, StepWriter, Version, WriteFault, one_line, one_verdict};
 use fzn_domain::{Lit, Memory, Op, VarId};
 use fzn_list::Items;
 use fzn_rules::Rule;
@@ -47,8 +47,13 @@ pub(crate) fn with_room(alloc: Global, room: usize, fails: bool) -> Narrow {
 }
 
 fn is_told(alloc: Global) -> Result<bool, Memory> {
-    let text = format!(in alloc; "{} / {}", FaultKind::Spelling, Refusal::NoSuchVariable)?;
-    Ok(text.as_str() == "fault 31 Spelling / fault 49 NoSuchVariable")
+    let text = format!(in alloc;
+        "{} / {} / {}",
+        FaultKind::Spelling,
+        Refusal::NoSuchVariable,
+        WriteFault::Write
+    )?;
+    Ok(text.as_str() == "fault 31 Spelling / fault 49 NoSuchVariable / fault 22 WriteCert")
 }
 
 #[test]
@@ -127,7 +132,7 @@ fn put(
     alloc: Global,
     writer: &mut StepWriter<'_, TrackedWriter<'_, Narrow>>,
     step: Result<Step, Memory>,
-) -> Result<(), FaultKind>
+) -> Result<(), WriteFault>
     requires version { version_of writer.old ≡ Two }
     requires step { IfOk step (IsSpelled Two) }
     ensures { version_of writer.new ≡ Two }
@@ -138,7 +143,7 @@ fn put(
 fn write_steps(
     alloc: Global,
     writer: &mut StepWriter<'_, TrackedWriter<'_, Narrow>>,
-) -> Result<(), FaultKind>
+) -> Result<(), WriteFault>
     requires { version_of writer.old ≡ Two }
 {
     put(alloc, writer, cut_step(alloc))?;
@@ -151,7 +156,7 @@ fn write_steps(
 }
 
 // Writes one step of each kind.
-fn write_all(alloc: Global, out: &mut Narrow) -> Result<(), FaultKind> {
+fn write_all(alloc: Global, out: &mut Narrow) -> Result<(), WriteFault> {
     let mut out = TrackedWriter::new(out);
     let mut writer = StepWriter::over(&mut out);
     writer.begin(alloc, Version::Two, 2, 1)?;
@@ -163,7 +168,7 @@ fn is_written(alloc: Global, room: usize, fails: bool) -> bool {
     let mut out = with_room(alloc, room, fails);
     let is_right = match write_all(alloc, &mut out) {
         Ok(()) => room == LINES.len(),
-        Err(fault) => room != LINES.len() && fault == FaultKind::Write,
+        Err(fault) => room != LINES.len() && fault == WriteFault::Write,
     };
     is_right && out.taken.len() == room && LINES.starts_with(&out.taken)
 }
@@ -180,16 +185,19 @@ fn writes_the_lines_or_a_beginning(rt: HostRuntime) {
 fn is_shut(alloc: Global, writer: &mut StepWriter<'_, TrackedWriter<'_, Narrow>>) -> bool {
     let step = Step::Solution(Items::new(alloc));
     writer.write(alloc, &step) == Ok(())
-        && writer.write(alloc, &step) == Err(FaultKind::Write)
-        && writer.write(alloc, &step) == Err(FaultKind::Failed)
-        && writer.flush() == Err(FaultKind::Failed)
-        && writer.finish(true) == Err(FaultKind::Failed)
+        && writer.write(alloc, &step) == Err(WriteFault::Write)
+        && writer.write(alloc, &step) == Err(WriteFault::Failed)
+        && writer.flush() == Err(WriteFault::Failed)
+        && writer.finish(true) == Err(WriteFault::Failed)
 }
 
-fn is_shut_by_a_fault(alloc: Global) -> Result<bool, FaultKind> {
+fn is_shut_by_a_fault(alloc: Global) -> Result<bool, WriteFault> {
     let mut narrow = with_room(alloc, 23, true);
     let mut out = TrackedWriter::new(&mut narrow);
-    let mut writer = StepWriter::with_version(alloc, &mut out, Version::One, 0, 0)?;
+    let mut writer = match StepWriter::with_version(alloc, &mut out, Version::One, 0, 0) {
+        Ok(writer) => writer,
+        Err(failed) => return Err(failed.fault),
+    };
     let is_shut = is_shut(alloc, &mut writer);
     let _ = writer;
     let _ = out;
@@ -200,6 +208,24 @@ fn is_shut_by_a_fault(alloc: Global) -> Result<bool, FaultKind> {
 fn writes_nothing_after_a_fault(rt: HostRuntime) -> Result<(), Fail> {
     assert!(rt; is_shut_by_a_fault(rt.alloc())?);
     Ok(())
+}
+
+/// Whether with room for seven bytes the first two lines are not written, and a call on the writer fails from then on.
+fn is_not_begun(alloc: Global) -> bool {
+    let mut narrow = with_room(alloc, 7, true);
+    let mut out = TrackedWriter::new(&mut narrow);
+    let is_shut = match StepWriter::new(alloc, &mut out, 0, 0) {
+        Ok(_) => false,
+        Err(mut failed) => failed.fault == WriteFault::Write
+            && failed.writer.flush() == Err(WriteFault::Failed),
+    };
+    let _ = out;
+    is_shut && narrow.taken.as_slice() == b"fzc 1\nv".as_slice()
+}
+
+#[test]
+fn leaves_a_beginning_where_it_can_not_begin(rt: HostRuntime) {
+    assert!(rt; is_not_begun(rt.alloc()));
 }
 
 fn ones(alloc: Global, count: u32) -> Result<Items<u64>, Memory>
@@ -213,10 +239,13 @@ fn ones(alloc: Global, count: u32) -> Result<Items<u64>, Memory>
 }
 
 /// Writes a step with so many ids, and says how many bytes stand then where it is written or is too long.
-fn written(alloc: Global, count: u32, is_short: bool) -> Result<usize, FaultKind> {
+fn written(alloc: Global, count: u32, is_short: bool) -> Result<usize, WriteFault> {
     let mut text: Vec<u8> = Vec::new(alloc);
     let mut out = TrackedWriter::new(&mut text);
-    let mut writer = StepWriter::new(alloc, &mut out, 1, 1)?;
+    let mut writer = match StepWriter::new(alloc, &mut out, 1, 1) {
+        Ok(writer) => writer,
+        Err(failed) => return Err(failed.fault),
+    };
     let step = Step::Resolve {
         clause: Items::new(alloc),
         ids: ones(alloc, count)?,
@@ -227,12 +256,12 @@ fn written(alloc: Global, count: u32, is_short: bool) -> Result<usize, FaultKind
     let want = if is_short {
         Ok(())
     } else {
-        Err(FaultKind::StepTooLong)
+        Err(WriteFault::StepTooLong)
     };
     if written == want {
         Ok(text.len())
     } else {
-        Err(FaultKind::Failed)
+        Err(WriteFault::Failed)
     }
 }
 

@@ -50,13 +50,19 @@ module _ {model : Model} {learn : Learn} {stock : Stock} {steps : List Step} {tr
       let e = ap volume h.core.declared in
       omega arith
 
-  module _ (good : IsWellFormed model) (values : List ℤ) (fixed : AllFixed trail.sets) (within : IsWithin trail.sets values) where
+  module _ (good : IsWellFormed model) (values : List ℤ) where
     cut-over : IsClauseOver (length trail.declared) (cut_of model values)
     cut-over =
         let sizes : length trail.declared ≡ length model.vars = ap length h.core.declared ∙ length-map model.vars (λ var. var.domain) in
         let O : ℕ → Type 0 = λ n. IsClauseOver n (cut_of model values) in
         subst O (sym sizes) (cut_of-variables model values good)
 
+    -- the cut of an accepted solution is held, and flagged
+    pub solution-state : (number : ℕ) (flags : List Bool) (id : ClauseId) → id.0 ≡ length stock.held → is_cut flags id ≡ true → ((other : ClauseId) → other.0 ≢ id.0 → is_cut flags other ≡ is_cut stock.cuts other) → number ≡ length steps + 1 → IsAccepted model (past_of model steps) (Solution values) → StateOf model learn (with_cuts flags (with_held (cut_of model values) number stock)) (steps ++ Solution values ∷ []) trail nodes
+    solution-state number flags id newest flagged others next accepted =
+        State-found h values number flags id newest flagged others next accepted cut-over (IsReasoned-grown (known_in stock) (Some (cut_of model values) ∷ []) trail h.core.reasoned)
+
+  module _ (good : IsWellFormed model) (values : List ℤ) (fixed : AllFixed trail.sets) (within : IsWithin trail.sets values) where
     -- the values are an accepted step
     pub solution-accepted : AllHeld (λ clause. possible_in trail.sets clause ≢ []) stock.held → All (λ constraint. Meets constraint values) model.constraints → IsAccepted model (past_of model steps) (Solution values)
     solution-accepted quiet meets =
@@ -67,13 +73,8 @@ module _ {model : Model} {learn : Learn} {stock : Stock} {steps : List Step} {tr
           passes-held trail.sets values fixed within model stock.held stock.cuts (past_of model steps).solutions (subst H (sym same) h.core.held_over) quiet h.core.cuts_held,
         )
 
-    -- and its cut is held, and flagged
-    pub solution-state : (number : ℕ) (flags : List Bool) (id : ClauseId) → id.0 ≡ length stock.held → is_cut flags id ≡ true → ((other : ClauseId) → other.0 ≢ id.0 → is_cut flags other ≡ is_cut stock.cuts other) → number ≡ length steps + 1 → IsAccepted model (past_of model steps) (Solution values) → StateOf model learn (with_cuts flags (with_held (cut_of model values) number stock)) (steps ++ Solution values ∷ []) trail nodes
-    solution-state number flags id newest flagged others next accepted =
-        State-found h values number flags id newest flagged others next accepted cut-over (IsReasoned-grown (known_in stock) (Some (cut_of model values) ∷ []) trail h.core.reasoned)
-
     -- the cut is false there
     pub cut-impossible : possible_in trail.sets (cut_of model values) ≡ []
     cut-impossible =
         let O : ℕ → Type 0 = λ n. IsClauseOver n (cut_of model values) in
-        false-clause trail.sets values fixed within (cut_of model values) (subst O (sym (State-length h)) cut-over) (cut_of-false model values)
+        false-clause trail.sets values fixed within (cut_of model values) (subst O (sym (State-length h)) (cut-over good values)) (cut_of-false model values)

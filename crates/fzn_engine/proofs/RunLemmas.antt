@@ -18,7 +18,7 @@ use Rattle.fzn_cert.proofs.SoundLaws.{accepted-proper, closed-exhausted}
 use Rattle.fzn_cert.specs.Spelling.{IsSpelled}
 use Rattle.fzn_trail.specs.declared.trail.ClauseId.{ClauseId}
 use Rattle.fzn_trail.specs.declared.trail.Reason.TheVariants.{Decision, Clause}
-use Rattle.fzn_trail.specs.Levels.{pushed, asserted}
+use Rattle.fzn_trail.specs.Levels.{Levels, pushed, asserted}
 use Rattle.fzn_clauses.specs.declared.clauses.Clauses.{Clauses}
 use Rattle.fzn_clauses.specs.Watching.{held_by, IsWatching}
 use Rattle.fzn_clauses.proofs.HeldLemmas.{IsHeld-newest, clause_of-newest}
@@ -36,9 +36,9 @@ use Rattle.fzn_engine.specs.declared.solver.Solver.{Solver}
 use Rattle.fzn_upkeep.specs.Forgetting.{is_cut}
 use Rattle.fzn_engine.specs.Volume.{volume}
 use Rattle.fzn_engine.specs.Outcome.{HasRoom, IsReached, count, IsCertified, IsRefuted, IsEnded, EndsTruly, IsOutcome}
-use Rattle.fzn_engine.specs.Changes.{IsRecorded, IsKeptBy, IsClosed, Goes, Continues, IsOngoing, IsOver, closed_after, ending_of}
+use Rattle.fzn_engine.specs.Changes.{HasWritten, IsRecorded, IsKeptBy, IsClosed, Goes, Continues, IsOngoing, IsOver, closed_after, ending_of}
 use Rattle.fzn_engine.specs.Moves.{IsDecided, Holds}
-use Rattle.fzn_engine.specs.Search.{IsInOrder, IsAfter, stock_of, Tally, work_of, IsWithinLimits, IsComplete, work}
+use Rattle.fzn_engine.specs.Search.{IsInOrder, IsAfter, stock_of, Tally, tally_of, work_of, IsWithinLimits, IsComplete, work}
 use Rattle.fzn_engine.specs.State.{Stock, known_in, with_held, with_cuts, StateOf}
 use Rattle.fzn_engine.proofs.AcceptedLemmas.{logged-accepted}
 use Rattle.fzn_engine.proofs.ChangeLemmas.{State-length, State-within, State-decided, work-decided, State-certified}
@@ -136,59 +136,67 @@ node-limit {model = model} limits h within reached many = record {
 
 -- ---- the solution limit
 
-pub solution-limit : {model : Model} (limits : Limits) {old new : Solver} {steps : List Step} {id : ClauseId} → IsRecorded model old new steps id → IsWithinLimits model limits old → IsReached model.goal limits.solutions new.found → IsOver model old.learn limits new steps SolutionLimit
-solution-limit {model = model} limits {new = new} {steps = steps} r within reached =
+pub solution-limit : {model : Model} (limits : Limits) (old : Solver) {new : Solver} {steps : List Step} → IsAfter model new steps → tally_of new ≡ record (tally_of old) { found = old.found + 1 } → IsWithinLimits model limits old → IsReached model.goal limits.solutions new.found → IsOver model old.learn limits new steps SolutionLimit
+solution-limit {model = model} limits old {new = new} {steps = steps} state tally within reached =
     let R : ℕ → Type 0 = λ n. IsReached model.goal limits.solutions n in
     let L : Tally → Type 0 = λ t. IsCertified model t.learn steps new.search.nodes in
     let N : Tally → Type 0 = λ t. t.nodes ≤ limits.nodes in
     record {
-      ended = record { certified = subst L r.tally (State-certified r.state.state); truly = subst R r.state.found_is reached; few_nodes = subst N (sym r.tally) within.0 };
-      found_is = r.state.found_is;
+      ended = record { certified = subst L tally (State-certified state.state); truly = subst R state.found_is reached; few_nodes = subst N (sym tally) within.0 };
+      found_is = state.found_is;
     }
 
 -- ---- a solution
 
-module _ {model : Model} (good : IsWellFormed model) {old : Solver} {before : List Step} (h : IsAfter model old before) (complete : IsComplete model old) {values : List ℤ} (within : IsWithin old.trail.sets values) where
-  pub record-assignment : IsWithin (declared_sets model.vars) values
-  record-assignment =
-      let D : List IntSet → Type 0 = λ d. IsWithin d values in
-      subst D h.state.core.declared (IsWithin-larger old.trail.sets old.trail.declared values (State-length h.state) (State-within h.state) within)
+-- one that passes the cuts of those before it
+module _ {model : Model} (good : IsWellFormed model) {old : Solver} {before : List Step} (h : IsAfter model old before) {values : List ℤ} (accepted : IsAccepted model (past_of model before) (Solution values)) where
+  pub written-limits : All IsInLimits values
+  written-limits = values-limited model values good accepted.0.0
 
-  pub record-limits : All IsInLimits values
-  record-limits = values-limited model values good record-assignment
+  pub written-spelled : IsSpelled Two (Solution values)
+  written-spelled = solution-spelled model values good accepted.0.0
 
-  pub record-spelled : IsSpelled Two (Solution values)
-  record-spelled = solution-spelled model values good record-assignment
+  pub written-logged : (now : List Step) → (now ≡ before) ⊎ (now ≡ before ++ Solution values ∷ []) → AllAccepted model now
+  written-logged now log = logged-accepted model before now (Solution values) h.state.core.accepted accepted log
 
-  record-accepted : IsAccepted model (past_of model before) (Solution values)
-  record-accepted = solution-accepted h.state good values complete.fixed within complete.quiet (complete.meets complete.fixed values within)
-
-  pub record-logged : (now : List Step) → (now ≡ before) ⊎ (now ≡ before ++ Solution values ∷ []) → AllAccepted model now
-  record-logged now log = logged-accepted model before now (Solution values) h.state.core.accepted record-accepted log
-
-  pub recorded : (now : List Step) → now ≡ before ++ Solution values ∷ [] → length now < 10 ^ 18 → (id : ClauseId) → id.0 ≡ length (held_by old.clauses) → (held : Solver) → Holds (cut_of model values) old held → (flags : List Bool) → is_cut flags id ≡ true → ((other : ClauseId) → other.0 ≢ id.0 → is_cut flags other ≡ is_cut held.cuts other) → IsRecorded model old (record held { cuts = flags; found = held.found + 1 }) now id
-  recorded now now_is few id newest held holds flags flagged others =
+  pub written : (now : List Step) → now ≡ before ++ Solution values ∷ [] → length now < 10 ^ 18 → (id : ClauseId) → id.0 ≡ length (held_by old.clauses) → (held : Solver) → Holds (cut_of model values) old held → (flags : List Bool) → is_cut flags id ≡ true → ((other : ClauseId) → other.0 ≢ id.0 → is_cut flags other ≡ is_cut held.cuts other) → HasWritten model values old (record held { cuts = flags; found = held.found + 1 }) now id
+  written now now_is few id newest held holds flags flagged others =
       let next : old.steps + 1 ≡ length before + 1 = ap (λ (n : ℕ). n + 1) h.steps_are in
-      let state = solution-state h.state good values complete.fixed within (old.steps + 1) flags id newest flagged (λ other apart. others other apart ∙ ap (λ (k : Stock). is_cut k.cuts other) holds.stock) next record-accepted in
+      let state = solution-state h.state good values (old.steps + 1) flags id newest flagged (λ other apart. others other apart ∙ ap (λ (k : Stock). is_cut k.cuts other) holds.stock) next accepted in
       let S : List Step → Type 0 = λ s. StateOf model old.learn (with_cuts flags (with_held (cut_of model values) (old.steps + 1) (stock_of old))) s old.trail old.search.nodes in
       let K : Stock → Type 0 = λ k. StateOf model old.learn (with_cuts flags k) now old.trail old.search.nodes in
       let L : Stock → Type 0 = λ k. IsKnown (known_in k) (Clause id) in
       let clause_is : clause_of (known_in (stock_of held)) (Clause id) ≡ cut_of model values =
       ap (λ (k : Stock). clause_of (known_in k) (Clause id)) holds.stock ∙ clause_of-newest (held_by old.clauses) (cut_of model values) id newest in
-      let P : Solver → Type 0 = λ s. IsRecorded model old (record s { cuts = flags; found = s.found + 1 }) now id in
+      let P : Solver → Type 0 = λ s. HasWritten model values old (record s { cuts = flags; found = s.found + 1 }) now id in
       subst P (sym (solver-is held holds.trail holds.search holds.scratch holds.learn holds.found holds.steps)) (record {
         state = record {
           state = subst K (sym holds.stock) (subst S (sym now_is) state);
           watching = holds.keeps.watching old.trail h.watching;
           order = order-found h.order (Solution values) now_is few values refl;
         };
-        conflict = record {
-          is_known = subst L (sym holds.stock) (IsHeld-newest (held_by old.clauses) (cut_of model values) id newest);
-          is_false = ap (possible_in old.trail.sets) clause_is ∙ cut-impossible h.state good values complete.fixed within;
-        };
+        known = subst L (sym holds.stock) (IsHeld-newest (held_by old.clauses) (cut_of model values) id newest);
+        cut = clause_is;
         trail = refl;
         tally = refl;
       })
+
+-- that of the fixed variables
+module _ {model : Model} (good : IsWellFormed model) {old : Solver} {before : List Step} (h : IsAfter model old before) (complete : IsComplete model old) {values : List ℤ} (within : IsWithin old.trail.sets values) where
+  pub record-accepted : IsAccepted model (past_of model before) (Solution values)
+  record-accepted = solution-accepted h.state good values complete.fixed within complete.quiet (complete.meets complete.fixed values within)
+
+  -- its cut is false
+  pub recorded : (new : Solver) (now : List Step) (id : ClauseId) → HasWritten model values old new now id → IsRecorded model old new now id
+  recorded new now id w =
+      let T : Levels → Type 0 = λ trail. possible_in trail.sets (cut_of model values) ≡ [] in
+      let none : possible_in new.trail.sets (cut_of model values) ≡ [] = subst T (sym w.trail) (cut-impossible h.state good values complete.fixed within) in
+      record {
+        state = w.state;
+        conflict = record { is_known = w.known; is_false = ap (possible_in new.trail.sets) w.cut ∙ none };
+        trail = w.trail;
+        tally = w.tally;
+      }
 
 -- ---- an empty declared set
 

@@ -1,7 +1,8 @@
 -- What each change makes of a search.
-use Rattle.std.specs.Prelude.{◌≡◌, ◌≢◌, ℕ, ◌==◌, if◌then◌else◌, ◌+◌, ◌^◌, ◌<◌, ◌≤◌, Bool, true, false, List, [], ◌∷◌, ◌++◌, length, Option, Some, None}
+use Rattle.std.specs.Prelude.{◌≡◌, ◌≢◌, ℕ, ◌==◌, if◌then◌else◌, ◌+◌, ◌^◌, ◌<◌, ◌≤◌, Bool, true, false, ℤ, List, [], ◌∷◌, ◌++◌, length, Option, Some, None}
 use Rattle.fzn_domain.specs.declared.literal.Lit.{Lit}
 use Rattle.fzn_meaning.specs.declared.model.Model.{Model}
+use Rattle.fzn_meaning.specs.Solutions.{cut_of}
 use Rattle.fzn_cert.specs.declared.step.Step.{Step}
 use Rattle.fzn_cert.specs.declared.step.Step.TheVariants.{Resolve}
 use Rattle.fzn_cert.specs.Accepted.{IsAccepted, past_of}
@@ -12,6 +13,7 @@ use Rattle.fzn_clauses.specs.Watching.{held_by}
 use Rattle.fzn_strategy.specs.declared.learn.Learn.{Learn}
 use Rattle.fzn_strategy.specs.declared.learn.Learn.TheVariants.{First}
 use Rattle.fzn_learned.specs.declared.learned.Learned.{Learned}
+use Rattle.fzn_learned.specs.Reasoned.{IsKnown, clause_of}
 use Rattle.fzn_learned.specs.Learned.{IsConflicting}
 use Rattle.fzn_engine.specs.State.{known_in}
 use Rattle.fzn_engine.specs.Outcome.{count, IsCertified, IsRefuted, IsEnded}
@@ -60,6 +62,14 @@ pub record HasLearned (model : Model) (first : List Step) (old new : Solver) (st
 abbrev pub Teaches : Model → List Step → Solver → Solver → List Step → Reason → Option Lesson → Type 0
 Teaches model first old new steps conflict None = IsClosed model old new steps
 Teaches model first old new steps conflict (Some lesson) = HasLearned model first old new steps conflict lesson
+
+-- this solution was written, and its cut is held under this number
+pub record HasWritten (model : Model) (values : List ℤ) (old new : Solver) (steps : List Step) (id : ClauseId) : Type 0 where
+  pub state : IsAfter model new steps
+  pub known : IsKnown (known_in (stock_of new)) (Clause id)
+  pub cut : clause_of (known_in (stock_of new)) (Clause id) ≡ cut_of model values
+  pub trail : new.trail ≡ old.trail
+  pub tally : tally_of new ≡ record (tally_of old) { found = old.found + 1 }
 
 -- a solution was written, whose cut has this number and is false
 pub record IsRecorded (model : Model) (old new : Solver) (steps : List Step) (id : ClauseId) : Type 0 where

@@ -1,9 +1,11 @@
 // One change of a search after the other, to its end.
 ghost use Rattle.std.specs.Prelude.{◌≡◌, ◌+◌, ◌<◌, IfOk, MatchBool, Some, false};
 ghost use Rattle.fzn_meaning.specs.declared.model.Model.{Model};
+ghost use Rattle.fzn_meaning.specs.Solutions.{IsSolution, PassesCuts};
 ghost use Rattle.fzn_cert.specs.declared.step.Step.{Step};
+ghost use Rattle.fzn_cert.specs.Accepted.{past_of};
 ghost use Rattle.fzn_engine.specs.Outcome.{IsReached};
-ghost use Rattle.fzn_engine.specs.Changes.{IsRecorded, Goes, Continues, IsOver, closed_after, ending_of};
+ghost use Rattle.fzn_engine.specs.Changes.{HasWritten, IsRecorded, Goes, Continues, IsOver, closed_after, ending_of};
 ghost use Rattle.fzn_engine.specs.Search.{IsReady, IsLeft, IsWithinLimits, IsAtFixpoint, IsComplete};
 
 use crate::fault::Fault;
@@ -11,6 +13,7 @@ use crate::limits::Limits;
 use crate::sink::Sink;
 use crate::solver::Solver;
 use fzn_cert::Step;
+use fzn_list::Items;
 use fzn_meaning::{Goal, Model};
 use fzn_printer::Ending;
 use fzn_propagator::Constraints;
@@ -19,6 +22,29 @@ use fzn_trail::{ClauseId, Reason};
 use std::alloc::Global;
 
 impl Solver {
+    /// Writes a solution that passes the cuts of those before it, and holds its cut, whose number it answers.
+    pub fn write_solution<S: Sink>(
+        &mut self,
+        alloc: Global,
+        model: &Model,
+        sink: &mut S,
+        values: Items<i64>,
+    ) -> Result<ClauseId, Fault>
+        requires ready { IsReady model.now self.old (S.written sink.old) (S.keeps model.now sink.old) }
+        requires solution { IsSolution model.now values }
+        requires passes { PassesCuts model.now (past_of model.now (S.written sink.old)).solutions values }
+        ensures written { IfOk result (HasWritten model.now values self.old self.new (S.written sink.new)) }
+        ensures left { IsLeft model.now (S.written sink.new) (S.keeps model.now sink.new) (S.origin sink.new ≡ S.origin sink.old) }
+    {
+        let clause = cut(alloc, model, values.as_slice())?;
+        let id = self.hold(clause.as_slice(), [].as_slice(), None)?;
+        self.cuts.add(id)?;
+        let step = Step::Solution(values);
+        sink.step(alloc, model, &step)?;
+        self.found += 1;
+        Ok(id)
+    }
+
     /// Writes the solution that the fixed variables give, and answers the number of its cut.
     fn record<S: Sink>(
         &mut self,
@@ -32,13 +58,7 @@ impl Solver {
         ensures left { IsLeft model.now (S.written sink.new) (S.keeps model.now sink.new) (S.origin sink.new ≡ S.origin sink.old) }
     {
         let values = values_of(alloc, &self.trail, model.vars.len())?;
-        let clause = cut(alloc, model, values.as_slice())?;
-        let id = self.hold(clause.as_slice(), [].as_slice(), None)?;
-        self.cuts.add(id)?;
-        let step = Step::Solution(values);
-        sink.step(alloc, model, &step)?;
-        self.found += 1;
-        Ok(id)
+        self.write_solution(alloc, model, sink, values)
     }
 
     /// Writes a solution, and goes on behind its cut where there is room for another.
@@ -116,7 +136,7 @@ impl Solver {
         }
     }
 
-    /// One change of the search, after which it is tended.
+    /// One change of the search, after which it is tended and heeds a hint.
     fn change<S: Sink, C: Constraints>(
         &mut self,
         alloc: Global,
@@ -134,7 +154,7 @@ impl Solver {
             Some(ending) => Ok(Some(ending)),
             None => {
                 self.tend(alloc, model, sink)?;
-                Ok(None)
+                self.heed(alloc, model, limits, sink)
             }
         }
     }
@@ -197,7 +217,7 @@ fn closed_after(found: u64) -> Ending
 }
 
 /// Whether these are as many solutions as the limit.
-fn is_reached(goal: Goal, limit: Option<u64>, count: u64) -> bool
+pub fn is_reached(goal: Goal, limit: Option<u64>, count: u64) -> bool
     ensures { MatchBool result (IsReached goal limit count) (IsReached goal limit count → ⊥) }
 {
     match goal {

@@ -54,6 +54,8 @@ pub fn solve<S: Sink, C: Constraints>(
             solutions: 0,
             nodes: 0,
             ending: Ending::Unsatisfiable,
+            hints_taken: 0,
+            hints_passed_over: 0,
         });
     }
     let mut solver = Solver::new(alloc, model, learn, choice, annotations)?;
@@ -62,6 +64,8 @@ pub fn solve<S: Sink, C: Constraints>(
         solutions: solver.found,
         nodes: solver.search.nodes(),
         ending,
+        hints_taken: solver.notes.hints_taken(),
+        hints_passed_over: solver.notes.hints_passed_over(),
     })
 }
 

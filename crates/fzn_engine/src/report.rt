@@ -10,4 +10,8 @@ pub struct Report {
     pub nodes: u64,
     /// Why it ended.
     pub ending: Ending,
+    /// How many hints were taken as solutions.
+    pub hints_taken: u64,
+    /// How many hints were passed over: no solutions, or none that is better or new.
+    pub hints_passed_over: u64,
 }

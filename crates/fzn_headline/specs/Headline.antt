@@ -21,7 +21,8 @@ abbrev pub Ran : List ℕ → Options → List ℕ → List ℕ → Report → T
 Ran file options printed certificate report =
     (out cert : List ℕ) × IsRun (Some file) options (Some out) (Some (out ++ printed)) (Some cert) (Some (cert ++ certificate)) report
 
--- a call of `check_tracked`: on which of its streams a call failed, what it added to its output, and what it answered
+-- a call of `check_tracked`, which asks that none has failed on its streams before: on which of them one failed, what it added to its
+-- output, and what it answered
 pub record Check : Type 0 where
   pub file_failed : Bool
   pub cert_failed : Bool

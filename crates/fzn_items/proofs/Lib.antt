@@ -1,9 +1,3 @@
-mod FrontLemmas
-mod ItemLemmas
 mod ItemizedLemmas
 mod ListedLemmas
-mod MendLemmas
-mod NameLemmas
-mod SourceLemmas
 mod TextLemmas
-mod WalkLemmas

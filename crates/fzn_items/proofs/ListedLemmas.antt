@@ -17,13 +17,13 @@ use Rattle.fzn_typing.specs.Faults.{faults_of, tree_names}
 use Rattle.fzn_typing.specs.Limits.{IsWithinLimits}
 use Rattle.fzn_typing.specs.Models.{stated, written}
 use Rattle.fzn_typing.specs.Typed.{IsTyped}
-use Rattle.fzn_items.specs.declared.places.ConstantGoal.{ConstantGoal}
-use Rattle.fzn_items.specs.declared.places.Counts.{Counts}
-use Rattle.fzn_items.specs.declared.places.Place.{Place}
-use Rattle.fzn_items.specs.Items.{items_of}
+use Rattle.fzn_mending.specs.declared.places.ConstantGoal.{ConstantGoal}
+use Rattle.fzn_items.specs.declared.counts.Counts.{Counts}
+use Rattle.fzn_mending.specs.declared.places.Place.{Place}
+use Rattle.fzn_sources.specs.Items.{items_of}
 use Rattle.fzn_items.specs.Listed.{IsFaultOf, IsList, IsListing, IsListingFault, Itemizes}
-use Rattle.fzn_items.specs.Mending.{mended, places, constant}
-use Rattle.fzn_items.proofs.FrontLemmas.{known_tokens}
+use Rattle.fzn_mending.specs.Mending.{mended, places, constant}
+use Rattle.fzn_sources.proofs.FrontLemmas.{known_tokens}
 
 -- ---- how many constraints
 

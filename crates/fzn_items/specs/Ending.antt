@@ -10,12 +10,12 @@ use Rattle.fzn_strategy.specs.declared.annotation.ValueChoice.{ValueChoice}
 use Rattle.fzn_strategy.specs.declared.annotation.ValueChoice.TheVariants as v
 use Rattle.fzn_strategy.specs.declared.annotation.VarChoice.{VarChoice}
 use Rattle.fzn_strategy.specs.declared.annotation.VarChoice.TheVariants as x
-use Rattle.fzn_items.specs.declared.places.Change.{Change}
-use Rattle.fzn_items.specs.declared.places.Change.TheVariants as changes
-use Rattle.fzn_items.specs.declared.places.ConstantGoal.{ConstantGoal}
-use Rattle.fzn_items.specs.declared.places.Counts.{Counts}
-use Rattle.fzn_items.specs.declared.places.Part.{Part}
-use Rattle.fzn_items.specs.declared.places.Place.{Place}
+use Rattle.fzn_mending.specs.declared.places.Change.{Change}
+use Rattle.fzn_mending.specs.declared.places.Change.TheVariants as changes
+use Rattle.fzn_mending.specs.declared.places.ConstantGoal.{ConstantGoal}
+use Rattle.fzn_items.specs.declared.counts.Counts.{Counts}
+use Rattle.fzn_mending.specs.declared.places.Part.{Part}
+use Rattle.fzn_mending.specs.declared.places.Place.{Place}
 use Rattle.fzn_items.specs.Pieces.{bytes_text, item_text, variable_text}
 
 -- ---- search annotations

@@ -6,7 +6,7 @@ use Rattle.fzn_lexer.specs.declared.halt.Halt.TheVariants as errors
 use Rattle.fzn_reading.specs.Reads.{Reads}
 use Rattle.fzn_checker.specs.declared.fault.CheckFault.{CheckFault}
 use Rattle.fzn_checker.specs.declared.fault.CheckFault.TheVariants.{File, Memory, Read, WriteOutput}
-use Rattle.fzn_items.specs.declared.places.Counts.{Counts}
+use Rattle.fzn_items.specs.declared.counts.Counts.{Counts}
 use Rattle.fzn_items.specs.Listed.{Itemizes}
 
 -- such a text is printed, whole

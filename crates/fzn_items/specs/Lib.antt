@@ -1,10 +1,7 @@
 pub mod Declarations
 pub mod Ending
-pub mod Files
 pub mod Itemized
-pub mod Items
 pub mod Listed
 pub mod Marks
-pub mod Mending
 pub mod Pieces
 pub mod Statements

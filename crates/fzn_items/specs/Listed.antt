@@ -15,13 +15,13 @@ use Rattle.fzn_strategy.specs.declared.annotation.Annotation.{Annotation}
 use Rattle.fzn_tree.specs.declared.tree.Tree.{Tree}
 use Rattle.fzn_typing.specs.Faults.{faults_of, tree_names}
 use Rattle.fzn_typing.specs.Typed.{IsTyped}
-use Rattle.fzn_items.specs.declared.places.ConstantGoal.{ConstantGoal}
-use Rattle.fzn_items.specs.declared.places.Counts.{Counts}
-use Rattle.fzn_items.specs.declared.places.Place.{Place}
-use Rattle.fzn_items.specs.Items.{items_of, parameter_items, declaration_items, constraint_items, goal_items}
+use Rattle.fzn_mending.specs.declared.places.ConstantGoal.{ConstantGoal}
+use Rattle.fzn_items.specs.declared.counts.Counts.{Counts}
+use Rattle.fzn_mending.specs.declared.places.Place.{Place}
+use Rattle.fzn_sources.specs.Items.{items_of, parameter_items, declaration_items, constraint_items, goal_items}
 use Rattle.fzn_items.specs.Declarations.{parameter_lines, declaration_lines}
 use Rattle.fzn_items.specs.Statements.{con_lines, written_lines}
-use Rattle.fzn_items.specs.Mending.{mended, places, constant}
+use Rattle.fzn_mending.specs.Mending.{mended, places, constant}
 use Rattle.fzn_items.specs.Ending.{search_line, goal_line, place_line, constant_line, counts_line}
 
 -- ---- the text

@@ -4,11 +4,12 @@ ghost use Rattle.std.specs.List.{flat_map};
 ghost use Rattle.fzn_items.specs.Ending.{var_choice_name, value_choice_name, search_line, direction, goal_words, goal_line, part_text, change_word, place_line, constant_line, count_text, counts_line};
 ghost use Rattle.fzn_items.specs.Pieces.{variable_text};
 
+use crate::counts::Counts;
 use crate::pieces::{push_bytes, push_integer, push_number, push_place, push_range, push_variable};
-use crate::places::{Change, ConstantGoal, Counts, Part, Place};
 use fzn_domain::VarId;
 use fzn_lexer::Span;
 use fzn_meaning::Goal;
+use fzn_mending::{Change, ConstantGoal, Part, Place};
 use fzn_strategy::{Annotation, ValueChoice, VarChoice};
 use std::alloc::AllocError;
 

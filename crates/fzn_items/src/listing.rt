@@ -1,8 +1,8 @@
 // The items of a file listed from its bytes, and printed.
-ghost use Rattle.std.specs.Prelude.{◌≡◌, IfOk, IfErr};
+ghost use Rattle.std.specs.Prelude.{◌≡◌, false, IfOk, IfErr};
 ghost use Rattle.fzn_items.specs.Itemized.{IsItemized, IsItemsFault, IsItemsDue};
 
-use crate::places::Counts;
+use crate::counts::Counts;
 use crate::put::put_all;
 use crate::read::read_listing;
 use fzn_checker::CheckFault;
@@ -30,13 +30,15 @@ pub fn items<R: Read + Drop, W: Write>(
     items_tracked(alloc, &mut file, &mut out)
 }
 
-/// Lists as `items` does, on streams that remember whether a call on them failed. `Read` is answered only after a failed read of the file,
-/// and `WriteOutput` only after a failed write or flush of `out`. Its faults are those of `items`.
+/// Lists as `items` does, on streams that remember whether a call on them failed. On neither may one have failed before: else a fault could
+/// be answered of it without another failed call. So `Read` is answered only after a failed read of the file, and `WriteOutput` only after a
+/// failed write or flush of `out`. Its faults are those of `items`.
 pub fn items_tracked<R: TrackedRead, W: TrackedWrite>(
     alloc: Global,
     file: &mut R,
     out: &mut W,
 ) -> Result<Counts, CheckFault>
+    requires fresh { (R.has_failed file.old ≡ false) × (W.has_failed out.old ≡ false) }
     ensures ok { IfOk result (IsItemized (R.remaining file.old) (W.contents out.old) (W.contents out.new)) }
     ensures err { IfErr result (IsItemsFault (R.remaining file.old) (W.contents out.old) (W.contents out.new)) }
     ensures due { IfErr result (IsItemsDue (R.has_failed file.new) (W.has_failed out.new)) }

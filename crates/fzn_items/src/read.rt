@@ -10,15 +10,15 @@ ghost use Rattle.fzn_reading.specs.Reads.{Answers};
 ghost use Rattle.fzn_typing.specs.Faults.{faults_of, tree_names};
 ghost use Rattle.fzn_typing.specs.Limits.{IsWithinLimits};
 ghost use Rattle.fzn_typing.specs.Typed.{IsTyped};
-ghost use Rattle.fzn_items.specs.Items.{items_of};
+ghost use Rattle.fzn_sources.specs.Items.{items_of};
 ghost use Rattle.fzn_items.specs.Listed.{IsFaultOf, IsListing, IsListingFault, Itemizes};
 
-use crate::item::items_of;
 use crate::list::{Listing, listing_of};
-use crate::mending::{constant_goal, mended_tokens, mended_types};
 use fzn_lexer::{Fault, Halt, Span, TokenList, tokens};
+use fzn_mending::{constant_goal, mended_tokens, mended_types};
 use fzn_parser::parse;
 use fzn_reading::{ModelFault, read_bytes, small_tokens, small_within_limits, within_limits};
+use fzn_sources::items_of;
 use fzn_streams::TrackedRead;
 use fzn_tree::Tree;
 use fzn_typing::{Named, type_check};

@@ -11,11 +11,11 @@ use crate::marks::defined_by;
 use crate::pieces::{
     push_bytes, push_number, push_number_of, push_place, push_position, push_variable,
 };
-use crate::source::count_of;
 use fzn_domain::VarId;
 use fzn_lexer::Span;
 use fzn_meaning::Kind;
 use fzn_names::{Declared, Names, kind_of, term_of};
+use fzn_sources::count_of;
 use fzn_tree::{Arg, Base, Basic, Con, Name, SingleVar, Var};
 use std::alloc::AllocError;
 

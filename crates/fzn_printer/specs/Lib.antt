@@ -1,3 +1,4 @@
 pub mod Answer
 pub mod Printer
+pub mod Showable
 pub mod Shown

@@ -2,8 +2,9 @@
 ghost use Rattle.std.specs.Prelude.{◌≡◌, length};
 ghost use Rattle.std.specs.List.{All, flat_map};
 ghost use Rattle.fzn_streams.specs.Output.{Puts, IsDue};
-ghost use Rattle.fzn_meaning.specs.WellFormed.{IsOutputItem, IsWellFormed};
+ghost use Rattle.fzn_meaning.specs.WellFormed.{IsOutputItem};
 ghost use Rattle.fzn_meaning.specs.Solutions.{IsAssignment};
+ghost use Rattle.fzn_printer.specs.Showable.{CanBeShown};
 ghost use Rattle.fzn_printer.specs.Shown.{shown};
 ghost use Rattle.fzn_printer.specs.Answer.{answer_text, first_shown};
 
@@ -24,7 +25,7 @@ pub fn put_answer<W: TrackedWrite>(
     closed: bool,
     show_all: bool,
 ) -> Result<(), WriteFailed>
-    requires model { IsWellFormed model.now }
+    requires model { CanBeShown model.now }
     requires found { All (IsAssignment model.now) found.now }
     ensures text { Puts (W.contents out.old) (W.contents out.new) result (answer_text model.now found.now closed show_all) }
     ensures due { IsDue W.stream W.has_failed out.old out.new result }
@@ -48,7 +49,7 @@ fn put_solutions<W: TrackedWrite>(
     model: &Model,
     found: &[Items<i64>],
 ) -> Result<(), WriteFailed>
-    requires model { IsWellFormed model.now }
+    requires model { CanBeShown model.now }
     requires found { All (IsAssignment model.now) found.now }
     ensures text { Puts (W.contents out.old) (W.contents out.new) result (flat_map (shown model.now) found.now) }
     ensures due { IsDue W.stream W.has_failed out.old out.new result }
@@ -64,7 +65,7 @@ fn put_assignment<W: TrackedWrite>(
     model: &Model,
     values: &Items<i64>,
 ) -> Result<(), WriteFailed>
-    requires model { IsWellFormed model.now }
+    requires model { CanBeShown model.now }
     requires assignment { IsAssignment model.now values.now }
     ensures text { Puts (W.contents out.old) (W.contents out.new) result (shown model.now values.now) }
     ensures due { IsDue W.stream W.has_failed out.old out.new result }

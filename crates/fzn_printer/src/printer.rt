@@ -3,11 +3,12 @@ ghost use Rattle.std.specs.Prelude.{◌≡◌, ◌≢◌, true, false, length, I
 ghost use Rattle.std.specs.Io.KnownBytes.{Appends, Keeps};
 ghost use Rattle.fzn_streams.specs.Output.{AppendsFront};
 ghost use Rattle.fzn_meaning.specs.Solutions.{IsAssignment};
-ghost use Rattle.fzn_meaning.specs.WellFormed.{IsWellFormed};
+ghost use Rattle.fzn_printer.specs.Showable.{CanBeShown};
 ghost use Rattle.fzn_printer.specs.Shown.{shown, ending_text, is_closed};
 ghost use Rattle.fzn_printer.specs.Printer.{contents_of, stream_of, has_failed_in, out_name, is_open, has_printed};
 
 use crate::item::put_solution;
+use fzn_fault::Stop;
 use fzn_meaning::Model;
 use fzn_streams::{TrackedWrite, put};
 use thiserror::Error;
@@ -41,7 +42,7 @@ impl Ending {
 #[derive(Clone, Copy, Debug, PartialEq, Eq, Error)]
 pub enum PrintFault {
     /// A write or a flush failed, or a write took no byte.
-    #[error("fault 21 WriteOutput")]
+    #[error("{}", Stop::WriteOutput)]
     Write,
     /// A call after a fault, or after the end was printed.
     #[error("failed before")]
@@ -74,7 +75,7 @@ impl<'w, W: TrackedWrite> Printer<'w, W> {
     /// Prints the lines of the marked declarations, and ten dashes. It answers `Write` only where a write failed, so that a beginning of
     /// the lines stands, and `Failed` after a fault or `close`, where nothing is printed.
     pub fn solution(&mut self, model: &Model, values: &[i64]) -> Result<(), PrintFault>
-        requires model { IsWellFormed model.now }
+        requires model { CanBeShown model.now }
         requires assignment { IsAssignment model.now values.now }
         ensures written { OnOk result (Appends (contents_of W.contents self.old) (contents_of W.contents self.new) (shown model.now values.now)) }
         ensures ok { OnOk result ((is_open self.new ≡ true) × (has_printed self.new ≡ true)) }

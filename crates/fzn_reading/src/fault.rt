@@ -3,6 +3,7 @@
 ghost use Rattle.std.specs.Prelude.{◌≡◌};
 ghost use Rattle.fzn_reading.specs.Numbers.{number_of as number};
 
+use fzn_fault::Stop;
 use fzn_lexer::{Fault, FaultKind};
 use thiserror::Error;
 
@@ -10,10 +11,10 @@ use thiserror::Error;
 #[derive(Debug, Drop, Error)]
 pub enum ModelFault {
     /// Memory was wanted and not there.
-    #[error("fault 19 Memory")]
+    #[error("{}", Stop::Memory)]
     Memory,
     /// A read failed.
-    #[error("fault 20 Read")]
+    #[error("{}", Stop::Read)]
     Read,
     /// The first fault of the file.
     #[error("line {line} column {column}: fault {number} {kind:?}", line = .0.position.line, column = .0.position.column, number = number_of(.0.kind), kind = .0.kind)]

@@ -16,6 +16,7 @@ use Rattle.fzn_cert.specs.Verdict.{Verdict, accepted, header_of, lines_of, AllHa
 use Rattle.fzn_cert.specs.Writer.{contents_of as cert_contents}
 use Rattle.fzn_strategy.specs.declared.learn.Learn.{Learn}
 use Rattle.fzn_engine.specs.declared.limits.Limits.{Limits}
+use Rattle.fzn_engine.specs.declared.report.Report.{Report}
 use Rattle.fzn_engine.specs.Volume.{volume}
 use Rattle.fzn_engine.specs.Outcome.{HasRoom, IsReached, EndsTruly as EndsTrulyThere, IsOutcome}
 use Rattle.fzn_printer.specs.declared.printer.Ending.{Ending}
@@ -90,32 +91,32 @@ closed-refuted model learn limits steps nodes SolutionLimit truly closed = cc
 -- ---- all of it
 
 module _ {W C P : Type 0} (outs : W → Option (List ℕ)) (certs : C → Option (List ℕ)) (model : Model) (options : Options) where
-  pub answer-of : IsWellFormed model → (before searched after : Writers W C P) (limits : Limits) (nodes n : ℕ) (ending : Ending) → IsFresh outs certs before → before.alone ≡ is_alone model.goal options.all → origin searched ≡ origin before → limits.nodes ≡ options.nodes → limits.solutions ≡ wanted options.all options.limit
-      → AllAccepted model (taken searched) → IsOutcome model options.learn limits (taken searched) nodes ending → n ≡ length (found_by model (taken searched)) → IsClosed outs certs model (is_closed ending) searched after
-      → IsAnswer model options (out_contents outs before.out) (out_contents outs after.out) (cert_contents certs before.cert) (cert_contents certs after.cert) (record { solutions = n; nodes = nodes; ending = ending })
-  answer-of formed before searched after limits nodes n ending fresh alone same limit_is most all_accepted outcome count closed =
+  pub answer-of : IsWellFormed model → (before searched after : Writers W C P) (limits : Limits) (report : Report) → IsFresh outs certs before → before.alone ≡ is_alone model.goal options.all → origin searched ≡ origin before → limits.nodes ≡ options.nodes → limits.solutions ≡ wanted options.all options.limit
+      → AllAccepted model (taken searched) → IsOutcome model options.learn limits (taken searched) report.nodes report.ending → report.solutions ≡ length (found_by model (taken searched)) → IsClosed outs certs model (is_closed report.ending) searched after
+      → IsAnswer model options (out_contents outs before.out) (out_contents outs after.out) (cert_contents certs before.cert) (cert_contents certs after.cert) report
+  answer-of formed before searched after limits report fresh alone same limit_is most all_accepted outcome count closed =
       let steps = taken searched in
       let found = found_by model steps in
-      let is : searched.alone ≡ is_alone model.goal options.all = ap (λ (o : (W × C) × Bool × GName × GName). o.1) same ∙ alone in
-      let K : Option (List ℕ) → Type 0 = λ w. Appends w (cert_contents certs after.cert) (certificate model steps (is_closed ending)) in
-      let O : Option (List ℕ) → Type 0 = λ w. Appends w (out_contents outs after.out) (shown_all model (early searched.alone found ++ late searched.alone found) ++ ending_text (is_closed ending) (not (length found == 0))) in
-      let A : Bool → Type 0 = λ b. Appends (out_contents outs before.out) (out_contents outs after.out) (shown_all model (early b found ++ late b found) ++ ending_text (is_closed ending) (not (length found == 0))) in
-      let cert : certs (at_first searched).1 ≡ cert_contents certs before.cert = ap (λ (o : (W × C) × Bool × GName × GName). certs o.0.1) same ∙ sym fresh.same_cert in
-      let out : outs (at_first searched).0 ≡ out_contents outs before.out = ap (λ (o : (W × C) × Bool × GName × GName). outs o.0.0) same ∙ sym fresh.same_out in
-      let B : ℕ → Type 0 = λ limit. nodes ≤ limit in
+      let is : searched.alone ≡ is_alone model.goal options.all = ap (λ (o : (W × C) × Bool × GName × GName × GName). o.1) same ∙ alone in
+      let K : Option (List ℕ) → Type 0 = λ w. Appends w (cert_contents certs after.cert) (certificate model steps (is_closed report.ending)) in
+      let O : Option (List ℕ) → Type 0 = λ w. Appends w (out_contents outs after.out) (shown_all model (early searched.alone found ++ late searched.alone found) ++ ending_text (is_closed report.ending) (not (length found == 0))) in
+      let A : Bool → Type 0 = λ b. Appends (out_contents outs before.out) (out_contents outs after.out) (shown_all model (early b found ++ late b found) ++ ending_text (is_closed report.ending) (not (length found == 0))) in
+      let cert : certs (at_first searched).1 ≡ cert_contents certs before.cert = ap (λ (o : (W × C) × Bool × GName × GName × GName). certs o.0.1) same ∙ sym fresh.same_cert in
+      let out : outs (at_first searched).0 ≡ out_contents outs before.out = ap (λ (o : (W × C) × Bool × GName × GName × GName). outs o.0.0) same ∙ sym fresh.same_out in
+      let B : ℕ → Type 0 = λ limit. report.nodes ≤ limit in
       let V : ℕ → Type 0 = λ limit. volume (declared_sets model.vars) - 1 ≤ limit in
       let T : List ℕ → Type 0 = λ t. Appends (out_contents outs before.out) (out_contents outs after.out) t in
       record {
         steps = steps;
         certified = record {
           written = subst K cert closed.cert;
-          verdict = certificate-verdict model steps (is_closed ending) formed all_accepted closed.have_lines (closed-refuted model options.learn limits steps nodes ending outcome.ended.truly);
-          printed = subst T (answer-is model options.all (is_closed ending) found) (subst A is (subst O out closed.out));
+          verdict = certificate-verdict model steps (is_closed report.ending) formed all_accepted closed.have_lines (closed-refuted model options.learn limits steps report.nodes report.ending outcome.ended.truly);
+          printed = subst T (answer-is model options.all (is_closed report.ending) found) (subst A is (subst O out closed.out));
         };
         proper = outcome.proper;
         exhausted = outcome.exhausted;
         solutions = count;
-        ends = ends-truly model options options.learn limits steps nodes ending limit_is most outcome.ended.truly;
+        ends = ends-truly model options options.learn limits steps report.nodes report.ending limit_is most outcome.ended.truly;
         bounded = record {
           by_limit = subst B limit_is outcome.ended.few_nodes;
           by_choices = λ plain enough is_limit. outcome.enough_nodes plain (subst V (sym limit_is) enough) is_limit;

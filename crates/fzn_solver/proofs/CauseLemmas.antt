@@ -1,8 +1,8 @@
 -- What each fault of a run comes of.
 use Rattle.std.proofs.Common.{◌≡◌, ℕ, Bool, true, List, [], ◌∷◌, ◌++◌, length, Option, Some, None, IfSome, refl, sym, ap, subst, ◌∙◌, Result, Ok, Err, IfErr, OnOk, OnErr, unwrap_or}
 use Rattle.fzn_meaning.specs.declared.model.Model.{Model}
-use Rattle.fzn_cert.specs.declared.fault.FaultKind.{FaultKind}
-use Rattle.fzn_cert.specs.declared.fault.FaultKind.TheVariants as faults
+use Rattle.fzn_cert.specs.declared.write_fault.WriteFault.{WriteFault}
+use Rattle.fzn_cert.specs.declared.write_fault.WriteFault.TheVariants as faults
 use Rattle.fzn_cert.specs.declared.step.Step.{Step}
 use Rattle.fzn_cert.specs.declared.writer.StepWriter.{StepWriter}
 use Rattle.fzn_cert.specs.Accepted.{AllAccepted}
@@ -24,31 +24,19 @@ use Rattle.fzn_solver.specs.Writers.{taken, IsKept, IsLineTaken, IsLineRefused}
 use Rattle.fzn_solver.specs.declared.ghost_list.GhostList.{GhostList}
 
 -- a fault of the line of a step
-pub line-cause : {C : Type 0} (certs : C → Bool) (step : Step) (count : ℕ) (cert : StepWriter C) (fault : FaultKind) → IsStepFault count step fault → (fault ≡ faults.Write → cert_failed certs cert ≡ true)
+pub line-cause : {C : Type 0} (certs : C → Bool) (step : Step) (count : ℕ) (cert : StepWriter C) (fault : WriteFault) → IsStepFault count step fault → (fault ≡ faults.Write → cert_failed certs cert ≡ true)
     → IsLineCause certs step count cert (fault_of_certificate fault)
 line-cause certs step count cert faults.Memory is due = tt
 line-cause certs step count cert faults.Write is due = due refl
 line-cause certs step count cert faults.StepTooLong is due = is
-line-cause certs step count cert faults.Read is due = absurd is
-line-cause certs step count cert faults.Header is due = absurd is
-line-cause certs step count cert faults.Spelling is due = absurd is
-line-cause certs step count cert faults.Truncated is due = absurd is
-line-cause certs step count cert faults.Trailing is due = absurd is
-line-cause certs step count cert faults.LineTooLong is due = absurd is
 line-cause certs step count cert faults.Failed is due = absurd is
 
 module _ {W C P : Type 0} (outs : W → Bool) (certs : C → Bool) (model : Model) where
   -- a fault of the first two lines
-  pub begin-cause : (now : Writers W C P) (fault : FaultKind) → IsLineFault fault → (fault ≡ faults.Write → cert_failed certs now.cert ≡ true) → IsCause outs certs model now (fault_of_certificate fault)
+  pub begin-cause : (now : Writers W C P) (fault : WriteFault) → IsLineFault fault → (fault ≡ faults.Write → cert_failed certs now.cert ≡ true) → IsCause outs certs model now (fault_of_certificate fault)
   begin-cause now faults.Memory is due = tt
   begin-cause now faults.Write is due = due refl
   begin-cause now faults.StepTooLong is due = absurd is
-  begin-cause now faults.Read is due = absurd is
-  begin-cause now faults.Header is due = absurd is
-  begin-cause now faults.Spelling is due = absurd is
-  begin-cause now faults.Truncated is due = absurd is
-  begin-cause now faults.Trailing is due = absurd is
-  begin-cause now faults.LineTooLong is due = absurd is
   begin-cause now faults.Failed is due = absurd is
 
   -- the fault of the line of a step that is accepted after those that were taken

@@ -11,9 +11,9 @@ use Rattle.fzn_streams.proofs.CallerLemmas.{Appends-then, front-then, front-left
 use Rattle.fzn_meaning.specs.declared.model.Model.{Model}
 use Rattle.fzn_cert.specs.declared.writer.Stage.TheVariants.{Fresh, Open, Shut}
 use Rattle.fzn_cert.specs.declared.writer.Stage.{Stage}
-use Rattle.fzn_cert.specs.declared.fault.FaultKind.{FaultKind}
-use Rattle.fzn_cert.specs.declared.fault.FaultKind.TheVariants.{Failed}
-use Rattle.fzn_cert.specs.declared.fault.FaultKind.TheVariants as faults
+use Rattle.fzn_cert.specs.declared.write_fault.WriteFault.{WriteFault}
+use Rattle.fzn_cert.specs.declared.write_fault.WriteFault.TheVariants.{Failed}
+use Rattle.fzn_cert.specs.declared.write_fault.WriteFault.TheVariants as faults
 use Rattle.fzn_printer.specs.declared.printer.PrintFault.{PrintFault}
 use Rattle.fzn_printer.specs.declared.printer.PrintFault.TheVariants.{Failed as NoMore}
 use Rattle.fzn_cert.specs.Spelling.{end_line}
@@ -87,7 +87,7 @@ answer-front model alone closed found first old new opened printed last in_step 
 
 -- ---- a call that went well found its writer open
 
-open-before : (stage : Stage) (result : Result Unit FaultKind) (v : Unit) → (¬ (stage ≡ Open) → result ≡ Err Failed) → result ≡ Ok v → stage ≡ Open
+open-before : (stage : Stage) (result : Result Unit WriteFault) (v : Unit) → (¬ (stage ≡ Open) → result ≡ Err Failed) → result ≡ Ok v → stage ≡ Open
 open-before Fresh result v failed is = let bad : Ok v ≡ Err Failed = sym is ∙ failed (λ h. cc) in cc
 open-before Open result v failed is = refl
 open-before Shut result v failed is = let bad : Ok v ≡ Err Failed = sym is ∙ failed (λ h. cc) in cc
@@ -103,20 +103,14 @@ kept-on (Some x) (Some y) None h k = absurd k
 kept-on (Some x) (Some y) (Some z) h k = k ∙ h
 
 -- what a fault of the certificate leaves is a beginning of the text
-pub leaves-front : (text : List ℕ) (old new : Option (List ℕ)) (fault : FaultKind) → Leaves text old new fault → AppendsFront old new text
+pub leaves-front : (text : List ℕ) (old new : Option (List ℕ)) (fault : WriteFault) → Leaves text old new fault → AppendsFront old new text
 leaves-front text old new faults.Write h = h
 leaves-front text old new faults.Memory h = front-none old new text h
-leaves-front text old new faults.Read h = front-none old new text h
 leaves-front text old new faults.StepTooLong h = front-none old new text h
-leaves-front text old new faults.Header h = front-none old new text h
-leaves-front text old new faults.Spelling h = front-none old new text h
-leaves-front text old new faults.Truncated h = front-none old new text h
-leaves-front text old new faults.Trailing h = front-none old new text h
-leaves-front text old new faults.LineTooLong h = front-none old new text h
 leaves-front text old new faults.Failed h = front-none old new text h
 
 module _ {W C P : Type 0} (outs : W → Option (List ℕ)) (certs : C → Option (List ℕ)) (model : Model) (closed : Bool) where
-  pub closed-by : (old mid new : Writers W C P) (finished : Result Unit FaultKind) (ended : Result Unit PrintFault) (v w : Unit) {K : Type 0} → IsKept outs certs model old
+  pub closed-by : (old mid new : Writers W C P) (finished : Result Unit WriteFault) (ended : Result Unit PrintFault) (v w : Unit) {K : Type 0} → IsKept outs certs model old
       → (¬ (stage_of old.cert ≡ Open) → finished ≡ Err Failed) → finished ≡ Ok v → (is_open mid.out ≡ false → (ended ≡ Err NoMore) × K) → ended ≡ Ok w
       → Appends (cert_contents certs old.cert) (cert_contents certs new.cert) (end_line closed)
       → IsLastShown outs model old.last.now old.out mid.out → Appends (out_contents outs mid.out) (out_contents outs new.out) (ending_text closed (has_printed mid.out))
@@ -132,7 +126,7 @@ module _ {W C P : Type 0} (outs : W → Option (List ℕ)) (certs : C → Option
       }
 
   -- the end of the certificate stands, but not that of the answer
-  pub cut-off : (old mid new : Writers W C P) (finished : Result Unit FaultKind) (ended : Result Unit PrintFault) (v : Unit) → (¬ (stage_of old.cert ≡ Open) → finished ≡ Err Failed) → finished ≡ Ok v
+  pub cut-off : (old mid new : Writers W C P) (finished : Result Unit WriteFault) (ended : Result Unit PrintFault) (v : Unit) → (¬ (stage_of old.cert ≡ Open) → finished ≡ Err Failed) → finished ≡ Ok v
       → (is_open mid.out ≡ false → (ended ≡ Err NoMore) × Keeps (out_contents outs mid.out) (out_contents outs new.out))
       → Appends (cert_contents certs old.cert) (cert_contents certs new.cert) (end_line closed) → IsLastShown outs model old.last.now old.out mid.out → AppendsFront (out_contents outs mid.out) (out_contents outs new.out) (ending_text closed (has_printed mid.out))
       → IsCutOff outs certs model closed old new

@@ -105,11 +105,11 @@ module _ {W C P : Type 0} (outs : W → Option (List ℕ)) (certs : C → Option
 
   certs-first : (before now : Writers W C P) (fresh : IsFresh outs certs before) → origin now ≡ origin before → certs (at_first now).1 ≡ cert_contents certs before.cert
   certs-first before now fresh same =
-      ap (λ (o : (W × C) × Bool × GName × GName). certs o.0.1) same ∙ sym fresh.same_cert
+      ap (λ (o : (W × C) × Bool × GName × GName × GName). certs o.0.1) same ∙ sym fresh.same_cert
 
   outs-first : (before now : Writers W C P) (fresh : IsFresh outs certs before) → origin now ≡ origin before → outs (at_first now).0 ≡ out_contents outs before.out
   outs-first before now fresh same =
-      ap (λ (o : (W × C) × Bool × GName × GName). outs o.0.0) same ∙ sym fresh.same_out
+      ap (λ (o : (W × C) × Bool × GName × GName × GName). outs o.0.0) same ∙ sym fresh.same_out
 
   -- the lines of the steps stand
   pub lines-kept : (before now : Writers W C P) → IsFresh outs certs before → origin now ≡ origin before → IsKept outs certs model now → HasLines model (taken now) (cert_contents certs before.cert) (cert_contents certs now.cert)
@@ -136,7 +136,7 @@ module _ {W C P : Type 0} (outs : W → Option (List ℕ)) (certs : C → Option
   left-on_way before now fault formed fresh alone same all_accepted kept = (
     later fault,
     inl (stopped-by model all now.alone (taken now) (certs (at_first now).1) (cert_contents certs before.cert) (cert_contents certs now.cert) (outs (at_first now).0) (out_contents outs before.out) (out_contents outs now.out) formed all_accepted
-        (ap (λ (o : (W × C) × Bool × GName × GName). o.1) same ∙ alone) (certs-first before now fresh same) (outs-first before now fresh same) kept.standing),
+        (ap (λ (o : (W × C) × Bool × GName × GName × GName). o.1) same ∙ alone) (certs-first before now fresh same) (outs-first before now fresh same) kept.standing),
   )
 
   -- at the end
@@ -146,7 +146,7 @@ module _ {W C P : Type 0} (outs : W → Option (List ℕ)) (certs : C → Option
       let O : Printer W → Type 0 = λ p. IsStanding model now.alone (taken now) (certs (at_first now).1) (cert_contents certs after.cert) (outs (at_first now).0) (out_contents outs p) in (
         later fault,
         inl (stopped-by model all now.alone (taken now) (certs (at_first now).1) (cert_contents certs before.cert) (cert_contents certs after.cert) (outs (at_first now).0) (out_contents outs before.out) (out_contents outs after.out) formed all_accepted
-            (ap (λ (o : (W × C) × Bool × GName × GName). o.1) same ∙ alone) (certs-first before now fresh same) (outs-first before now fresh same)
+            (ap (λ (o : (W × C) × Bool × GName × GName × GName). o.1) same ∙ alone) (certs-first before now fresh same) (outs-first before now fresh same)
             (subst O (sym unfinished.out) (standing-refused model now.alone (taken now) (certs (at_first now).1) (cert_contents certs now.cert) (cert_contents certs after.cert) (outs (at_first now).0) (out_contents outs now.out) (end_line (is_closed ending)) kept.standing unfinished.front))),
       )
   left-at_end before now after fault learn limits nodes ending formed fresh alone same all_accepted outcome kept (inr (is_output, cut)) =
@@ -169,7 +169,7 @@ module _ {W C P : Type 0} (outs : W → Option (List ℕ)) (certs : C → Option
             verdict = certificate-verdict model steps closed formed all_accepted in_step.have_lines (closed-refuted model learn limits steps nodes ending outcome.ended.truly);
             proper = outcome.proper;
             exhausted = outcome.exhausted;
-            shown = subst T (answer-is model all closed found) (subst A (ap (λ (o : (W × C) × Bool × GName × GName). o.1) same ∙ alone) (subst O (outs-first before now fresh same) front));
+            shown = subst T (answer-is model all closed found) (subst A (ap (λ (o : (W × C) × Bool × GName × GName × GName). o.1) same ∙ alone) (subst O (outs-first before now fresh same) front));
           },
         ),
       )

@@ -26,7 +26,7 @@ use Rattle.fzn_printer.specs.Shown.{shown}
 use Rattle.fzn_solver.specs.Standing.{found_by, early, shown_all, IsCertInStep, IsOutInStep}
 use Rattle.fzn_solver.specs.declared.ghost_list.GhostList.{GhostList}
 use Rattle.fzn_solver.specs.declared.writers.Writers.{Writers}
-use Rattle.fzn_solver.specs.Writers.{taken, at_first, origin, IsLogged, IsKeptBy, IsKept, IsFresh, IsLineTaken, IsLineRefused, IsRestSame, IsAllSame, IsPrinted}
+use Rattle.fzn_solver.specs.Writers.{taken, at_first, origin, IsLogged, IsKeptBy, IsKept, IsFresh, IsLineTaken, IsLineRefused, IsRestSame, IsAllSame, IsPrinted, IsUntold}
 use Rattle.fzn_solver.proofs.StandingLemmas.{cert-push, found-solution, found-infer, last-accepted, out-held, out-printed, standing-in_step, standing-refused, front-kept, front-found, front-printed, Appends-kept}
 
 shut_open : Shut ≡ Open → ⊥
@@ -261,12 +261,12 @@ module _ {W C P : Type 0} (outs : W → Option (List ℕ)) (certs : C → Option
       printed-kept values old mid new alone (subst S is spelled) kept (subst L is line) (subst K (sym still.0) nothing) (λ _. ap step_count still.0 ∙ counted) (ap version_of still.0 ∙ same.1)
       (subst O rest.0.out behind) (still.1.alone ∙ rest.0.alone) (still.1.last ∙ rest.0.last) (still.1.first ∙ rest.0.first) (still.1.taken ∙ rest.1)
 
-  same_origin : (old new : Writers W C P) → IsRestSame old new → cert_name new.cert ≡ cert_name old.cert → origin new ≡ origin old
-  same_origin old new rest name = rw (rest.first, rest.alone, rest.out, name) refl
+  same_origin : (old new : Writers W C P) → IsRestSame old new → IsUntold old new → cert_name new.cert ≡ cert_name old.cert → origin new ≡ origin old
+  same_origin old new rest untold name = rw (rest.first, rest.alone, rest.out, untold.0, name) refl
 
   -- the line of a step that is no solution, taken or not
   pub line-step : (step : Step) (old new : Writers W C P) (result : Result Unit Fault) → ((values : List ℤ) → step ≢ Solution values) → IsSpelled Two step → IsKept outs certs model old
-      → OnOk result (IsLineTaken certs step old new) → OnErr result (IsLineRefused certs step old new)
+      → OnOk result (IsLineTaken certs step old new) → OnErr result (IsLineRefused certs step old new) → IsUntold old new
       → IsLogged step old new × OnOk result (taken new ≡ taken old ++ step ∷ []) × OnOk result (length (taken new) < 10 ^ 18) × IsKept outs certs model new × (origin new ≡ origin old)
-  line-step step old new (Ok v) other spelled kept line refused = (inr line.taken, line.taken, line-few step old new kept line, line-kept step old new other spelled kept line, same_origin old new line.same_rest line.same_cert)
-  line-step step old new (Err e) other spelled kept line refused = (inl (ap taken_by refused.taken), tt, tt, refused-kept step old new kept refused, same_origin old new refused.same_rest refused.same_cert)
+  line-step step old new (Ok v) other spelled kept line refused untold = (inr line.taken, line.taken, line-few step old new kept line, line-kept step old new other spelled kept line, same_origin old new line.same_rest untold line.same_cert)
+  line-step step old new (Err e) other spelled kept line refused untold = (inl (ap taken_by refused.taken), tt, tt, refused-kept step old new kept refused, same_origin old new refused.same_rest untold refused.same_cert)

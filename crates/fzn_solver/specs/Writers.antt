@@ -20,6 +20,7 @@ use Rattle.fzn_printer.specs.Printer.{contents_of as out_contents, out_name, is_
 use Rattle.fzn_printer.specs.Shown.{shown, ending_text}
 use Rattle.fzn_solver.specs.declared.writers.Writers.{Writers}
 use Rattle.fzn_solver.specs.Standing.{certificate, shown_all, early, late, found_by, IsStanding, IsCertInStep, IsOutInStep}
+use Rattle.fzn_solver.specs.Told.{IsTold}
 
 -- the steps that were taken
 abbrev pub taken : {W C P : Type 0} → Writers W C P → List Step
@@ -29,9 +30,17 @@ taken writers = writers.taken.items
 abbrev pub at_first : {W C P : Type 0} → Writers W C P → W × C
 at_first writers = (writers.first_out.value, writers.first_cert.value)
 
--- both as they were at first, whether the last solution alone is printed, and the names by which a caller knows the writers
-abbrev pub origin : {W C P : Type 0} → Writers W C P → (W × C) × Bool × GName × GName
-origin writers = (at_first writers, writers.alone, cert_name writers.cert, out_name writers.out)
+-- both as they were at first, whether the last solution alone is printed, and the names by which a caller knows the writers and the observer
+abbrev pub origin : {W C P : Type 0} → Writers W C P → (W × C) × Bool × GName × GName × GName
+origin writers = (at_first writers, writers.alone, cert_name writers.cert, out_name writers.out, writers.observer.ghost_name)
+
+-- the observer was told last of as many decisions as are noted
+abbrev pub HasTold : {W C P : Type 0} → (P → Option ℕ) → Writers W C P → Type 0
+HasTold tells writers = IsTold (tells writers.observer.now) writers.progress.nodes
+
+-- the observer was told nothing more
+abbrev pub IsUntold : {W C P : Type 0} → Writers W C P → Writers W C P → Type 0
+IsUntold old new = (new.observer ≡ old.observer) × (new.progress ≡ old.progress)
 
 -- nothing was written
 pub record IsFresh {W C P : Type 0} (outs : W → Option (List ℕ)) (certs : C → Option (List ℕ)) (now : Writers W C P) : Type 0 where

@@ -1,5 +1,5 @@
 // From the bytes of a file to its answer and its certificate.
-ghost use Rattle.std.specs.Prelude.{◌≡◌, IfOk, IfErr};
+ghost use Rattle.std.specs.Prelude.{◌≡◌, false, IfOk, IfErr};
 ghost use Rattle.fzn_meaning.specs.WellFormed.{IsWellFormed};
 ghost use Rattle.fzn_cert.specs.Writer.{contents_of as cert_contents, out_name as cert_name, has_failed_in as cert_failed};
 ghost use Rattle.fzn_printer.specs.Printer.{contents_of as out_contents, out_name, has_failed_in as out_failed};
@@ -8,6 +8,7 @@ ghost use Rattle.fzn_solver.specs.Answer.{wanted, IsAnswer};
 ghost use Rattle.fzn_solver.specs.Causes.{HasCause, AreSameStreams, AreStreamsAsAtFirst};
 ghost use Rattle.fzn_solver.specs.Left.{IsLeft};
 ghost use Rattle.fzn_solver.specs.Standing.{is_alone};
+ghost use Rattle.fzn_solver.specs.Told.{IsTold};
 ghost use Rattle.fzn_solver.specs.Writers.{IsFresh};
 ghost use Rattle.fzn_solver.specs.Run.{IsRun, IsRunFault, IsDue};
 
@@ -28,13 +29,13 @@ use fzn_words::Options;
 use std::alloc::Global;
 use std::io::{Read, Write};
 
-/// Solves a file: prints its answer on `out`, and writes a certificate of the answer on `cert`. The paths among the options are not
-/// looked at. The line of a solution stands on the certificate, flushed, before the solution is printed, and the whole certificate
-/// before the line that ends the answer. After decisions and conflicts `observer` is told how far the search has come. It hands on to
-/// `run_tracked`, which promises besides that each fault has its cause. It answers `File` with the first fault of the file, and `Read`
-/// where a read fails: both writers are as before then. It answers `Memory` where memory runs out, `WriteOutput` and `WriteCert` where a
-/// write or a flush fails, and `StepTooLong` where a line of the certificate would pass its limit: beginnings of the answer and of the
-/// certificate may stand then.
+/// Solves a file: prints its answer on `out`, and writes a certificate of the answer on `cert`. The paths among the options are not looked
+/// at. The line of a solution stands on the certificate, flushed, before the solution is printed, and the whole certificate before the line
+/// that ends the answer. At first and after decisions and conflicts `observer` is told how far the search has come, last of as many
+/// decisions as the report has. It hands on to `run_tracked`, which promises besides that each fault has its cause. It answers `File` with
+/// the first fault of the file, and `Read` where a read fails: both writers are as before then. It answers `Memory` where memory runs out,
+/// `WriteOutput` and `WriteCert` where a write or a flush fails, and `StepTooLong` where a line of the certificate would pass its limit:
+/// beginnings of the answer and of the certificate may stand then.
 pub fn run<R: Read + Drop, W: Write, C: Write, P: Observer>(
     alloc: Global,
     input: R,
@@ -45,6 +46,7 @@ pub fn run<R: Read + Drop, W: Write, C: Write, P: Observer>(
 ) -> Result<Report, RunFault>
     ensures ran { IfOk result (IsRun (R.remaining input) options.now (W.contents out.old) (W.contents out.new) (C.contents cert.old) (C.contents cert.new)) }
     ensures fault { IfErr result (IsRunFault (R.remaining input) options.now.all (W.contents out.old) (W.contents out.new) (C.contents cert.old) (C.contents cert.new)) }
+    ensures told { IfOk result (λ report. IsTold (P.nodes observer.new) report.nodes) }
 {
     let mut input = TrackedReader::new(input);
     let mut out = TrackedWriter::new(out);
@@ -52,9 +54,10 @@ pub fn run<R: Read + Drop, W: Write, C: Write, P: Observer>(
     run_tracked(alloc, &mut input, options, &mut out, &mut cert, observer)
 }
 
-/// Solves a file as `run` does, on streams that remember whether a call on them failed. `Read` is answered only after a failed read,
-/// `WriteOutput` only after a failed write or flush of `out`, `WriteCert` only after one of `cert`, and `StepTooLong` only where the line
-/// of a step would pass its limit.
+/// Solves a file as `run` does, on streams that remember whether a call on them failed. On none of them may one have failed before: else a
+/// fault could be answered of it without another failed call. So `Read` is answered only after a failed read, `WriteOutput` only after a
+/// failed write or flush of `out`, and `WriteCert` only after one of `cert`; `StepTooLong` only where the line of a step would pass its
+/// limit.
 pub fn run_tracked<R: TrackedRead, W: TrackedWrite, C: TrackedWrite, P: Observer>(
     alloc: Global,
     input: &mut R,
@@ -63,10 +66,12 @@ pub fn run_tracked<R: TrackedRead, W: TrackedWrite, C: TrackedWrite, P: Observer
     cert: &mut C,
     observer: &mut P,
 ) -> Result<Report, RunFault>
+    requires fresh { (R.has_failed input.old ≡ false) × (W.has_failed out.old ≡ false) × (C.has_failed cert.old ≡ false) }
     ensures ran { IfOk result (IsRun (R.remaining input.old) options.now (W.contents out.old) (W.contents out.new) (C.contents cert.old) (C.contents cert.new)) }
     ensures fault { IfErr result (IsRunFault (R.remaining input.old) options.now.all (W.contents out.old) (W.contents out.new) (C.contents cert.old) (C.contents cert.new)) }
     ensures due { IfErr result (IsDue (R.has_failed input.new) (W.has_failed out.new) (C.has_failed cert.new) (R.remaining input.old) (C.contents cert.old) (C.contents cert.new)) }
     ensures same_streams { (W.stream out.new ≡ W.stream out.old) × (C.stream cert.new ≡ C.stream cert.old) }
+    ensures told { IfOk result (λ report. IsTold (P.nodes observer.new) report.nodes) }
 {
     let read = read_annotated(alloc, input)?;
     let model = read.model;
@@ -116,6 +121,8 @@ fn search<W: TrackedWrite, C: TrackedWrite, P: Observer>(
     ensures same_streams { AreSameStreams W.stream C.stream writers.old writers.new }
     ensures same_out { out_name writers.new.out ≡ out_name writers.old.out }
     ensures same_cert { cert_name writers.new.cert ≡ cert_name writers.old.cert }
+    ensures same_observer { writers.new.observer.ghost_name ≡ writers.old.observer.ghost_name }
+    ensures told { IfOk result (λ report. IsTold (P.nodes writers.new.observer.now) report.nodes) }
 {
     writers.begin(alloc, model)?;
     let limits = Limits {

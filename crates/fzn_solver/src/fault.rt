@@ -4,6 +4,7 @@ ghost use Rattle.fzn_solver.specs.declared.fault.RunFault.TheVariants.{Memory};
 ghost use Rattle.fzn_solver.specs.FaultsFrom.{fault_of_model, fault_of_engine, status_of};
 
 use fzn_engine::Fault as EngineFault;
+use fzn_fault::Stop;
 use fzn_lexer::Fault;
 use fzn_reading::ModelFault;
 use std::alloc::AllocError;
@@ -16,19 +17,19 @@ pub enum RunFault {
     #[error("{}", ModelFault::File(*.0))]
     File(Fault),
     /// Memory was wanted and not there.
-    #[error("fault 19 Memory")]
+    #[error("{}", Stop::Memory)]
     Memory,
     /// A read of the file failed.
-    #[error("fault 20 Read")]
+    #[error("{}", Stop::Read)]
     Read,
     /// A write or a flush of the answer failed.
-    #[error("fault 21 WriteOutput")]
+    #[error("{}", Stop::WriteOutput)]
     WriteOutput,
     /// A write or a flush of the certificate failed.
-    #[error("fault 22 WriteCert")]
+    #[error("{}", Stop::WriteCert)]
     WriteCert,
     /// A step would take more bytes than a line of the certificate may have, or there are as many steps as there may be.
-    #[error("fault 24 StepTooLong")]
+    #[error("{}", Stop::StepTooLong)]
     StepTooLong,
 }
 
@@ -40,8 +41,11 @@ impl RunFault {
     {
         match self {
             RunFault::File(_) => 2,
-            RunFault::Read | RunFault::WriteOutput | RunFault::WriteCert => 4,
-            RunFault::Memory | RunFault::StepTooLong => 5,
+            RunFault::Memory => Stop::Memory.status(),
+            RunFault::Read => Stop::Read.status(),
+            RunFault::WriteOutput => Stop::WriteOutput.status(),
+            RunFault::WriteCert => Stop::WriteCert.status(),
+            RunFault::StepTooLong => Stop::StepTooLong.status(),
         }
     }
 }

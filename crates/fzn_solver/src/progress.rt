@@ -1,6 +1,11 @@
 // How far a run has come, and who is told.
-use fzn_domain::VarId;
+ghost use Rattle.std.specs.Prelude.{◌≡◌, ℕ, Option, None};
+ghost use Rattle.fzn_solver.specs.Told.{IsTold};
+
+use fzn_domain::{Memory, VarId};
+use fzn_list::Items;
 use fzn_meaning::Goal;
+use std::alloc::Global;
 
 /// How far a run has come.
 #[derive(Clone, Copy, Debug, Default, PartialEq, Eq)]
@@ -17,10 +22,23 @@ pub struct Progress {
     pub best: Option<i64>,
 }
 
-/// Is told how far a run has come, after decisions, conflicts and solutions. No answer depends on it.
+/// Is told how far a run has come, at first and after decisions, conflicts and solutions, and may give hints. What a run promises holds
+/// whatever these are.
 pub trait Observer {
+    /// How many decisions it was last told of, where it tells.
+    ghost nodes: { Self → Option ℕ };
+
     /// Is told how far the run has come.
-    fn tell(&mut self, progress: Progress);
+    fn tell(&mut self, progress: Progress)
+        ensures { IsTold (nodes self.new) progress.nodes };
+
+    /// The next hint, if there is one now: values that may be a solution, one for each variable in order. It is asked at the start of a
+    /// search and at each restart, until there is none. It answers `Err` where memory runs out.
+    fn hint(&mut self, _alloc: Global) -> Result<Option<Items<i64>>, Memory>
+        ensures { nodes self.new ≡ nodes self.old }
+    {
+        Ok(None)
+    }
 }
 
 /// Is told, and does nothing.
@@ -28,6 +46,8 @@ pub trait Observer {
 pub struct Unobserved;
 
 impl Observer for Unobserved {
+    ghost nodes = { λ _. None };
+
     fn tell(&mut self, _progress: Progress) {}
 }
 

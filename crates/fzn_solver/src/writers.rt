@@ -17,11 +17,12 @@ ghost use Rattle.fzn_printer.specs.Shown.{is_closed};
 ghost use Rattle.fzn_solver.specs.Causes.{IsCause, IsLineCause, IsUnderWay, AreOpen, AreSameStreams, AreStreamsAsAtFirst};
 ghost use Rattle.fzn_solver.specs.FaultsFrom.{fault_of_certificate};
 ghost use Rattle.fzn_solver.specs.Standing.{is_alone, shown_all};
-ghost use Rattle.fzn_solver.specs.Writers.{taken, origin, IsFresh, IsKept, IsLineTaken, IsLineRefused, IsLogged, IsRestSame, IsAllSame, IsPrinted, IsLastShown, IsClosed, IsUnbegun, IsUnprinted, IsUnclosed};
+ghost use Rattle.fzn_solver.specs.Writers.{taken, origin, IsFresh, IsKept, IsLineTaken, IsLineRefused, IsLogged, IsRestSame, IsAllSame, IsPrinted, IsLastShown, IsClosed, IsUnbegun, IsUnprinted, IsUnclosed, HasTold, IsUntold};
 
 use crate::ghost_list::{GhostList, Initial};
 use crate::progress::{Observer, Progress, with_solution};
-use fzn_cert::{FaultKind, Step, StepWriter, Version};
+use fzn_cert::{Step, StepWriter, Version, WriteFault};
+use fzn_domain::Memory;
 use fzn_engine::{Fault, Sink};
 use fzn_list::Items;
 use fzn_meaning::{Goal, Model};
@@ -50,7 +51,7 @@ pub struct Writers<'o, 'c, 'l, 'p, W: TrackedWrite, C: TrackedWrite, P: Observer
 }
 
 impl<W: TrackedWrite, C: TrackedWrite, P: Observer> Writers<'_, '_, '_, '_, W, C, P> {
-    /// Writes the first two lines of the certificate.
+    /// Writes the first two lines of the certificate, and tells that nothing was decided yet.
     pub fn begin(&mut self, alloc: Global, model: &Model) -> Result<(), Fault>
         requires model { IsWellFormed model.now }
         requires fresh { IsFresh W.contents C.contents self.old }
@@ -62,8 +63,10 @@ impl<W: TrackedWrite, C: TrackedWrite, P: Observer> Writers<'_, '_, '_, '_, W, C
         ensures none_taken { OnOk result (taken self.new ≡ []) }
         ensures err { OnErr result (IsUnbegun C.contents model.now self.old self.new) }
         ensures same { origin self.new ≡ origin self.old }
+        ensures told { HasTold P.nodes self.new }
         ensures same_writers { (cert_name self.new.cert ≡ cert_name self.old.cert) × (out_name self.new.out ≡ out_name self.old.out) }
     {
+        self.observer.tell(self.progress);
         let variables = model.vars.len() as u64;
         let constraints = model.constraints.len() as u64;
         match self.cert.begin(alloc, Version::Two, variables, constraints) {
@@ -82,6 +85,7 @@ impl<W: TrackedWrite, C: TrackedWrite, P: Observer> Writers<'_, '_, '_, '_, W, C
         ensures cause { IfErr result (IsLineCause C.has_failed step.now (step_count self.old.cert) self.new.cert) }
         ensures same_stream { cert_stream C.stream self.new.cert ≡ cert_stream C.stream self.old.cert }
         ensures same_stopped { self.new.stopped ≡ self.old.stopped }
+        ensures untold { IsUntold self.old self.new }
     {
         match self.cert.write(alloc, step) {
             Ok(()) => {
@@ -111,6 +115,7 @@ impl<W: TrackedWrite, C: TrackedWrite, P: Observer> Writers<'_, '_, '_, '_, W, C
         ensures cause { IfErr result (IsCause W.has_failed C.has_failed model.now self.new) }
         ensures same_streams { AreSameStreams W.stream C.stream self.old self.new }
         ensures same_stopped { self.new.stopped ≡ self.old.stopped }
+        ensures untold { IsUntold self.old self.new }
         ensures logged { IsLogged step.now self.old self.new }
         ensures ok { OnOk result (taken self.new ≡ taken self.old ++ step.now ∷ []) }
         ensures few { OnOk result (length (taken self.new) < 10 ^ 18) }
@@ -141,6 +146,7 @@ impl<W: TrackedWrite, C: TrackedWrite, P: Observer> Writers<'_, '_, '_, '_, W, C
         ensures cause { IfErr result (IsCause W.has_failed C.has_failed model.now self.new) }
         ensures same_streams { AreSameStreams W.stream C.stream self.old self.new }
         ensures same_stopped { self.new.stopped ≡ self.old.stopped }
+        ensures untold { IsUntold self.old self.new }
         ensures logged { IsLogged step.now self.old self.new }
         ensures ok { OnOk result (taken self.new ≡ taken self.old ++ step.now ∷ []) }
         ensures few { OnOk result (length (taken self.new) < 10 ^ 18) }
@@ -163,6 +169,7 @@ impl<W: TrackedWrite, C: TrackedWrite, P: Observer> Writers<'_, '_, '_, '_, W, C
         ensures cause { IfErr result (IsCause W.has_failed C.has_failed model.now self.new) }
         ensures same_streams { AreSameStreams W.stream C.stream self.old self.new }
         ensures same_stopped { self.new.stopped ≡ self.old.stopped }
+        ensures untold { IsUntold self.old self.new }
         ensures logged { IsLogged step.now self.old self.new }
         ensures ok { OnOk result (taken self.new ≡ taken self.old ++ step.now ∷ []) }
         ensures few { OnOk result (length (taken self.new) < 10 ^ 18) }
@@ -190,6 +197,7 @@ impl<W: TrackedWrite, C: TrackedWrite, P: Observer> Writers<'_, '_, '_, '_, W, C
         ensures cause { is_open self.old.out ≡ true → IfErr result (λ fault. (fault ≡ WriteOutput) × (out_failed W.has_failed self.new.out ≡ true)) }
         ensures same_stream { out_stream W.stream self.new.out ≡ out_stream W.stream self.old.out }
         ensures same_stopped { self.new.stopped ≡ self.old.stopped }
+        ensures untold { IsUntold self.old self.new }
         ensures same { (self.new.cert ≡ self.old.cert) × IsAllSame self.old self.new }
     {
         match self.out.solution(model, values.as_slice()) {
@@ -220,6 +228,7 @@ impl<W: TrackedWrite, C: TrackedWrite, P: Observer> Writers<'_, '_, '_, '_, W, C
         ensures closed { OnOk result (IsClosed W.contents C.contents model.now (is_closed ending) self.old self.new) }
         ensures err { IfErr result (IsUnclosed W.contents C.contents model.now (is_closed ending) self.old self.new) }
         ensures same_writers { (cert_name self.new.cert ≡ cert_name self.old.cert) × (out_name self.new.out ≡ out_name self.old.out) }
+        ensures untold { IsUntold self.old self.new }
     {
         if let Some(fault) = self.stopped {
             return Err(fault);
@@ -246,6 +255,7 @@ impl<W: TrackedWrite, C: TrackedWrite, P: Observer> Writers<'_, '_, '_, '_, W, C
         ensures err { IfErr result (λ fault. (fault ≡ WriteOutput) × IsUnprinted W.contents (shown_all model.now (option_to_list self.old.last.now)) self.old.out self.new.out) }
         ensures same_writer { out_name self.new.out ≡ out_name self.old.out }
         ensures same { (self.new.cert ≡ self.old.cert) × IsAllSame self.old self.new }
+        ensures untold { IsUntold self.old self.new }
     {
         if let Some(values) = &*self.last {
             if self.out.solution(model, values.as_slice()).is_err() {
@@ -264,6 +274,7 @@ impl<W: TrackedWrite, C: TrackedWrite, P: Observer> Writers<'_, '_, '_, '_, W, C
         ensures cause { stage_of self.old.cert ≡ Open → IfErr result (λ fault. (fault ≡ WriteCert) × (cert_failed C.has_failed self.new.cert ≡ true)) }
         ensures same_stream { cert_stream C.stream self.new.cert ≡ cert_stream C.stream self.old.cert }
         ensures same_stopped { self.new.stopped ≡ self.old.stopped }
+        ensures untold { IsUntold self.old self.new }
     {
         match self.cert.flush() {
             Ok(()) => Ok(()),
@@ -275,7 +286,7 @@ impl<W: TrackedWrite, C: TrackedWrite, P: Observer> Writers<'_, '_, '_, '_, W, C
 impl<W: TrackedWrite, C: TrackedWrite, P: Observer> Sink for Writers<'_, '_, '_, '_, W, C, P> {
     ghost written = { λ writers. taken writers };
 
-    ghost Origin = { (W × C) × Bool × GName × GName };
+    ghost Origin = { (W × C) × Bool × GName × GName × GName };
 
     ghost origin = { λ writers. origin writers };
 
@@ -283,7 +294,8 @@ impl<W: TrackedWrite, C: TrackedWrite, P: Observer> Sink for Writers<'_, '_, '_,
 
     ghost keeps = { λ model writers. IsKept W.contents C.contents model writers
         × IsUnderWay W.has_failed C.has_failed model writers
-        × AreStreamsAsAtFirst W.stream C.stream writers };
+        × AreStreamsAsAtFirst W.stream C.stream writers
+        × HasTold P.nodes writers };
 
     fn step(&mut self, alloc: Global, model: &Model, step: &Step) -> Result<(), Fault> {
         if let Some(fault) = self.stopped {
@@ -316,16 +328,20 @@ impl<W: TrackedWrite, C: TrackedWrite, P: Observer> Sink for Writers<'_, '_, '_,
         };
         self.observer.tell(self.progress);
     }
+
+    fn hint(&mut self, alloc: Global) -> Result<Option<Items<i64>>, Memory> {
+        self.observer.hint(alloc)
+    }
 }
 
 /// A fault of the certificate's writer as one of a run.
-fn fault_of(fault: FaultKind) -> Fault
+fn fault_of(fault: WriteFault) -> Fault
     ensures { result ≡ fault_of_certificate fault }
 {
     match fault {
-        FaultKind::Memory => Fault::Memory,
-        FaultKind::StepTooLong => Fault::StepTooLong,
-        _ => Fault::WriteCert,
+        WriteFault::Memory => Fault::Memory,
+        WriteFault::Write | WriteFault::Failed => Fault::WriteCert,
+        WriteFault::StepTooLong => Fault::StepTooLong,
     }
 }
 

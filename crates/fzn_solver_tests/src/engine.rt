@@ -6,6 +6,7 @@ ghost use Rattle.fzn_engine.specs.Outcome.{HasRoom};
 
 use crate::models::model_of;
 use fzn_cert::Step;
+use fzn_domain::Memory;
 use fzn_engine::{Fault, Limits, Report, Sink, solve};
 use fzn_list::Items;
 use fzn_meaning::{Goal, Model};
@@ -44,6 +45,10 @@ impl Sink for Log {
 
     fn tell(&mut self, nodes: u64, _conflicts: u64, _inferences: u64) {
         self.nodes = nodes;
+    }
+
+    fn hint(&mut self, _alloc: Global) -> Result<Option<Items<i64>>, Memory> {
+        Ok(None)
     }
 }
 
@@ -122,6 +127,8 @@ fn ends_so(
         solutions,
         nodes,
         ending,
+        hints_taken: 0,
+        hints_passed_over: 0,
     };
     report_of(alloc, model, limits, learn, restart_after) == Ok(wanted)
 }

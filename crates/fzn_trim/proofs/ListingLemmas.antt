@@ -19,7 +19,7 @@ use Rattle.fzn_checker.specs.Checked.{IsFaultWhere}
 use Rattle.fzn_checker.specs.FileFaults.{fault_from}
 use Rattle.fzn_checker.specs.Held.{IsHeld}
 use Rattle.fzn_checker.proofs.CallerLemmas.{certificate-accepted}
-use Rattle.fzn_items.specs.Items.{AreSources}
+use Rattle.fzn_sources.specs.Items.{AreSources}
 use Rattle.fzn_trim.specs.declared.listing.Listed.{Listed}
 use Rattle.fzn_trim.specs.Core.{IsCore}
 use Rattle.fzn_trim.specs.Listing.{core_text, Lists, IsListFault}

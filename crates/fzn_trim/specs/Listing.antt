@@ -13,7 +13,7 @@ use Rattle.fzn_cert.specs.Verdict.{VerdictOn, refused}
 use Rattle.fzn_checker.specs.declared.fault.CheckFault.{CheckFault}
 use Rattle.fzn_checker.specs.declared.fault.CheckFault.TheVariants.{File, Refused, NotVersionOne, Memory, Read, WriteOutput, WriteCert}
 use Rattle.fzn_checker.specs.Answered.{States, Shows}
-use Rattle.fzn_items.specs.Items.{AreSources}
+use Rattle.fzn_sources.specs.Items.{AreSources}
 use Rattle.fzn_trim.specs.declared.listing.Listed.{Listed}
 use Rattle.fzn_trim.specs.Core.{IsCore}
 

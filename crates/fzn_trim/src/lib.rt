@@ -9,7 +9,7 @@
 //!
 //! Out, of `core`: on the writer a line for each constraint that the closed answer was found to rest on, with its item as it stands in the
 //! file, and how many there are; or the fault that a check finds. Proved against `specs/Core.antt`: the answer follows from the constraints
-//! listed alone, in the words of `fzn_meaning` on lists of solutions; and in the words of `fzn_items`, which
+//! listed alone, in the words of `fzn_meaning` on lists of solutions; and in the words of `fzn_sources`, which
 //! finds the item that states a constraint.
 #![tactic(auto)]
 

@@ -1,5 +1,5 @@
 // A certificate checked from its bytes, and the core of its answer printed.
-ghost use Rattle.std.specs.Prelude.{◌≡◌, IfOk, IfErr};
+ghost use Rattle.std.specs.Prelude.{◌≡◌, false, IfOk, IfErr};
 ghost use Rattle.fzn_cert_reader.specs.Reader.{progress, input_of};
 ghost use Rattle.fzn_checker.specs.Answered.{IsCheckDue};
 ghost use Rattle.fzn_checker.specs.Checked.{IsUnread};
@@ -9,7 +9,7 @@ use crate::cited::core_numbers;
 use crate::print::put_core;
 use fzn_cert_reader::StepReader;
 use fzn_checker::{CheckFault, hold_certificate};
-use fzn_items::read_located;
+use fzn_sources::read_located;
 use fzn_streams::{TrackedRead, TrackedReader, TrackedWrite, TrackedWriter, WriteFailed};
 use std::alloc::Global;
 use std::io::{Read, Write};
@@ -48,9 +48,10 @@ pub fn core<R: Read + Drop, C: Read + Drop, W: Write>(
     core_tracked(alloc, &mut file, &mut cert, &mut out)
 }
 
-/// Lists as `core` does, on streams that remember whether a call on them failed. Of the certificate no line may have been read before.
-/// `Read` is answered only after a failed read of the file or of the certificate, and `WriteOutput` only after a failed write or flush of
-/// `out`. Its faults are those of `core`.
+/// Lists as `core` does, on streams that remember whether a call on them failed. Of the certificate no line may have been read before, and
+/// on none of the streams may a call have failed: where one had, a fault could be answered of it without another failed call. So `Read` is
+/// answered only after a failed read of the file or of the certificate, and `WriteOutput` only after a failed write or flush of `out`. Its
+/// faults are those of `core`.
 pub fn core_tracked<R: TrackedRead, C: TrackedRead + Drop, W: TrackedWrite>(
     alloc: Global,
     file: &mut R,
@@ -58,6 +59,7 @@ pub fn core_tracked<R: TrackedRead, C: TrackedRead + Drop, W: TrackedWrite>(
     out: &mut W,
 ) -> Result<Listed, CheckFault>
     requires unread { IsUnread (progress C.remaining cert.old) }
+    requires fresh { (R.has_failed file.old ≡ false) × (C.has_failed (input_of cert.old) ≡ false) × (W.has_failed out.old ≡ false) }
     ensures ok { IfOk result (IsListed (R.remaining file.old) (progress C.remaining cert.old).left (W.contents out.old) (W.contents out.new)) }
     ensures err { IfErr result (IsListFault (R.remaining file.old) (progress C.remaining cert.old).left (W.contents out.old) (W.contents out.new)) }
     ensures due { IfErr result (IsCheckDue (R.has_failed file.new) (C.has_failed (input_of cert.new)) (W.has_failed out.new)) }

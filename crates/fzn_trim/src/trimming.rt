@@ -1,5 +1,5 @@
 // A certificate checked from its bytes, and a trimmed one written.
-ghost use Rattle.std.specs.Prelude.{◌≡◌, IfOk, IfErr};
+ghost use Rattle.std.specs.Prelude.{◌≡◌, false, IfOk, IfErr};
 ghost use Rattle.fzn_cert_reader.specs.Reader.{progress, input_of};
 ghost use Rattle.fzn_checker.specs.Checked.{IsUnread};
 ghost use Rattle.fzn_trim.specs.Trimmed.{IsTrimmed, IsTrimFault, IsTrimDue};
@@ -43,9 +43,10 @@ pub fn trim<R: Read + Drop, C: Read + Drop, W: Write>(
     trim_tracked(alloc, &mut file, &mut cert, &mut new)
 }
 
-/// Trims as `trim` does, on streams that remember whether a call on them failed. Of the certificate no line may have been read before.
-/// `Read` is answered only after a failed read of the file or of the certificate, and `WriteCert` only after a failed write or flush of
-/// `new`. Its faults are those of `trim`.
+/// Trims as `trim` does, on streams that remember whether a call on them failed. Of the certificate no line may have been read before, and
+/// on none of the streams may a call have failed: where one had, a fault could be answered of it without another failed call. So `Read` is
+/// answered only after a failed read of the file or of the certificate, and `WriteCert` only after a failed write or flush of `new`. Its
+/// faults are those of `trim`.
 pub fn trim_tracked<R: TrackedRead, C: TrackedRead + Drop, W: TrackedWrite>(
     alloc: Global,
     file: &mut R,
@@ -53,6 +54,7 @@ pub fn trim_tracked<R: TrackedRead, C: TrackedRead + Drop, W: TrackedWrite>(
     new: &mut W,
 ) -> Result<Trimmed, CheckFault>
     requires unread { IsUnread (progress C.remaining cert.old) }
+    requires fresh { (R.has_failed file.old ≡ false) × (C.has_failed (input_of cert.old) ≡ false) × (W.has_failed new.old ≡ false) }
     ensures ok { IfOk result (IsTrimmed (R.remaining file.old) (progress C.remaining cert.old).left (W.contents new.old) (W.contents new.new)) }
     ensures err { IfErr result (IsTrimFault (R.remaining file.old) (progress C.remaining cert.old).left (W.contents new.old) (W.contents new.new)) }
     ensures due { IfErr result (IsTrimDue (R.has_failed file.new) (C.has_failed (input_of cert.new)) (W.has_failed new.new)) }

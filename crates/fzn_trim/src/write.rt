@@ -34,9 +34,7 @@ pub fn write_certificate<W: TrackedWrite>(
 {
     let variables = model.vars.len() as u64;
     let constraints = model.constraints.len() as u64;
-    let Ok(header) = header_of(alloc, Version::Two, variables, constraints) else {
-        return Err(CheckFault::Memory);
-    };
+    let header = header_of(alloc, Version::Two, variables, constraints)?;
     put_lines(alloc, header.as_bytes(), kept, closed, new)
 }
 

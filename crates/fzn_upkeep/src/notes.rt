@@ -63,6 +63,10 @@ pub struct Notes {
     next_settling: usize,
     /// Whether they were since it was asked.
     settled: bool,
+    /// Whether hints are asked for, how many were taken and how many passed over.
+    is_hint_due: bool,
+    hints_taken: u64,
+    hints_passed_over: u64,
 }
 
 impl Notes {
@@ -91,6 +95,9 @@ impl Notes {
             units: Vec::new(alloc),
             next_settling: 0,
             settled: false,
+            is_hint_due: true,
+            hints_taken: 0,
+            hints_passed_over: 0,
         }
     }
 
@@ -142,6 +149,37 @@ impl Notes {
     /// The search restarts.
     pub fn restart(&mut self) {
         self.has_restarted = true;
+        self.is_hint_due = true;
+    }
+
+    /// Whether hints are asked for: from the start and from each restart on, until there are no more.
+    pub fn is_hint_due(&self) -> bool {
+        self.is_hint_due
+    }
+
+    /// There are no more hints for now.
+    pub fn heed_no_more(&mut self) {
+        self.is_hint_due = false;
+    }
+
+    /// A hint was taken as a solution.
+    pub fn take_hint(&mut self) {
+        self.hints_taken = self.hints_taken.saturating_add(1);
+    }
+
+    /// A hint was passed over.
+    pub fn pass_over(&mut self) {
+        self.hints_passed_over = self.hints_passed_over.saturating_add(1);
+    }
+
+    /// How many hints were taken as solutions.
+    pub fn hints_taken(&self) -> u64 {
+        self.hints_taken
+    }
+
+    /// How many hints were passed over.
+    pub fn hints_passed_over(&self) -> u64 {
+        self.hints_passed_over
     }
 
     /// How many conflicts there were.

@@ -46,13 +46,13 @@ line_of name rules =
       subs = [];
     }
 
--- -a, -n K, -f, -r SEED, --nodes N, --learn CLAUSE, --cert FILE, --progress, MODEL, --help, --version
+-- -a, -n K, -f, -r SEED, --nodes N, --learn CLAUSE, --cert FILE, --hints FILE, --progress, MODEL, --help, --version
 unfoldable pub solve_line : App
 solve_line =
     line_of (codes "fznsolve") (all_rule ∷ letter_option (codes "limit") 110 ∷ letter_flag (codes "free") 102 ∷ letter_option (codes "seed") 114
-    ∷ named_option (codes "nodes") ∷ named_option (codes "learn") ∷ named_option (codes "cert") ∷ named_flag (codes "progress") ∷ path (codes "model") ∷ help_rule ∷ version_rule ∷ [])
+    ∷ named_option (codes "nodes") ∷ named_option (codes "learn") ∷ named_option (codes "cert") ∷ named_option (codes "hints") ∷ named_flag (codes "progress") ∷ path (codes "model") ∷ help_rule ∷ version_rule ∷ [])
 
--- -a, --to2, --trim NEW, --core, --items, and two paths, --help, --version
+-- -a, --to2, --trim NEW, --core, --bound, --items, and two paths, --help, --version
 unfoldable pub check_line : App
 check_line =
-    line_of (codes "fzncheck") (all_rule ∷ named_flag (codes "to2") ∷ named_option (codes "trim") ∷ named_flag (codes "core") ∷ named_flag (codes "items") ∷ path (codes "model") ∷ optional_path (codes "cert") ∷ help_rule ∷ version_rule ∷ [])
+    line_of (codes "fzncheck") (all_rule ∷ named_flag (codes "to2") ∷ named_option (codes "trim") ∷ named_flag (codes "core") ∷ named_flag (codes "bound") ∷ named_flag (codes "items") ∷ path (codes "model") ∷ optional_path (codes "cert") ∷ help_rule ∷ version_rule ∷ [])

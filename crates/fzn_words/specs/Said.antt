@@ -4,7 +4,7 @@ use Rattle.std.specs.Option.{option_map_or}
 use Rattle.std.specs.Prelude.{false, true}
 use Rattle.clap.specs.Words.{Row, Text, first_of}
 use Rattle.fzn_words.specs.declared.check.CheckOptions.{CheckOptions}
-use Rattle.fzn_words.specs.declared.check.CheckOptions.TheVariants.{Check, ToVersion2, Trim, Core, Items}
+use Rattle.fzn_words.specs.declared.check.CheckOptions.TheVariants.{Check, ToVersion2, Trim, Core, Bound, Items}
 use Rattle.fzn_strategy.specs.declared.learn.Learn.{Learn}
 use Rattle.fzn_strategy.specs.declared.learn.Learn.TheVariants.{First}
 use Rattle.fzn_words.specs.declared.solve.Options.{Options}
@@ -42,32 +42,40 @@ pub record AreSaid (rows : List Row) (options : Options) : Type 0 where
   pub progress : options.progress ≡ is_set (first_of (codes "progress") rows)
   pub model : first_of (codes "model") rows ≡ Some (string_bytes options.model)
   pub cert : first_of (codes "cert") rows ≡ option_map string_bytes options.cert
+  pub hints : first_of (codes "hints") rows ≡ option_map string_bytes options.hints
 
--- each number lies in its range, and no path is named twice
+-- each number lies in its range, and the certificate's path is named once
 pub record AreFit (options : Options) : Type 0 where
   pub limit : IfSome options.limit (λ limit. (1 ≤ limit) × (limit ≤ 10 ^ 9))
   pub nodes : options.nodes ≤ 10 ^ 12
   pub restart_after : (1 ≤ options.restart_after) × (options.restart_after ≤ 10 ^ 9)
   pub keep : options.keep ≤ 10 ^ 9
-  pub paths : IfSome options.cert (λ cert. string_bytes cert ≢ string_bytes options.model)
+  pub model : IfSome options.cert (λ cert. string_bytes cert ≢ string_bytes options.model)
+  pub hints : IfSome options.cert (λ cert. IfSome options.hints (λ hints. string_bytes cert ≢ string_bytes hints))
+
+-- what the words say of each form
+abbrev pub AsksFor : List Row → Bool → Option Text → Bool → Bool → Bool → Type 0
+AsksFor rows to2 trim core bound items = (is_set (first_of (codes "to2") rows) ≡ to2) × (first_of (codes "trim") rows ≡ trim) × (is_set (first_of (codes "core") rows) ≡ core)
+    × (is_set (first_of (codes "bound") rows) ≡ bound) × (is_set (first_of (codes "items") rows) ≡ items)
+
+-- the two paths that stand by themselves
+abbrev pub Names : List Row → Text → Option Text → Type 0
+Names rows model cert = (first_of (codes "model") rows ≡ Some model) × (first_of (codes "cert") rows ≡ cert)
 
 -- the form is the one that the words ask for, and its paths are those that they say
 abbrev pub IsSaid : List Row → CheckOptions → Type 0
-IsSaid rows (Check all model cert) = (is_set (first_of (codes "to2") rows) ≡ false) × (first_of (codes "trim") rows ≡ None) × (is_set (first_of (codes "core") rows) ≡ false) × (is_set (first_of (codes "items") rows) ≡ false) × (all ≡ is_set (first_of (codes "all") rows))
-    × (first_of (codes "model") rows ≡ Some (string_bytes model)) × (first_of (codes "cert") rows ≡ Some (string_bytes cert))
-IsSaid rows (ToVersion2 old new) = (is_set (first_of (codes "to2") rows) ≡ true) × (first_of (codes "trim") rows ≡ None) × (is_set (first_of (codes "core") rows) ≡ false) × (is_set (first_of (codes "items") rows) ≡ false)
-    × (first_of (codes "model") rows ≡ Some (string_bytes old)) × (first_of (codes "cert") rows ≡ Some (string_bytes new))
-IsSaid rows (Trim model cert new) = (is_set (first_of (codes "to2") rows) ≡ false) × (first_of (codes "trim") rows ≡ Some (string_bytes new)) × (is_set (first_of (codes "core") rows) ≡ false) × (is_set (first_of (codes "items") rows) ≡ false)
-    × (first_of (codes "model") rows ≡ Some (string_bytes model)) × (first_of (codes "cert") rows ≡ Some (string_bytes cert))
-IsSaid rows (Core model cert) = (is_set (first_of (codes "to2") rows) ≡ false) × (first_of (codes "trim") rows ≡ None) × (is_set (first_of (codes "core") rows) ≡ true) × (is_set (first_of (codes "items") rows) ≡ false)
-    × (first_of (codes "model") rows ≡ Some (string_bytes model)) × (first_of (codes "cert") rows ≡ Some (string_bytes cert))
-IsSaid rows (Items model) = (is_set (first_of (codes "to2") rows) ≡ false) × (first_of (codes "trim") rows ≡ None) × (is_set (first_of (codes "core") rows) ≡ false) × (is_set (first_of (codes "items") rows) ≡ true)
-    × (first_of (codes "model") rows ≡ Some (string_bytes model)) × (first_of (codes "cert") rows ≡ None)
+IsSaid rows (Check all model cert) = AsksFor rows false None false false false × (all ≡ is_set (first_of (codes "all") rows)) × Names rows (string_bytes model) (Some (string_bytes cert))
+IsSaid rows (ToVersion2 old new) = AsksFor rows true None false false false × Names rows (string_bytes old) (Some (string_bytes new))
+IsSaid rows (Trim model cert new) = AsksFor rows false (Some (string_bytes new)) false false false × Names rows (string_bytes model) (Some (string_bytes cert))
+IsSaid rows (Core model cert) = AsksFor rows false None true false false × Names rows (string_bytes model) (Some (string_bytes cert))
+IsSaid rows (Bound all model cert) = AsksFor rows false None false true false × (all ≡ is_set (first_of (codes "all") rows)) × Names rows (string_bytes model) (Some (string_bytes cert))
+IsSaid rows (Items model) = AsksFor rows false None false false true × Names rows (string_bytes model) None
 
 -- no path is named twice
 abbrev pub AreOtherPaths : CheckOptions → Type 0
 AreOtherPaths (Check all model cert) = string_bytes cert ≢ string_bytes model
 AreOtherPaths (ToVersion2 old new) = string_bytes new ≢ string_bytes old
 AreOtherPaths (Core model cert) = string_bytes cert ≢ string_bytes model
+AreOtherPaths (Bound all model cert) = string_bytes cert ≢ string_bytes model
 AreOtherPaths (Items model) = Unit {0}
 AreOtherPaths (Trim model cert new) = (string_bytes cert ≢ string_bytes model) × (string_bytes new ≢ string_bytes model) × (string_bytes new ≢ string_bytes cert)

@@ -3,6 +3,8 @@ use Rattle.std.specs.Prelude.{◌&&◌, if◌then◌else◌, nat_le, ℕ, List, 
 use Rattle.std.specs.List.{list_all}
 use Rattle.std.specs.Char.{is_ascii_digit}
 use Rattle.std.specs.Str.Parse.{digits_value}
+use Rattle.fzn_fault.specs.declared.stop.Stop.TheVariants as stops
+use Rattle.fzn_fault.specs.Stops.{status_of as stop_status}
 use Rattle.fzn_words.specs.declared.fault.OptionsFault.{OptionsFault}
 use Rattle.fzn_words.specs.declared.fault.OptionsFault.TheVariants.{CommandLine, Help, Memory}
 use Rattle.fzn_strategy.specs.declared.learn.Learn.{Learn}
@@ -10,9 +12,9 @@ use Rattle.fzn_strategy.specs.declared.learn.Learn.TheVariants.{Plain, First}
 
 -- the exit status of a fault
 abbrev pub status_of : OptionsFault → ℕ
-status_of CommandLine = 3
+status_of CommandLine = stop_status stops.CommandLine
 status_of (Help text) = 0
-status_of Memory = 5
+status_of Memory = stop_status stops.Memory
 
 -- the number that a word of digits spells, where it is one of these
 abbrev pub number_in : ℕ → ℕ → List ℕ → Option ℕ

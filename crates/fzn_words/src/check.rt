@@ -22,6 +22,9 @@ const TRIM: &str =
 const CORE: &str =
     "Check CERT, and print the constraints that its closed answer was found to rest on: number, place, text";
 
+const BOUND: &str =
+    "Check CERT, print the answer, and of an optimisation the best value found and the bound that none is better than";
+
 const ITEMS: &str = "Print what MODEL declares, states and asks for, and where; without CERT";
 
 const MODEL: &str = "The FlatZinc file; OLD with --to2";
@@ -75,6 +78,15 @@ pub enum CheckOptions {
         /// The path of its certificate.
         cert: String,
     },
+    /// Check a certificate, and print its answer and the bound of the objective.
+    Bound {
+        /// Whether every solution is printed.
+        all: bool,
+        /// The path of the file.
+        model: String,
+        /// The path of its certificate.
+        cert: String,
+    },
     /// Print the items of a file.
     Items {
         /// The path of the file.
@@ -83,7 +95,7 @@ pub enum CheckOptions {
 }
 
 /// The options that the words after the program's name give. It answers `CommandLine` where they are not as the help says, ask for two of
-/// `--to2`, `--trim`, `--core` and `--items`, name one path twice, or a certificate where `--items` asks for none, `Help` where they ask for
+/// `--to2`, `--trim`, `--core`, `--bound` and `--items`, name one path twice, or a certificate where `--items` asks for none, `Help` where they ask for
 /// help or the version, and `Memory` where memory runs out.
 pub fn check_options_of<S: AsStr>(alloc: Global, words: &[S]) -> Result<CheckOptions, OptionsFault>
     ensures said { IfOk result (IsSaid (matches_of check_line (map S.text words.now))) }
@@ -104,6 +116,7 @@ fn command<'a>(alloc: Global) -> Result<Command<'a>, AllocError>
     let command = with(command, named_flag(alloc, "to2", TO2))?;
     let command = with(command, named_option(alloc, "trim", "NEW", TRIM))?;
     let command = with(command, named_flag(alloc, "core", CORE))?;
+    let command = with(command, named_flag(alloc, "bound", BOUND))?;
     let command = with(command, named_flag(alloc, "items", ITEMS))?;
     let command = with(command, parts::path(alloc, "model", "MODEL", MODEL))?;
     let command = with(command, optional_path(alloc, "cert", "CERT", CERT))?;
@@ -123,6 +136,9 @@ fn options_in(alloc: Global, matches: &ArgMatches<'_>) -> Result<CheckOptions, O
     let second = path(alloc, matches, "cert")?;
     if second.as_str() == first.as_str() {
         return Err(OptionsFault::CommandLine);
+    }
+    if is_set(matches, "bound") {
+        return bound_options(matches, first, second);
     }
     match trimmed(alloc, matches, first.as_str(), second.as_str())? {
         Some(_) if is_set(matches, "to2") => Err(OptionsFault::CommandLine),
@@ -152,12 +168,39 @@ fn items_options(matches: &ArgMatches<'_>, model: String) -> Result<CheckOptions
     ensures said { IfOk result (IsSaid (rows_of (found_of matches.now))) }
     ensures paths { IfOk result AreOtherPaths }
 {
-    if is_set(matches, "to2") || is_set(matches, "core") {
+    if is_set(matches, "to2") || is_set(matches, "core") || is_set(matches, "bound") {
         return Err(OptionsFault::CommandLine);
     }
     match (said(matches, "trim"), said(matches, "cert")) {
         (None, None) => Ok(CheckOptions::Items { model }),
         _ => Err(OptionsFault::CommandLine),
+    }
+}
+
+/// The answer with the bound of its objective is asked for, and neither a list nor a new certificate may be.
+fn bound_options(
+    matches: &ArgMatches<'_>,
+    model: String,
+    cert: String,
+) -> Result<CheckOptions, OptionsFault>
+    requires items { is_set (first_of (codes "items") (rows_of (found_of matches.now))) ≡ false }
+    requires bound { is_set (first_of (codes "bound") (rows_of (found_of matches.now))) ≡ true }
+    requires model { first_of (codes "model") (rows_of (found_of matches.now)) ≡ Some (string_bytes model) }
+    requires cert { first_of (codes "cert") (rows_of (found_of matches.now)) ≡ Some (string_bytes cert) }
+    requires paths { string_bytes cert ≢ string_bytes model }
+    ensures said { IfOk result (IsSaid (rows_of (found_of matches.now))) }
+    ensures paths { IfOk result AreOtherPaths }
+{
+    if is_set(matches, "to2") || is_set(matches, "core") {
+        return Err(OptionsFault::CommandLine);
+    }
+    match said(matches, "trim") {
+        Some(_) => Err(OptionsFault::CommandLine),
+        None => Ok(CheckOptions::Bound {
+            all: is_set(matches, "all"),
+            model,
+            cert,
+        }),
     }
 }
 
@@ -168,6 +211,7 @@ fn core_options(
     cert: String,
 ) -> Result<CheckOptions, OptionsFault>
     requires items { is_set (first_of (codes "items") (rows_of (found_of matches.now))) ≡ false }
+    requires bound { is_set (first_of (codes "bound") (rows_of (found_of matches.now))) ≡ false }
     requires core { is_set (first_of (codes "core") (rows_of (found_of matches.now))) ≡ true }
     requires trim { first_of (codes "trim") (rows_of (found_of matches.now)) ≡ None }
     requires model { first_of (codes "model") (rows_of (found_of matches.now)) ≡ Some (string_bytes model) }

@@ -8,6 +8,7 @@ ghost use Rattle.fzn_words.specs.declared.fault.OptionsFault.TheVariants.{Comman
 
 use clap::Error as ClapError;
 use clap::error::ErrorKind;
+use fzn_fault::Stop;
 use std::alloc::{AllocError, Global};
 use std::io;
 use thiserror::Error;
@@ -16,13 +17,13 @@ use thiserror::Error;
 #[derive(Debug, Drop, Error)]
 pub enum OptionsFault {
     /// The words are not those that the program takes.
-    #[error("fault 23 CommandLine")]
+    #[error("{}", Stop::CommandLine)]
     CommandLine,
     /// Help or the version was asked for: its text, which ends in a line feed.
     #[error("{0}")]
     Help(String),
     /// Memory was wanted and not there.
-    #[error("fault 19 Memory")]
+    #[error("{}", Stop::Memory)]
     Memory,
 }
 
@@ -32,9 +33,9 @@ impl OptionsFault {
         ensures { result ≡ status_of self.now }
     {
         match self {
-            OptionsFault::CommandLine => 3,
+            OptionsFault::CommandLine => Stop::CommandLine.status(),
             OptionsFault::Help(_) => 0,
-            OptionsFault::Memory => 5,
+            OptionsFault::Memory => Stop::Memory.status(),
         }
     }
 }

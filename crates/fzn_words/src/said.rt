@@ -52,3 +52,17 @@ pub fn path(alloc: Global, matches: &ArgMatches<'_>, id: &str) -> Result<String,
         None => Err(OptionsFault::CommandLine),
     }
 }
+
+/// The path that was given, if one was.
+pub fn optional_path(
+    alloc: Global,
+    matches: &ArgMatches<'_>,
+    id: &str,
+) -> Result<Option<String>, OptionsFault>
+    ensures { IfOk result (λ path. first_of id.now (rows_of (found_of matches.now)) ≡ option_map string_bytes path) }
+{
+    match said(matches, id) {
+        None => Ok(None),
+        Some(path) => Ok(Some(String::from_str(alloc, path)?)),
+    }
+}

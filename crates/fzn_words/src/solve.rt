@@ -1,5 +1,5 @@
 // The words of `fznsolve`.
-ghost use Rattle.std.specs.Prelude.{◌≡◌, ◌≢◌, IfOk, IfSome, map, option_map, string_bytes, codes};
+ghost use Rattle.std.specs.Prelude.{◌≡◌, ◌≢◌, IfOk, IfSome, IsFalse, map, option_map, string_bytes, codes};
 ghost use Rattle.clap.specs.Words.{app_of, first_of, found_of, matches_of, rows_of};
 ghost use Rattle.fzn_words.specs.CommandLines.{solve_line};
 ghost use Rattle.fzn_words.specs.Said.{AreFit, AreSaid, SaysLearning};
@@ -10,7 +10,7 @@ use crate::parts;
 use crate::parts::{
     all, bare, help, letter_flag, letter_option, named_flag, named_option, version, with,
 };
-use crate::said::{is_set, number, path, said};
+use crate::said::{is_set, number, optional_path, path, said};
 use clap::{ArgMatches, Command};
 use fzn_strategy::Learn;
 use std::alloc::{AllocError, Global};
@@ -41,6 +41,9 @@ const LEARN: &str =
     "Learn the clause of the decisions (plain) or of the first unique implication point (first; also without)";
 
 const CERT: &str = "Write the certificate to FILE (without: nowhere)";
+
+const HINTS: &str =
+    "Try the solutions in FILE, s lines as certificates have them, and at each restart those added since";
 
 const PROGRESS: &str =
     "Tell on standard error, twice a second at most, how far the search has come (without: nothing)";
@@ -86,10 +89,12 @@ pub struct Options {
     pub model: String,
     /// Where the certificate goes, if anywhere.
     pub cert: Option<String>,
+    /// Where solutions to be tried come from, if from anywhere.
+    pub hints: Option<String>,
 }
 
 /// The options that the words after the program's name give, with what stands for those that are not given. It answers `CommandLine` where
-/// the words are not as the help says, a number is out of its range or the certificate's path is that of the file, `Help` where they ask
+/// the words are not as the help says, a number is out of its range or the certificate's path is that of the file or of the hints, `Help` where they ask
 /// for help or the version, and `Memory` where memory runs out.
 pub fn options_of<S: AsStr>(alloc: Global, words: &[S]) -> Result<Options, OptionsFault>
     ensures said { IfOk result (AreSaid (matches_of solve_line (map S.text words.now))) }
@@ -113,6 +118,7 @@ fn command<'a>(alloc: Global) -> Result<Command<'a>, AllocError>
     let command = with(command, named_option(alloc, "nodes", "N", NODES))?;
     let command = with(command, named_option(alloc, "learn", "CLAUSE", LEARN))?;
     let command = with(command, named_option(alloc, "cert", "FILE", CERT))?;
+    let command = with(command, named_option(alloc, "hints", "FILE", HINTS))?;
     let command = with(command, named_flag(alloc, "progress", PROGRESS))?;
     let command = with(command, parts::path(alloc, "model", "MODEL", MODEL))?;
     let command = with(command, help(alloc))?;
@@ -125,6 +131,7 @@ fn options_in(alloc: Global, matches: &ArgMatches<'_>) -> Result<Options, Option
     ensures fit { IfOk result AreFit }
 {
     let model = path(alloc, matches, "model")?;
+    let hints = optional_path(alloc, matches, "hints")?;
     Ok(Options {
         all: is_set(matches, "all"),
         limit: number(matches, "limit", 1, MAX_LIMIT)?,
@@ -135,8 +142,9 @@ fn options_in(alloc: Global, matches: &ArgMatches<'_>) -> Result<Options, Option
         restart_after: RESTART_AFTER,
         keep: KEEP,
         progress: is_set(matches, "progress"),
-        cert: certificate(alloc, matches, model.as_str())?,
+        cert: certificate(alloc, matches, model.as_str(), &hints)?,
         model,
+        hints,
     })
 }
 
@@ -150,18 +158,31 @@ fn learning(matches: &ArgMatches<'_>) -> Result<Learn, OptionsFault>
     }
 }
 
-/// The path of the certificate, if there is one: not that of the model.
+/// The path of the certificate, if there is one: not that of the model, nor that of the hints.
 fn certificate(
     alloc: Global,
     matches: &ArgMatches<'_>,
     model: &str,
+    hints: &Option<String>,
 ) -> Result<Option<String>, OptionsFault>
     ensures said { IfOk result (λ cert. first_of (codes "cert") (rows_of (found_of matches.now)) ≡ option_map string_bytes cert) }
-    ensures other { IfOk result (λ cert. IfSome cert (λ path. string_bytes path ≢ model.now)) }
+    ensures model { IfOk result (λ cert. IfSome cert (λ path. string_bytes path ≢ model.now)) }
+    ensures hints { IfOk result (λ cert. IfSome cert (λ path. IfSome hints.now (λ other. string_bytes path ≢ string_bytes other))) }
 {
     match said(matches, "cert") {
         None => Ok(None),
         Some(path) if path == model => Err(OptionsFault::CommandLine),
+        Some(path) if is_path(path, hints) => Err(OptionsFault::CommandLine),
         Some(path) => Ok(Some(String::from_str(alloc, path)?)),
+    }
+}
+
+/// Whether it is this path, if there is one.
+fn is_path(path: &str, other: &Option<String>) -> bool
+    ensures { IsFalse result → IfSome other.now (λ other. path.now ≢ string_bytes other) }
+{
+    match other {
+        None => false,
+        Some(other) => path == other.as_str(),
     }
 }

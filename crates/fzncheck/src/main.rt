@@ -1,12 +1,14 @@
 //! `fzncheck`: reads a FlatZinc file and a certificate of its answer, and prints the answer that the certificate shows, or what is wrong.
-//! It also writes certificates anew, as version 2 or trimmed, and prints the constraints that an answer rests on, or the items of a file.
+//! It also prints the bound of an optimisation, the constraints that an answer rests on, or the items of a file, and writes certificates anew,
+//! as version 2 or trimmed.
 //!
 //! In: the command line. Out: the answer on standard output, or one line on standard error, and the status that goes with it. What is
-//! printed and when is proved on `check` and `to2` of `fzn_checker`, `trim` and `core` of `fzn_trim`, and `items` of `fzn_items`; here the
-//! paths are opened. A new certificate is written to no file that is read, and its file is made by the first write.
+//! printed and when is proved on `check` and `to2` of `fzn_checker`, `bound` of `fzn_bound`, `trim` and `core` of `fzn_trim`, and `items` of
+//! `fzn_items`; here the paths are opened. A new certificate is written to no file that is read, and its file is made by the first write.
 #![tactic(auto)]
 
 use crate::fault::Fault;
+use fzn_bound::bound;
 use fzn_checker::{CheckFault, check, to2};
 use fzn_items::items;
 use fzn_paths::{LateWriter, NewFile, file_at, file_of, is_among};
@@ -64,6 +66,9 @@ fn act(rt: &HostRuntime, options: &CheckOptions) -> Result<(), Fault> {
             trim_file(rt, model.as_str(), cert.as_str(), new.as_str())
         }
         CheckOptions::Core { model, cert } => Ok(list_core(rt, model.as_str(), cert.as_str())?),
+        CheckOptions::Bound { all, model, cert } => {
+            Ok(bound_files(rt, *all, model.as_str(), cert.as_str())?)
+        }
         CheckOptions::Items { model } => Ok(list_items(rt, model.as_str())?),
     }
 }
@@ -81,6 +86,22 @@ fn check_files(rt: &HostRuntime, all: bool, model: &str, cert: &str) -> Result<(
         return Err(CheckFault::Memory);
     };
     check(alloc, model, cert, all, &mut out)?;
+    Ok(())
+}
+
+/// Opens the file and its certificate, in this order, checks them and prints the answer with the bound of its objective.
+fn bound_files(rt: &HostRuntime, all: bool, model: &str, cert: &str) -> Result<(), CheckFault> {
+    let alloc = rt.alloc();
+    let Ok(model) = File::open(rt, model) else {
+        return Err(CheckFault::Read);
+    };
+    let Ok(cert) = File::open(rt, cert) else {
+        return Err(CheckFault::Read);
+    };
+    let Ok(mut out) = BufWriter::new(alloc, rt.stdout()) else {
+        return Err(CheckFault::Memory);
+    };
+    bound(alloc, model, cert, all, &mut out)?;
     Ok(())
 }
 

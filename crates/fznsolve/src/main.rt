@@ -2,7 +2,7 @@
 //!
 //! In: the command line. Out: the answer on standard output and the certificate in its file, or one line on standard error, and the
 //! status that goes with it; where it is asked for, also lines on standard error that tell how far the search has come. What is written
-//! and when is proved on `run` of `fzn_solver`; here the paths are opened, that of the certificate only where it does not lead to the file
+//! and when is proved on `run` of `fzn_solver`; here the paths are opened, that of the certificate only where it does not lead to a file
 //! that is read.
 #![tactic(auto)]
 
@@ -40,7 +40,10 @@ fn main(rt: HostRuntime) -> ExitCode {
     let solved = solve_file(&rt, &options, &bytes, &mut teller);
     teller.tell_totals();
     match solved {
-        Ok(_) => ExitCode::SUCCESS,
+        Ok(report) => {
+            teller.tell_hints(&report);
+            ExitCode::SUCCESS
+        }
         Err(fault) => {
             let _ = eprintln!(&rt; "{fault}");
             ExitCode::from(fault.status())
@@ -59,7 +62,7 @@ fn options(rt: &HostRuntime) -> Result<Options, OptionsFault> {
     options_of(alloc, words.as_slice())
 }
 
-/// Opens the file and, where a certificate is wanted, its file, and runs.
+/// Opens the file, that of hints and that of the certificate, where these are wanted, and runs.
 fn solve_file(
     rt: &HostRuntime,
     options: &Options,
@@ -69,10 +72,14 @@ fn solve_file(
     let Ok(model) = File::open(rt, options.model.as_str()) else {
         return Err(Fault::Run(RunFault::Read));
     };
+    let hints = match &options.hints {
+        None => None,
+        Some(path) => teller.take_hints(path.as_str()),
+    };
     let Some(path) = &options.cert else {
         return Ok(solve(rt, model, options, &mut sink(), teller)?);
     };
-    if is_among(file_at(rt, path.as_str()), &[file_of(&model)]) {
+    if is_among(file_at(rt, path.as_str()), &[file_of(&model), hints]) {
         return Err(Fault::SameFile);
     }
     let Ok(file) = File::options()

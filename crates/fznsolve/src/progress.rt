@@ -1,6 +1,14 @@
-// Lines for people at a terminal: how far the search has come.
-use fzn_solver::{Observer, Progress};
+// Lines for people at a terminal: how far the search has come. And the hints that the search is given.
+ghost use Rattle.std.specs.Prelude.{Some};
+
+use fzn_domain::Memory;
+use fzn_hints::{Hints, MOST};
+use fzn_list::Items;
+use fzn_paths::{FileId, file_of};
+use fzn_solver::{Observer, Progress, Report};
+use std::alloc::Global;
 use std::cell::Cell;
+use std::fs::{File, OpenFile};
 use std::io;
 use std::io::Write;
 use std::time::{Duration, Instant};
@@ -19,6 +27,9 @@ pub struct Teller<'r> {
     last: Progress,
     /// How many bytes of certificate were written.
     bytes: &'r Cell<u64>,
+    /// Whether a file of hints was named, and what is read of it, if it can be.
+    has_hints: bool,
+    hints: Option<Hints<File>>,
 }
 
 impl<'r> Teller<'r> {
@@ -41,7 +52,26 @@ impl<'r> Teller<'r> {
                 best: None,
             },
             bytes,
+            has_hints: false,
+            hints: None,
         }
+    }
+
+    /// From now on the solutions in the file of this path are hints, and it is told which file that is. A path that leads to no regular
+    /// file, or to one of more than 16,777,216 bytes, is passed over, and counts as one hint that is.
+    pub fn take_hints(&mut self, path: &str) -> Option<FileId> {
+        self.has_hints = true;
+        let Ok(file) = File::open(self.rt, path) else {
+            return None;
+        };
+        let id = file_of(&file)?;
+        let Ok(metadata) = file.metadata() else {
+            return None;
+        };
+        if metadata.len() <= MOST as u64 {
+            self.hints = Some(Hints::new(self.rt.alloc(), file));
+        }
+        Some(id)
     }
 
     /// How long it is since the start, where the clock tells.
@@ -56,6 +86,19 @@ impl<'r> Teller<'r> {
     pub fn tell_totals(&self) {
         if self.is_wanted {
             self.write_line("in all ", self.elapsed().unwrap_or(Duration::ZERO));
+        }
+    }
+
+    /// How many hints the run took and how many it passed over, where there were to be any.
+    pub fn tell_hints(&self, report: &Report) {
+        if self.is_wanted && self.has_hints {
+            let wrong = match &self.hints {
+                None => 1,
+                Some(hints) => hints.wrong(),
+            };
+            let taken = report.hints_taken;
+            let passed_over = report.hints_passed_over.saturating_add(wrong);
+            let _ = eprintln!(self.rt; "{taken} hints taken, {passed_over} passed over");
         }
     }
 
@@ -82,6 +125,8 @@ impl<'r> Teller<'r> {
 }
 
 impl Observer for Teller<'_> {
+    ghost nodes = { λ teller. Some teller.last.nodes };
+
     fn tell(&mut self, progress: Progress) {
         self.last = progress;
         let Some(elapsed) = self.elapsed() else {
@@ -90,6 +135,13 @@ impl Observer for Teller<'_> {
         if elapsed >= self.next {
             self.next = elapsed.saturating_add(Duration::from_millis(PAUSE));
             self.write_line("", elapsed);
+        }
+    }
+
+    fn hint(&mut self, alloc: Global) -> Result<Option<Items<i64>>, Memory> {
+        match &mut self.hints {
+            None => Ok(None),
+            Some(hints) => hints.next(alloc),
         }
     }
 }

@@ -1,5 +1,6 @@
-// The calls of `check`, of `trim`, of `core` and of `items`.
+// The calls of `check`, of `trim`, of `core`, of `items` and of `bound`.
 use super::{CASES, Case, Trial, case_of, trial_of};
+use fzn_bound::bound;
 use fzn_checker::{CheckFault, check};
 use fzn_checker_tests::{Calls, Flaw, Sink, Source};
 use fzn_items::items;
@@ -16,6 +17,8 @@ enum Asked {
     Trim,
     Core,
     Items,
+    /// The answer and what is known of the objective, with each solution or not.
+    Bound(bool),
 }
 
 /// What is asked of a case, and what is written where nothing fails.
@@ -26,15 +29,16 @@ struct Question {
     wanted: Vec<u8>,
 }
 
-/// The questions of a case: the answer, the certificate trimmed, the core, and the items of the file.
-const QUESTIONS: usize = 4;
+/// The questions of a case: the answer, the certificate trimmed, the core, the items of the file, and the answer with the bound.
+const QUESTIONS: usize = 5;
 
 fn asked_of(case: &Case, number: usize) -> Asked {
     match number {
         0 => Asked::Check(case.options.all),
         1 => Asked::Trim,
         2 => Asked::Core,
-        _ => Asked::Items,
+        3 => Asked::Items,
+        _ => Asked::Bound(case.options.all),
     }
 }
 
@@ -76,6 +80,7 @@ fn fault_of<R: Read + Drop, C: Read + Drop, W: Write>(
         Asked::Trim => trim(alloc, file, cert, out).err(),
         Asked::Core => core(alloc, file, cert, out).err(),
         Asked::Items => items(alloc, file, out).err(),
+        Asked::Bound(all) => bound(alloc, file, cert, all, out).err(),
     }
 }
 
@@ -271,6 +276,12 @@ fn reads_for_the_items(rt: HostRuntime) -> Result<(), Fail> {
 #[test]
 fn reads_for_the_core(rt: HostRuntime) -> Result<(), Fail> {
     assert!(rt; are_all_reads_promised(rt.alloc(), 2)?);
+    Ok(())
+}
+
+#[test]
+fn reads_for_the_bound(rt: HostRuntime) -> Result<(), Fail> {
+    assert!(rt; are_all_reads_promised(rt.alloc(), 4)?);
     Ok(())
 }
 

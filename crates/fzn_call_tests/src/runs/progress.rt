@@ -1,3 +1,5 @@
+ghost use Rattle.std.specs.Prelude.{Some};
+
 use super::{LEAST, TWO_BOOLEANS, options_of, solve};
 use fzn_solver::{Observer, Progress, Unobserved};
 use fzn_words::Options;
@@ -12,6 +14,8 @@ struct Last {
 }
 
 impl Observer for Last {
+    ghost nodes = { λ last. Some last.progress.nodes };
+
     fn tell(&mut self, progress: Progress) {
         let last = self.progress;
         let has_fallen = progress.nodes < last.nodes

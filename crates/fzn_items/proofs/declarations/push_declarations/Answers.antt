@@ -8,7 +8,7 @@ use Rattle.fzn_names.specs.Values.{NameList}
 use Rattle.fzn_names.proofs.StepLemmas.{rest_of, uncons}
 use Rattle.fzn_tree.specs.declared.tree.Var.{Var}
 use Rattle.fzn_items.specs.Declarations.{declaration_line, declaration_lines}
-use Rattle.fzn_items.proofs.SourceLemmas.{uncons-at}
+use Rattle.fzn_sources.proofs.SourceLemmas.{uncons-at}
 use Rattle.fzn_items.proofs.declarations.push_declarations.Goals as goal
 
 lines-more : (names : NameList) (old new : List ℕ) (var : Var) (vars : List Var) (item : Span) (items : List Span) → new ≡ old ++ declaration_line names item var → new ++ declaration_lines names vars items ≡ old ++ declaration_lines names (var ∷ vars) (item ∷ items)

@@ -1,9 +1,9 @@
 use Rattle.std.proofs.Common.{◌++◌, ℕ, List, ap, ◌∙◌}
 use Rattle.std.specs.List.{flat_map}
 use Rattle.fzn_lexer.specs.declared.token.Span.{Span}
-use Rattle.fzn_items.specs.declared.places.Counts.{Counts}
+use Rattle.fzn_items.specs.declared.counts.Counts.{Counts}
 use Rattle.fzn_items.specs.Ending.{search_line, goal_line, counts_line}
-use Rattle.fzn_items.specs.Items.{goal_items}
+use Rattle.fzn_sources.specs.Items.{goal_items}
 use Rattle.fzn_items.specs.Listed.{counts_of, items_text, mended_text, statements_text}
 use Rattle.fzn_items.proofs.TextLemmas.{behind_eq}
 use Rattle.fzn_items.proofs.list.text_of.Goals as goal

@@ -4,9 +4,9 @@ use Rattle.fzn_lexer.specs.declared.token.Token.{Token}
 use Rattle.fzn_lexer.specs.Lexemes.{IsSmall}
 use Rattle.fzn_lexer.specs.Tokens.{EndsInEnd}
 use Rattle.fzn_tree.specs.declared.tree.Param.{Param}
-use Rattle.fzn_items.specs.Mending.{mended, places, constant}
+use Rattle.fzn_mending.specs.Mending.{mended, places, constant}
 use Rattle.fzn_items.proofs.ListedLemmas.{memory-told, mended-listing}
-use Rattle.fzn_items.proofs.MendLemmas.{ends-mended, small-mended}
+use Rattle.fzn_mending.proofs.MendLemmas.{ends-mended, small-mended}
 use Rattle.fzn_items.proofs.read.mended_in.Goals as goal
 
 -- the tokens mended end as those of the file do

@@ -1,7 +1,7 @@
 use Rattle.std.proofs.Common.{Err, subst}
 use Rattle.fzn_lexer.specs.declared.halt.Halt.TheVariants as errors
 use Rattle.fzn_items.specs.Listed.{IsListingFault}
-use Rattle.fzn_items.proofs.FrontLemmas.{known_reads}
+use Rattle.fzn_sources.proofs.FrontLemmas.{known_reads}
 use Rattle.fzn_items.proofs.ListedLemmas.{itemizes}
 use Rattle.fzn_items.proofs.read.read_listing.Goals as goal
 

@@ -21,7 +21,7 @@ solve-requires-clause-room g c =
 pub returns-clause-answer : goal.returns-clause-answer
 returns-clause-answer g c =
     let limits : Limits = record { nodes = c.args.options.now.nodes; solutions = c.wanted.result } in
-    answer-of g.W.Write.contents g.C.Write.contents c.args.model.now c.args.options.now c.requires.model c.args.writers.now c.solve.new.sink c.close.new.self limits c.in-Ok.report.nodes c.in-Ok.report.solutions c.in-Ok.report.ending
+    answer-of g.W.Write.contents g.C.Write.contents c.args.model.now c.args.options.now c.requires.model c.args.writers.now c.solve.new.sink c.close.new.self limits c.in-Ok.report
     c.requires.fresh c.requires.alone (c.solve.ensures.kept.1 ∙ c.begin.ensures.same) refl c.wanted.ensures c.solve.ensures.accepted c.in-Ok.ensures.outcome c.in-Ok.ensures.solutions c.in_ok-close.ensures.closed
 
 pub returns-in_err-begin-clause-left : goal.returns-in_err-begin-clause-left

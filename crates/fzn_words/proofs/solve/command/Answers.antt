@@ -15,6 +15,7 @@ returns c =
     let is_nodes : rule_of c.named_option.result ≡ named_option (codes "nodes") = search rules in
     let is_learn : rule_of c.named_option-2.result ≡ named_option (codes "learn") = search rules in
     let is_cert : rule_of c.named_option-3.result ≡ named_option (codes "cert") = search rules in
+    let is_hints : rule_of c.named_option-4.result ≡ named_option (codes "hints") = search rules in
     let is_progress : rule_of c.named_flag.result ≡ named_flag (codes "progress") = search rules in
     let is_model : rule_of c.path.result ≡ path (codes "model") = search rules in
     let is_help : rule_of c.help.result ≡ help_rule = search rules in
@@ -26,7 +27,8 @@ returns c =
     let with_nodes = c.in_ok-command-5.ensures ∙ ap₂ with_rule with_seed is_nodes in
     let with_learn = c.in_ok-command-6.ensures ∙ ap₂ with_rule with_nodes is_learn in
     let with_cert = c.in_ok-command-7.ensures ∙ ap₂ with_rule with_learn is_cert in
-    let with_progress = c.in_ok-command-8.ensures ∙ ap₂ with_rule with_cert is_progress in
-    let with_model = c.in_ok-command-9.ensures ∙ ap₂ with_rule with_progress is_model in
-    let with_help = c.in_ok-command-10.ensures ∙ ap₂ with_rule with_model is_help in
-    c.in_ok-command-11.ensures ∙ ap₂ with_rule with_help is_version
+    let with_hints = c.in_ok-command-8.ensures ∙ ap₂ with_rule with_cert is_hints in
+    let with_progress = c.in_ok-command-9.ensures ∙ ap₂ with_rule with_hints is_progress in
+    let with_model = c.in_ok-command-10.ensures ∙ ap₂ with_rule with_progress is_model in
+    let with_help = c.in_ok-command-11.ensures ∙ ap₂ with_rule with_model is_help in
+    c.in_ok-command-12.ensures ∙ ap₂ with_rule with_help is_version

@@ -1,0 +1,3 @@
+mod BoundLemmas
+mod PrintLemmas
+mod WalkLemmas

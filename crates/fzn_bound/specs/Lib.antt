@@ -1,0 +1,4 @@
+pub mod Bounded
+pub mod Known
+pub mod Line
+pub mod Said

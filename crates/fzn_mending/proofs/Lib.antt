@@ -1,0 +1,2 @@
+pub mod MendLemmas
+mod WalkLemmas

@@ -1,0 +1,4 @@
+pub mod FrontLemmas
+mod ItemLemmas
+pub mod NameLemmas
+pub mod SourceLemmas
