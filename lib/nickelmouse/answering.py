@@ -1,15 +1,14 @@
-"""From a model to its checked answer, step by step: compile, mend, solve and check, print."""
+"""From a model to its checked answer, step by step: compile, mend, solve and check, print. What few runs need is imported where it is needed,
+since each start pays for what is imported."""
 import os
 import sys
 
-from nickelmouse.compiling import Compiler
-from nickelmouse.explaining import BY_THE_COMPILER, INCONSISTENT, Explaining, explain_refusal
-from nickelmouse.items import counted, printed_items
+from nickelmouse.bound import lines_of, tells_bounds
 from nickelmouse.kept import PRINTED, Record, write_record
 from nickelmouse.mending import mended
-from nickelmouse.minizinc import configuration
+from nickelmouse.minizinc import BY_THE_COMPILER, INCONSISTENT, configuration
 from nickelmouse.printing import Plain, begins_with, print_rest
-from nickelmouse.running import Ended, Refused
+from nickelmouse.running import Ended, Refused, say
 from nickelmouse.solving import Search
 from nickelmouse.statistics import statistics_in
 
@@ -27,6 +26,10 @@ class Answering:
 
     def __init__(self, asked, programs, files, limits):
         self.asked, self.programs, self.files, self.limits = asked, programs, files, limits
+        self.start = None
+        if asked.start is not None:
+            from nickelmouse.starting import Start
+            self.start = Start(asked.start, programs, files, asked.time_limit)
 
     def run(self):
         """All steps. Ends the run."""
@@ -46,6 +49,7 @@ class Answering:
 
     def solve_model(self, kept):
         """Has MiniZinc compile the model, and solves it. Ends the run."""
+        from nickelmouse.compiling import Compiler
         compiler = Compiler(self.files, configured(), self.asked.compiling, kept)
         text, warned = compiler.compiled()
         sys.stderr.buffer.write(warned)
@@ -59,40 +63,36 @@ class Answering:
 
     def solve(self, text, printer):
         """Mends a file, solves it, and prints the answer. Ends the run."""
-        text, within = mended(self.programs.check, text, self.asked.bounds)
-        self.files.write('model.fzn', text)
-        self.answer(within, printer)
+        model = mended(self.programs.check, text, self.asked.bounds)
+        self.files.write('model.fzn', model.text)
+        self.answer(model, printer)
 
     def explain(self):
         """Says why there is no solution, or none better. Ends the run."""
+        from nickelmouse.explaining import Explaining
         if self.asked.is_flat:
             Explaining(self.programs, self.files, self.asked, None).explain_text(self.flat_text(), False)
         Explaining(self.programs, self.files, self.asked, configured()).explain_model()
 
-    def every(self):
-        """Whether each solution is printed that is found: where -i wants each better one, if there is a better one."""
-        if self.asked.every or not self.asked.intermediate:
-            return self.asked.every
-        try:
-            return counted(printed_items(self.programs.check, self.files.path('model.fzn'))).goal != 'satisfy'
-        except Refused:
-            return False
+    def record(self, model):
+        """What is said of the answer to a file: each better solution where -i wants it, and of an optimisation how good it can be."""
+        return Record(self.asked.every or self.asked.intermediate and model.has_objective, self.asked.bounds if model.within else None,
+                      model.has_objective and tells_bounds(self.programs.check))
 
-    def search(self, every, printer):
-        """The search that is asked for."""
-        asked, words = self.asked, list(self.asked.solving)
-        if every and '-a' not in words:
+    def search(self, record, printer, hints):
+        """The search that is asked for, with these words for hints."""
+        asked, words = self.asked, self.asked.solving + hints
+        if record.every and '-a' not in words:
             words.append('-a')
         if asked.statistics and '--progress' not in words:
             words.append('--progress')
-        return Search(self.programs, self.files, words, every, asked.keep is not None, printer if asked.unchecked else None,
+        return Search(self.programs, self.files, words, record.checking(), asked.keep is not None, printer if asked.unchecked else None,
                       '--progress' in asked.solving)
 
-    def answer(self, within, printer):
+    def answer(self, model, printer):
         """Solves the file, has the answer checked, and prints it. Ends the run."""
-        every = self.every()
-        record = Record(every, self.asked.bounds if within else None)
-        search = self.search(every, printer)
+        record = self.record(model)
+        search = self.search(record, printer, self.start.words(model.text) if self.start is not None else [])
         self.limits.cut = search.cut
         try:
             told = search.run()
@@ -100,15 +100,19 @@ class Answering:
             if fault.status != 2:
                 raise
             self.refuse(fault)
-        self.print_answer(printer, statistics_in(told.said).encode() if self.asked.statistics else b'')
+        finally:
+            if self.start is not None:
+                self.start.remove()
         if self.asked.keep is not None:
             write_record(self.files, record)
-        raise Ended(0, record.last_line())
+        self.print_answer(printer, statistics_in(told.said, search.bound).encode() if self.asked.statistics else b'')
+        raise Ended(0, *lines_of(search.bound, self.files), self.programs.checked(record.bounds))
 
     def refuse(self, fault):
         """Tells why the file is refused. Ends the run."""
-        print(fault, file=sys.stderr)
+        say(fault)
         if not self.asked.is_flat:
+            from nickelmouse.explaining import explain_refusal
             explain_refusal(self.programs.check, self.files, str(fault))
         raise Ended(1, 'not solved') from fault
 

@@ -4,9 +4,8 @@ import os
 import sys
 import tempfile
 
-from nickelmouse import why
 from nickelmouse.processes import Interrupted
-from nickelmouse.running import Broken, Programs, Refused, program
+from nickelmouse.running import Broken, Programs, Refused, program, say
 
 
 class Words(argparse.ArgumentParser):
@@ -19,31 +18,46 @@ class Words(argparse.ArgumentParser):
         self.exit(3, f'{self.prog}: {message}\n')
 
 
+def written_out(status):
+    """The status of a command once all that it printed is written: 4 where that can't be. Nothing is left to be written then, since Python
+    would try so again at its end, and complain."""
+    for stream in (sys.stdout, sys.stderr):
+        try:
+            stream.flush()
+        except OSError as fault:
+            os.dup2(os.open(os.devnull, os.O_WRONLY), stream.fileno())
+            if not isinstance(fault, BrokenPipeError) and status in (0, 1):
+                say(f'standard output: {fault.strerror}')
+            status = status if status > 1 else 4
+    return status
+
+
 def ended(command):
     """Runs a command, and gives its status: 2 for a refusal, 4 where a file or a program is not there, 130 at Ctrl-C."""
     try:
-        return command()
+        status = command()
     except Refused as fault:
-        print(fault, file=sys.stderr)
-        return 4 if fault.status == 4 else 2
+        say(fault)
+        status = 4 if fault.status == 4 else 2
     except Broken as fault:
-        print(fault, file=sys.stderr)
-        return 2
+        say(fault)
+        status = 2
     except BrokenPipeError:
-        os.dup2(os.open(os.devnull, os.O_WRONLY), sys.stdout.fileno())
-        return 4
+        status = 4
     except OSError as fault:
-        print(f'{fault.filename or "a file"}: {fault.strerror}', file=sys.stderr)
-        return 4
+        say(f'{fault.filename or "a file"}: {fault.strerror}')
+        status = 4
     except Interrupted as fault:
-        print(fault, file=sys.stderr)
-        return fault.status
+        say(fault)
+        status = fault.status
     except KeyboardInterrupt:
-        return 130
+        status = 130
+    return written_out(status)
 
 
 def explained(options):
     """Tells why the file of the words has no better answer. Returns the status."""
+    from nickelmouse import why
     with open(options.model, 'rb') as file:
         text = file.read()
     table = None
@@ -57,6 +71,7 @@ def explained(options):
 
 def main_of_why():
     """The command `why`."""
+    from nickelmouse import why
     words = Words(prog='why', description=why.__doc__)
     words.add_argument('model')
     words.add_argument('--nodes', type=int, default=10_000_000)

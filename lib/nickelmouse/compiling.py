@@ -1,7 +1,7 @@
 """MiniZinc over a whole run: it compiles a model, is held while the compiled file is solved and checked, and then prints the solutions.
 
-MiniZinc takes the relay for its solver. The relay tells where the compiled file lies, and hands on the answer once there is one. So the
-solutions are printed by the output item of the very model that was compiled, with the names of its enums."""
+MiniZinc takes the relay (`relay.py`) for its solver. So the solutions are printed by the output item of the very model that was compiled, with
+the names of its enums."""
 import errno
 import json
 import os
@@ -12,51 +12,43 @@ import sys
 import threading
 import time
 
-from nickelmouse.processes import PROCESSES, dies_with_its_parent
+from nickelmouse.processes import PROCESSES
+from nickelmouse.relay import FOLDER, PIECE
 from nickelmouse.running import Ended, Refused, started
 
-FOLDER = 'NICKELMOUSE_RELAY'
-PIECE = 1 << 16
 SECONDS = 3
 
 
-def relay():
-    """What MiniZinc starts as its solver: tells its own number and the path of the compiled file, and hands on the answer."""
-    dies_with_its_parent()
-    folder = os.environ[FOLDER]
-    with open(os.path.join(folder, 'compiled.pipe'), 'wb') as told:
-        told.write(f'{os.getpid()} {sys.argv[-1]}\n'.encode())
-    with open(os.path.join(folder, 'answer.pipe'), 'rb', buffering=0) as answer:
-        while piece := answer.read(PIECE):
-            sys.stdout.buffer.write(piece)
-            sys.stdout.buffer.flush()
-    return 0
+def is_full(folder):
+    """Whether the disk of a folder has no room for a file of MiniZinc's."""
+    disk = os.statvfs(folder)
+    return disk.f_bavail * disk.f_frsize < PIECE
 
 
 class Shower(threading.Thread):
-    """Shows what MiniZinc prints once it is let, and keeps it where a file is given."""
+    """Shows what MiniZinc prints once it is let, and keeps it where a file is given. One of both that fails does not stop the other."""
 
     def __init__(self, source, kept):
         super().__init__(daemon=True)
-        self.source, self.kept, self.is_let, self.fault, self.printed = source, kept, False, None, b''
+        self.source, self.is_let, self.fault, self.printed = source, False, None, b''
+        self.targets = [sys.stdout.buffer] if kept is None else [sys.stdout.buffer, kept]
 
     def run(self):
         while piece := self.source.read1(PIECE):
             self.printed += piece
-            if self.is_let and self.fault is None:
+            if self.is_let:
                 self.show(self.printed)
                 self.printed = b''
 
     def show(self, piece):
-        """Shows a piece."""
-        try:
-            sys.stdout.buffer.write(piece)
-            sys.stdout.buffer.flush()
-            if self.kept is not None:
-                self.kept.write(piece)
-                self.kept.flush()
-        except OSError as fault:
-            self.fault = fault
+        """Shows a piece, and keeps it."""
+        for target in list(self.targets):
+            try:
+                target.write(piece)
+                target.flush()
+            except OSError as fault:
+                self.fault = fault
+                self.targets.remove(target)
 
 
 class Compiler:
@@ -105,6 +97,8 @@ class Compiler:
         self.files.remove('warned', 'compiled.pipe', 'relay.msc')
         if text is None:
             PROCESSES.wait(self.program)
+            if not warned and is_full(self.files.folder):
+                raise Refused(4, f'{self.files.folder}: {os.strerror(errno.ENOSPC)}')
         return text, warned
 
     def end(self, program):

@@ -1,6 +1,9 @@
-"""Signals that come before there is anything to be ended. It is imported first, since the other modules take a while."""
+"""Signals that come before there is anything to be ended, and when that was. It is imported first, since the other modules take a while."""
 import os
 import signal
+import time
+
+BEGIN = time.monotonic()
 
 
 def end_at_once(number, _):

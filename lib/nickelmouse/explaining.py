@@ -3,13 +3,13 @@ import sys
 import tempfile
 
 from nickelmouse import origins, why
+from nickelmouse.edits import unbounded
 from nickelmouse.items import items_of_text
-from nickelmouse.mending import mended, unbounded, with_stated_bounds
-from nickelmouse.minizinc import compile_model
-from nickelmouse.running import Ended, Refused
+from nickelmouse.mending import mended
+from nickelmouse.minizinc import BY_THE_COMPILER, INCONSISTENT, compile_model
+from nickelmouse.running import Ended, Refused, say
+from nickelmouse.stated import with_stated_bounds
 
-INCONSISTENT = b'model inconsistency detected'
-BY_THE_COMPILER = 'found by the compiler, unchecked'
 
 
 def table_in(files):
@@ -21,7 +21,7 @@ def explain_refusal(check, files, said):
     """Says of a refusal where it comes from, and what helps."""
     line = origins.explained(check, said, files.read('model.fzn'), table_in(files))
     if line is not None:
-        print(line, file=sys.stderr)
+        say(line)
 
 
 class Explaining:
@@ -56,10 +56,10 @@ class Explaining:
 
     def explain_text(self, text, is_compiled):
         """Says it of a file, by the places of its model where it was compiled from one."""
-        text, within = mended(self.programs.check, text, self.words.bounds)
-        self.files.write('model.fzn', text)
-        status = self.told(text, table_in(self.files) if is_compiled else None)
-        raise Ended(status, f'within -{self.words.bounds}..{self.words.bounds}' if within else None)
+        model = mended(self.programs.check, text, self.words.bounds)
+        self.files.write('model.fzn', model.text)
+        status = self.told(model.text, table_in(self.files) if is_compiled else None)
+        raise Ended(status, *([f'within -{self.words.bounds}..{self.words.bounds}'] if model.within else []))
 
     def leaves_unbounded(self, text):
         """Whether a compiled file has integers without bounds."""
@@ -73,7 +73,7 @@ class Explaining:
             try:
                 return why.told(asked, text, table)
             except Refused as fault:
-                print(fault, file=sys.stderr)
+                say(fault)
                 if table is not None:
                     explain_refusal(self.programs.check, self.files, str(fault))
                 raise Ended(1, 'not solved') from fault

@@ -1,5 +1,6 @@
 """A folder that is gone when we are, however we end."""
 import os
+import shutil
 import subprocess
 import tempfile
 
@@ -11,7 +12,7 @@ class Temporary:
     """A new folder, which is removed at the end, also where we are killed."""
 
     def __enter__(self):
-        folder = tempfile.mkdtemp(prefix='nickelmouse-')
+        self.folder = folder = tempfile.mkdtemp(prefix='nickelmouse-')
         try:
             self.keeper = subprocess.Popen([*KEEPER, folder], stdin=subprocess.PIPE, stdout=subprocess.DEVNULL, stderr=subprocess.DEVNULL,
                                            start_new_session=True, cwd='/')
@@ -24,5 +25,8 @@ class Temporary:
 
     def __exit__(self, *_):
         tempfile.tempdir = self.former
+        shutil.rmtree(self.folder, ignore_errors=True)
+        if not os.path.exists(self.folder):
+            self.keeper.kill()
         self.keeper.stdin.close()
         self.keeper.wait()

@@ -1,11 +1,10 @@
 """A FlatZinc file as the proved reader tells it: what `fzncheck --items` prints, taken apart.
 
 Bytes are counted from 1 there, both ends included; a Span is what Python slices by."""
-import os
-import tempfile
 from dataclasses import dataclass, field
 
-from nickelmouse.running import Broken, Refused, output_of
+from nickelmouse.counts import printed_items, printed_items_of_text
+from nickelmouse.running import Broken
 
 
 @dataclass(frozen=True)
@@ -36,11 +35,13 @@ class Variable:
 
 @dataclass(frozen=True)
 class Array:
-    """An array of variables: the numbers of those among its entries, and how many entries it has."""
+    """An array of variables: the numbers of those among its entries, how many entries it has, and for each the number of its variable, or
+    nothing for a constant."""
     name: str
     span: Span
     variables: tuple
     length: int
+    entries: tuple = ()
 
 
 @dataclass(frozen=True)
@@ -158,8 +159,9 @@ class Parser:
         self.items.variables.append(Variable(number, name, declared, span_of(words[at + 1]), 'output' in marks, 'defined' in marks))
 
     def array(self, words, entries):
-        variables = tuple(int(entry) for entry in entries if not entry.startswith('='))
-        self.items.arrays[words[1]] = Array(words[1], span_of(words[3]), variables, len(entries))
+        entries = tuple(None if entry.startswith('=') else int(entry) for entry in entries)
+        variables = tuple(entry for entry in entries if entry is not None)
+        self.items.arrays[words[1]] = Array(words[1], span_of(words[3]), variables, len(entries), entries)
 
     def constraint(self, words, arguments):
         defines = int(words[10]) if words[9:10] == ['defines'] else None
@@ -203,46 +205,9 @@ def parsed(printed):
     return parser.items
 
 
-@dataclass(frozen=True)
-class Counts:
-    """What of a file is known without taking apart its items: the word of its goal, and how many variables, constraints and mends it has."""
-    goal: str
-    variables: int
-    constraints: int
-    mends: int
-
-
-def counted(printed):
-    """The counts in a text of `fzncheck --items`."""
-    goal = printed[printed.rfind('\ngoal ') + 1:].split(' ', 2)[:2]
-    last = printed[printed.rfind('\n', 0, -1) + 1:].split()
-    if goal[0] != 'goal' or len(last) != 11 or last[0] != 'end' or not printed.endswith('\n'):
-        raise Broken('fzncheck --items does not come to its end')
-    return Counts(goal[1], int(last[4]), int(last[8]), int(last[10]))
-
-
-def printed_items(check, path):
-    """What `fzncheck --items` prints of a file. Refused, where it has a fault that cannot be mended."""
-    return output_of([check, '--items', path]).decode('latin-1')
-
-
 def items_of(check, path):
     """What a file states. Refused, where it has a fault that cannot be mended."""
     return parsed(printed_items(check, path))
-
-
-def printed_items_of_text(check, text):
-    """What `fzncheck --items` prints of a text, or nothing where it has a fault that cannot be mended."""
-    with tempfile.TemporaryDirectory() as folder:
-        path = os.path.join(folder, 'model.fzn')
-        with open(path, 'wb') as file:
-            file.write(text)
-        try:
-            return printed_items(check, path)
-        except Refused as fault:
-            if fault.status != 2:
-                raise
-            return None
 
 
 def items_of_text(check, text):

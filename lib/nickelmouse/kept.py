@@ -1,11 +1,10 @@
 """The folder that --keep leaves: all that is wanted to check an answer again."""
-import json
 import os
-import sys
 from dataclasses import asdict, dataclass
 
+from nickelmouse.bound import BOUND, bound_in, lines_of, without_last_line
 from nickelmouse.printing import Plain, print_rest
-from nickelmouse.running import Ended, Refused, output_of
+from nickelmouse.running import Ended, Refused, output_of, say
 
 RECORD, PRINTED = 'kept.json', 'model.printed'
 KEPT = (RECORD, PRINTED, 'model.answer', 'model.fzc', 'model.fzn', 'model.paths')
@@ -13,13 +12,15 @@ KEPT = (RECORD, PRINTED, 'model.answer', 'model.fzc', 'model.fzn', 'model.paths'
 
 @dataclass(frozen=True)
 class Record:
-    """What the files of a folder do not say of themselves: whether every solution is printed, and the bounds that a variable needed."""
+    """What the files of a folder do not say of themselves: whether every solution is printed, the bounds that a variable needed, and whether
+    it was asked how good an answer can be."""
     every: bool
     bounds: int
+    bound: bool
 
-    def last_line(self):
-        """The last line of an answer that was checked."""
-        return 'checked' if self.bounds is None else f'checked within -{self.bounds}..{self.bounds}'
+    def checking(self):
+        """The words for fzncheck."""
+        return ['-a'] * self.every + [BOUND] * self.bound
 
 
 def empty_folder(path):
@@ -44,35 +45,41 @@ def tidy(files, status):
 
 def write_record(files, record):
     """Writes the record of a folder, which is whole then."""
+    import json
     files.write(RECORD, json.dumps(asdict(record)).encode() + b'\n')
 
 
 def record_of(files):
     """The record of a folder."""
+    import json
     try:
         with open(files.path(RECORD), 'rb') as file:
             words = json.load(file)
-        record = Record(words['every'], words['bounds'])
+        # Folders that were kept before there was a bound do not speak of it.
+        record = Record(words['every'], words['bounds'], words.get('bound', False))
     except OSError as fault:
         raise Refused(4, f'{files.folder}: no answer was kept there') from fault
-    except (KeyError, TypeError, ValueError) as fault:
+    except (AttributeError, KeyError, TypeError, ValueError) as fault:
         raise Refused(4, f'{files.path(RECORD)}: not as --keep has written it') from fault
-    if not isinstance(record.every, bool) or not (record.bounds is None or isinstance(record.bounds, int)):
+    if not (isinstance(record.every, bool) and isinstance(record.bound, bool) and isinstance(record.bounds, int | None)):
         raise Refused(4, f'{files.path(RECORD)}: not as --keep has written it')
     return record
 
 
-def check_again(check, files):
+def check_again(programs, files):
     """Checks the certificate of a folder again, and prints the answer. Ends the run."""
-    record = record_of(files)
+    record, bound = record_of(files), None
     try:
-        answer = output_of([check, *(['-a'] if record.every else []), files.path('model.fzn'), files.path('model.fzc')])
+        answer = output_of([programs.check, *record.checking(), files.path('model.fzn'), files.path('model.fzc')])
     except Refused as fault:
         if fault.status != 1:
             raise
-        print(fault, file=sys.stderr)
+        say(fault)
         raise Ended(1, 'the certificate is rejected') from fault
+    if record.bound:
+        answer, line = without_last_line(answer)
+        bound = bound_in(line)
     if answer != files.read('model.answer'):
         raise Ended(1, 'the certificate shows another answer')
     print_rest(files, PRINTED if os.path.exists(files.path(PRINTED)) else 'model.answer', Plain(), 0)
-    raise Ended(0, record.last_line())
+    raise Ended(0, *lines_of(bound, files), programs.checked(record.bounds))

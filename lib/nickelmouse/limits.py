@@ -4,6 +4,7 @@ import signal
 import threading
 import time
 
+from nickelmouse.early import BEGIN
 from nickelmouse.processes import ENDING, PROCESSES, Interrupted
 from nickelmouse.running import Ended
 
@@ -22,13 +23,18 @@ def seconds_in(text):
     return seconds
 
 
+def left_of(seconds):
+    """What is left of a time that began with the command."""
+    return max(0.0, seconds - (time.monotonic() - BEGIN))
+
+
 class Limits:
     """The limits of one run. Before there is a search each of them ends the run; from then on the first cuts the search, and what it has found
     is checked. A signal that comes more than a second behind the first one ends the run in any case."""
 
     def __init__(self, seconds=None):
         self.cut, self.first = None, None
-        self.timer = threading.Timer(seconds, self.late) if seconds is not None else None
+        self.timer = threading.Timer(left_of(seconds), self.late) if seconds is not None else None
 
     def __enter__(self):
         for number in ENDING:

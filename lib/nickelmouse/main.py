@@ -3,14 +3,14 @@ import contextlib
 import os
 import sys
 
-from nickelmouse import compiling, kept
+from nickelmouse import kept
 from nickelmouse.answering import Answering
-from nickelmouse.command import Words, ended
+from nickelmouse.command import Words, ended, written_out
 from nickelmouse.files import Files
 from nickelmouse.folders import Temporary
 from nickelmouse.limits import Limits
 from nickelmouse.processes import PROCESSES
-from nickelmouse.running import Ended, Programs, Refused, program
+from nickelmouse.running import Ended, Programs, Refused, program, say
 from nickelmouse.words import asked
 
 
@@ -24,19 +24,19 @@ def programs():
 
 
 def to_its_end(run, mark=''):
-    """Runs to the end, and prints the last line, behind a mark. Returns the status."""
+    """Runs to the end, and prints the last lines, each behind a mark. Returns the status."""
     try:
         run()
     except Ended as end:
         sys.stdout.flush()
-        if end.last is not None:
-            print(mark + end.last)
-            sys.stdout.flush()
+        for line in end.lines:
+            print(mark + line)
+        sys.stdout.flush()
         return end.status
 
 
 def answered(words, mark=''):
-    """Answers a command line, its last line behind a mark. Returns the status."""
+    """Answers a command line, its last lines behind a mark. Returns the status."""
     for path in words.files:
         with open(path, 'rb'):
             pass
@@ -59,7 +59,7 @@ def checked_again(given):
     words = Words(prog='nickelmouse check', usage='nickelmouse check FOLDER', description=kept.__doc__)
     words.add_argument('folder', metavar='FOLDER')
     folder = words.parse_args(given).folder
-    return to_its_end(lambda: kept.check_again(programs().check, Files(folder)))
+    return to_its_end(lambda: kept.check_again(programs(), Files(folder)))
 
 
 def settled(command):
@@ -67,15 +67,13 @@ def settled(command):
     try:
         status = ended(command)
     except Exception as fault:
-        print(f'nickelmouse: {type(fault).__name__}: {" ".join(str(fault).split())}', file=sys.stderr)
-        return 4
+        say(f'nickelmouse: {type(fault).__name__}: {" ".join(str(fault).split())}')
+        return written_out(4)
     return 4 if status == 2 else status
 
 
 def main():
-    """The command, and what MiniZinc starts for it."""
-    if os.environ.get(compiling.FOLDER):
-        return ended(compiling.relay)
+    """The command."""
     given = sys.argv[1:]
     if given[:1] == ['check']:
         return settled(lambda: checked_again(given[1:]))

@@ -1,5 +1,4 @@
 """MiniZinc as we call it: our configuration, and what it says of a model."""
-import json
 import os
 import subprocess
 
@@ -7,6 +6,8 @@ from nickelmouse.processes import PROCESSES
 from nickelmouse.running import launcher_folder, started
 
 NAME = 'nickelmouse-mzn'
+INCONSISTENT = b'model inconsistency detected'
+BY_THE_COMPILER = 'found by the compiler, unchecked'
 
 
 def configuration():
@@ -19,6 +20,7 @@ def configuration():
 
 def write_configuration(given, path, executable):
     """Writes our configuration anew, for another program that solves."""
+    import json
     with open(given, encoding='utf-8') as file:
         words = json.load(file)
     words.update(executable=executable, id=NAME)

@@ -30,7 +30,7 @@ from nickelmouse.files import Files
 from nickelmouse.items import items_of
 from nickelmouse.mending import mended
 from nickelmouse.minizinc import configuration, read_bytes, write_configuration
-from nickelmouse.running import Ended, Programs, Refused, output_of, program
+from nickelmouse.running import Ended, Programs, Refused, output_of, program, say
 
 FOLDER = 'NICKELMOUSE_FOLDER'
 UNSATISFIABLE = '=====UNSATISFIABLE====='
@@ -127,9 +127,9 @@ def followed(source, *targets):
 def solver_side(files, flat):
     """What MiniZinc starts as its solver: mends the compiled file, solves it, and hands on what the solver says. Returns the status."""
     task = json.loads(files.read('task'))
-    text, within = mended(task['check'], read_bytes(flat), task['bounds'])
-    files.write('model.fzn', text)
-    if within:
+    model = mended(task['check'], read_bytes(flat), task['bounds'])
+    files.write('model.fzn', model.text)
+    if model.within:
         files.write('within', b'')
     words = [task['solve'], *task['words'], '--cert', files.path('model.fzc'), files.path('model.fzn')]
     with subprocess.Popen(words, stdout=subprocess.PIPE, stderr=subprocess.PIPE) as solver, \
@@ -151,7 +151,7 @@ class Run:
         self.programs = Programs(program('fznsolve'), program('fzncheck'))
         given = configuration()
         if given is None:
-            print('MiniZinc does not know nickelmouse: run ./install', file=sys.stderr)
+            say('MiniZinc does not know nickelmouse: run ./install')
             raise Ended(1)
         files.remove('status', 'within', 'model.fzn')
         self.configuration = files.path('nickelmouse.msc')
@@ -199,13 +199,13 @@ class Run:
         try:
             checked = output_of([self.programs.check, *(['-a'] if every else []), flat, cert])
         except Refused as fault:
-            print(fault, file=sys.stderr)
+            say(fault)
             raise Ended(1, 'the certificate is rejected') from fault
         if checked != files.read('model.answer'):
             raise Ended(1, 'the certificate shows another answer')
         within = os.path.exists(files.path('within'))
         files.remove('within')
-        raise Ended(0, f'checked within -{self.words.bounds}..{self.words.bounds}' if within else 'checked')
+        raise Ended(0, self.programs.checked(self.words.bounds if within else None))
 
 
 def run_in(words, folder):
@@ -215,8 +215,8 @@ def run_in(words, folder):
         run.explain() if words.explaining else run.solve()
     except Ended as end:
         sys.stdout.flush()
-        if end.last is not None:
-            print(end.last)
+        for line in end.lines:
+            print(line)
         return end.status
 
 
@@ -239,6 +239,6 @@ def main():
     try:
         words = words_of(sys.argv[1:])
     except Faulty as fault:
-        print(fault, file=sys.stderr)
+        say(fault)
         return 3
     return ended(lambda: command(words))

@@ -1,12 +1,11 @@
 """The programs that we have started: none of them outlives us."""
-import ctypes
 import os
 import signal
 import subprocess
 
+from nickelmouse.parents import dies_with_its_parent
+
 ENDING = (signal.SIGINT, signal.SIGTERM, signal.SIGHUP)
-PR_SET_PDEATHSIG = 1
-LIBC = ctypes.CDLL(None)
 
 
 class Interrupted(Exception):
@@ -15,11 +14,6 @@ class Interrupted(Exception):
     def __init__(self, number):
         super().__init__('interrupted')
         self.status = 128 + number
-
-
-def dies_with_its_parent():
-    """Has this process killed where the one that started it ends."""
-    LIBC.prctl(PR_SET_PDEATHSIG, signal.SIGKILL)
 
 
 def in_the_child(parent, is_alone):

@@ -1,4 +1,5 @@
 """The two proved programs: where they are, how they are run, and what they say."""
+import contextlib
 import os
 import re
 import subprocess
@@ -6,6 +7,7 @@ import sys
 from dataclasses import dataclass
 
 from nickelmouse.processes import PROCESSES
+from nickelmouse.proved import UNPROVED, is_proved
 
 FAULT_AT = re.compile(r'^line (\d+) column (\d+): fault (\d+) ', re.M)
 
@@ -23,11 +25,17 @@ class Broken(Exception):
 
 
 class Ended(Exception):
-    """How a run ends: the last line, if there is one, and the status."""
+    """How a run ends: its status, and the lines that it prints last, if there are any."""
 
-    def __init__(self, status, last=None):
-        super().__init__(last)
-        self.status, self.last = status, last
+    def __init__(self, status, *lines):
+        super().__init__('\n'.join(lines))
+        self.status, self.lines = status, lines
+
+
+def say(line):
+    """Says a line on standard error, where that can be written."""
+    with contextlib.suppress(OSError):
+        print(line, file=sys.stderr, flush=True)
 
 
 @dataclass(frozen=True)
@@ -35,6 +43,11 @@ class Programs:
     """The paths of the solver and of the checker."""
     solve: str
     check: str
+
+    def checked(self, within=None):
+        """The last line of an answer that the checker has accepted, where a variable needed bounds within these."""
+        line = 'checked' if within is None else f'checked within -{within}..{within}'
+        return line if is_proved(self.check) else f'{line}, {UNPROVED}'
 
 
 @dataclass(frozen=True)
@@ -57,10 +70,11 @@ def launcher_folder():
 
 
 def program(name):
-    """The path of a program of ours: as the environment says, beside the script that was started, or where ./build puts it."""
+    """The path of a program of ours: as the environment says, beside the script that was started, or where ./build puts it. Where there is none,
+    one that ./install has built without proof."""
     here = launcher_folder()
-    beside = os.path.join(here, name)
-    return os.environ.get(name.upper()) or (beside if os.path.isfile(beside) else os.path.join(here, 'crates', name, 'out', name))
+    paths = [os.path.join(here, *folder, name) for folder in ((), ('crates', name, 'out'), ('share', 'quick'))]
+    return os.environ.get(name.upper()) or next(filter(os.path.isfile, paths), paths[1])
 
 
 def started(words, **options):

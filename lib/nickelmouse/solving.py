@@ -4,11 +4,12 @@ import subprocess
 import sys
 from dataclasses import dataclass
 
+from nickelmouse.bound import BOUND, cut_from
+from nickelmouse.counts import counted, printed_items
 from nickelmouse.following import Follower
-from nickelmouse.items import counted, printed_items
 from nickelmouse.printing import Copies
 from nickelmouse.processes import PROCESSES
-from nickelmouse.running import Ended, Refused, started
+from nickelmouse.running import Ended, Refused, say, started
 from nickelmouse.statistics import without_progress
 
 # The statuses of fznsolve behind which its certificate may be worth something: its own end, a file that it cannot write, want of memory.
@@ -39,13 +40,14 @@ def told_in(process, files, name):
 
 class Search:
     """One search over a folder that has `model.fzn`. It leaves the certificate in `model.fzc`, and in `model.answer` what fzncheck printed once
-    it had accepted it; the certificate only where it is kept. What fznsolve prints meanwhile goes to `shown`, if that is given, and is left in
-    `model.shown`; where it `tells`, what it says goes on to standard error."""
+    it had accepted it; the certificate only where it is kept. `words` go to fznsolve, `checking` to fzncheck; what --bound says there is left in
+    `bound`. What fznsolve prints meanwhile goes to `shown`, if that is given, and is left in `model.shown`; where it `tells`, what it says goes
+    on to standard error."""
 
-    def __init__(self, programs, files, words, every, keeps, shown=None, tells=False):
-        self.programs, self.files, self.words, self.every = programs, files, words, every
+    def __init__(self, programs, files, words, checking, keeps, shown=None, tells=False):
+        self.programs, self.files, self.words, self.checking = programs, files, words, checking
         self.keeps, self.shown, self.tells = keeps, shown, tells
-        self.is_cut, self.solver = False, None
+        self.is_cut, self.solver, self.bound = False, None, None
 
     def cut(self):
         """Ends the search now."""
@@ -58,7 +60,7 @@ class Search:
         files = self.files
         files.remove('model.fzc')
         with open(files.path('model.answer'), 'wb') as answer, open(files.path('checking'), 'wb') as checking:
-            checker = started([self.programs.check, *(['-a'] if self.every else []), files.path('model.fzn'), '/dev/stdin'],
+            checker = started([self.programs.check, *self.checking, files.path('model.fzn'), '/dev/stdin'],
                               stdin=subprocess.PIPE, stdout=answer, stderr=checking)
         follower = Follower(files.path('model.fzc'), checker.stdin, self.cut)
         told = self.searched(follower)
@@ -67,10 +69,12 @@ class Search:
         if follower.fault is None:
             self.end_certificate(told, follower)
         if told.status != 0 and not self.is_cut:
-            print(f'the search ended early: {told.last()}', file=sys.stderr)
+            say(f'the search ended early: {told.last()}')
         with contextlib.suppress(BrokenPipeError):
             checker.stdin.close()
         self.check_end(told_in(checker, files, 'checking'))
+        if BOUND in self.checking:
+            self.bound = cut_from(files.path('model.answer'))
         return told
 
     def searched(self, follower):
@@ -139,7 +143,7 @@ class Search:
             return
         self.files.remove('model.answer')
         if told.status == 1:
-            print(told.last(), file=sys.stderr)
+            say(told.last())
             raise Ended(1, 'the certificate is rejected')
         if told.status == 4:
             raise Refused(4, told.last())

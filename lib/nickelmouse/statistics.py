@@ -6,13 +6,14 @@ TOLD = re.compile(r'^(?:in all )?([0-9.]+) s, (\d+) nodes, (\d+) conflicts, (\d+
 NAMES = ('solveTime', 'nodes', 'failures', 'propagations', 'nSolutions', 'objective', 'certificateBytes')
 
 
-def statistics_in(said):
-    """The lines for MiniZinc of the last that `fznsolve --progress` has told."""
+def statistics_in(said, bound=None):
+    """The lines for MiniZinc of the last that `fznsolve --progress` has told, and of what is known of the objective."""
     last = None
     for last in TOLD.finditer(said):
         pass
     values = last.groups() if last is not None else ()
     lines = [f'%%%mzn-stat: {name}={value}\n' for name, value in zip(NAMES, values) if value is not None]
+    lines += [bound.statistic()] if bound is not None else []
     return ''.join(lines) + '%%%mzn-stat-end\n'
 
 

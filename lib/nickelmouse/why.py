@@ -20,6 +20,7 @@ from dataclasses import dataclass
 from nickelmouse.certificates import shown_by
 from nickelmouse.items import blanked, items_of
 from nickelmouse.places import Source, Step, conjunct_of, place_text, table_of
+from nickelmouse.proved import UNPROVED, is_proved
 from nickelmouse.running import Broken, output_of
 
 LISTED = re.compile(rb'(\d+) line (\d+) column (\d+): ')
@@ -341,4 +342,7 @@ def report(asked, model):
 def told(asked, text, table=None):
     """Tells of a file why it has no better answer, by the places of the model where MiniZinc has written a table of them."""
     items = asked.items(text)
-    return report(asked, Model(text, items) if table is None else Compiled(text, items, table))
+    status = report(asked, Model(text, items) if table is None else Compiled(text, items, table))
+    if status == 0 and not is_proved(asked.programs.check):
+        print(UNPROVED)
+    return status

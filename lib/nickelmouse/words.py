@@ -14,8 +14,10 @@ DESCRIPTION = """Solves a model and has the answer checked: what is printed, fzn
     nickelmouse check FOLDER
 
 MODEL is a MiniZinc model (.mzn), with its data (.dzn, .json), or a FlatZinc file (.fzn). The last line is `checked`; `checked within -N..N`
-where a variable needed --bounds; or it says what is wrong. A time limit, Ctrl-C and SIGTERM end the search, and what it has found is checked
-and printed; a second Ctrl-C ends all. `nickelmouse check FOLDER` checks again what --keep has left."""
+where a variable needed --bounds; or it says what is wrong. `, by programs not yet proved on this machine` stands behind it where fzncheck was
+built without proof. Where a better answer may be left, the line above says how much better it can be at most. A time limit, Ctrl-C and SIGTERM
+end the search, and what it has found is checked and printed; a second Ctrl-C ends all. `nickelmouse check FOLDER` checks again what --keep
+has left."""
 # The words that go to the compiler: those with a value, and those without.
 VALUED = ('-D', '--cmdline-data', '--cmdline-json-data', '-d', '--data', '-I', '--search-dir', '--stdlib-dir', '--output-mode', '--only-sections',
           '--not-sections', '--pre-passes')
@@ -39,6 +41,7 @@ class Asked:
     explaining: bool = False
     unchecked: bool = False
     time_limit: float = None
+    start: str = None
     intermediate: bool = False
     statistics: bool = False
 
@@ -81,9 +84,11 @@ def parser():
     solving.add_argument('-n', type=number(1, 10 ** 9), metavar='N', help='N solutions; an optimisation goes on to its end')
     solving.add_argument('-f', action='store_true', help="the search need not follow the model's annotations")
     solving.add_argument('-r', type=number(0, 2 ** 64 - 1), metavar='SEED', help='break ties by chance, from this seed')
-    solving.add_argument('--nodes', type=number(0, 10 ** 12), metavar='N', help='make at most N decisions (10000000)')
+    solving.add_argument('--nodes', '-node', type=number(0, 10 ** 12), metavar='N',
+                         help='make at most N decisions (10000000); -node is the word of Gecode')
     solving.add_argument('--time-limit', type=duration, metavar='T', help='end the search after T: seconds, or as 10m, 2h')
     solving.add_argument('-t', type=number(0, 10 ** 11), metavar='MS', help='end the search after MS milliseconds; 0 is no limit')
+    solving.add_argument('--start', metavar='FILE', help='begin with this plan: values by name, as NAME = VALUE; or a folder of --keep')
     solving.add_argument('-p', type=number(1, 10 ** 6), metavar='N', help='use at most N processors: one is used')
     solving.add_argument('--learn', choices=['first', 'plain'], help='which clause is learned (first)')
     solving.add_argument('--progress', '-v', action='store_true', help='tell on standard error how far the search has come')
@@ -121,7 +126,7 @@ def wrong_with(options):
     """What is wrong with words that are each right, or nothing."""
     models = [path for path in options.files if path.endswith(MODELS)]
     others = [path for path in options.files if not path.endswith(MODELS + DATA)]
-    alone = (options.a, options.n, options.f, options.r, options.p, options.i, options.s, options.learn, options.progress, options.unchecked)
+    alone = (options.a, options.n, options.f, options.r, options.p, options.i, options.s, options.learn, options.progress, options.unchecked, options.start)
     if others:
         return f'{others[0]}: the name of a model ends in .mzn or .fzn, that of data in .dzn or .json'
     if not models:
@@ -147,4 +152,4 @@ def asked(given):
     files = [os.path.join('.', path) if path.startswith('-') else path for path in options.files]
     return Asked(files, (options.compiling or []) + files, search_words(options), options.a,
                  10_000_000 if options.nodes is None else options.nodes, options.try_nodes, options.bounds, options.keep, options.why,
-                 options.unchecked, time_limit_of(options), options.i, options.s)
+                 options.unchecked, time_limit_of(options), options.start, options.i, options.s)

@@ -7,7 +7,7 @@ import unittest
 
 from nickelmouse.files import Files
 from nickelmouse.kept import Record, check_again, empty_folder, record_of, tidy, write_record
-from nickelmouse.running import Ended, Refused
+from nickelmouse.running import Ended, Programs, Refused
 
 
 class KeptTest(unittest.TestCase):
@@ -31,10 +31,14 @@ class KeptTest(unittest.TestCase):
 
     def test_record(self):
         files = Files(empty_folder(self.path))
-        for record in (Record(True, None), Record(False, 99)):
+        for record, words in ((Record(True, None, False), ['-a']), (Record(False, 99, True), ['--bound'])):
             write_record(files, record)
-            self.assertEqual(record_of(files), record)
-        self.assertEqual([Record(True, None).last_line(), Record(False, 99).last_line()], ['checked', 'checked within -99..99'])
+            self.assertEqual((record_of(files), record.checking()), (record, words))
+
+    def test_record_of_yesterday(self):
+        files = Files(empty_folder(self.path))
+        files.write('kept.json', b'{"every": true, "bounds": null}')
+        self.assertEqual(record_of(files), Record(True, None, False))
 
     def test_tidy(self):
         """What is left, by the status, of files of a run."""
@@ -49,7 +53,8 @@ class KeptTest(unittest.TestCase):
 
     def test_no_record(self):
         files = Files(empty_folder(self.path))
-        for text in (None, b'', b'[]', b'{}', b'{"every": 1, "bounds": null}', b'{"every": true, "bounds": "x"}', b'\xff'):
+        for text in (None, b'', b'[]', b'{}', b'{"every": 1, "bounds": null, "bound": true}',
+                     b'{"every": true, "bounds": "x", "bound": true}', b'{"every": true, "bounds": null, "bound": 1}', b'\xff'):
             if text is not None:
                 files.write('kept.json', text)
             with self.assertRaises(Refused):
@@ -57,20 +62,27 @@ class KeptTest(unittest.TestCase):
 
     def test_checked_again(self):
         files = Files(empty_folder(self.path))
-        write_record(files, Record(False, None))
-        files.write('model.fzc', b'x = 3;\n')
-        files.write('check', b'#!/bin/sh\ncat "$2"\n')
+        files.write('check', b'#!/bin/sh\nwhile [ $# -gt 1 ]; do shift; done; cat "$1"\n')
         os.chmod(files.path('check'), 0o755)
-        for answer, wanted in ((b'x = 3;\n', (0, 'checked')), (b'x = 4;\n', (1, 'the certificate shows another answer'))):
+        cases = [
+            # whether the bound is told, what stands in the certificate, the answer that was kept, the end
+            (False, b'x = 3;\n', b'x = 3;\n', (0, ('checked',))),
+            (False, b'x = 3;\n', b'x = 4;\n', (1, ('the certificate shows another answer',))),
+            (True, b'x = 3;\nx = 3, at least 0\n', b'x = 3;\n', (0, ('x = 3, at least 0 (100.0 % apart)', 'checked'))),
+            (True, b'x = 3;\nx = 3, the best\n', b'x = 3;\n', (0, ('checked',))),
+        ]
+        for bound, cert, answer, wanted in cases:
+            write_record(files, Record(False, None, bound))
+            files.write('model.fzc', cert)
             files.write('model.answer', answer)
             with self.assertRaises(Ended) as end:
                 self.checked(files)
-            self.assertEqual((end.exception.status, end.exception.last), wanted)
+            self.assertEqual((end.exception.status, end.exception.lines), wanted)
 
     def checked(self, files):
         """Checks again, and shows nothing."""
         with contextlib.redirect_stdout(io.TextIOWrapper(io.BytesIO())):
-            check_again(files.path('check'), files)
+            check_again(Programs('', files.path('check')), files)
 
 
 if __name__ == '__main__':

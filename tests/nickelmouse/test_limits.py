@@ -17,6 +17,12 @@ class SecondsTest(unittest.TestCase):
         for text, seconds in (('90', 90), ('1.5', 1.5), ('2s', 2), ('10m', 600), ('1.5h', 5400)):
             self.assertEqual(seconds_in(text), seconds)
 
+    def test_left(self):
+        """A time limit is one for the command, from its start."""
+        for now, seconds, left in ((2, 5, 3), (2, 2, 0), (9, 5, 0)):
+            with mock.patch.object(limits, 'BEGIN', 0), mock.patch.object(limits, 'time', mock.Mock(monotonic=lambda: now)):
+                self.assertEqual(limits.left_of(seconds), left)
+
     def test_no_times(self):
         for text in ('', '0', '-1', 'm', '1d', '1 m', '10M', 'nan', '1e3', '999999999h', '1.', '.5'):
             with self.assertRaises(ValueError):

@@ -1,8 +1,8 @@
 """Mending: the bytes that a compiled file gets in the place of others."""
 import unittest
 
+from nickelmouse.edits import edits_of, unbounded
 from nickelmouse.items import parsed, replaced
-from nickelmouse.mending import edits_of, unbounded
 from test_items import PRINTED, TEXT
 
 

@@ -5,6 +5,7 @@ import os
 import tempfile
 import unittest
 
+from nickelmouse.bound import Bound
 from nickelmouse.files import Files
 from nickelmouse.printing import begins_with
 from nickelmouse.running import Ended, Programs, Refused
@@ -38,7 +39,8 @@ class SearchTest(unittest.TestCase):
         programs = Programs(self.script('solve', 'cert="$2"\n' + solve), self.script('check', check))
         said = io.StringIO()
         with contextlib.redirect_stderr(said):
-            Search(programs, self.files, [], False, True, **options).run()
+            self.search = Search(programs, self.files, [], options.pop('checking', []), True, **options)
+            self.search.run()
         return self.files.read('model.answer').decode(), self.files.read('model.fzc').decode(), said.getvalue()
 
     def test_whole(self):
@@ -74,7 +76,7 @@ class SearchTest(unittest.TestCase):
         """A search whose certificate is rejected does not go on."""
         with self.assertRaises(Ended) as end:
             self.searched("while :; do echo wrong; sleep 0.01; done >$cert", 'echo certificate line 1: fault 30 Header >&2; exit 1')
-        self.assertEqual((end.exception.status, end.exception.last), (1, 'the certificate is rejected'))
+        self.assertEqual((end.exception.status, end.exception.lines), (1, ('the certificate is rejected',)))
         self.assertFalse(os.path.exists(self.files.path('model.answer')))
 
     def test_checker_that_fails(self):
@@ -94,6 +96,12 @@ class SearchTest(unittest.TestCase):
         self.searched("printf 'fzc 2\\nvars 1 cons 0\\ns 3\\ne open\\n' >$cert; echo x = 3", shown=shown)
         self.assertEqual((shown.getvalue(), self.files.read('model.shown')), (b'x = 3\n', b'x = 3\n'))
         self.assertFalse(begins_with(self.files, 'model.answer', 'model.shown'))
+
+    def test_bound(self):
+        """What --bound prints behind the answer is no part of it."""
+        check = 'shift; cat "$2" >/dev/null; printf "x = 3;\\n----------\\nx = 3, at least 2\\n"'
+        told = self.searched("printf 'fzc 2\\nvars 1 cons 0\\ns 3\\ne open\\n' >$cert", check, checking=['--bound'])
+        self.assertEqual((told[0], self.search.bound), ('x = 3;\n----------\n', Bound('x', 3, 'at least', 2)))
 
 
 if __name__ == '__main__':

@@ -1,6 +1,7 @@
 """Statistics: what fznsolve tells, in MiniZinc's words."""
 import unittest
 
+from nickelmouse.bound import Bound
 from nickelmouse.statistics import statistics_in, without_progress
 
 TOLD = """1.0 s, 6982 nodes, 6323 conflicts, 59892 inferences, 32 solutions, best 143, 5716551 bytes of certificate
@@ -22,6 +23,9 @@ class StatisticsTest(unittest.TestCase):
 
     def test_nothing(self):
         self.assertEqual(statistics_in(''), '%%%mzn-stat-end\n')
+
+    def test_bound(self):
+        self.assertEqual(statistics_in('', Bound('x', 4, 'at least', 3)), '%%%mzn-stat: objectiveBound=3\n%%%mzn-stat-end\n')
 
     def test_beside(self):
         self.assertEqual(without_progress(TOLD + 'fault 19 Memory\n'), 'fault 19 Memory')

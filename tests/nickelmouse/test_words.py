@@ -25,6 +25,10 @@ class WordsTest(unittest.TestCase):
         self.assertEqual((words.solving, words.every, words.intermediate, words.statistics, words.time_limit),
                          (['--progress'], False, True, True, 2.5))
 
+    def test_word_of_gecode(self):
+        """As a file of parameters may have it for MiniZinc's own solver."""
+        self.assertEqual(asked(['-node', '1', '-a', '-n', '2', 'm.fzn']).solving, ['-a', '-n', '2', '--nodes', '1'])
+
     def test_time_limits(self):
         for given, seconds in ((['--time-limit', '2m'], 120), (['--time-limit', '9', '-t', '500'], 0.5), (['-t', '0'], None), ([], None)):
             self.assertEqual(asked([*given, 'm.fzn']).time_limit, seconds)
