@@ -3,10 +3,10 @@
 
     bench/limits.py [--limit SECONDS] [--over SECONDS] [--jobs N] [--check PATH] [--words 'WORDS'] FOLDER|MODEL ..
 
-Each optimisation among the FlatZinc files, and each MiniZinc model, is run once with `--time-limit` (5), N at a time (1). A run is late where
-it ends more than `--over` (1.5) seconds of wall time behind the limit. A row has the seconds, how the answer ends (closed, open, none, or the
-compiler's own), what is known of the objective, and in place of these, where the last line is not `checked`, what was said. The last lines
-count. The status is 1 where a run is late, or not checked."""
+Each optimisation among the FlatZinc files, and each MiniZinc model, is run once with `--time-limit` (5) and WORDS (--jobs 1), N at a time (1).
+A run is late where it ends more than `--over` (1.5) seconds of wall time behind the limit. A row has the seconds, how the answer ends (closed,
+open, none, or the compiler's own), what is known of the objective, and in place of these, where the last line is not `checked`, what was said.
+The last lines count. The status is 1 where a run is late, or not checked."""
 import argparse
 import os
 import re
@@ -68,7 +68,7 @@ def main():
     parser.add_argument('--over', type=float, default=1.5)
     parser.add_argument('--jobs', type=int, default=1)
     parser.add_argument('--check', default=os.environ.get('FZNCHECK', os.path.join(TOP, 'crates/fzncheck/out/fzncheck')))
-    parser.add_argument('--words', default='')
+    parser.add_argument('--words', default='--jobs 1')
     parser.add_argument('paths', nargs='+', metavar='FOLDER|MODEL')
     options = parser.parse_args()
     models = list(models_in(options.paths))

@@ -37,7 +37,7 @@ class Answering:
             self.explain()
         if self.asked.is_flat:
             self.solve(self.flat_text(), Plain())
-        if self.asked.keep is None:
+        if self.asked.keep is None and self.asked.report is None:
             self.solve_model(None)
         with open(self.files.path(PRINTED), 'wb') as kept:
             self.solve_model(kept)
@@ -79,20 +79,27 @@ class Answering:
         return Record(self.asked.every or self.asked.intermediate and model.has_objective, self.asked.bounds if model.within else None,
                       model.has_objective and tells_bounds(self.programs.check))
 
-    def search(self, record, printer, hints):
-        """The search that is asked for, with these words for hints."""
+    def search(self, record, model, printer, hints):
+        """The search that is asked for, with these words for hints: one run, or several workers."""
         asked, words = self.asked, self.asked.solving + hints
         if record.every and '-a' not in words:
             words.append('-a')
         if asked.statistics and '--progress' not in words:
             words.append('--progress')
-        return Search(self.programs, self.files, words, record.checking(), asked.keep is not None, printer if asked.unchecked else None,
-                      '--progress' in asked.solving)
+        keeps = asked.keep is not None or asked.report is not None
+        shown, tells = printer if asked.unchecked else None, '--progress' in asked.solving
+        if asked.machines.has_cubes:
+            return asked.machines.search(self.programs, self.files, words, record.checking(), keeps, tells)
+        if asked.jobs == 1 or model.goal is None:
+            return Search(self.programs, self.files, words, record.checking(), keeps, shown, tells, before=self.programs.through)
+        from nickelmouse.portfolio import Portfolio, Setting
+        return Portfolio(Setting(self.programs, self.files, words, record.checking(), keeps, asked.jobs, asked.wanted, shown, tells,
+                                 before=self.programs.through), model)
 
     def answer(self, model, printer):
         """Solves the file, has the answer checked, and prints it. Ends the run."""
         record = self.record(model)
-        search = self.search(record, printer, self.start.words(model.text) if self.start is not None else [])
+        search = self.search(record, model, printer, self.start.words(model.text) if self.start is not None else [])
         self.limits.cut = search.cut
         try:
             told = search.run()
@@ -105,7 +112,7 @@ class Answering:
                 self.start.remove()
         if self.asked.keep is not None:
             write_record(self.files, record)
-        self.print_answer(printer, statistics_in(told.said, search.bound).encode() if self.asked.statistics else b'')
+        self.print_answer(printer, statistics_in(told.said, search.bound, search.value).encode() if self.asked.statistics else b'')
         raise Ended(0, *lines_of(search.bound, self.files), self.programs.checked(record.bounds))
 
     def refuse(self, fault):

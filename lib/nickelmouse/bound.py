@@ -1,7 +1,7 @@
 """How far an answer that is left open may be from the best: the line that `fzncheck --bound` prints behind an answer."""
 import mmap
 import re
-from dataclasses import dataclass
+from dataclasses import dataclass, replace
 
 from nickelmouse.running import Broken, output_of
 
@@ -42,6 +42,14 @@ class Bound:
     def statistic(self):
         """The line for MiniZinc."""
         return f'%%%mzn-stat: objectiveBound={self.number}\n'
+
+
+def narrowed(bound, other):
+    """A bound with the number of another one of the same objective, where that says more. Either may be unknown."""
+    if bound is None or other is None or bound.side != other.side:
+        return bound
+    choose = max if bound.side == 'at least' else min
+    return replace(bound, number=choose(bound.number, other.number))
 
 
 def bound_in(line):

@@ -69,7 +69,7 @@ class Explaining:
     def told(self, text, table):
         """Tells why. Returns the status."""
         with tempfile.TemporaryDirectory() as folder:
-            asked = why.Asked(self.programs, folder, self.words.nodes, self.words.try_nodes or 100_000)
+            asked = why.Asked(self.programs, folder, self.words.nodes, self.words.try_nodes or 100_000, self.words.heard)
             try:
                 return why.told(asked, text, table)
             except Refused as fault:

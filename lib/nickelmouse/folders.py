@@ -9,10 +9,13 @@ KEEPER = ['sh', '-c', 'trap "" INT TERM HUP; read _; rm -rf "$1"', 'sh']
 
 
 class Temporary:
-    """A new folder, which is removed at the end, also where we are killed."""
+    """A new folder, below another one or where temporary files belong, which is removed at the end, also where we are killed."""
+
+    def __init__(self, below=None):
+        self.below = None if below is None else os.path.realpath(below)
 
     def __enter__(self):
-        self.folder = folder = tempfile.mkdtemp(prefix='nickelmouse-')
+        self.folder = folder = tempfile.mkdtemp(prefix='nickelmouse-', dir=self.below)
         try:
             self.keeper = subprocess.Popen([*KEEPER, folder], stdin=subprocess.PIPE, stdout=subprocess.DEVNULL, stderr=subprocess.DEVNULL,
                                            start_new_session=True, cwd='/')

@@ -4,13 +4,15 @@ import threading
 
 PIECE = 1 << 20
 SECONDS = 0.02
+CLOSED = b'e closed\n'
 
 
 class Lines:
-    """The whole lines of a text that comes in pieces: how many bytes they have, how many of the first two there are, and how the last begins."""
+    """The whole lines of a text that comes in pieces: how many bytes they have, how many of the first two there are, how the last begins, and
+    what is left behind them."""
 
     def __init__(self):
-        self.bytes, self.heading, self.last, self.rest = 0, 0, b'', b''
+        self.bytes, self.heading, self.last, self.rest, self.tail = 0, 0, b'', b'', b''
 
     def take(self, piece):
         """Takes a piece, and gives what is whole now and was not before."""
@@ -22,19 +24,35 @@ class Lines:
             self.heading = min(2, self.heading + whole.count(b'\n'))
             begin = whole.rfind(b'\n', 0, -1) + 1
             self.last = whole[begin:begin + 2]
+            self.tail = whole[-len(CLOSED):]
         return whole
 
     def has_end(self):
         """Whether the last whole line is the one that ends a certificate."""
         return self.heading == 2 and self.last == b'e '
 
+    def is_closed(self):
+        """Whether that line says that there is nothing better, or nothing else."""
+        return self.has_end() and self.tail == CLOSED
+
+
+def solutions_in(lines):
+    """The `s` lines among whole lines of a certificate, in order."""
+    text = b'\n' + lines
+    begin = text.find(b'\ns ')
+    while begin >= 0:
+        behind = text.index(b'\n', begin + 1)
+        yield text[begin + 1:behind + 1]
+        begin = text.find(b'\ns ', behind)
+
 
 class Follower(threading.Thread):
-    """Hands on what another program writes to a file, until that program has ended. `refused` is called where nobody reads any more."""
+    """Hands on what another program writes to a file, until that program has ended. `refused` is called where nobody reads any more; `heard`,
+    if it is given, with each solution of a certificate: its `s` line."""
 
-    def __init__(self, path, sink, refused):
+    def __init__(self, path, sink, refused, heard=None):
         super().__init__(daemon=True)
-        self.path, self.sink, self.refused = path, sink, refused
+        self.path, self.sink, self.refused, self.heard = path, sink, refused, heard
         self.lines, self.ended, self.fault = Lines(), threading.Event(), None
 
     def run(self):
@@ -42,6 +60,10 @@ class Follower(threading.Thread):
             file = self.opened()
             if file is not None:
                 with file:
+                    self.follow(file)
+                # Of a file in a folder that machines share, who opens it anew sees what was written last.
+                with open(self.path, 'rb', buffering=0) as file:
+                    file.seek(self.lines.bytes + len(self.lines.rest))
                     self.follow(file)
         except OSError as fault:
             self.fault = fault
@@ -63,8 +85,12 @@ class Follower(threading.Thread):
             is_last = self.ended.is_set()
             piece = file.read(PIECE)
             if piece:
-                self.sink.write(self.lines.take(piece))
+                whole = self.lines.take(piece)
+                self.sink.write(whole)
                 self.sink.flush()
+                if self.heard is not None:
+                    for line in solutions_in(whole):
+                        self.heard(line)
             elif is_last:
                 return
             else:

@@ -35,13 +35,17 @@ class Variable:
 
 @dataclass(frozen=True)
 class Array:
-    """An array of variables: the numbers of those among its entries, how many entries it has, and for each the number of its variable, or
-    nothing for a constant."""
+    """An array of variables: the numbers of those among its entries, how many entries it has, for each the number of its variable, or nothing
+    for a constant, and whether it is printed; then for each entry its constant, or nothing for a variable, and the ranges of its
+    `output_array`, as texts."""
     name: str
     span: Span
     variables: tuple
     length: int
     entries: tuple = ()
+    output: bool = False
+    constants: tuple = ()
+    ranges: tuple = ()
 
 
 @dataclass(frozen=True)
@@ -77,11 +81,12 @@ class Mend:
 
 @dataclass
 class Items:
-    """All that a file states, each kind in the order of the file."""
+    """All that a file states, each kind in the order of the file; `annotated` are the numbers of the variables in search annotations."""
     parameters: list = field(default_factory=list)
     variables: list = field(default_factory=list)
     arrays: dict = field(default_factory=dict)
     constraints: list = field(default_factory=list)
+    annotated: list = field(default_factory=list)
     goal: Goal = None
     mends: list = field(default_factory=list)
 
@@ -128,6 +133,11 @@ class Items:
         return free
 
 
+def constant_in(word):
+    """The number that a constant is, `true` and `false` as 1 and 0."""
+    return {'true': 1, 'false': 0}[word] if word in ('true', 'false') else int(word)
+
+
 def span_of(text):
     """The span that is written as A..B."""
     first, last = text.split('..')
@@ -158,10 +168,12 @@ class Parser:
         marks = words[at + 2:]
         self.items.variables.append(Variable(number, name, declared, span_of(words[at + 1]), 'output' in marks, 'defined' in marks))
 
-    def array(self, words, entries):
-        entries = tuple(None if entry.startswith('=') else int(entry) for entry in entries)
+    def array(self, words, written):
+        entries = tuple(None if entry.startswith('=') else int(entry) for entry in written)
+        constants = tuple(constant_in(entry[1:]) if entry.startswith('=') else None for entry in written)
         variables = tuple(entry for entry in entries if entry is not None)
-        self.items.arrays[words[1]] = Array(words[1], span_of(words[3]), variables, len(entries), entries)
+        self.items.arrays[words[1]] = Array(words[1], span_of(words[3]), variables, len(entries), entries, words[4:5] == ['output'], constants,
+                                            tuple(words[5:]))
 
     def constraint(self, words, arguments):
         defines = int(words[10]) if words[9:10] == ['defines'] else None
@@ -169,8 +181,8 @@ class Parser:
         self.items.constraints.append(Constraint(int(words[1]), words[2], int(words[4]), int(words[6]), span_of(words[8]), defines,
                                                  arguments))
 
-    def search(self, words, variables):
-        """What the search follows says nothing of the answer."""
+    def search(self, _, variables):
+        self.items.annotated += map(int, variables)
 
     def goal(self, words, _):
         span = span_of(words[words.index('bytes') + 1])

@@ -2,12 +2,14 @@
 import os
 from dataclasses import asdict, dataclass
 
-from nickelmouse.bound import BOUND, bound_in, lines_of, without_last_line
+from nickelmouse.bound import BOUND, bound_in, lines_of, narrowed, without_last_line
 from nickelmouse.printing import Plain, print_rest
-from nickelmouse.running import Ended, Refused, output_of, say
+from nickelmouse.running import REJECTED, Ended, Refused, output_of, say
 
 RECORD, PRINTED = 'kept.json', 'model.printed'
-KEPT = (RECORD, PRINTED, 'model.answer', 'model.fzc', 'model.fzn', 'model.paths')
+# The certificate of another worker, which has proved a better bound than that of the answer.
+BOUND_CERTIFICATE = 'bound.fzc'
+KEPT = (RECORD, PRINTED, 'model.answer', 'model.fzc', 'model.fzn', 'model.paths', BOUND_CERTIFICATE)
 
 
 @dataclass(frozen=True)
@@ -66,19 +68,28 @@ def record_of(files):
     return record
 
 
+def known_bound(programs, files):
+    """The bound of the second certificate in a folder, or nothing where there is none."""
+    path = files.path(BOUND_CERTIFICATE)
+    if not os.path.exists(path):
+        return None
+    return bound_in(without_last_line(output_of([programs.check, BOUND, files.path('model.fzn'), path]))[1])
+
+
 def check_again(programs, files):
     """Checks the certificate of a folder again, and prints the answer. Ends the run."""
     record, bound = record_of(files), None
     try:
         answer = output_of([programs.check, *record.checking(), files.path('model.fzn'), files.path('model.fzc')])
+        known = known_bound(programs, files)
     except Refused as fault:
         if fault.status != 1:
             raise
         say(fault)
-        raise Ended(1, 'the certificate is rejected') from fault
+        raise Ended(1, REJECTED) from fault
     if record.bound:
         answer, line = without_last_line(answer)
-        bound = bound_in(line)
+        bound = narrowed(bound_in(line), known)
     if answer != files.read('model.answer'):
         raise Ended(1, 'the certificate shows another answer')
     print_rest(files, PRINTED if os.path.exists(files.path(PRINTED)) else 'model.answer', Plain(), 0)

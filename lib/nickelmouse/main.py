@@ -2,6 +2,7 @@
 import contextlib
 import os
 import sys
+from dataclasses import replace
 
 from nickelmouse import kept
 from nickelmouse.answering import Answering
@@ -35,17 +36,26 @@ def to_its_end(run, mark=''):
         return end.status
 
 
+def page_of(words, programs):
+    """The page that is asked for, or nothing."""
+    if words.report is None:
+        return contextlib.nullcontext()
+    from nickelmouse.report.reporting import Reporting
+    return Reporting(words, programs)
+
+
 def answered(words, mark=''):
     """Answers a command line, its last lines behind a mark. Returns the status."""
     for path in words.files:
         with open(path, 'rb'):
             pass
-    found = programs()
+    found = replace(programs(), through=words.machines.through)
     kept_folder = contextlib.nullcontext(kept.empty_folder(words.keep)) if words.keep is not None else None
-    with Limits(words.time_limit) as limits, kept_folder or Temporary() as folder:
+    with page_of(words, found) as page, Limits(words.time_limit) as limits, kept_folder or Temporary(words.machines.temporary()) as folder:
         status = None
         try:
-            status = to_its_end(Answering(words, found, Files(folder), limits).run, mark)
+            run = Answering(words, found, Files(folder), limits).run
+            status = to_its_end(run if page is None else page.around(run, Files(folder)), mark)
             return status
         finally:
             limits.close()

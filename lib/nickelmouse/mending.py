@@ -8,16 +8,17 @@ from nickelmouse.counts import counted, printed_items_of_text
 
 @dataclass(frozen=True)
 class Mended:
-    """A compiled file as the solver takes it, whether an integer needed the bounds, and the word of its goal, which is that of a satisfaction
-    where the file has a fault that cannot be mended."""
+    """A compiled file as the solver takes it, whether an integer needed the bounds, the word of its goal, and what `fzncheck --items` prints of
+    it where that is known. A file with a fault that cannot be mended has no goal."""
     text: bytes
     within: bool
     goal: str
+    printed: str = None
 
     @property
     def has_objective(self):
         """Whether something is to be minimized or maximized."""
-        return self.goal != 'satisfy'
+        return self.goal not in (None, 'satisfy')
 
 
 def mended(check, text, bounds=None):
@@ -25,7 +26,7 @@ def mended(check, text, bounds=None):
     printed = printed_items_of_text(check, text)
     counts = counted(printed) if printed is not None else None
     if counts is None or not counts.mends:
-        return Mended(text, False, counts.goal if counts is not None else 'satisfy')
+        return Mended(text, False, counts.goal if counts is not None else None, printed)
     from nickelmouse.edits import edits_of, unbounded
     from nickelmouse.items import parsed, replaced
     items = parsed(printed)

@@ -53,6 +53,7 @@ class Words:
     explaining: bool = False
     every: bool = False
     counted: bool = False
+    heard: object = None
 
     def take(self, word, rest):
         """Takes one word, and what it wants of those behind it."""

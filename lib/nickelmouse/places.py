@@ -73,6 +73,11 @@ def items_in(text):
     return items
 
 
+def place_of(text, at):
+    """The line and the column of a character."""
+    return text.count('\n', 0, at) + 1, at - text.rfind('\n', 0, at)
+
+
 def in_one_line(text):
     """A text without its comments and its breaks."""
     return ' '.join(re.sub(r'%.*|/\*.*?\*/', ' ', text).split())
@@ -96,9 +101,19 @@ class Source:
 
     def item(self, step):
         """The item that a step stands in, without its `;`."""
+        text, (first, behind) = self.item_at(step)
+        return in_one_line(text[first:behind - 1])
+
+    def item_at(self, step):
+        """The text of a step's file, and where the item that the step stands in begins and ends there, behind its `;`."""
         lines = self.lines(step.file)
         text, begin = '\n'.join(lines), sum(map(len, lines[:step.begin[0] - 1])) + step.begin[0] + step.begin[1] - 2
-        return next((in_one_line(text[first:behind - 1]) for first, behind in items_in(text) if first <= begin < behind), '')
+        return text, next(((first, behind) for first, behind in items_in(text) if first <= begin < behind), (0, 0))
+
+    def span(self, step):
+        """The places of the first and the last character of a step: of a declaration, those of its item."""
+        text, (first, behind) = self.item_at(step) if step.kind == 'vd' else ('', (0, 0))
+        return (place_of(text, first), place_of(text, behind - 1)) if behind else (step.begin, step.end)
 
     def text(self, step):
         """What stands at a step, without comments, in one line: the item of a declaration."""

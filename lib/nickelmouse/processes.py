@@ -1,4 +1,5 @@
 """The programs that we have started: none of them outlives us."""
+import contextlib
 import os
 import signal
 import subprocess
@@ -16,10 +17,18 @@ class Interrupted(Exception):
         self.status = 128 + number
 
 
-def in_the_child(parent, is_alone):
+def give_way():
+    """Has the machine end this process before others where memory is short."""
+    with contextlib.suppress(OSError), open('/proc/self/oom_score_adj', 'wb', buffering=0) as file:
+        file.write(b'1000')
+
+
+def in_the_child(parent, is_alone, is_spare):
     """Has the program end where we are killed, and leaves to us what a signal to the whole group means: where it is alone, it gets none."""
     if is_alone:
         os.setsid()
+    if is_spare:
+        give_way()
     for number in ENDING:
         signal.signal(number, signal.SIG_DFL if is_alone else signal.SIG_IGN)
     dies_with_its_parent()
@@ -33,10 +42,11 @@ class Processes:
     def __init__(self):
         self.going, self.ended_for = {}, None
 
-    def start(self, words, end=subprocess.Popen.kill, is_alone=False, **options):
-        """Starts a program. `end` ends it, without waiting; where it is alone, it has a group of its own."""
+    def start(self, words, end=subprocess.Popen.kill, is_alone=False, is_spare=False, kind=subprocess.Popen, **options):
+        """Starts a program, which ends with the thread that starts it. `end` ends it, without waiting; where it is alone, it has a group of its
+        own; where it can be spared, it is ended before others when memory is short. `kind` makes it."""
         parent = os.getpid()
-        process = subprocess.Popen(words, preexec_fn=lambda: in_the_child(parent, is_alone), **options)
+        process = kind(words, preexec_fn=lambda: in_the_child(parent, is_alone, is_spare), **options)
         self.going[process] = end
         if self.ended_for is not None:
             end(process)

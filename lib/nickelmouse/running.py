@@ -9,6 +9,7 @@ from dataclasses import dataclass
 from nickelmouse.processes import PROCESSES
 from nickelmouse.proved import UNPROVED, is_proved
 
+REJECTED = 'the certificate is rejected'
 FAULT_AT = re.compile(r'^line (\d+) column (\d+): fault (\d+) ', re.M)
 
 
@@ -40,9 +41,10 @@ def say(line):
 
 @dataclass(frozen=True)
 class Programs:
-    """The paths of the solver and of the checker."""
+    """The paths of the solver and of the checker, and the words that stand before each run of the solver."""
     solve: str
     check: str
+    through: tuple = ()
 
     def checked(self, within=None):
         """The last line of an answer that the checker has accepted, where a variable needed bounds within these."""

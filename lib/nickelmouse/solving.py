@@ -2,32 +2,15 @@
 import contextlib
 import subprocess
 import sys
-from dataclasses import dataclass
 
 from nickelmouse.bound import BOUND, cut_from
 from nickelmouse.counts import counted, printed_items
-from nickelmouse.following import Follower
+from nickelmouse.following import Follower, Lines
 from nickelmouse.printing import Copies
 from nickelmouse.processes import PROCESSES
-from nickelmouse.running import Ended, Refused, say, started
-from nickelmouse.statistics import without_progress
-
-# The statuses of fznsolve behind which its certificate may be worth something: its own end, a file that it cannot write, want of memory.
-USEFUL = (0, 4, 5)
-
-
-@dataclass(frozen=True)
-class Told:
-    """How a program ended: its status, and what it said on standard error."""
-    status: int
-    said: str
-
-    def last(self):
-        """The last line that it said, or how it ended without one."""
-        said = without_progress(self.said)
-        if said:
-            return said.splitlines()[-1]
-        return f'killed by signal {-self.status}' if self.status < 0 else f'status {self.status}'
+from nickelmouse.running import REJECTED, Ended, Refused, say, started
+from nickelmouse.through import refused_by
+from nickelmouse.workers import Told, Worker
 
 
 def told_in(process, files, name):
@@ -38,65 +21,94 @@ def told_in(process, files, name):
     return Told(status, said)
 
 
-class Search:
-    """One search over a folder that has `model.fzn`. It leaves the certificate in `model.fzc`, and in `model.answer` what fzncheck printed once
-    it had accepted it; the certificate only where it is kept. `words` go to fznsolve, `checking` to fzncheck; what --bound says there is left in
-    `bound`. What fznsolve prints meanwhile goes to `shown`, if that is given, and is left in `model.shown`; where it `tells`, what it says goes
-    on to standard error."""
+def check_end(files, name, told):
+    """Whether fzncheck has accepted a certificate. Raises what ends the run where it has not."""
+    if told.status == 0:
+        return
+    files.remove(f'{name}.answer')
+    if told.status == 1:
+        say(told.last())
+        raise Ended(1, REJECTED)
+    if told.status == 4:
+        raise Refused(4, told.last())
+    raise Ended(1, f'not checked: {told.last()}')
 
-    def __init__(self, programs, files, words, checking, keeps, shown=None, tells=False):
-        self.programs, self.files, self.words, self.checking = programs, files, words, checking
-        self.keeps, self.shown, self.tells = keeps, shown, tells
-        self.is_cut, self.solver, self.bound = False, None, None
+
+class Search:
+    """One search over a folder that has `model.fzn`, by a worker whose certificate is checked. It leaves the certificate in `NAME.fzc`, and in
+    `NAME.answer` what fzncheck printed once it had accepted it; the certificate only where it is kept. `words` go to fznsolve, `checking` to
+    fzncheck; what --bound says there is left in `bound`; `value` is that of the objective, where fznsolve has not told of it. What fznsolve prints meanwhile goes to `shown`, if that is given, and is left in
+    `NAME.shown`; where it `tells`, what it says goes on to standard error. `heard` is called with each solution that the certificate shows.
+    `before` and `is_spare` are those of the worker; `model` is the file that it reads, if it is another one with the same certificates."""
+
+    def __init__(self, programs, files, words, checking, keeps, shown=None, tells=False, name='model', heard=None, before=(),
+                 is_spare=False, model='model.fzn'):
+        self.programs, self.files, self.checking, self.name = programs, files, checking, name
+        self.keeps, self.shown, self.tells, self.heard = keeps, shown, tells, heard
+        self.words, self.checker = words, None
+        self.worker = Worker(programs.solve, words, files.path(model), self.path('fzc'), before, is_spare)
+        self.bound, self.value, self.told, self.lines = None, None, None, Lines()
+
+    def path(self, ending):
+        """The path of one of its files."""
+        return self.files.path(f'{self.name}.{ending}')
 
     def cut(self):
         """Ends the search now."""
-        self.is_cut = True
-        if self.solver is not None:
-            self.solver.kill()
+        self.worker.cut()
+
+    def end(self):
+        """Ends the search now, and its check."""
+        self.cut()
+        if self.checker is not None:
+            self.checker.kill()
+
+    def is_closed(self):
+        """Whether its certificate says that there is nothing better, or nothing else."""
+        return self.lines.is_closed()
+
+    def remove(self):
+        """Removes what it has left."""
+        self.files.remove(*(f'{self.name}.{ending}' for ending in ('fzc', 'answer', 'shown', 'said', 'checking')))
 
     def run(self):
         """Searches and checks. Gives how fznsolve ended."""
-        files = self.files
-        files.remove('model.fzc')
-        with open(files.path('model.answer'), 'wb') as answer, open(files.path('checking'), 'wb') as checking:
-            checker = started([self.programs.check, *self.checking, files.path('model.fzn'), '/dev/stdin'],
+        self.files.remove(f'{self.name}.fzc')
+        with open(self.path('answer'), 'wb') as answer, open(self.path('checking'), 'wb') as checking:
+            checker = self.checker = started([self.programs.check, *self.checking, self.files.path('model.fzn'), '/dev/stdin'],
                               stdin=subprocess.PIPE, stdout=answer, stderr=checking)
-        follower = Follower(files.path('model.fzc'), checker.stdin, self.cut)
-        told = self.searched(follower)
-        if told.status >= 0 and told.status not in USEFUL:
+        follower = Follower(self.path('fzc'), checker.stdin, self.cut, self.heard)
+        self.lines = follower.lines
+        told = self.told = self.searched(follower)
+        if told.is_faulty():
             self.give_up(checker, told)
         if follower.fault is None:
             self.end_certificate(told, follower)
-        if told.status != 0 and not self.is_cut:
+        if told.status != 0 and not self.worker.is_cut and not self.worker.is_spare:
             say(f'the search ended early: {told.last()}')
         with contextlib.suppress(BrokenPipeError):
             checker.stdin.close()
-        self.check_end(told_in(checker, files, 'checking'))
+        check_end(self.files, self.name, told_in(checker, self.files, f'{self.name}.checking'))
         if BOUND in self.checking:
-            self.bound = cut_from(files.path('model.answer'))
+            self.bound = cut_from(self.path('answer'))
         return told
 
     def searched(self, follower):
         """Runs fznsolve to its end, or until the search is cut, and has its certificate followed. Gives how it ended."""
-        files = self.files
-        with open(files.path('said'), 'wb') as said:
-            self.solver = started([self.programs.solve, *self.words, '--cert', files.path('model.fzc'), files.path('model.fzn')],
-                                  stdin=subprocess.DEVNULL, stdout=subprocess.DEVNULL if self.shown is None else subprocess.PIPE,
-                                  stderr=subprocess.PIPE)
-            if self.is_cut:
-                self.solver.kill()
+        with open(self.path('said'), 'wb') as said:
+            self.worker.start(subprocess.DEVNULL if self.shown is None else subprocess.PIPE)
+            solver = self.worker.process
             follower.start()
-            copies = [Copies(self.solver.stderr, [said, sys.stderr.buffer] if self.tells else [said], self.cut)]
+            copies = [Copies(solver.stderr, [said, sys.stderr.buffer] if self.tells else [said], self.cut)]
             with contextlib.ExitStack() as stack:
                 if self.shown is not None:
-                    file = stack.enter_context(open(files.path('model.shown'), 'wb'))
-                    copies.append(Copies(self.solver.stdout, [file, self.shown], self.cut))
+                    file = stack.enter_context(open(self.path('shown'), 'wb'))
+                    copies.append(Copies(solver.stdout, [file, self.shown], self.cut))
                 for one in copies:
                     one.start()
                 for one in copies:
                     one.join()
-        told = told_in(self.solver, files, 'said')
+        told = told_in(solver, self.files, f'{self.name}.said')
         follower.finish()
         for one in copies:
             if one.fault is not None:
@@ -109,8 +121,8 @@ class Search:
         with contextlib.suppress(BrokenPipeError):
             checker.stdin.close()
         PROCESSES.wait(checker)
-        self.files.remove('checking', 'model.answer', 'model.fzc')
-        raise Refused(told.status, told.last())
+        self.remove()
+        raise refused_by(self.programs.through, told) or Refused(told.status, told.last())
 
     def missing_end(self, told, lines):
         """What a certificate wants behind its whole lines: where a search has left it without an end, these say what is known."""
@@ -131,20 +143,8 @@ class Search:
             follower.sink.write(end)
             follower.sink.flush()
         if not self.keeps:
-            self.files.remove('model.fzc')
+            self.files.remove(f'{self.name}.fzc')
         elif end or follower.lines.rest:
-            with open(self.files.path('model.fzc'), 'ab') as file:
+            with open(self.path('fzc'), 'ab') as file:
                 file.truncate(follower.lines.bytes)
                 file.write(end)
-
-    def check_end(self, told):
-        """Whether fzncheck has accepted the certificate."""
-        if told.status == 0:
-            return
-        self.files.remove('model.answer')
-        if told.status == 1:
-            say(told.last())
-            raise Ended(1, 'the certificate is rejected')
-        if told.status == 4:
-            raise Refused(4, told.last())
-        raise Ended(1, f'not checked: {told.last()}')

@@ -9,7 +9,8 @@ import threading
 from nickelmouse.certificates import shown_in
 from nickelmouse.items import Span, items_of_text, replaced
 from nickelmouse.processes import PROCESSES
-from nickelmouse.running import Refused, say, started
+from nickelmouse.running import Refused, say
+from nickelmouse.through import launched
 
 ENTRY = re.compile(r'\s*([A-Za-z_][A-Za-z0-9_]*)\s*=\s*(?:array[1-9][0-9]*d\(.*?)?(\[[^\[\]]*\]|[^\s\[\](),]+)\s*\)?\s*', re.S)
 WORDS = {'true': 1, 'false': 0}
@@ -137,8 +138,8 @@ class Start:
     def search(self):
         """Searches for a completion, until the time for it is over."""
         fzn, fzc = self.files.path('start.fzn'), self.files.path('start.fzc')
-        solver = started([self.programs.solve, '-f', '--nodes', str(NODES), '--cert', fzc, fzn],
-                         stdin=subprocess.DEVNULL, stdout=subprocess.DEVNULL, stderr=subprocess.DEVNULL)
+        solver = launched(self.programs.through, [self.programs.solve, '-f', '--nodes', str(NODES), '--cert', fzc, fzn],
+                          stdin=subprocess.DEVNULL, stdout=subprocess.DEVNULL, stderr=subprocess.DEVNULL)
         timer = threading.Timer(self.seconds, solver.kill)
         timer.daemon = True
         timer.start()

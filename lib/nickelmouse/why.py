@@ -28,10 +28,12 @@ LISTED = re.compile(rb'(\d+) line (\d+) column (\d+): ')
 
 @dataclass(eq=False)
 class Part:
-    """What is left out and kept as a whole: constraints, by their numbers, and how it is printed."""
+    """What is left out and kept as a whole: constraints, by their numbers, how it is printed, and where it stands in a model, if that is
+    known."""
     constraints: list
     heading: str
     indices: str = ''
+    step: Step = None
 
 
 class Model:
@@ -121,7 +123,7 @@ class Compiled(Model):
         if first.kind == 'id|_objective':
             return Part([], '')
         heading = f'{place_text(step)}: {self.source.text(step)}' if step.kind else f'of the compiler: {step.file}'
-        return Part([], heading, ', '.join(f'{name} = {self.source.value(at, value)}' for at, name, value in indices))
+        return Part([], heading, ', '.join(f'{name} = {self.source.value(at, value)}' for at, name, value in indices), step if step.kind else None)
 
     def is_introduced(self, number):
         """Whether a variable stands for a part of an expression, and for nothing that the model names."""
@@ -217,8 +219,8 @@ class Compiled(Model):
         first = self.equals.get(number, number)
         return [first] + self.aliases.get(first, [])
 
-    def declarations(self, parts):
-        """The declarations of the variables that the parts mention and the model names, with their sets in the compiled file."""
+    def given_for(self, parts):
+        """The declarations of the variables that the parts mention and the model names: their places, with their sets in the compiled file."""
         given = {}
         for number in self.mentioned(self.needed_by(parts)):
             same = [self.items.variable(each) for each in self.same_as(number)]
@@ -226,7 +228,11 @@ class Compiled(Model):
             for steps in filter(None, (self.paths.get(each.name) for each in same)):
                 if sets and steps[0].kind.startswith('id|') and not self.is_introduced(number):
                     given.setdefault((steps[0].file, steps[0].begin), (steps[0], set()))[1].update(sets)
-        return [self.declaration(step, sets) for _, (step, sets) in sorted(given.items(), key=lambda one: one[0])]
+        return [given[place] for place in sorted(given)]
+
+    def declarations(self, parts):
+        """The lines of these declarations."""
+        return [self.declaration(step, sets) for step, sets in self.given_for(parts)]
 
     def declaration(self, step, sets):
         """The line of one declaration, with those of the sets that it does not spell."""
@@ -250,11 +256,26 @@ class Answer:
         return self.best < end.best if direction == 'minimize' else self.best > end.best
 
 
-class Asked:
-    """The two programs, a folder for what they read and write, and how many decisions they may make."""
+@dataclass
+class Found:
+    """What was found of a model: how it ends, the parts that are left, in order, and those of which it is open whether they are needed."""
+    model: Model
+    end: Answer
+    kept: list
+    undecided: list
 
-    def __init__(self, programs, folder, nodes, try_nodes):
-        self.programs, self.nodes, self.try_nodes = programs, nodes, try_nodes
+    def lines(self):
+        """What is printed of it."""
+        first = 'no solution, since' if self.end.best is None else f'{self.model.objective()} = {self.end.best} is the best, since'
+        left = f'{len(self.undecided)} not decided' if self.undecided else 'minimal'
+        return [first, *self.model.shown(self.kept), f'{len(self.kept)} of {len(self.model.parts)}, {left}']
+
+
+class Asked:
+    """The two programs, a folder for what they read and write, how many decisions they may make, and who else hears what was found."""
+
+    def __init__(self, programs, folder, nodes, try_nodes, heard=None):
+        self.programs, self.nodes, self.try_nodes, self.heard = programs, nodes, try_nodes, heard
         self.file = os.path.join(folder, 'asked.fzn')
         self.cert = os.path.join(folder, 'asked.fzc')
 
@@ -332,10 +353,11 @@ def report(asked, model):
         print('there are solutions' if end.best is not None else 'open: nothing was found before the node limit')
         return 1
     kept, undecided = explain(asked, model, end)
-    print('no solution, since' if end.best is None else f'{model.objective()} = {end.best} is the best, since')
-    for line in model.shown([part for part in model.parts if part in kept]):
+    found = Found(model, end, [part for part in model.parts if part in kept], undecided)
+    for line in found.lines():
         print(line)
-    print(f'{len(kept)} of {len(model.parts)}, ' + (f'{len(undecided)} not decided' if undecided else 'minimal'))
+    if asked.heard is not None:
+        asked.heard(found)
     return 0
 
 

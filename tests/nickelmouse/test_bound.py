@@ -3,7 +3,7 @@ import os
 import tempfile
 import unittest
 
-from nickelmouse.bound import Bound, bound_in, cut_from, lines_of, name_in_the_model, tells_bounds, without_last_line
+from nickelmouse.bound import Bound, bound_in, cut_from, lines_of, name_in_the_model, narrowed, tells_bounds, without_last_line
 from nickelmouse.files import Files
 from nickelmouse.running import Broken
 
@@ -34,6 +34,14 @@ class BoundTest(unittest.TestCase):
         for line in (b'', b'==========\n', b'total = 181\n', b'total = 181, at least 170', b'total = x, at least 170\n', b'x = 1, no objective\n'):
             with self.assertRaises(Broken):
                 bound_in(line)
+
+    def test_narrowed(self):
+        """The number that says more, of two bounds of one side."""
+        low, high = Bound('x', 9, 'at least', 3), Bound('x', 9, 'at most', 20)
+        for bound, other, number in ((low, Bound('x', 12, 'at least', 5), 5), (low, Bound(None, None, 'at least', 1), 3),
+                                     (high, Bound('x', 2, 'at most', 15), 15), (high, Bound('x', 2, 'at most', 25), 20), (low, high, 3), (low, None, 3)):
+            self.assertEqual(narrowed(bound, other), Bound('x', 9, bound.side, number))
+        self.assertIsNone(narrowed(None, low))
 
     def test_statistic(self):
         self.assertEqual(Bound('total', 181, 'at least', -170).statistic(), '%%%mzn-stat: objectiveBound=-170\n')

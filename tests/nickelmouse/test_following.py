@@ -3,9 +3,10 @@ import io
 import os
 import tempfile
 import threading
+import time
 import unittest
 
-from nickelmouse.following import Follower, Lines
+from nickelmouse.following import Follower, Lines, solutions_in
 
 
 class Sink(io.BytesIO):
@@ -39,6 +40,21 @@ class LinesTest(unittest.TestCase):
             self.assertEqual(lines.has_end(), whole.endswith(b'e open\n'))
 
 
+    def test_closed(self):
+        for pieces, is_closed in (([b'fzc 2\nvars 1 cons 1\n', b'e closed\n'], True), ([b'fzc 2\nvars 1 cons 1\ns 1\ne clo', b'sed\n'], True),
+                                  ([b'fzc 2\nvars 1 cons 1\ne open\n'], False), ([b'fzc 2\nvars 1 cons 1\ne closed'], False), ([], False)):
+            lines = Lines()
+            for piece in pieces:
+                lines.take(piece)
+            self.assertEqual(lines.is_closed(), is_closed)
+
+    def test_solutions(self):
+        cases = [(b'', []), (b's 1 2\n', [b's 1 2\n']), (b'fzc 2\nvars 2 cons 1\ni 1 lin ; s\nr ; 2\n', []),
+                 (b'fzc 2\nvars 2 cons 1\ns 1 2\ns 3 4\nr ; 1\ns 5 6\ne closed\n', [b's 1 2\n', b's 3 4\n', b's 5 6\n'])]
+        for text, wanted in cases:
+            self.assertEqual(list(solutions_in(text)), wanted)
+
+
 class FollowerTest(unittest.TestCase):
     """A file that grows."""
 
@@ -59,6 +75,32 @@ class FollowerTest(unittest.TestCase):
         follower.finish()
         self.assertEqual((sink.getvalue(), follower.lines.rest), (b'fzc 2\nvars 1 cons 1\ns 1\n', b's'))
         self.assertFalse(began.is_set())
+
+    def test_heard(self):
+        """Each solution is heard once its line is whole."""
+        heard = []
+        follower = Follower(self.path, Sink(), lambda: None, heard.append)
+        follower.start()
+        with open(self.path, 'wb', buffering=0) as file:
+            for piece in (b'fzc 2\nvars 1 cons 1\ns', b' 1\nr ; 1\ns 2', b'\ns 3'):
+                file.write(piece)
+        follower.finish()
+        self.assertEqual(heard, [b's 1\n', b's 2\n'])
+
+    def test_shared(self):
+        """The last bytes are seen by whoever opens the file anew."""
+        sink = Sink()
+        with open(self.path, 'wb') as file:
+            file.write(b'fzc 2\nvars')
+        follower = Follower(self.path, sink, lambda: None)
+        follower.start()
+        while follower.lines.bytes == 0:
+            time.sleep(0.01)
+        with open(self.path + '2', 'wb') as file:
+            file.write(b'fzc 2\nvars 1 cons 1\ne open\n')
+        os.replace(self.path + '2', self.path)
+        follower.finish()
+        self.assertEqual(sink.getvalue(), b'fzc 2\nvars 1 cons 1\ne open\n')
 
     def test_never_there(self):
         sink = Sink()

@@ -1,6 +1,7 @@
 """Items: what fzncheck --items says of a file, and bytes that are blanked or replaced."""
 import unittest
 
+from nickelmouse.counts import Counts, counted
 from nickelmouse.items import Span, blanked, parsed, replaced
 from nickelmouse.running import Broken
 
@@ -52,6 +53,16 @@ class ItemsTest(unittest.TestCase):
         spans += zip([mend.span for mend in self.items.mends], [b'int', b'set of int', b'k'])
         for span, text in spans:
             self.assertEqual(span.of(TEXT), text)
+
+    def test_counts(self):
+        """The objective is a number where it is a variable."""
+        objective = PRINTED.replace('goal minimize constant 5', 'goal maximize 2')
+        self.assertEqual(counted(PRINTED), Counts('minimize', 5, 8, 3, None))
+        self.assertEqual(counted(objective), Counts('maximize', 5, 8, 3, 2))
+        self.assertEqual(counted(PRINTED.replace('goal minimize constant 5', 'goal satisfy')), Counts('satisfy', 5, 8, 3, None))
+
+    def test_annotated(self):
+        self.assertEqual((self.items.annotated, self.items.arrays['q'].output), ([1, 2], False))
 
     def test_variables(self):
         self.assertEqual([(one.number, one.name, one.declared, one.output, one.defined) for one in self.items.variables], [

@@ -79,6 +79,21 @@ class KeptTest(unittest.TestCase):
                 self.checked(files)
             self.assertEqual((end.exception.status, end.exception.lines), wanted)
 
+    def test_another_bound(self):
+        """A second certificate has a better bound, which is checked with the first."""
+        files = Files(empty_folder(self.path))
+        files.write('check', b'#!/bin/sh\nwhile [ $# -gt 1 ]; do shift; done; grep wrong "$1" >&2 && exit 1; cat "$1"\n')
+        os.chmod(files.path('check'), 0o755)
+        write_record(files, Record(False, None, True))
+        files.write('model.fzc', b'x = 3;\nx = 3, at least 0\n')
+        files.write('model.answer', b'x = 3;\n')
+        for second, wanted in ((b'x = 5;\nx = 5, at least 2\n', ('x = 3, at least 2 (33.4 % apart)', 'checked')),
+                               (b'wrong\n', ('the certificate is rejected',))):
+            files.write('bound.fzc', second)
+            with self.assertRaises(Ended) as end, contextlib.redirect_stderr(io.StringIO()):
+                self.checked(files)
+            self.assertEqual(end.exception.lines, wanted)
+
     def checked(self, files):
         """Checks again, and shows nothing."""
         with contextlib.redirect_stdout(io.TextIOWrapper(io.BytesIO())):

@@ -2,7 +2,7 @@
 import unittest
 
 from nickelmouse.bound import Bound
-from nickelmouse.statistics import statistics_in, without_progress
+from nickelmouse.statistics import nodes_in, statistics_in, without_progress
 
 TOLD = """1.0 s, 6982 nodes, 6323 conflicts, 59892 inferences, 32 solutions, best 143, 5716551 bytes of certificate
 in all 1.1 s, 7662 nodes, 6991 conflicts, 65597 inferences, 33 solutions, best -3, 6318217 bytes of certificate
@@ -26,6 +26,12 @@ class StatisticsTest(unittest.TestCase):
 
     def test_bound(self):
         self.assertEqual(statistics_in('', Bound('x', 4, 'at least', 3)), '%%%mzn-stat: objectiveBound=3\n%%%mzn-stat-end\n')
+
+    def test_another_value(self):
+        """The value of the answer, where another worker has found it; how many decisions were made."""
+        self.assertIn('%%%mzn-stat: objective=-5\n', statistics_in(TOLD, None, -5))
+        self.assertEqual(statistics_in('', None, -5), '%%%mzn-stat-end\n')
+        self.assertEqual((nodes_in(TOLD), nodes_in('')), (7662, None))
 
     def test_beside(self):
         self.assertEqual(without_progress(TOLD + 'fault 19 Memory\n'), 'fault 19 Memory')

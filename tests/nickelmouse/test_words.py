@@ -1,6 +1,7 @@
 """The words of nickelmouse."""
 import contextlib
 import io
+import os
 import unittest
 
 from nickelmouse.words import asked
@@ -25,6 +26,12 @@ class WordsTest(unittest.TestCase):
         self.assertEqual((words.solving, words.every, words.intermediate, words.statistics, words.time_limit),
                          (['--progress'], False, True, True, 2.5))
 
+    def test_jobs(self):
+        """As many as are asked for, in either word; else one for each processor, eight at most. And how many solutions a satisfaction wants."""
+        for given, jobs, wanted in ((['--jobs', '1'], 1, 1), (['-p', '12', '-n', '3'], 12, 3), (['-a'], min(8, len(os.sched_getaffinity(0))), None)):
+            words = asked([*given, 'm.fzn'])
+            self.assertEqual((words.jobs, words.wanted), (jobs, wanted))
+
     def test_word_of_gecode(self):
         """As a file of parameters may have it for MiniZinc's own solver."""
         self.assertEqual(asked(['-node', '1', '-a', '-n', '2', 'm.fzn']).solving, ['-a', '-n', '2', '--nodes', '1'])
@@ -41,7 +48,7 @@ class WordsTest(unittest.TestCase):
         cases = [[], ['-a'], ['m.mzn', '-n'], ['m.mzn', '-n', '0'], ['m.mzn', '--bounds', '0'], ['m.mzn', '--bounds', '1000000001'],
                  ['m.mzn', '--bounds', 'x'], ['m.mzn', '--nodes', 'many'], ['m.mzn', '--nodes', '-1'], ['m.mzn', '--node', '1'], ['m.txt'],
                  ['--why', '-a', 'm.mzn'], ['--why', '-n', '2', 'm.mzn'], ['--try-nodes', '5', 'm.mzn'], ['m.fzn', 'd.dzn'], ['m.fzn', '-O3'],
-                 ['m.mzn', '--learn', 'much'], ['m.mzn', '-t', 'x'], ['m.mzn', '-p', '0'], ['m.mzn', '--time-limit', '0'],
+                 ['m.mzn', '--learn', 'much'], ['m.mzn', '-t', 'x'], ['m.mzn', '-p', '0'], ['m.mzn', '--jobs', '1001'], ['--why', '--jobs', '2', 'm.mzn'], ['m.mzn', '--time-limit', '0'],
                  ['m.mzn', '--frob'], ['d.dzn']]
         for given in cases:
             said = io.StringIO()

@@ -1,38 +1,50 @@
 // The bounds of the variable of each entry, and which entries moved them.
 
 use crate::implications::Implications;
-use fzn_domain::{Lit, Memory, Op};
+use fzn_domain::Memory;
 use std::alloc::Global;
 
-/// The least and the greatest value of an entry's variable just before the entry, and the entries that moved them there; none where a bound
-/// is the declared one.
+/// The least and the greatest value of an entry's variable just before the entry, and the entries that moved them there.
 #[derive(Clone, Copy, Debug)]
 pub struct Bounds {
-    least: i64,
-    greatest: i64,
-    /// The entry that raised the least value.
-    pub raised_by: Option<usize>,
-    /// The entry that lowered the greatest value.
-    pub lowered_by: Option<usize>,
+    pub least: i64,
+    pub greatest: i64,
+    /// The place of the entry that raised the least value, or `NONE`.
+    raised_by: u32,
+    /// The place of the entry that lowered the greatest value, or `NONE`.
+    lowered_by: u32,
 }
 
+/// No entry: the bound is the declared one. So is the place of an entry behind all that fit in memory.
+const NONE: u32 = u32::MAX;
+
 impl Bounds {
-    /// Whether the least value shows that the literal is true.
-    pub fn are_above(self, truth: Lit) -> bool {
-        match truth.op {
-            Op::AtLeast => truth.value <= self.least,
-            Op::NotEqual => truth.value < self.least,
-            _ => false,
-        }
+    /// The entry that raised the least value; none where it is the declared one.
+    #[inline(always)]
+    pub fn raised_by(self) -> Option<usize> {
+        place_in(self.raised_by)
     }
 
-    /// Whether the greatest value shows that the literal is true.
-    pub fn are_below(self, truth: Lit) -> bool {
-        match truth.op {
-            Op::AtMost => self.greatest <= truth.value,
-            Op::NotEqual => self.greatest < truth.value,
-            _ => false,
-        }
+    /// The entry that lowered the greatest value; none where it is the declared one.
+    #[inline(always)]
+    pub fn lowered_by(self) -> Option<usize> {
+        place_in(self.lowered_by)
+    }
+}
+
+fn place_in(number: u32) -> Option<usize> {
+    if number == NONE {
+        None
+    } else {
+        Some(number as usize)
+    }
+}
+
+fn number_of(place: usize) -> u32 {
+    if place < NONE as usize {
+        place as u32
+    } else {
+        NONE
     }
 }
 
@@ -74,8 +86,8 @@ impl AllBounds {
         let mut bounds = Bounds {
             least: i64::MIN,
             greatest: i64::MAX,
-            raised_by: None,
-            lowered_by: None,
+            raised_by: NONE,
+            lowered_by: NONE,
         };
         if let Some(domain) = graph.domain_before(place)
             && !domain.is_empty()
@@ -89,12 +101,12 @@ impl AllBounds {
             let is_raised = known.least < bounds.least;
             let is_lowered = bounds.greatest < known.greatest;
             bounds.raised_by = if is_raised {
-                Some(last)
+                number_of(last)
             } else {
                 known.raised_by
             };
             bounds.lowered_by = if is_lowered {
-                Some(last)
+                number_of(last)
             } else {
                 known.lowered_by
             };

@@ -4,7 +4,7 @@
 use crate::bounds::AllBounds;
 use crate::implications::Implications;
 use crate::implied::is_true_on;
-use fzn_domain::{Domain, Lit, Memory, VarId};
+use fzn_domain::{Domain, Lit, Memory, Op, VarId};
 use std::alloc::Global;
 
 /// How many entries a way back visits at most before the search by halves.
@@ -83,19 +83,67 @@ impl Orders {
         Ok(Some(near))
     }
 
-    /// Goes back over the entries on a variable, in at most so many steps, to the earliest after which the literal is true. From a bound that
-    /// shows it the way leads to the entry that moved this bound.
+    /// Goes back over the entries on a variable, in at most so many steps, to the earliest after which the literal is true. The way to a
+    /// bound leads over the entries that moved it alone.
     #[inline(always)]
     fn walk_back(&self, graph: Implications, truth: Lit, last: usize, most: usize) -> Walk {
+        match truth.op {
+            Op::AtLeast => self.walk_down_to(truth.value, last, most),
+            Op::AtMost => self.walk_up_to(truth.value, last, most),
+            Op::NotEqual => self.walk_from_bounds(graph, truth, last, most),
+            Op::Equal => Walk::Open(last), // It is asked as two bounds.
+        }
+    }
+
+    /// To the entry that raised the least value to this one.
+    #[inline(always)]
+    fn walk_down_to(&self, value: i64, last: usize, most: usize) -> Walk {
         let mut at = last;
         for _ in 0..most {
             let Some(bounds) = self.bounds.before(at) else {
                 return Walk::Open(at);
             };
-            let moved_by = if bounds.are_above(truth) {
-                bounds.raised_by
-            } else if bounds.are_below(truth) {
-                bounds.lowered_by
+            if bounds.least < value {
+                return Walk::Found(Some(at));
+            }
+            match bounds.raised_by() {
+                Some(older) => at = older,
+                None => return Walk::Found(None),
+            }
+        }
+        Walk::Open(at)
+    }
+
+    /// To the entry that lowered the greatest value to this one.
+    #[inline(always)]
+    fn walk_up_to(&self, value: i64, last: usize, most: usize) -> Walk {
+        let mut at = last;
+        for _ in 0..most {
+            let Some(bounds) = self.bounds.before(at) else {
+                return Walk::Open(at);
+            };
+            if value < bounds.greatest {
+                return Walk::Found(Some(at));
+            }
+            match bounds.lowered_by() {
+                Some(older) => at = older,
+                None => return Walk::Found(None),
+            }
+        }
+        Walk::Open(at)
+    }
+
+    /// To the entry that took out the value of the literal, or moved a bound over it.
+    fn walk_from_bounds(&self, graph: Implications, truth: Lit, last: usize, most: usize) -> Walk {
+        let mut at = last;
+        for _ in 0..most {
+            let Some(bounds) = self.bounds.before(at) else {
+                return Walk::Open(at);
+            };
+            let moved_by = if truth.value < bounds.least {
+                bounds.raised_by()
+            } else if bounds.greatest < truth.value {
+                bounds.lowered_by()
             } else if is_true_before(graph, at, truth) {
                 return walk_to(graph, truth, at, most);
             } else {

@@ -7,7 +7,7 @@ ghost use Rattle.fzn_strategy.specs.declared.learn.Learn.TheVariants.{Plain};
 ghost use Rattle.fzn_learned.specs.Learned.{IsConflicting, IsDerived, IsLearned, IsPlain};
 ghost use Rattle.fzn_learned.specs.Reasoned.{known_of, AreOver, IsReasoned};
 
-use crate::first_uip::{first_uip, wanted_clause};
+use crate::first_uip::{first_uip, want_root, wanted_clause};
 use crate::marks::{Marks, Wanted};
 use fzn_causes::Implications;
 use fzn_clauses::Clauses;
@@ -107,4 +107,26 @@ pub fn unit_of(
         return Ok(Some(unit));
     }
     Ok(None)
+}
+
+/// Notes that a clause of one literal is wanted for the entry of level 0 at this place, and for those that it rests on, where there is none.
+/// It answers `Err` where memory runs out.
+pub fn want_unit(
+    alloc: Global,
+    trail: &Trail,
+    clauses: &Clauses,
+    inferences: &Inferences,
+    sets: &Sets,
+    marks: &mut Marks,
+    place: usize,
+) -> Result<(), Memory>
+    requires fresh { sets.now ≡ start trail.now.declared }
+{
+    let graph = Implications {
+        trail,
+        clauses,
+        inferences,
+        vars: sets.len(),
+    };
+    want_root(alloc, graph, marks, place)
 }

@@ -1,7 +1,7 @@
 // The clause of the first unique implication point (Zhang, Madigan, Moskewicz, Malik, Efficient Conflict Driven Learning, 2001).
 // Nothing is promised of it: what is learned is tested.
 use crate::marks::{Marks, Wanted};
-use fzn_causes::{Implications, canonical, implies, opposite};
+use fzn_causes::{Cause, Implications, canonical, implies, opposite};
 use fzn_domain::{Clause, Lit, Memory};
 use fzn_learned::Learned;
 use fzn_list::Items;
@@ -275,6 +275,25 @@ fn marked_literals(
         items.push(*equation)?;
     }
     Ok(items)
+}
+
+/// Notes that a clause is wanted for the entry of level 0 at this place, and for those that it rests on.
+pub fn want_root(
+    alloc: Global,
+    graph: Implications,
+    marks: &mut Marks,
+    place: usize,
+) -> Result<(), Memory> {
+    let Some(entry) = graph.entry(place) else {
+        return Ok(());
+    };
+    marks.begin(graph)?;
+    let need = entry.lit;
+    marks.mark(graph, Cause { place, need })?;
+    let mut replaced = Vec::new(alloc);
+    let mut units = Items::new(alloc);
+    replace_level_0(graph, marks, &mut replaced, &mut units)?;
+    marks.want(place)
 }
 
 /// The clause for what it is wanted for: the literal of an entry of level 0, or what stands for a gap.

@@ -5,7 +5,7 @@
 //! `fzn_learned` passes it, else the plain one. Proved against `specs/Learned.antt` of `fzn_learned`.
 #![tactic(auto)]
 
-pub use analysis::{analyse, unit_of};
+pub use analysis::{analyse, unit_of, want_unit};
 pub use marks::{Marks, Wanted};
 
 mod analysis;

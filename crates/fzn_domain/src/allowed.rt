@@ -7,10 +7,7 @@ ghost use Rattle.fzn_domain.specs.IntSet.{contains, size, below, IsRunEnd};
 ghost use Rattle.fzn_domain.specs.Limits.{IsInLimits};
 ghost use Rattle.fzn_domain.specs.Allowed.{allows, selected, Forbids, IsNextAllowed, IsLastAllowed, NoneAllowed};
 
-use crate::bit_set::WIDEST;
-use crate::shared_bits::SharedBits;
-use crate::shared_list::SharedList;
-use crate::word_set::{WIDTH, WordSet};
+use fzn_numbers::{SharedBits, SharedList, WIDEST, WIDTH, WordSet};
 use std::alloc::{AllocError as Memory, Global};
 
 /// Which numbers between the bounds are members.

@@ -52,6 +52,10 @@ pub record IsCut (old new : Solver) : Type 0 where
   pub enough : All (λ (entry : Entry). IsBelow count entry.reason) old.trail.entries
   pub is : new ≡ record old { inferences = take count old.inferences; notes = new.notes }
 
+-- what serves later conflicts alone may differ
+abbrev pub IsNoted : Solver → Solver → Type 0
+IsNoted old new = new ≡ record old { notes = new.notes }
+
 -- the clause's first possible literal was asserted, or it has none
 abbrev pub IsForcedBy : Solver → Reason → Solver → Bool → Type 0
 IsForcedBy old reason new true =

@@ -1,9 +1,11 @@
 // What serves the next conflicts.
-ghost use Rattle.std.specs.Prelude.{◌≡◌, ◌<◌, ◌^◌, [], List, IfOk, IfSome, OnOk, Some};
+ghost use Rattle.std.specs.Prelude.{◌≡◌, ◌<◌, ◌^◌, [], List, length, IfOk, IfSome, OnOk, Some};
 ghost use Rattle.fzn_meaning.specs.declared.model.Model.{Model};
 ghost use Rattle.fzn_cert.specs.declared.step.Step.{Step};
 ghost use Rattle.fzn_strategy.specs.declared.learn.Learn.TheVariants.{First};
+ghost use Rattle.fzn_sets.specs.Sets.{start};
 ghost use Rattle.fzn_engine.specs.Changes.{HoldsNext, IsKeptBy, IsTended};
+ghost use Rattle.fzn_engine.specs.Moves.{IsNoted};
 ghost use Rattle.fzn_engine.specs.Search.{IsReady, IsLeft};
 ghost use Rattle.fzn_engine.specs.Antecedents.{IsWritten, Derives};
 
@@ -12,13 +14,13 @@ use crate::learning::step_of;
 use crate::sink::Sink;
 use crate::solver::Solver;
 use fzn_cert::Step;
-use fzn_conflict::{Wanted, unit_of};
-use fzn_domain::{Lit, Memory};
+use fzn_conflict::{Wanted, unit_of, want_unit};
+use fzn_domain::{Lit, Memory, Op};
 use fzn_learned::Learned;
 use fzn_list::Items;
-use fzn_meaning::Model;
+use fzn_meaning::{Goal, Model};
 use fzn_strategy::Learn;
-use fzn_trail::ClauseId;
+use fzn_trail::{ClauseId, Trail};
 use fzn_upkeep::forget;
 use std::alloc::Global;
 
@@ -58,12 +60,41 @@ impl Solver {
         ensures left { IsLeft model.now (S.written sink.new) (S.keeps model.now sink.new) (S.origin sink.new ≡ S.origin sink.old) }
     {
         match self.learn {
-            Learn::First if self.notes.marks.is_wanting() => {
-                self.prove_wanted(alloc, model, sink)?;
+            Learn::Plain => Ok(()),
+            Learn::First => {
+                self.want_bound(alloc, model.goal)?;
+                if self.notes.marks.is_wanting() {
+                    self.prove_wanted(alloc, model, sink)?;
+                }
                 Ok(())
             }
-            _ => Ok(()),
         }
+    }
+
+    /// With the first decision after a restart a clause is wanted for the best value that level 0 leaves the objective: the certificate then
+    /// tells how good a solution can be at most.
+    fn want_bound(&mut self, alloc: Global, goal: Goal) -> Result<(), Memory>
+        requires fresh { self.old.scratch ≡ start self.old.trail.declared }
+        ensures noted { OnOk result (IsNoted self.old self.new) }
+    {
+        if self.trail.level() == 0 || !self.notes.take_bound_due() {
+            return Ok(());
+        }
+        let Some(place) = bound_place(&self.trail, goal) else {
+            return Ok(());
+        };
+        if self.notes.marks.unit(place).is_some() {
+            return Ok(());
+        }
+        want_unit(
+            alloc,
+            &self.trail,
+            &self.clauses,
+            &self.inferences,
+            &self.scratch,
+            &mut self.notes.marks,
+            place,
+        )
     }
 
     /// Learns them where learning is by the first unique implication point.
@@ -157,4 +188,24 @@ impl Solver {
         self.notes.marks.stand_for(wanted, id);
         Ok(())
     }
+}
+
+/// The place of the entry of level 0 that bounds the objective on the side of better values, where it does not stand on a clause of its own.
+fn bound_place(trail: &Trail, goal: Goal) -> Option<usize>
+    ensures { IfSome result (λ place. place < length trail.now.entries) }
+{
+    let (var, op) = match goal {
+        Goal::Satisfy => return None,
+        Goal::Minimize(var) => (var, Op::AtLeast),
+        Goal::Maximize(var) => (var, Op::AtMost),
+    };
+    let count = trail.count_at(0);
+    for i in 0..count {
+        let place = count - i - 1;
+        let entry = trail.entry(place);
+        if entry.lit.var == var && (entry.lit.op == op || entry.lit.op == Op::Equal) {
+            return Some(place);
+        }
+    }
+    None
 }

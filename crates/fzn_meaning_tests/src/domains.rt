@@ -1,5 +1,5 @@
 // Domains and literals worked out by hand.
-ghost use Rattle.std.specs.Prelude.{◌≡◌};
+ghost use Rattle.std.specs.Prelude.{◌≡◌, ◌≤ℤ◌, pos};
 
 use fzn_domain::{Domain, GREATEST_VALUE, LEAST_VALUE, Lit, Memory, Op, VarId, place_of};
 use std::alloc::Global;
@@ -104,6 +104,59 @@ fn has_places_and_runs(alloc: Global) -> Result<bool, Memory> {
             && run_end(&domain, 3) == Some(5)
             && run_end(&domain, 2).is_none(),
     )
+}
+
+/// Whether four listed values are asked for and narrowed alike, however far apart they are.
+fn is_spread(alloc: Global, step: i64) -> Result<bool, Memory>
+    requires some { pos 2 ≤ℤ step }
+    requires few { step ≤ℤ pos 100000 }
+{
+    let mut domain = Domain::listed(alloc, &[3 * step, 0, step, 2 * step])?;
+    let whole = domain.copy()?;
+    let is_left = keep(&mut domain, Op::NotEqual, step)?;
+    Ok(
+        is_left
+            && domain.len() == 3
+            && whole.len() == 4
+            && !domain.contains(step)
+            && whole.contains(step)
+            && domain.above(0) == Some(2 * step)
+            && domain.below(2 * step) == Some(0)
+            && run_end(&domain, 2 * step) == Some(2 * step),
+    )
+}
+
+/// Whether a range is asked for and narrowed alike, however wide it is. A hole leaves so many of its values.
+fn is_wide_to(alloc: Global, high: i64, left: usize) -> Result<bool, Memory>
+    requires some { pos 20 ≤ℤ high }
+    requires few { high ≤ℤ pos 1000000 }
+{
+    let mut domain = Domain::range(alloc, 1, high)?;
+    let whole = domain.copy()?;
+    let is_left = keep(&mut domain, Op::NotEqual, 10)?;
+    Ok(
+        is_left
+            && domain.len() == left
+            && whole.len() > left
+            && !domain.contains(10)
+            && whole.contains(10)
+            && domain.above(9) == Some(11)
+            && domain.below(11) == Some(9)
+            && run_end(&domain, 2) == Some(9)
+            && run_end(&domain, 11) == Some(high),
+    )
+}
+
+/// One word, several words, and a list.
+#[test]
+fn sets_however_kept(rt: HostRuntime) -> Result<(), Fail> {
+    assert!(rt; is_spread(rt.alloc(), 2)?);
+    assert!(rt; is_spread(rt.alloc(), 100)?);
+    assert!(rt; is_spread(rt.alloc(), 10_000)?);
+    assert!(rt; is_wide_to(rt.alloc(), 20, 19)?);
+    assert!(rt; is_wide_to(rt.alloc(), 200, 199)?);
+    assert!(rt; is_wide_to(rt.alloc(), 20_000, 19_999)?);
+    Ok(())
 }
 
 #[test]

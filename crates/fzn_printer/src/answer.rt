@@ -2,7 +2,6 @@
 ghost use Rattle.std.specs.Prelude.{◌≡◌, length};
 ghost use Rattle.std.specs.List.{All, flat_map};
 ghost use Rattle.fzn_streams.specs.Output.{Puts, IsDue};
-ghost use Rattle.fzn_meaning.specs.WellFormed.{IsOutputItem};
 ghost use Rattle.fzn_meaning.specs.Solutions.{IsAssignment};
 ghost use Rattle.fzn_printer.specs.Showable.{CanBeShown};
 ghost use Rattle.fzn_printer.specs.Shown.{shown};

@@ -1,9 +1,8 @@
 // The tree of a file.
 use fzn_lexer::{Position, tokens};
 use fzn_list::Items;
-use fzn_parser::{
-    Arg, Basic, Con, Int, Listed, Literal, Param, ParamValue, Tree, one_reading, parse,
-};
+use fzn_parser::{one_reading, parse};
+use fzn_tree::{Arg, Basic, Con, Int, Listed, Literal, Param, ParamValue, Tree};
 use std::alloc::{AllocError, Global};
 use std::test::*;
 

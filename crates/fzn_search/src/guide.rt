@@ -7,6 +7,7 @@ use crate::comparisons::Comparisons;
 use crate::heap::Heap;
 use crate::open::{greatest_value, least_value, open_domain, value_left};
 use crate::order::Order;
+use crate::probes::Probes;
 use crate::restarts::Restarts;
 use fzn_domain::{Domain, GREATEST_VALUE, LEAST_VALUE, Lit, Memory, Op};
 use fzn_meaning::{Goal, Var};
@@ -20,13 +21,15 @@ pub struct Guide {
     order: Order,
     /// By variable: the least and the greatest declared value.
     bounds: Vec<(i64, i64)>,
-    /// By variable: the value that it had last, where activity decides it.
+    /// By variable: the value that it had last, where activity decides it, but for those under a probe.
     last_values: Vec<Option<i64>>,
     comparisons: Comparisons,
     /// The variables by their activity.
     activity: Heap,
     ties: Ties,
     restarts: Option<Restarts>,
+    /// What the search assumes of the objective at some restarts, where activity decides every variable.
+    probes: Probes,
     /// Whether activity decides every variable, and not only those that stand in no annotation.
     free: bool,
     /// The variable that is maximised, if one is, counted from 0: of its values the greatest are tried first, of all others the least.
@@ -52,6 +55,7 @@ impl Guide {
             activity,
             ties,
             restarts: choice.restart_after.map(|first| Restarts::new(first)),
+            probes: Probes::new(goal),
             free: choice.free,
             maximised: maximised_by(goal),
         })
@@ -72,6 +76,8 @@ impl Guide {
             if let Some(lit) = self.order.next(trail, vars) {
                 return Some(lit);
             }
+        } else if let Some(lit) = self.probes.next(trail, vars) {
+            return Some(lit);
         }
         if let Some(comparison) = self.comparisons.most_active(trail, vars) {
             return Some(self.as_last(comparison));
@@ -127,7 +133,9 @@ impl Guide {
             let number = lit.var.0.saturating_sub(1);
             self.order.set_free(number);
             if self.is_by_activity(number) {
-                if let Some(value) = value_left(trail.domain_before(place), lit) {
+                if !self.probes.is_assumed()
+                    && let Some(value) = value_left(trail.domain_before(place), lit)
+                {
                     self.keep_value(number, value);
                 }
                 self.activity.put(number);
@@ -161,10 +169,18 @@ impl Guide {
     pub fn conflict(&mut self) -> bool {
         self.comparisons.decay();
         self.activity.decay();
-        match &mut self.restarts {
-            Some(restarts) => restarts.count_conflict(),
-            None => false,
+        let is_over = self.probes.count_conflict();
+        let Some(restarts) = &mut self.restarts else {
+            return false;
+        };
+        if is_over {
+            return true;
         }
+        if self.probes.is_trying() || !restarts.count_conflict() {
+            return false;
+        }
+        self.probes.restart();
+        true
     }
 }
 

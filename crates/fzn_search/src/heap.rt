@@ -151,7 +151,9 @@ impl Heap {
             }
             at = parent;
         }
-        self.pool.stand(rising, at);
+        if at < place {
+            self.pool.stand(rising, at);
+        }
     }
 
     /// Moves the number at this place down to where it belongs.

@@ -23,5 +23,6 @@ mod heap;
 mod open;
 mod order;
 mod pool;
+mod probes;
 mod restarts;
 mod search;

@@ -67,6 +67,8 @@ pub struct Notes {
     is_hint_due: bool,
     hints_taken: u64,
     hints_passed_over: u64,
+    /// Whether a clause is to be wanted for the objective's bound.
+    is_bound_due: bool,
 }
 
 impl Notes {
@@ -98,6 +100,7 @@ impl Notes {
             is_hint_due: true,
             hints_taken: 0,
             hints_passed_over: 0,
+            is_bound_due: false,
         }
     }
 
@@ -150,6 +153,14 @@ impl Notes {
     pub fn restart(&mut self) {
         self.has_restarted = true;
         self.is_hint_due = true;
+        self.is_bound_due = true;
+    }
+
+    /// Whether the search restarted since this was last asked.
+    pub fn take_bound_due(&mut self) -> bool {
+        let is_due = self.is_bound_due;
+        self.is_bound_due = false;
+        is_due
     }
 
     /// Whether hints are asked for: from the start and from each restart on, until there are no more.

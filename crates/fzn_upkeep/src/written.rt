@@ -9,10 +9,8 @@ use fzn_domain::{Lit, Memory, Op};
 use fzn_list::Items;
 use std::alloc::Global;
 use std::collections::HashMap;
+use std::hash::{FoldHasher, Hash, Hasher};
 use std::marker::Model;
-
-/// An odd number without a pattern in its bits.
-const MULTIPLIER: u64 = 0x9e37_79b9_7f4a_7c15;
 
 /// The clause of an inference that was written.
 #[derive(Drop)]
@@ -138,23 +136,17 @@ fn place_all(steps: &[Given], places: &mut HashMap<u64, usize>) -> Result<(), Me
     Ok(())
 }
 
-/// Clauses of one hash are the same as a rule. Each literal is one word, which is mixed in by a multiplication: the hasher of the maps goes
-/// by bytes, which takes twenty times as long.
+/// Clauses of one hash are the same as a rule.
 fn hash_of(clause: &[Lit]) -> u64 {
-    let mut hash: u64 = 0;
+    let mut hasher = FoldHasher::default();
     for lit in clause {
-        hash = (hash.rotate_left(23) ^ word_of(*lit)).wrapping_mul(MULTIPLIER);
+        let op: u64 = match lit.op {
+            Op::AtMost => 0,
+            Op::AtLeast => 1,
+            Op::Equal => 2,
+            Op::NotEqual => 3,
+        };
+        (lit.var.0, op, lit.value).hash(&mut hasher);
     }
-    hash
-}
-
-/// Each literal within the limits has its own word.
-fn word_of(lit: Lit) -> u64 {
-    let op: u64 = match lit.op {
-        Op::AtMost => 0,
-        Op::AtLeast => 1,
-        Op::Equal => 2,
-        Op::NotEqual => 3,
-    };
-    lit.value.cast_unsigned() ^ ((lit.var.0 as u64) << 32) ^ (op << 61)
+    hasher.finish()
 }

@@ -1,7 +1,7 @@
 use Rattle.std.proofs.Common.{◌≡◌, pos, ◌-ℤ◌, ◌≤ℤ◌, ◌<ℤ◌, sym, subst, arith, rules, to_z, of_z, to_z-of_z, FitsSigned, w64}
 use Rattle.std.proofs.lemmas.Int.{ints}
 use Rattle.fzn_domain.specs.Allowed.{selected}
-use Rattle.fzn_domain.specs.Ascending.{IsNextFrom, NoneFrom}
+use Rattle.fzn_numbers.specs.Ascending.{IsNextFrom, NoneFrom}
 use Rattle.fzn_domain.specs.IntSet.{IsRunEnd}
 use Rattle.fzn_domain.specs.declared.allowed.Values.TheVariants.{AllBut}
 use Rattle.fzn_domain.proofs.DomainLemmas.{real}

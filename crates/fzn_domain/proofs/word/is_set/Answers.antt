@@ -1,5 +1,0 @@
-use Rattle.fzn_domain.proofs.WordLemmas.{one_bit_is_set}
-use Rattle.fzn_domain.proofs.word.is_set.Goals as goal
-
-pub returns : goal.returns
-returns c = one_bit_is_set c.args.word c.args.place c.requires

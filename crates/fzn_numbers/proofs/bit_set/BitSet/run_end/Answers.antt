@@ -1,0 +1,38 @@
+use Rattle.std.proofs.Common.{◌≡◌, ◌<◌, ℕ, ℤ, pos, ◌+ℤ◌, ◌<ℤ◌, ◌≤ℤ◌, List, true, arith, ap, sym, subst, subst₂, ◌∙◌, to_z-of_z}
+use Rattle.fzn_numbers.specs.Bits.{places, has_bit, IsGap}
+use Rattle.fzn_numbers.specs.IntSet.{contains, IsRunEnd}
+use Rattle.fzn_numbers.proofs.NumberLemmas.{real}
+use Rattle.fzn_numbers.proofs.BitSetLemmas.{bit_of, from_the_first, near_first, place_within, run_found, gap_behind, end_at}
+use Rattle.fzn_numbers.proofs.bit_set.BitSet.run_end.Goals as goal
+
+pub offset-from-requires-clause-from_first : goal.offset-from-requires-clause-from_first
+offset-from-requires-clause-from_first c =
+    subst₂ (λ (f v : ℤ). f ≤ℤ v) (sym (real _ c.self.invariant.can_be_first)) (sym (to_z-of_z c.ranges.value))
+    (from_the_first c.self.inside.first c.self.inside.words.items c.args.self.now c.self.view_is c.args.value c.requires)
+
+pub offset-from-requires-clause-near : goal.offset-from-requires-clause-near
+offset-from-requires-clause-near c =
+    subst₂ (λ (f v : ℤ). v <ℤ (f +ℤ pos 4096)) (sym (real _ c.self.invariant.can_be_first)) (sym (to_z-of_z c.ranges.value))
+    (near_first c.self.inside.first c.self.inside.words.items c.args.self.now c.self.view_is c.args.value c.requires c.self.invariant.few)
+
+pub next_gap-gap-requires-clause-in_words : goal.next_gap-gap-requires-clause-in_words
+next_gap-gap-requires-clause-in_words c =
+    let inside = c.self.inside in
+    let at : c.args.value ≡ inside.first +ℤ pos c.offset-from.result =
+    sym (to_z-of_z c.ranges.value) ∙ c.offset-from.ensures ∙ ap (λ (f : ℤ). f +ℤ pos c.offset-from.result) (real _ c.self.invariant.can_be_first) in
+    subst (λ (ws : List ℕ). c.offset-from.result < places ws) (sym c.deref.ensures.value)
+    (place_within inside.first inside.words.items c.args.self.now c.self.view_is c.args.value c.requires c.offset-from.result at)
+
+pub returns : goal.returns
+returns c =
+    let inside = c.self.inside in
+    let words = inside.words.items in
+    let from = c.offset-from.result in
+    let p = c.next_gap-gap.result in
+    let at : c.args.value ≡ inside.first +ℤ pos from =
+    sym (to_z-of_z c.ranges.value) ∙ c.offset-from.ensures ∙ ap (λ (f : ℤ). f +ℤ pos from) (real _ c.self.invariant.can_be_first) in
+    let place : from < places words = place_within inside.first words c.args.self.now c.self.view_is c.args.value c.requires from at in
+    let gap : IsGap words from p = subst (λ (ws : List ℕ). IsGap ws from p) c.deref.ensures.value c.next_gap-gap.ensures in
+    let on : has_bit words from ≡ true = sym (bit_of inside.first words c.args.self.now c.self.view_is from place) ∙ ap (λ (v : ℤ). contains c.args.self.now v) (sym at) ∙ c.requires in
+    subst₂ (λ (v e : ℤ). IsRunEnd c.args.self.now v e) (sym at) (sym (end_at inside.first p c.self.invariant.can_be_first (omega (arith, gap.in_words, c.self.invariant.few))))
+    (run_found inside.first words c.args.self.now c.self.view_is from p gap (gap_behind words from p gap place on))
