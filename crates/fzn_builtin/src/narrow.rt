@@ -8,11 +8,11 @@ ghost use Rattle.fzn_propagator.specs.Inference.{AreFoundOf};
 ghost use Rattle.fzn_fixed.specs.Parts.{IsReady};
 
 use crate::member::infer_member;
+use fzn_arithmetic::{infer_absolute_value, infer_operation};
 use fzn_domain::Memory;
 use fzn_equality::{infer_element, infer_extremum};
 use fzn_fixed::{Parts, infer_last};
 use fzn_meaning::Constraint;
-use fzn_operations::{infer_absolute_value, infer_operation};
 use fzn_propagator::Findings;
 use fzn_rules::Rule;
 use fzn_trail::Trail;

@@ -1,9 +1,9 @@
 // Each call on a stream fails in turn, or moves one byte less: `run`, `check`, `trim` and `core` say so, and what was written is a beginning
 // of what is written else. Where nothing fails nothing changes.
 use crate::runs::{options_of, solve};
+use fzn_options::Options;
 use fzn_solver::{RunFault, Unobserved};
 use fzn_strategy::Learn;
-use fzn_words::Options;
 use std::alloc::Global;
 use std::io::{Read, Write};
 use std::str::from_utf8;

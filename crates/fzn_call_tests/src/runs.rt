@@ -1,6 +1,6 @@
+use fzn_options::Options;
 use fzn_solver::{Observer, Report, RunFault, Unobserved, run};
 use fzn_strategy::Learn;
-use fzn_words::Options;
 use std::alloc::Global;
 use std::io::{Read, Write};
 use std::str::from_utf8;

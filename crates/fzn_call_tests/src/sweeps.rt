@@ -2,8 +2,8 @@
 use crate::runs::{options_of, solve};
 use fzn_checker::{CheckFault, check};
 use fzn_checker_tests::put_at;
+use fzn_options::Options;
 use fzn_solver::{RunFault, Unobserved};
-use fzn_words::Options;
 use std::alloc::{AllocError, Global};
 use std::test::Fail;
 

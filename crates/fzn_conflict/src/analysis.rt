@@ -9,9 +9,9 @@ ghost use Rattle.fzn_learned.specs.Reasoned.{known_of, AreOver, IsReasoned};
 
 use crate::first_uip::{first_uip, want_root, wanted_clause};
 use crate::marks::{Marks, Wanted};
-use fzn_causes::Implications;
 use fzn_clauses::Clauses;
 use fzn_domain::Memory;
+use fzn_explanation::Implications;
 use fzn_learned::{Learned, is_derived, is_sound, plain_learned};
 use fzn_propagator::Inferences;
 use fzn_sets::Sets;

@@ -1,8 +1,8 @@
 // The clause of the first unique implication point (Zhang, Madigan, Moskewicz, Malik, Efficient Conflict Driven Learning, 2001).
 // Nothing is promised of it: what is learned is tested.
 use crate::marks::{Marks, Wanted};
-use fzn_causes::{Cause, Implications, canonical, implies, opposite};
 use fzn_domain::{Clause, Lit, Memory};
+use fzn_explanation::{Cause, Implications, canonical, implies, opposite};
 use fzn_learned::Learned;
 use fzn_list::Items;
 use fzn_trail::{ClauseId, Reason};

@@ -1,7 +1,7 @@
 // Which entries of a trail a conflict rests on.
 use crate::roots::Roots;
-use fzn_causes::{Cause, Causes, Gap, Implications, canonical, implies, opposite};
 use fzn_domain::{Lit, Memory, Op, VarId};
+use fzn_explanation::{Cause, Causes, Gap, Implications, canonical, implies, opposite};
 use fzn_list::Items;
 use fzn_trail::{ClauseId, Entry, Reason};
 use std::alloc::Global;

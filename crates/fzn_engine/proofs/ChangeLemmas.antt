@@ -25,7 +25,7 @@ use Rattle.fzn_strategy.specs.declared.learn.Learn.{Learn}
 use Rattle.fzn_strategy.specs.declared.learn.Learn.TheVariants.{Plain}
 use Rattle.fzn_learned.specs.Reasoned.{IsBelow, IsReasoned, Open, opens}
 use Rattle.fzn_learned.proofs.CallerLemmas.{IsReasoned-returned, opens-forced}
-use Rattle.fzn_upkeep.specs.Forgetting.{is_cut}
+use Rattle.fzn_reduction.specs.Forgetting.{is_cut}
 use Rattle.fzn_engine.specs.Volume.{volume, slack}
 use Rattle.fzn_engine.specs.Learned.{resolved, FreshAfter, negations}
 use Rattle.fzn_engine.specs.State.{Stock, known_in, with_held, with_cuts, with_inference, with_stack, IsHeldCut, IsJustified, CoreOf, PlainOf, StateOf}

@@ -16,11 +16,11 @@ use Rattle.fzn_trail.specs.Levels.{Levels}
 use Rattle.fzn_clauses.specs.Held.{clause_of}
 use Rattle.fzn_clauses.specs.Watching.{held_by}
 use Rattle.fzn_learned.specs.Reasoned.{opens}
-use Rattle.fzn_upkeep.specs.declared.deletion.Deletion.{Deletion}
-use Rattle.fzn_upkeep.specs.declared.notes.Notes.{Notes}
+use Rattle.fzn_reduction.specs.declared.deletion.Deletion.{Deletion}
+use Rattle.fzn_reduction.specs.declared.notes.Notes.{Notes}
 use Rattle.fzn_engine.specs.declared.solver.Solver.{Solver}
-use Rattle.fzn_upkeep.specs.declared.written.Given.{Given}
-use Rattle.fzn_upkeep.specs.Deletion.{IsInUse, IsDeletion, IsThinned}
+use Rattle.fzn_reduction.specs.declared.written.Given.{Given}
+use Rattle.fzn_reduction.specs.Deletion.{IsInUse, IsDeletion, IsThinned}
 use Rattle.fzn_engine.specs.Volume.{slack}
 use Rattle.fzn_engine.specs.Learned.{resolved}
 use Rattle.fzn_engine.specs.Changes.{IsTended}

@@ -24,11 +24,11 @@ use Rattle.fzn_clauses.specs.Watching.{held_by}
 use Rattle.fzn_clauses.proofs.HeldLemmas.{AllHeld-push}
 use Rattle.fzn_learned.specs.Reasoned.{IsReasoned}
 use Rattle.fzn_learned.proofs.CallerLemmas.{IsReasoned-grown, IsReasoned-still, IsStill}
-use Rattle.fzn_upkeep.specs.declared.notes.Notes.{Notes}
+use Rattle.fzn_reduction.specs.declared.notes.Notes.{Notes}
 use Rattle.fzn_engine.specs.declared.solver.Solver.{Solver}
-use Rattle.fzn_upkeep.specs.declared.written.Given.{Given}
-use Rattle.fzn_upkeep.specs.Forgetting.{HasForgotten}
-use Rattle.fzn_upkeep.specs.Written.{given_at}
+use Rattle.fzn_reduction.specs.declared.written.Given.{Given}
+use Rattle.fzn_reduction.specs.Forgetting.{HasForgotten}
+use Rattle.fzn_reduction.specs.Written.{given_at}
 use Rattle.fzn_engine.specs.Changes.{IsTended}
 use Rattle.fzn_engine.specs.Search.{IsAfter, stock_of}
 use Rattle.fzn_engine.specs.State.{known_in, IsGivenBy, IsHeldCut, IsStocked, StateOf}

@@ -19,7 +19,7 @@ use Rattle.fzn_strategy.specs.declared.learn.Learn.{Learn}
 use Rattle.fzn_strategy.specs.declared.learn.Learn.TheVariants.{Plain}
 use Rattle.fzn_learned.proofs.CallerLemmas.{IsReasoned-grown}
 use Rattle.fzn_search.specs.Fixed.{AllFixed}
-use Rattle.fzn_upkeep.specs.Forgetting.{is_cut}
+use Rattle.fzn_reduction.specs.Forgetting.{is_cut}
 use Rattle.fzn_engine.specs.Volume.{volume}
 use Rattle.fzn_engine.specs.State.{Stock, known_in, with_held, with_cuts, StateOf}
 use Rattle.fzn_engine.proofs.VolumeLemmas.{volume-filled}

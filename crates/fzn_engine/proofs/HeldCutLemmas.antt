@@ -7,7 +7,7 @@ use Rattle.fzn_domain.specs.declared.literal.Lit.{Lit}
 use Rattle.fzn_trail.specs.declared.trail.ClauseId.{ClauseId}
 use Rattle.fzn_clauses.specs.Held.{Held, IsHeld, AllHeld, at_number}
 use Rattle.fzn_clauses.proofs.HeldLemmas.{IsHeld-within, at_number-grown}
-use Rattle.fzn_upkeep.specs.Forgetting.{is_cut}
+use Rattle.fzn_reduction.specs.Forgetting.{is_cut}
 use Rattle.fzn_engine.specs.State.{IsHeldCut}
 
 module _ (held : Held) (cuts : List Bool) (clause : List Lit) (h : IsHeldCut held cuts clause) where

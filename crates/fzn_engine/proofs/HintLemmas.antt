@@ -17,7 +17,7 @@ use Rattle.fzn_trail.specs.Levels.{Levels}
 use Rattle.fzn_clauses.specs.Held.{AllHeld}
 use Rattle.fzn_clauses.specs.Watching.{held_by}
 use Rattle.fzn_strategy.specs.declared.learn.Learn.{Learn}
-use Rattle.fzn_upkeep.specs.declared.notes.Notes.{Notes}
+use Rattle.fzn_reduction.specs.declared.notes.Notes.{Notes}
 use Rattle.fzn_printer.specs.declared.printer.Ending.{Ending}
 use Rattle.fzn_engine.specs.declared.limits.Limits.{Limits}
 use Rattle.fzn_engine.specs.declared.solver.Solver.{Solver}

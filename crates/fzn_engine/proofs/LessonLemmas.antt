@@ -30,7 +30,7 @@ use Rattle.fzn_learned.specs.declared.learned.Learned.{Learned}
 use Rattle.fzn_learned.specs.Learned.{IsDerived, IsLearned, IsPlain}
 use Rattle.fzn_learned.specs.Reasoned.{Known, IsKnown, IsBelow, clause_of}
 use Rattle.fzn_learned.proofs.CallerLemmas.{IsReasoned-returned}
-use Rattle.fzn_upkeep.specs.declared.notes.Notes.{Notes}
+use Rattle.fzn_reduction.specs.declared.notes.Notes.{Notes}
 use Rattle.fzn_engine.specs.declared.solver.Solver.{Solver}
 use Rattle.fzn_engine.specs.Outcome.{count, IsCertified, IsRefuted}
 use Rattle.fzn_engine.specs.Changes.{IsBehind, IsClosed}

@@ -11,7 +11,7 @@ use Rattle.fzn_meaning.specs.declared.model.Model.{Model}
 use Rattle.fzn_propagator.specs.declared.inferences.Inferred.{Inferred}
 use Rattle.fzn_clauses.specs.Held.{Held, clause_of}
 use Rattle.fzn_clauses.proofs.HeldLemmas.{IsHeld-within, IsHeld-cases, clause_of-grown, clause_of-newest}
-use Rattle.fzn_upkeep.specs.declared.written.Given.{Given}
+use Rattle.fzn_reduction.specs.declared.written.Given.{Given}
 use Rattle.fzn_engine.specs.State.{Give, AreNumbered, IsJustified, IsGivenBy}
 
 -- a past with one more entry among the clauses

@@ -23,8 +23,8 @@ use Rattle.fzn_clauses.specs.Kept.{KeepsWatching}
 use Rattle.fzn_clauses.specs.Watching.{held_by}
 use Rattle.fzn_learned.specs.Reasoned.{IsReasoned}
 use Rattle.fzn_learned.proofs.CallerLemmas.{IsReasoned-still, IsStill}
-use Rattle.fzn_upkeep.specs.declared.notes.Notes.{Notes}
-use Rattle.fzn_upkeep.specs.Written.{given_at}
+use Rattle.fzn_reduction.specs.declared.notes.Notes.{Notes}
+use Rattle.fzn_reduction.specs.Written.{given_at}
 use Rattle.fzn_engine.specs.declared.solver.Solver.{Solver}
 use Rattle.fzn_engine.specs.Changes.{IsTended}
 use Rattle.fzn_engine.specs.Search.{IsAfter, stock_of}

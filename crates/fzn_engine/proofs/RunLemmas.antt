@@ -33,7 +33,7 @@ use Rattle.fzn_printer.specs.declared.printer.Ending.TheVariants.{Complete, Unsa
 use Rattle.fzn_printer.specs.Shown.{is_closed}
 use Rattle.fzn_engine.specs.declared.limits.Limits.{Limits}
 use Rattle.fzn_engine.specs.declared.solver.Solver.{Solver}
-use Rattle.fzn_upkeep.specs.Forgetting.{is_cut}
+use Rattle.fzn_reduction.specs.Forgetting.{is_cut}
 use Rattle.fzn_engine.specs.Volume.{volume}
 use Rattle.fzn_engine.specs.Outcome.{HasRoom, IsReached, count, IsCertified, IsRefuted, IsEnded, EndsTruly, IsOutcome}
 use Rattle.fzn_engine.specs.Changes.{HasWritten, IsRecorded, IsKeptBy, IsClosed, Goes, Continues, IsOngoing, IsOver, closed_after, ending_of}

@@ -26,7 +26,7 @@ use Rattle.fzn_strategy.specs.declared.learn.Learn.{Learn}
 use Rattle.fzn_strategy.specs.declared.learn.Learn.TheVariants.{Plain, First}
 use Rattle.fzn_learned.specs.Reasoned.{Known, IsReasoned}
 use Rattle.fzn_learned.proofs.CallerLemmas.{IsReasoned-grown, IsReasoned-marked, IsReasoned-forced}
-use Rattle.fzn_upkeep.specs.declared.notes.Notes.{Notes}
+use Rattle.fzn_reduction.specs.declared.notes.Notes.{Notes}
 use Rattle.fzn_engine.specs.declared.limits.Limits.{Limits}
 use Rattle.fzn_engine.specs.declared.solver.Solver.{Solver}
 use Rattle.fzn_engine.specs.Volume.{slack}

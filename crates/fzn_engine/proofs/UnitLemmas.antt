@@ -5,7 +5,7 @@ use Rattle.fzn_domain.specs.declared.literal.Lit.{Lit}
 use Rattle.fzn_meaning.specs.declared.model.Model.{Model}
 use Rattle.fzn_cert.specs.declared.step.Step.{Step}
 use Rattle.fzn_cert.specs.declared.step.Step.TheVariants.{Resolve}
-use Rattle.fzn_upkeep.specs.declared.notes.Notes.{Notes}
+use Rattle.fzn_reduction.specs.declared.notes.Notes.{Notes}
 use Rattle.fzn_engine.specs.declared.limits.Limits.{Limits}
 use Rattle.fzn_engine.specs.declared.solver.Solver.{Solver}
 use Rattle.fzn_engine.specs.Outcome.{HasRoom}

@@ -11,7 +11,7 @@ use Rattle.fzn_propagator.specs.declared.inferences.Inferred.{Inferred}
 use Rattle.fzn_propagator.specs.Inferences.{inference_at, with_number}
 use Rattle.fzn_trail.specs.declared.trail.Reason.{Reason}
 use Rattle.fzn_learned.specs.Reasoned.{Known, clause_of, opens}
-use Rattle.fzn_upkeep.specs.declared.notes.Notes.{Notes}
+use Rattle.fzn_reduction.specs.declared.notes.Notes.{Notes}
 use Rattle.fzn_engine.specs.declared.solver.Solver.{Solver}
 use Rattle.fzn_engine.specs.State.{Give, with_step, PlainOf, StateOf}
 use Rattle.fzn_engine.specs.Search.{IsAfter, stock_of}

@@ -5,7 +5,7 @@ use Rattle.fzn_meaning.specs.declared.model.Model.{Model}
 use Rattle.fzn_cert.specs.declared.step.Step.{Step}
 use Rattle.fzn_trail.specs.declared.trail.ClauseId.{ClauseId}
 use Rattle.fzn_clauses.specs.Held.{Held, IsHeld, clause_of}
-use Rattle.fzn_upkeep.specs.Forgetting.{is_cut}
+use Rattle.fzn_reduction.specs.Forgetting.{is_cut}
 use Rattle.fzn_printer.specs.declared.printer.Ending.{Ending}
 use Rattle.fzn_engine.specs.declared.limits.Limits.{Limits}
 use Rattle.fzn_engine.specs.declared.solver.Solver.{Solver}

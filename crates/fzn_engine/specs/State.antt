@@ -20,8 +20,8 @@ use Rattle.fzn_clauses.specs.Held.{Held, IsHeld, AllHeld, at_number, clause_of}
 use Rattle.fzn_strategy.specs.declared.learn.Learn.{Learn}
 use Rattle.fzn_strategy.specs.declared.learn.Learn.TheVariants.{Plain}
 use Rattle.fzn_learned.specs.Reasoned.{Known, known_from, IsReasoned, Open, opens}
-use Rattle.fzn_upkeep.specs.declared.written.Given.{Given}
-use Rattle.fzn_upkeep.specs.Forgetting.{is_cut}
+use Rattle.fzn_reduction.specs.declared.written.Given.{Given}
+use Rattle.fzn_reduction.specs.Forgetting.{is_cut}
 use Rattle.fzn_engine.specs.Volume.{volume, slack}
 use Rattle.fzn_engine.specs.Learned.{resolved, FreshAfter, HasCertain, LevelsBacked, left_open}
 

@@ -9,7 +9,7 @@ use crate::sink::Sink;
 use crate::solver::Solver;
 use fzn_cert::Step;
 use fzn_meaning::Model;
-use fzn_upkeep::next_deletion;
+use fzn_reduction::next_deletion;
 use std::alloc::Global;
 
 impl Solver {

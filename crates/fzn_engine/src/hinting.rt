@@ -5,7 +5,7 @@ ghost use Rattle.fzn_meaning.specs.Solutions.{IsSolution};
 ghost use Rattle.fzn_meaning.specs.WellFormed.{IsWellFormed};
 ghost use Rattle.fzn_clauses.specs.Held.{IsHeld, AllHeld, clause_of};
 ghost use Rattle.fzn_clauses.specs.Watching.{held_by};
-ghost use Rattle.fzn_upkeep.specs.Forgetting.{is_cut};
+ghost use Rattle.fzn_reduction.specs.Forgetting.{is_cut};
 ghost use Rattle.fzn_engine.specs.Hinted.{Heeds, AreCutsTrue};
 ghost use Rattle.fzn_engine.specs.Search.{IsReady, IsLeft, IsWithinLimits};
 
@@ -18,8 +18,8 @@ use fzn_clauses::Clauses;
 use fzn_domain::Lit;
 use fzn_meaning::{Model, is_solution};
 use fzn_printer::Ending;
+use fzn_reduction::Cuts;
 use fzn_trail::ClauseId;
-use fzn_upkeep::Cuts;
 use std::alloc::Global;
 
 /// How many hints are looked at one after the other, before the search goes on.

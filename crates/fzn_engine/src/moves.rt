@@ -19,8 +19,8 @@ use fzn_domain::{Lit, Memory};
 use fzn_learned::clause_of;
 use fzn_meaning::Model;
 use fzn_propagator::Inference;
+use fzn_reduction::Notes;
 use fzn_trail::{Reason, Trail};
-use fzn_upkeep::Notes;
 
 /// How many inferences without an entry may stand beside those on which entries may rest: so many, and one for each so many entries.
 const SPARE: usize = 64;

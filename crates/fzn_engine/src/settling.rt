@@ -20,9 +20,9 @@ use fzn_clauses::Clauses;
 use fzn_conflict::Marks;
 use fzn_domain::{Memory, Op, VarId};
 use fzn_meaning::{Model, Var};
+use fzn_reduction::forget_units;
 use fzn_strategy::Learn;
 use fzn_trail::{ClauseId, Reason, Trail};
-use fzn_upkeep::forget_units;
 use std::alloc::Global;
 
 impl Solver {

@@ -10,11 +10,11 @@ use fzn_domain::{Domain, Memory};
 use fzn_list::Items;
 use fzn_meaning::{Model, Var};
 use fzn_propagator::Inferences;
+use fzn_reduction::{Cuts, Notes, Numbers, Written};
 use fzn_search::{Choice, Search};
 use fzn_sets::Sets;
 use fzn_strategy::{Annotation, Learn};
 use fzn_trail::Trail;
-use fzn_upkeep::{Cuts, Notes, Numbers, Written};
 use std::alloc::Global;
 
 /// A search: the trail, the clauses that are held with the numbers of their steps, which of them are cuts, the inferences that stand,

@@ -19,9 +19,9 @@ use fzn_domain::{Lit, Memory, Op};
 use fzn_learned::Learned;
 use fzn_list::Items;
 use fzn_meaning::{Goal, Model};
+use fzn_reduction::forget;
 use fzn_strategy::Learn;
 use fzn_trail::{ClauseId, Trail};
-use fzn_upkeep::forget;
 use std::alloc::Global;
 
 impl Solver {

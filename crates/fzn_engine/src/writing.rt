@@ -8,7 +8,7 @@ ghost use Rattle.fzn_cert.specs.Past.{clause_held};
 ghost use Rattle.fzn_propagator.specs.Inferences.{IsStacked, inferred_clause};
 ghost use Rattle.fzn_learned.specs.Reasoned.{IsKnown, clause_of};
 ghost use Rattle.fzn_engine.specs.State.{known_in};
-ghost use Rattle.fzn_upkeep.specs.Written.{IsGivenAt};
+ghost use Rattle.fzn_reduction.specs.Written.{IsGivenAt};
 ghost use Rattle.fzn_engine.specs.Search.{stock_of, IsAfter, IsReady, IsLeft};
 ghost use Rattle.fzn_engine.specs.Antecedents.{GiveAntecedents, IsWritten};
 

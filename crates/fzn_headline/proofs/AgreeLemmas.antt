@@ -14,7 +14,7 @@ use Rattle.fzn_printer.specs.Answer.{answer_text}
 use Rattle.fzn_printer.specs.Shown.{is_closed}
 use Rattle.fzn_reading.specs.Reads.{Reads}
 use Rattle.fzn_solver.specs.Standing.{found_by, certificate}
-use Rattle.fzn_words.specs.declared.solve.Options.{Options}
+use Rattle.fzn_options.specs.declared.solve.Options.{Options}
 use Rattle.fzn_headline.specs.Headline.{Ran, Check, Checked, Agrees, IsOutside}
 
 -- what was read, and another model after a fault

@@ -8,7 +8,7 @@ use Rattle.fzn_engine.specs.declared.report.Report.{Report}
 use Rattle.fzn_printer.specs.Answer.{answer_text}
 use Rattle.fzn_printer.specs.Shown.{is_closed}
 use Rattle.fzn_solver.specs.Standing.{found_by}
-use Rattle.fzn_words.specs.declared.solve.Options.{Options}
+use Rattle.fzn_options.specs.declared.solve.Options.{Options}
 use Rattle.fzn_headline.specs.Headline.{Ran, Checked, PrintsTruth, IsPrinted}
 use Rattle.fzn_headline.proofs.AgreeLemmas.{call_of}
 

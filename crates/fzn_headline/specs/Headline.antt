@@ -12,7 +12,7 @@ use Rattle.fzn_printer.specs.Shown.{is_closed}
 use Rattle.fzn_reading.specs.Reads.{Reads}
 use Rattle.fzn_solver.specs.Answer.{EndsTruly}
 use Rattle.fzn_solver.specs.Run.{IsRun}
-use Rattle.fzn_words.specs.declared.solve.Options.{Options}
+use Rattle.fzn_options.specs.declared.solve.Options.{Options}
 
 -- ---- what the two calls promise, over streams that tell their bytes
 

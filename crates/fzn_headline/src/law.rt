@@ -1,6 +1,6 @@
 // What follows from the contracts of the solver and of the checker.
 ghost use Rattle.std.specs.Prelude.{ℕ, List};
-ghost use Rattle.fzn_words.specs.declared.solve.Options.{Options};
+ghost use Rattle.fzn_options.specs.declared.solve.Options.{Options};
 ghost use Rattle.fzn_headline.specs.Headline.{Headline};
 
 use fzn_cert::one_verdict;

@@ -2,14 +2,14 @@
 use Rattle.std.specs.Prelude.{ℕ, List, Option, None}
 use Rattle.fzn_domain.specs.IntSet.{IntSet}
 use Rattle.fzn_meaning.specs.declared.constraint.Constraint.{Constraint}
-use Rattle.fzn_arith.specs.declared.form.SumForm.{SumForm}
-use Rattle.fzn_arith.specs.AnyKind.{kind_number, form_alone, KindIsFor, KindFits}
-use Rattle.fzn_arith.specs.Costs.{kind_cost}
+use Rattle.fzn_linear.specs.declared.form.SumForm.{SumForm}
+use Rattle.fzn_linear.specs.AnyKind.{kind_number, form_alone, KindIsFor, KindFits}
+use Rattle.fzn_linear.specs.Costs.{kind_cost}
 use Rattle.fzn_builtin.specs.Kinds.{builtin_number, BuiltinIsFor, BuiltinFits}
 use Rattle.fzn_globals.specs.Kinds.{global_number, GlobalIsFor, GlobalFits}
 use Rattle.fzn_table.specs.Propagator.{table_number, TableIsFor, TableFits}
 use Rattle.fzn_circuit.specs.Propagator.{circuit_number, CircuitIsFor, CircuitFits}
-use Rattle.fzn_schedule.specs.Propagator.{cumulative_number, CumulativeIsFor, CumulativeFits}
+use Rattle.fzn_cumulative.specs.Propagator.{cumulative_number, CumulativeIsFor, CumulativeFits}
 use Rattle.fzn_propagator.specs.declared.cost.Cost.{Cost}
 use Rattle.fzn_propagator.specs.declared.cost.Cost.TheVariants.{Small, Middling, Great}
 use Rattle.fzn_kinds.specs.declared.kinds.AnyPropagator.{AnyPropagator}

@@ -6,14 +6,14 @@ ghost use Rattle.fzn_meaning.specs.Solutions.{declared_sets};
 ghost use Rattle.fzn_meaning.specs.WellFormed.{IsWellFormed};
 ghost use Rattle.fzn_kinds.specs.AnyCrate.{any_number, any_cost, any_form, AnyIsFor, AnyFits};
 
-use fzn_arith::{ArithPropagator, SumForm};
 use fzn_builtin::BuiltinPropagator;
 use fzn_circuit::CircuitPropagator;
+use fzn_cumulative::CumulativePropagator;
 use fzn_domain::Memory;
 use fzn_globals::GlobalPropagator;
+use fzn_linear::{ArithPropagator, SumForm};
 use fzn_meaning::Model;
 use fzn_propagator::{Cost, Findings, Propagator, Subscriptions};
-use fzn_schedule::CumulativePropagator;
 use fzn_table::TablePropagator;
 use fzn_trail::Trail;
 use std::alloc::Global;
@@ -98,7 +98,7 @@ pub fn propagator_of(alloc: Global, model: &Model, c: usize) -> Result<AnyPropag
     ensures is_for { IfOk result (λ propagator. (default : Constraint) → AnyIsFor propagator (slice_index_or model.now.constraints (c - 1) default)) }
     ensures fits { IfOk result (λ propagator. AnyFits propagator (declared_sets model.now.vars)) }
 {
-    if let Some(propagator) = fzn_arith::propagator_of(alloc, model, c)? {
+    if let Some(propagator) = fzn_linear::propagator_of(alloc, model, c)? {
         return Ok(AnyPropagator::Arith(propagator));
     }
     if let Some(propagator) = fzn_builtin::propagator_of(alloc, model, c)? {
@@ -113,7 +113,7 @@ pub fn propagator_of(alloc: Global, model: &Model, c: usize) -> Result<AnyPropag
     if let Some(propagator) = fzn_circuit::propagator_of(model, c)? {
         return Ok(AnyPropagator::Circuit(propagator));
     }
-    match fzn_schedule::propagator_of(model, c)? {
+    match fzn_cumulative::propagator_of(model, c)? {
         Some(propagator) => Ok(AnyPropagator::Cumulative(propagator)),
         None => unreachable!(), // Each constraint is one of some crate's.
     }

@@ -1,7 +1,7 @@
 // The ends of one sum, as they are counted, and whether it has so much room that nothing follows from it. It only chooses: nothing is
 // promised of what is counted.
 use crate::bounds::{Bounds, Shift};
-use fzn_arith::SumForm;
+use fzn_linear::SumForm;
 use fzn_meaning::{Comparison, Place, Term};
 
 /// A sum of fewer places is not counted: it costs no more to ask it.

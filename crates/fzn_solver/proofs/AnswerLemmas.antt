@@ -28,7 +28,7 @@ use Rattle.fzn_solver.specs.declared.writers.Writers.{Writers}
 use Rattle.fzn_solver.specs.Standing.{found_by, is_alone, early, late, certificate, shown_all}
 use Rattle.fzn_solver.specs.Answer.{wanted, EndsTruly, IsAnswer}
 use Rattle.fzn_solver.specs.Writers.{taken, at_first, origin, IsFresh, IsClosed}
-use Rattle.fzn_words.specs.declared.solve.Options.{Options}
+use Rattle.fzn_options.specs.declared.solve.Options.{Options}
 
 -- ---- the verdict on the certificate
 

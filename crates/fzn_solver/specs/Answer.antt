@@ -15,7 +15,7 @@ use Rattle.fzn_engine.specs.Wanted.{HasRoom, IsReached}
 use Rattle.fzn_engine.specs.declared.report.Report.{Report}
 use Rattle.fzn_solver.specs.Standing.{found_by, certificate}
 use Rattle.fzn_strategy.specs.declared.learn.Learn.TheVariants.{Plain}
-use Rattle.fzn_words.specs.declared.solve.Options.{Options}
+use Rattle.fzn_options.specs.declared.solve.Options.{Options}
 
 -- how many solutions are wanted at most, in satisfaction: as many as the limit says, and at least one; else all or one
 abbrev pub wanted : Bool → Option ℕ → Option ℕ

@@ -10,7 +10,7 @@ use Rattle.fzn_solver.specs.declared.fault.RunFault.TheVariants.{File, Memory, R
 use Rattle.fzn_solver.specs.Answer.{IsAnswer}
 use Rattle.fzn_solver.specs.Causes.{HasCause}
 use Rattle.fzn_solver.specs.Left.{IsLeft}
-use Rattle.fzn_words.specs.declared.solve.Options.{Options}
+use Rattle.fzn_options.specs.declared.solve.Options.{Options}
 
 -- a file's bytes, where the reader tells them, state this model
 abbrev pub States : Option (List ℕ) → Model → Type 0

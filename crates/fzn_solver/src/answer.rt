@@ -20,12 +20,12 @@ use crate::writers::{Writers, is_alone};
 use fzn_cert::StepWriter;
 use fzn_engine::{Limits, Report, solve};
 use fzn_meaning::Model;
+use fzn_options::Options;
 use fzn_printer::Printer;
 use fzn_propagators::Propagators;
 use fzn_reading::read_annotated;
 use fzn_strategy::Annotation;
 use fzn_streams::{TrackedRead, TrackedReader, TrackedWrite, TrackedWriter};
-use fzn_words::Options;
 use std::alloc::Global;
 use std::io::{Read, Write};
 

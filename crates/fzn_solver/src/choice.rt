@@ -2,9 +2,9 @@
 ghost use Rattle.std.specs.Prelude.{◌≡◌, Some, None};
 ghost use Rattle.fzn_strategy.specs.declared.learn.Learn.TheVariants.{Plain, First};
 
+use fzn_options::Options;
 use fzn_search::Choice;
 use fzn_strategy::Learn;
-use fzn_words::Options;
 
 /// What the options ask for. Only a search that learns the first unique implication point restarts.
 pub fn choice_for(options: &Options) -> Choice

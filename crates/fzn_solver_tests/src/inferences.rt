@@ -5,8 +5,8 @@ ghost use Rattle.fzn_meaning.specs.Solutions.{declared_sets};
 ghost use Rattle.fzn_meaning.specs.WellFormed.{IsWellFormed};
 
 use crate::models::{model_of, trail_of};
-use fzn_arith::{Propagator, propagator_of};
 use fzn_domain::{Lit, Memory, Op, VarId};
+use fzn_linear::{Propagator, propagator_of};
 use fzn_meaning::Model;
 use fzn_propagator::{Constraints, Findings};
 use fzn_propagators::Propagators;

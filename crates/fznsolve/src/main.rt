@@ -8,9 +8,9 @@
 
 use crate::fault::Fault;
 use crate::progress::{Counted, Teller};
+use fzn_options::{Options, OptionsFault, options_of};
 use fzn_paths::{CutFile, LateWriter, file_at, file_of, is_among};
 use fzn_solver::{Report, RunFault, run};
-use fzn_words::{Options, OptionsFault, options_of};
 use std::cell::Cell;
 use std::env;
 use std::fs::File;

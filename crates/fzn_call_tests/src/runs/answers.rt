@@ -1,7 +1,7 @@
 // What a run tells of itself.
 use super::{options_of, solve};
+use fzn_options::Options;
 use fzn_solver::{Report, Unobserved};
-use fzn_words::Options;
 use std::alloc::{AllocError, Global};
 use std::io;
 use std::test::Fail;

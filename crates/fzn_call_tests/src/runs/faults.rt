@@ -1,7 +1,7 @@
 use super::{TWO_BOOLEANS, options_of, solve};
 use fzn_lexer::{Fault, FaultKind, Position};
+use fzn_options::Options;
 use fzn_solver::{RunFault, Unobserved};
-use fzn_words::Options;
 use std::alloc::{AllocError, Global};
 use std::io;
 use std::io::Read;

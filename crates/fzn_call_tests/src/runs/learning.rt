@@ -1,9 +1,9 @@
 // Runs that restart after each conflict, and keep no learned clause but the newest.
 use super::{is_answered, options_of, solve, text_of};
 use fzn_checker::check;
+use fzn_options::Options;
 use fzn_solver::Unobserved;
 use fzn_strategy::Learn;
-use fzn_words::Options;
 use std::alloc::Global;
 use std::test::Fail;
 

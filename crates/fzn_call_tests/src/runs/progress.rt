@@ -1,8 +1,8 @@
 ghost use Rattle.std.specs.Prelude.{Some};
 
 use super::{LEAST, TWO_BOOLEANS, options_of, solve};
+use fzn_options::Options;
 use fzn_solver::{Observer, Progress, Unobserved};
-use fzn_words::Options;
 use std::alloc::Global;
 use std::test::Fail;
 

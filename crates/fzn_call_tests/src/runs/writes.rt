@@ -1,6 +1,6 @@
 use super::{ANSWER, LEAST, SOLUTION, TWO_BOOLEANS, is_answered, options_of, solve, text_of};
+use fzn_options::Options;
 use fzn_solver::{RunFault, Unobserved};
-use fzn_words::Options;
 use std::alloc::Global;
 use std::cell::RefCell;
 use std::io;

@@ -3,7 +3,7 @@ use Rattle.fzn_domain.specs.Narrow.{is_clause_true}
 use Rattle.fzn_trail.specs.declared.trail.ClauseId.{ClauseId}
 use Rattle.fzn_clauses.specs.Held.{IsHeld, clause_of}
 use Rattle.fzn_clauses.specs.Watching.{held_by}
-use Rattle.fzn_upkeep.specs.Forgetting.{is_cut}
+use Rattle.fzn_reduction.specs.Forgetting.{is_cut}
 use Rattle.fzn_engine.proofs.hinting.are_cuts_true.Given as goal
 
 -- the cuts so far are true

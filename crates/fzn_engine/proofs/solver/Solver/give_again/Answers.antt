@@ -3,7 +3,7 @@ use Rattle.std.proofs.Common.{◌≡◌, List, Some, sym, ap, ◌∙◌, subst}
 use Rattle.fzn_cert.specs.Past.{clause_held}
 use Rattle.fzn_cert.specs.Accepted.{past_of}
 use Rattle.fzn_propagator.specs.declared.inferences.Inferred.{Inferred}
-use Rattle.fzn_upkeep.specs.declared.written.Given.{Given}
+use Rattle.fzn_reduction.specs.declared.written.Given.{Given}
 use Rattle.fzn_engine.specs.Antecedents.{IsWritten}
 use Rattle.fzn_engine.proofs.ForgetLemmas.{written-given}
 use Rattle.fzn_engine.proofs.WrittenLemmas.{infer-given}

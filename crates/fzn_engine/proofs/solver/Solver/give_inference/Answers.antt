@@ -2,7 +2,7 @@
 use Rattle.std.proofs.Common.{ℕ, List, Option, IfSome, ap, ◌∙◌, subst}
 use Rattle.fzn_domain.specs.declared.literal.Lit.{Lit}
 use Rattle.fzn_propagator.specs.declared.inferences.Inferred.{Inferred}
-use Rattle.fzn_upkeep.specs.Written.{IsGivenAt}
+use Rattle.fzn_reduction.specs.Written.{IsGivenAt}
 use Rattle.fzn_engine.proofs.solver.Solver.give_inference.Goals as goal
 
 pub give_again-requires-clause-given : goal.give_again-requires-clause-given

@@ -2,7 +2,7 @@
 use Rattle.std.proofs.Common.{ℕ, ◌<◌, List, [], ◌∷◌, ◌++◌, length, set, Some, sym, ap, ◌∙◌, subst, arith}
 use Rattle.fzn_domain.specs.declared.literal.Lit.{Lit}
 use Rattle.fzn_clauses.specs.Watching.{held_by}
-use Rattle.fzn_upkeep.specs.declared.written.Given.{Given}
+use Rattle.fzn_reduction.specs.declared.written.Given.{Given}
 use Rattle.fzn_engine.specs.Changes.{IsTended}
 use Rattle.fzn_engine.proofs.ForgetLemmas.{more-tended}
 use Rattle.fzn_engine.proofs.PutLemmas.{put-tended}

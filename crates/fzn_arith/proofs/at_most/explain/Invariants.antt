@@ -1,5 +1,0 @@
-use Rattle.fzn_arith.specs.Explained.{IsExplanation}
-use Rattle.fzn_arith.proofs.at_most.explain.Given as goal
-
-abbrev pub invariant-loop-i : goal.invariant-loop-i
-invariant-loop-i l = IsExplanation l.trail l.places l.i l.except l.clause

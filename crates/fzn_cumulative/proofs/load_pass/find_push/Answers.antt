@@ -1,0 +1,20 @@
+use Rattle.std.proofs.Common.{rules, ◌≡◌, w64, to_z, of_z, FitsSigned}
+use Rattle.std.proofs.lemmas.Int.{to_z-of_z}
+use Rattle.fzn_cumulative.specs.Loads.{cumulative_of}
+use Rattle.fzn_cumulative.proofs.load_pass.find_push.Goals as goal
+use Rattle.fzn_cumulative.specs.Passes.{tasks_of, AreFoundIn}
+use Rattle.fzn_cumulative.proofs.load_pass.find_push.Goals.{After-hand_over}
+
+-- what is handed over is justified
+found : (c : After-hand_over) → AreFoundIn c.args.pass.now c.hand_over.new.self
+found c =
+    let fits : FitsSigned w64 c.args.time.now = search rules in
+    let same : to_z w64 (of_z w64 c.args.time.now) ≡ c.args.time.now = to_z-of_z w64 c.args.time.now fits in
+    let justified = rw c.if-branch.true at c.in_ok-push.ensures in
+    c.hand_over.ensures.found c.args.pass.now.trail.now (cumulative_of (tasks_of c.args.pass.now)) (rw same justified) c.requires.before
+
+pub returns-in_err-hand_over : goal.returns-in_err-hand_over
+returns-in_err-hand_over c = found (goal.at.returns-in_err-hand_over c).After-hand_over
+
+pub returns-in_ok-hand_over : goal.returns-in_ok-hand_over
+returns-in_ok-hand_over c = found (goal.at.returns-in_ok-hand_over c).After-hand_over

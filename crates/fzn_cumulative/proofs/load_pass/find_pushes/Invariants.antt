@@ -1,0 +1,5 @@
+use Rattle.fzn_cumulative.proofs.load_pass.find_pushes.Given as goal
+use Rattle.fzn_cumulative.specs.Passes.{AreFoundIn}
+
+abbrev pub invariant-loop-k : goal.invariant-loop-k
+invariant-loop-k l = AreFoundIn l.pass l.found

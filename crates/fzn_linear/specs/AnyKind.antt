@@ -1,0 +1,31 @@
+-- The ghost members of the propagator of any kind: those of its kind.
+use Rattle.std.specs.Prelude.{ℕ, List, length, Option, Some, None}
+use Rattle.fzn_domain.specs.IntSet.{IntSet}
+use Rattle.fzn_meaning.specs.declared.constraint.Constraint.{Constraint}
+use Rattle.fzn_linear.specs.declared.kinds.ArithPropagator.{ArithPropagator}
+use Rattle.fzn_linear.specs.declared.kinds.ArithPropagator.TheVariants.{Sum, Equality}
+use Rattle.fzn_linear.specs.declared.form.SumForm.{SumForm}
+use Rattle.fzn_linear.specs.declared.sum.SumPropagator.{SumPropagator}
+use Rattle.fzn_linear.specs.Kinds.{IsFormOf, IsReady}
+use Rattle.fzn_linear.specs.Equality.{equality_number, EqualityIsFor, EqualityFits}
+
+abbrev pub sum_in : ArithPropagator → SumPropagator
+sum_in (Sum p) = p
+sum_in (Equality p) = p.sum
+
+-- the form of a sum that is reasoned of as a sum alone
+abbrev pub form_alone : ArithPropagator → Option SumForm
+form_alone (Sum p) = Some p.form
+form_alone (Equality p) = None
+
+abbrev pub kind_number : ArithPropagator → ℕ
+kind_number (Sum p) = p.number
+kind_number (Equality p) = equality_number p
+
+abbrev pub KindIsFor : ArithPropagator → Constraint → Type 0
+KindIsFor (Sum p) constraint = IsFormOf constraint p.form
+KindIsFor (Equality p) constraint = EqualityIsFor p constraint
+
+abbrev pub KindFits : ArithPropagator → List IntSet → Type 0
+KindFits (Sum p) declared = IsReady (length declared) p.form p.opposite
+KindFits (Equality p) declared = EqualityFits p declared

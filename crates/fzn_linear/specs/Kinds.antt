@@ -1,0 +1,22 @@
+-- Which constraint a propagator stands for.
+use Rattle.std.specs.Prelude.{◌≡◌, ℕ, Some}
+use Rattle.fzn_meaning.specs.declared.constraint.Constraint.{Constraint}
+use Rattle.fzn_meaning.specs.Meaning.{IsSwitch}
+use Rattle.fzn_builtin_rules.specs.Form.{Form, form, form_of}
+use Rattle.fzn_linear.specs.declared.form.SumForm.{SumForm}
+use Rattle.fzn_linear.specs.OppositeForm.{opposite_form}
+use Rattle.fzn_linear.specs.Sum.{IsSum}
+
+abbrev pub form_in : SumForm → Form
+form_in sum = form sum.places sum.comparison sum.bound sum.switch
+
+-- the form of the constraint
+abbrev pub IsFormOf : Constraint → SumForm → Type 0
+IsFormOf constraint sum = form_of constraint ≡ Some (form_in sum)
+
+-- a form and the one that holds exactly where it does not
+pub record IsReady (count : ℕ) (sum opposite : SumForm) : Type 0 where
+  pub on : IsSum count sum opposite.places
+  pub off : IsSum count opposite sum.places
+  pub switch_fits : IsSwitch count sum.switch
+  pub opposite_is : form_in opposite ≡ opposite_form (form_in sum)

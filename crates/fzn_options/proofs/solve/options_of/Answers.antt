@@ -1,0 +1,13 @@
+-- The matches are those that clap's definition gives.
+use Rattle.std.proofs.Common.{List, subst, map}
+use Rattle.std.specs.Prelude.{IfOk}
+use Rattle.clap.specs.Words.{Row}
+use Rattle.fzn_options.specs.CommandLines.{solve_line}
+use Rattle.fzn_options.specs.Said.{AreSaid}
+use Rattle.fzn_options.proofs.LineLemmas.{solve-simple, rows-said}
+use Rattle.fzn_options.proofs.solve.options_of.Goals as goal
+
+pub returns-in-Ok-clause-said : goal.returns-in-Ok-clause-said
+returns-in-Ok-clause-said g c =
+    let S : List Row → Type 0 = λ rows. IfOk c.options_in.result (AreSaid rows) in
+    subst S (rows-said solve_line c.in_ok-command.command (map g.S.AsStr.text c.args.words.now) c.in-Ok.matches c.in_ok-command.ensures solve-simple c.in-Ok.ensures.matches) c.options_in.ensures.said

@@ -1,5 +1,0 @@
-use Rattle.fzn_schedule.proofs.load_pass.find_by_profile.Given as goal
-use Rattle.fzn_schedule.specs.Passes.{AreFoundIn}
-
-abbrev pub invariant-loop-way : goal.invariant-loop-way
-invariant-loop-way l = AreFoundIn l.pass l.found

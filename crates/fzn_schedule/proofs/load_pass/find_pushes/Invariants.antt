@@ -1,5 +1,0 @@
-use Rattle.fzn_schedule.proofs.load_pass.find_pushes.Given as goal
-use Rattle.fzn_schedule.specs.Passes.{AreFoundIn}
-
-abbrev pub invariant-loop-k : goal.invariant-loop-k
-invariant-loop-k l = AreFoundIn l.pass l.found
