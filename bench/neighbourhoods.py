@@ -6,8 +6,8 @@
 prints a row for each file, an optimisation: of each run the value of the checked answer after S seconds (10) of wall time, or with the time where
 it is proved to be the best. N (4) workers make a run with each of K (1) seeds, --alone also one process. --kinds has a column for each kind of
 neighbourhoods and each manner of search that is left out; --without leaves out some of all. --counts tells how often each kind and manner was
-tried, and how often that gave a better value. The last line counts on how many files the first seed has a better or a worse value than one
-process."""
+tried, and how often that gave a better value. The last line counts over the files that one process leaves open how often a seed has a better or
+a worse value than that."""
 import argparse
 import os
 import shlex
@@ -110,15 +110,18 @@ def main():
     columns += [(f'{options.jobs} workers', options.jobs, left_out)]
     columns += [(f'no {name}', options.jobs, (name,)) for name in NAMES] if options.kinds else []
     print('| model | ' + ' | '.join(name for name, _, _ in columns) + ' |\n' + '|---' * (len(columns) + 1) + '|', flush=True)
-    better = worse = 0
+    better = worse = still = files = 0
     for path in options.files:
         found = row(path, columns, options)
         print(f'| {os.path.basename(path)[:-4]} | ' + ' | '.join(', '.join(map(str, cell)) for cell in found) + ' |', flush=True)
-        if options.alone:
-            better += found[1][0].is_better(found[0][0])
-            worse += found[0][0].is_better(found[1][0])
+        if options.alone and found[0][0].seconds is None:
+            files += 1
+            for one in found[1]:
+                better += one.is_better(found[0][0])
+                worse += found[0][0].is_better(one)
+                still += 1
     if options.alone:
-        print(f'better than one process on {better} of {len(options.files)}, worse on {worse}')
+        print(f'better than one process {better} of {still} times, worse {worse} times, over {files} files that it leaves open')
 
 
 main()

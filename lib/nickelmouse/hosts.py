@@ -75,7 +75,7 @@ class HostSlots(Slots):
             sent.write(self.files.read(task.name('fzn')))
         command = [*PARALLEL, '--ssh', os.environ.get('PARALLEL_SSH', SSH), '--sshlogin', f'1/{self.host}',
                    SCRIPT.format(length=len(self.solver), words=shlex.join(words))]
-        environment = dict(os.environ, PARALLEL_HOME=self.folder, TMPDIR=self.folder)
+        environment = dict(os.environ, PARALLEL_HOME=self.folder, PARALLEL_SHELL='/bin/sh', TMPDIR=self.folder)
         with open(path, 'rb') as sent, open(self.files.path(task.name('fzc')), 'wb') as certificate:
             return started(command, kind=Session, end=Session.kill, is_alone=True, stdin=sent, stdout=certificate, stderr=said,
                            env=environment)
