@@ -92,6 +92,7 @@ impl Calls {
 /// Keeps what it takes, at most so many bytes a call.
 #[derive(Drop)]
 pub struct Sink<'a> {
+    /// The bytes that it took, in order.
     pub taken: Vec<u8>,
     most: usize,
     calls: &'a Calls,

@@ -30,7 +30,9 @@ use std::alloc::{AllocError, Global};
 /// The text of a file's items, and how many of each it has.
 #[derive(Drop)]
 pub struct Listing {
+    /// The lines that are printed; the last of them gives the counts.
     pub text: Vec<u8>,
+    /// How many of each the lines list.
     pub counts: Counts,
 }
 

@@ -23,10 +23,15 @@ use std::alloc::Global;
 /// The difference of two terms compares so with its bound, and where the terms have to be equal each has only values of the other.
 #[derive(Debug, Drop)]
 pub struct EqualityPropagator {
+    /// The propagator of their difference, which has the number and the form of the constraint.
     pub sum: SumPropagator,
+    /// How the constraint compares the left term with the right one.
     pub relation: Relation,
+    /// The left term of the comparison.
     pub left: Term,
+    /// The right term of the comparison.
     pub right: Term,
+    /// What is 1 where the terms compare so, and else 0; none where they have to.
     pub switch: Option<Term>,
 }
 

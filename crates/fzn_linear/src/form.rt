@@ -14,9 +14,13 @@ use std::alloc::Global;
 /// The sum over the places compares so with the bound; with a switch, exactly where this term is 1.
 #[derive(Debug, Drop)]
 pub struct SumForm {
+    /// The terms of the sum, each with its coefficient: at most 200,000 of them.
     pub places: Items<Place>,
+    /// How the sum compares with the bound.
     pub comparison: Comparison,
+    /// What the sum compares with: from -10^9 - 1 to 10^9 + 1.
     pub bound: i64,
+    /// What is 1 where the sum compares so, and else 0; none where it has to.
     pub switch: Option<Term>,
 }
 

@@ -38,9 +38,13 @@ const WIDE: usize = 64;
 /// The sum of a constraint's form compares so with its bound, and the opposite form does not.
 #[derive(Debug, Drop)]
 pub struct SumPropagator {
+    /// The number of the constraint, from 1 up.
     pub number: u64,
+    /// The form of the constraint, which has to hold where the switch is 1, or where there is none.
     pub form: SumForm,
+    /// The form that holds exactly where `form` does not, and so has to hold where the switch is 0.
     pub opposite: SumForm,
+    /// Which changes of its terms the propagator waits for.
     pub wake: Wake,
 }
 

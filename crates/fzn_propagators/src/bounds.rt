@@ -5,14 +5,18 @@ use fzn_propagator::Change;
 /// The least and the greatest value of a variable.
 #[derive(Clone, Copy, Debug)]
 pub struct Bounds {
+    /// The least value: from -10^9 to 10^9.
     pub low: i64,
+    /// The greatest value: from `low` to 10^9.
     pub high: i64,
 }
 
 /// What is added to the bounds of a variable.
 #[derive(Clone, Copy, Debug)]
 pub struct Shift {
+    /// What the least value rises by: from 0 to 2 * 10^9, and less than 0 where it goes back.
     pub low: i64,
+    /// What is added to the greatest value: from -2 * 10^9 to 0, and more than 0 where it goes back.
     pub high: i64,
 }
 

@@ -14,6 +14,7 @@ use std::alloc::Global;
 /// That the propagator at a place looks at a variable.
 #[derive(Clone, Copy, Debug)]
 pub struct Watch {
+    /// The place of the propagator among those of the model, from 0 up.
     pub propagator: usize,
     /// The changes that wake it.
     pub event: Event,

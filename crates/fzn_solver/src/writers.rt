@@ -34,17 +34,23 @@ use std::alloc::Global;
 /// alone is printed, it waits for the end. The observer is told how far the run has come.
 #[derive(Drop)]
 pub struct Writers<'o, 'c, 'l, 'p, W: TrackedWrite, C: TrackedWrite, P: Observer> {
+    /// Writes the lines of the certificate.
     pub cert: StepWriter<'c, C>,
+    /// Prints the solutions and the ending.
     pub out: Printer<'o, W>,
+    /// Whether the last solution alone is printed, as in an optimisation without `-a`.
     pub alone: bool,
+    /// The solution that waits to be printed, a value for each variable in order. There is none where each is printed at once.
     pub last: &'l mut Option<Items<i64>>,
     /// The fault that stopped it, after which it takes nothing more.
     pub stopped: Option<Fault>,
     /// The steps whose lines stand.
     pub taken: GhostList<Step>,
-    /// Both writers as they were at first.
+    /// The writer of the output as it was at first.
     pub first_out: Initial<W>,
+    /// The writer of the certificate as it was at first.
     pub first_cert: Initial<C>,
+    /// Is told how far the run has come, and may give hints.
     pub observer: &'p mut P,
     /// What the observer was told last.
     pub progress: Progress,
