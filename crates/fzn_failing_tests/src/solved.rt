@@ -1,5 +1,5 @@
 // The calls of `run`.
-use super::{CASES, Case, Trial, begun, case_of, fault_of, given, trial_of};
+use crate::cases::{CASES, Case, Trial, begun, case_of, fault_of, given, trial_of};
 use fzn_checker_tests::{Calls, Flaw, Sink, Source};
 use fzn_solver::RunFault;
 use std::alloc::Global;

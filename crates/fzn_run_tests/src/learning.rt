@@ -1,5 +1,6 @@
 // Runs that restart after each conflict, and keep no learned clause but the newest.
-use super::{is_answered, options_of, solve, text_of};
+use crate::files::{is_answered, text_of};
+use crate::runs::{options_of, solve};
 use fzn_checker::check;
 use fzn_options::Options;
 use fzn_solver::Unobserved;

@@ -1,5 +1,5 @@
 // What a run tells of itself.
-use super::{options_of, solve};
+use crate::runs::{options_of, solve};
 use fzn_options::Options;
 use fzn_solver::{Report, Unobserved};
 use std::alloc::{AllocError, Global};

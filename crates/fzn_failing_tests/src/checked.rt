@@ -1,5 +1,5 @@
 // The calls of `check`, of `trim`, of `core`, of `items` and of `bound`.
-use super::{CASES, Case, Trial, case_of, trial_of};
+use crate::cases::{CASES, Case, Trial, case_of, trial_of};
 use fzn_bound::bound;
 use fzn_checker::{CheckFault, check};
 use fzn_checker_tests::{Calls, Flaw, Sink, Source};

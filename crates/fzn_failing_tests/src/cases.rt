@@ -1,16 +1,13 @@
-// Each call on a stream fails in turn, or moves one byte less: `run`, `check`, `trim` and `core` say so, and what was written is a beginning
-// of what is written else. Where nothing fails nothing changes.
-use crate::runs::{options_of, solve};
+// Each call on a stream fails in turn, or moves one byte less: `run`, `check`, `trim`, `core`, `items` and `bound` say so, and what was written
+// is a beginning of what is written else. Where nothing fails nothing changes.
 use fzn_options::Options;
+use fzn_run_tests::{options_of, solve};
 use fzn_solver::{RunFault, Unobserved};
 use fzn_strategy::Learn;
 use std::alloc::Global;
 use std::io::{Read, Write};
 use std::str::from_utf8;
 use std::test::Fail;
-
-mod checked;
-mod solved;
 
 const FILES: [&str; 5] = [
     "var bool: a :: output_var; var bool: b :: output_var; constraint bool_clause([a,b],[]); constraint bool_clause([],[a]); solve satisfy;",
@@ -21,17 +18,17 @@ const FILES: [&str; 5] = [
 ];
 
 /// Each file with and without all solutions, in both ways of learning.
-const CASES: usize = 4 * FILES.len();
+pub(crate) const CASES: usize = 4 * FILES.len();
 
 const DASHES: &str = "----------\n";
 
 /// A file, options, and what a run writes where nothing fails.
 #[derive(Drop)]
-struct Case {
-    file: &'static str,
-    options: Options,
-    out: Vec<u8>,
-    cert: Vec<u8>,
+pub(crate) struct Case {
+    pub(crate) file: &'static str,
+    pub(crate) options: Options,
+    pub(crate) out: Vec<u8>,
+    pub(crate) cert: Vec<u8>,
 }
 
 /// The options of a case.
@@ -43,7 +40,7 @@ fn options_for(alloc: Global, number: usize) -> Options {
     options
 }
 
-fn case_of(alloc: Global, number: usize) -> Result<Case, Fail> {
+pub(crate) fn case_of(alloc: Global, number: usize) -> Result<Case, Fail> {
     let file = FILES[number / 4 % FILES.len()];
     let mut case = Case {
         file,
@@ -68,7 +65,7 @@ fn write_ample(alloc: Global, case: &mut Case) -> Option<RunFault> {
 }
 
 /// The fault of a run.
-fn fault_of<R: Read + Drop, W: Write, C: Write>(
+pub(crate) fn fault_of<R: Read + Drop, W: Write, C: Write>(
     alloc: Global,
     file: R,
     options: &Options,
@@ -80,14 +77,14 @@ fn fault_of<R: Read + Drop, W: Write, C: Write>(
 
 /// What came of a call that was to go wrong.
 #[derive(Clone, Copy, Debug, PartialEq, Eq)]
-enum Trial {
+pub(crate) enum Trial {
     AsPromised,
     Otherwise,
     /// There are no so many calls, and nothing went wrong.
     NoSuchCall,
 }
 
-fn trial_of(is_reached: bool, is_promised: bool) -> Trial {
+pub(crate) fn trial_of(is_reached: bool, is_promised: bool) -> Trial {
     match (is_reached, is_promised) {
         (_, false) => Trial::Otherwise,
         (true, true) => Trial::AsPromised,
@@ -96,14 +93,14 @@ fn trial_of(is_reached: bool, is_promised: bool) -> Trial {
 }
 
 /// How many of these bytes' lines are solutions of a certificate; the last line counts where it is whole.
-fn given(cert: &[u8]) -> usize {
+pub(crate) fn given(cert: &[u8]) -> usize {
     let text = from_utf8(cert).unwrap_or("");
     let (lines, _) = text.rsplit_once("\n").unwrap_or(("", ""));
     lines.lines().filter(|line| line.starts_with("s")).count()
 }
 
 /// How many solutions and endings are begun in an answer.
-fn begun(out: &[u8]) -> usize {
+pub(crate) fn begun(out: &[u8]) -> usize {
     let text = from_utf8(out).unwrap_or(DASHES);
     text.split(DASHES).filter(|part| !part.is_empty()).count()
 }

@@ -1,6 +1,7 @@
 ghost use Rattle.std.specs.Prelude.{Some};
 
-use super::{LEAST, TWO_BOOLEANS, options_of, solve};
+use crate::files::{LEAST, TWO_BOOLEANS};
+use crate::runs::{options_of, solve};
 use fzn_options::Options;
 use fzn_solver::{Observer, Progress, Unobserved};
 use std::alloc::Global;

@@ -1,5 +1,5 @@
 // What `bound` answers and prints.
-use super::LEAST;
+use crate::files::LEAST;
 use fzn_bound::{Known, bound};
 use std::alloc::Global;
 use std::test::Fail;

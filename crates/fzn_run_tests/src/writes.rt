@@ -1,4 +1,5 @@
-use super::{ANSWER, LEAST, SOLUTION, TWO_BOOLEANS, is_answered, options_of, solve, text_of};
+use crate::files::{ANSWER, LEAST, SOLUTION, TWO_BOOLEANS, is_answered, text_of};
+use crate::runs::{options_of, solve};
 use fzn_options::Options;
 use fzn_solver::{RunFault, Unobserved};
 use std::alloc::Global;

@@ -1,5 +1,6 @@
 // Options that steer a search: each test fails where one of them is passed over.
-use super::{is_answered, options_of, text_of};
+use crate::files::{is_answered, text_of};
+use crate::runs::options_of;
 use std::alloc::Global;
 use std::test::Fail;
 

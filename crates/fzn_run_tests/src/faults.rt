@@ -1,4 +1,5 @@
-use super::{TWO_BOOLEANS, options_of, solve};
+use crate::files::TWO_BOOLEANS;
+use crate::runs::{options_of, solve};
 use fzn_lexer::{Fault, FaultKind, Position};
 use fzn_options::Options;
 use fzn_solver::{RunFault, Unobserved};
