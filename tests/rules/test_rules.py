@@ -72,7 +72,9 @@ abbrev hidden : Type 0
 pub record Sum : Type 0 where
   pub least : ℕ
 """,
-    'crates/fzn_high/src/lib.rt': "//! In: sums. Out, of `high`: one. Proved against `fzn_low`'s `specs/Sum.antt`.\nuse fzn_low::{inner::{self}, sum as of};\n",
+    'crates/fzn_high/src/lib.rt': """//! In: sums. Out, of `high`: one. Proved against `fzn_low`'s `specs/Sum.antt`.
+use fzn_low::{inner::{self}, sum as of};
+""",
     'crates/fzn_high/src/place.rt': 'ghost use Rattle.fzn_low.specs.declared.sum.Place.{Place};\n',
     'crates/fzn_high/specs/High.antt': 'abbrev pub IsHigh : Type 0\nabbrev hidden : Type 0\npub record High : Type 0 where\n  pub least : ℕ\n',
     'crates/fzn_top/src/main.rt': '//! In: a command line. Out: a program. What it prints is proved below.\n',
@@ -112,7 +114,8 @@ class RulesTest(unittest.TestCase):
     def test_head(self):
         """A head says what comes in, what goes out and against what it is proved; its specs are there."""
         path = 'crates/fzn_low/src/lib.rt'
-        for old, new in (('In: ', 'Of '), ('Out: ', 'Gives '), ('Proved against\n//! `specs/Sum.antt`', 'True'), ('Sum.antt', 'Sums.antt'), ('//! Sums', '\n')):
+        for old, new in (('In: ', 'Of '), ('Out: ', 'Gives '), ('Proved against\n//! `specs/Sum.antt`', 'True'), ('Sum.antt', 'Sums.antt'),
+                         ('//! Sums', '\n')):
             self.plant(path, old, new)
             self.assertEqual(set(self.faults(heads)), {path + ':1'}, new)
 
@@ -146,8 +149,9 @@ class RulesTest(unittest.TestCase):
 
     def test_names(self):
         path = 'crates/fzn_high/specs/High.antt'
-        for text in ('abbrev pub IsSum : Type 0', 'pub record IsSum (a : ℕ) : Type 0 where', 'record pub IsSum : Type 0', 'unfoldable pub IsSum : ℕ',
-                     'pub data IsSum : Type 0 where', 'def pub IsSum : ℕ', 'pub IsSum : ℕ', 'module _ where\n  abbrev pub IsSum : Type 0'):
+        for text in ('abbrev pub IsSum : Type 0', 'pub record IsSum (a : ℕ) : Type 0 where', 'record pub IsSum : Type 0',
+                     'unfoldable pub IsSum : ℕ', 'pub data IsSum : Type 0 where', 'def pub IsSum : ℕ', 'pub IsSum : ℕ',
+                     'module _ where\n  abbrev pub IsSum : Type 0'):
             self.write(path, text + '\n')
             self.assertEqual(self.faults(names), [f'{path}:{len(text.splitlines())}'], text)
 
@@ -178,8 +182,9 @@ class RulesTest(unittest.TestCase):
     def test_exports(self):
         """An item that nobody imports and no page promises; a block of a page promises nothing."""
         path = 'crates/fzn_low/src/lib.rt'
-        for old, new, line in (('    sum,\n', '    sum,\n    other,\n', 10), ('    sum,\n', '    sum as sums,\n', 9), ('    sum,\n', '    sum, inner::{deep},\n', 9),
-                               ('mod sum;\n', 'pub mod sums;\n', 12), ('mod sum;\n', 'pub const fn quoted() {}\n', 12)):
+        for old, new, line in (('    sum,\n', '    sum,\n    other,\n', 10), ('    sum,\n', '    sum as sums,\n', 9),
+                               ('    sum,\n', '    sum, inner::{deep},\n', 9), ('mod sum;\n', 'pub mod sums;\n', 12),
+                               ('mod sum;\n', 'pub const fn quoted() {}\n', 12)):
             self.plant(path, old, new)
             self.assertEqual(self.faults(exports), [f'{path}:{line}'], new)
         self.write('tests/rules/exports.txt', 'fzn_low quoted\n')
@@ -189,7 +194,8 @@ class RulesTest(unittest.TestCase):
 
     def test_unneeded(self):
         """What was imported, named in contracts or promised, and is so no more; what lemmas name is needed too."""
-        for path, old, line in (('crates/fzn_high/src/lib.rt', 'sum as of', 9), ('crates/fzn_high/src/place.rt', 'Place', 8), ('README.md', 'promised', 8)):
+        for path, old, line in (('crates/fzn_high/src/lib.rt', 'sum as of', 9), ('crates/fzn_high/src/place.rt', 'Place', 8),
+                                ('README.md', 'promised', 8)):
             self.plant(path, old, 'none')
             self.assertEqual(self.faults(exports), [f'crates/fzn_low/src/lib.rt:{line}'], path)
             self.write(path, FILES[path])
