@@ -20,13 +20,13 @@ use Rattle.fzn_strategy.specs.declared.learn.Learn.TheVariants.{Plain}
 use Rattle.fzn_learned.proofs.CallerLemmas.{IsReasoned-grown}
 use Rattle.fzn_search.specs.Fixed.{AllFixed}
 use Rattle.fzn_reduction.specs.Forgetting.{is_cut}
-use Rattle.fzn_engine.specs.Volume.{volume}
-use Rattle.fzn_engine.specs.State.{Stock, known_in, with_held, with_cuts, StateOf}
-use Rattle.fzn_engine.proofs.VolumeLemmas.{volume-filled}
-use Rattle.fzn_engine.proofs.WithinLemmas.{IsWithin-larger}
+use Rattle.fzn_state.specs.Volume.{volume}
+use Rattle.fzn_state.specs.State.{Stock, known_in, with_held, with_cuts, StateOf}
+use Rattle.fzn_state.proofs.VolumeLemmas.{volume-filled}
+use Rattle.fzn_state.proofs.WithinLemmas.{IsWithin-larger}
 use Rattle.fzn_engine.proofs.CutLemmas.{cut_of-false}
 use Rattle.fzn_engine.proofs.SolutionLemmas.{passes-held, false-clause}
-use Rattle.fzn_engine.proofs.ChangeLemmas.{State-length, State-within, State-filled, State-found}
+use Rattle.fzn_state.proofs.ChangeLemmas.{State-length, State-within, State-filled, State-found}
 
 -- two values of one set are two choices
 pub many-choices : (sets : List IntSet) (k : ℕ) → NoneEmpty sets → k < length sets → 1 < size (get_or sets k no_values) → 1 < volume sets

@@ -1,5 +1,5 @@
 -- A solution that somebody else has found, taken or passed over.
-use Rattle.std.proofs.Common.{◌≡◌, ◌≢◌, ℕ, ◌+◌, ◌<◌, ◌≤◌, Bool, true, ℤ, List, [], ◌∷◌, length, All, Option, None, Some, refl, sym, ap, ◌∙◌, subst, arith}
+use Rattle.std.proofs.Common.{◌≡◌, ℕ, ◌+◌, ◌<◌, ◌≤◌, true, ℤ, List, [], length, Option, None, Some, refl, sym, ap, ◌∙◌, subst, arith}
 use Rattle.std.specs.Prelude.{IsSome}
 use Rattle.std.specs.Option.{unwrap_or}
 use Rattle.std.proofs.lemmas.List.{length-map}
@@ -20,13 +20,13 @@ use Rattle.fzn_strategy.specs.declared.learn.Learn.{Learn}
 use Rattle.fzn_reduction.specs.declared.notes.Notes.{Notes}
 use Rattle.fzn_printer.specs.declared.printer.Ending.{Ending}
 use Rattle.fzn_engine.specs.declared.limits.Limits.{Limits}
-use Rattle.fzn_engine.specs.declared.solver.Solver.{Solver}
-use Rattle.fzn_engine.specs.Changes.{HasWritten, IsOngoing, IsOver, Continues}
-use Rattle.fzn_engine.specs.Hinted.{AreCutsTrue, HasHeeded, Heeds}
+use Rattle.fzn_state.specs.declared.solver.Solver.{Solver}
+use Rattle.fzn_engine.specs.Loop.{HasWritten, IsOngoing, IsOver, Continues, IsWithinLimits}
+use Rattle.fzn_engine.specs.Hinted.{AreCutsTrue, HasTakenHints, TakesHints}
 use Rattle.fzn_engine.specs.Outcome.{HasRoom, IsReached}
-use Rattle.fzn_engine.specs.Search.{IsAfter, Tally, IsWithinLimits, work, work_of}
-use Rattle.fzn_engine.specs.State.{IsHeldCut}
-use Rattle.fzn_engine.proofs.ForgetLemmas.{nothing-tended}
+use Rattle.fzn_state.specs.Search.{IsAfter, Tally, work, work_of}
+use Rattle.fzn_state.specs.State.{IsHeldCut}
+use Rattle.fzn_state.proofs.ForgetLemmas.{nothing-reduced}
 
 module _ {model : Model} {solver : Solver} {steps : List Step} (h : IsAfter model solver steps) where
   -- the held clauses are over the variables of the model
@@ -45,12 +45,12 @@ module _ {model : Model} {solver : Solver} {steps : List Step} (h : IsAfter mode
       subst T (ap (λ (o : Option (List Lit)). unwrap_or o []) cut.2) (here cut.0 cut.1 (subst IsSome (sym cut.2) refl))) (past_of model steps).solutions h.state.core.cuts_held
 
   -- nothing was taken
-  pub unheeded : (limits : Limits) → IsWithinLimits model limits solver → HasHeeded model limits solver solver steps
-  unheeded limits within = record { state = h; trail = refl; nodes = refl; learn = refl; within = within }
+  pub none-taken : (limits : Limits) → IsWithinLimits model limits solver → HasTakenHints model limits solver solver steps
+  none-taken limits within = record { state = h; trail = refl; nodes = refl; learn = refl; within = within }
 
 -- and something was noted
-pub noted-heeded : {model : Model} (limits : Limits) {old mid : Solver} {steps : List Step} → HasHeeded model limits old mid steps → (notes : Notes) → HasHeeded model limits old (record mid { notes = notes }) steps
-noted-heeded limits h notes = record { state = (nothing-tended h.state notes).state; trail = h.trail; nodes = h.nodes; learn = h.learn; within = h.within }
+pub noted-taken : {model : Model} (limits : Limits) {old mid : Solver} {steps : List Step} → HasTakenHints model limits old mid steps → (notes : Notes) → HasTakenHints model limits old (record mid { notes = notes }) steps
+noted-taken limits h notes = record { state = (nothing-reduced h.state notes).state; trail = h.trail; nodes = h.nodes; learn = h.learn; within = h.within }
 
 -- there is room for one more solution where the limit is not reached with it
 room-left : (goal : Goal) (most : Option ℕ) (n : ℕ) → HasRoom goal most n → (IsReached goal most (n + 1) → ⊥) → HasRoom goal most (n + 1)
@@ -63,8 +63,8 @@ room-left (Minimize var) most n room not_yet = tt
 room-left (Maximize var) most n room not_yet = tt
 
 -- a solution was taken
-pub taken-heeded : {model : Model} (limits : Limits) {values : List ℤ} {old new : Solver} {steps : List Step} {id : ClauseId} → HasWritten model values old new steps id → IsWithinLimits model limits old → (IsReached model.goal limits.solutions new.found → ⊥) → HasHeeded model limits old new steps
-taken-heeded {model = model} limits {old = old} {new = new} w within not_yet =
+pub solution-taken : {model : Model} (limits : Limits) {values : List ℤ} {old new : Solver} {steps : List Step} {id : ClauseId} → HasWritten model values old new steps id → IsWithinLimits model limits old → (IsReached model.goal limits.solutions new.found → ⊥) → HasTakenHints model limits old new steps
+solution-taken {model = model} limits {old = old} {new = new} w within not_yet =
     let found : new.found ≡ old.found + 1 = ap (λ (t : Tally). t.found) w.tally in
     let nodes : new.search.nodes ≡ old.search.nodes = ap (λ (t : Tally). t.nodes) w.tally in
     let R : ℕ → Type 0 = λ n. IsReached model.goal limits.solutions n → ⊥ in
@@ -79,18 +79,18 @@ taken-heeded {model = model} limits {old = old} {new = new} w within not_yet =
     }
 
 -- one hint after the other
-pub heeded-through : {model : Model} (limits : Limits) {old mid : Solver} (new : Solver) {before : List Step} (now : List Step) → HasHeeded model limits old mid before → (ending : Option Ending) → Heeds model limits mid new now ending → Heeds model limits old new now ending
-heeded-through limits new now a None b = record { state = b.state; trail = b.trail ∙ a.trail; nodes = b.nodes ∙ a.nodes; learn = b.learn ∙ a.learn; within = b.within }
-heeded-through {model = model} limits new now a (Some ending) over =
+pub hints-through : {model : Model} (limits : Limits) {old mid : Solver} (new : Solver) {before : List Step} (now : List Step) → HasTakenHints model limits old mid before → (ending : Option Ending) → TakesHints model limits mid new now ending → TakesHints model limits old new now ending
+hints-through limits new now a None b = record { state = b.state; trail = b.trail ∙ a.trail; nodes = b.nodes ∙ a.nodes; learn = b.learn ∙ a.learn; within = b.within }
+hints-through {model = model} limits new now a (Some ending) over =
     let L : Learn → Type 0 = λ learn. IsOver model learn limits new now ending in
     subst L a.learn over
 
 -- what was begun goes on
-pub heeded-continues : {model : Model} (limits : Limits) {old mid : Solver} (new : Solver) {before : List Step} (now : List Step) → IsOngoing model limits old mid before → (ending : Option Ending) → Heeds model limits mid new now ending → Continues model limits old new now ending
-heeded-continues limits {old = old} {mid = mid} new now o None h =
+pub hints-continue : {model : Model} (limits : Limits) {old mid : Solver} (new : Solver) {before : List Step} (now : List Step) → IsOngoing model limits old mid before → (ending : Option Ending) → TakesHints model limits mid new now ending → Continues model limits old new now ending
+hints-continue limits {old = old} {mid = mid} new now o None h =
     let T : Levels → Type 0 = λ trail. work limits.nodes new.search.nodes trail < work_of limits.nodes old in
     let N : ℕ → Type 0 = λ n. work limits.nodes n mid.trail < work_of limits.nodes old in
     record { state = h.state; less = subst T (sym h.trail) (subst N (sym h.nodes) o.less); within = h.within; learn = h.learn ∙ o.learn }
-heeded-continues {model = model} limits new now o (Some ending) over =
+hints-continue {model = model} limits new now o (Some ending) over =
     let L : Learn → Type 0 = λ learn. IsOver model learn limits new now ending in
     subst L o.learn over

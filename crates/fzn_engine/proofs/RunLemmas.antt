@@ -3,7 +3,6 @@ use Rattle.std.proofs.Common.{◌≡◌, ◌≢◌, ℕ, zero, suc, ◌==◌, �
 use Rattle.std.proofs.lemmas.Bool.Decides.{nat_tests}
 use Rattle.std.proofs.lemmas.List.Elements.{All-nil}
 use Rattle.fzn_domain.specs.declared.literal.Lit.{Lit}
-use Rattle.fzn_domain.specs.IntSet.{IntSet}
 use Rattle.fzn_domain.specs.Limits.{IsInLimits}
 use Rattle.fzn_domain.specs.Narrow.{IsVariable, IsWithin, possible_in, is_some_empty}
 use Rattle.fzn_meaning.specs.declared.model.Model.{Model}
@@ -32,22 +31,23 @@ use Rattle.fzn_printer.specs.declared.printer.Ending.{Ending}
 use Rattle.fzn_printer.specs.declared.printer.Ending.TheVariants.{Complete, Unsatisfiable, NodeLimit, SolutionLimit}
 use Rattle.fzn_printer.specs.Shown.{is_closed}
 use Rattle.fzn_engine.specs.declared.limits.Limits.{Limits}
-use Rattle.fzn_engine.specs.declared.solver.Solver.{Solver}
+use Rattle.fzn_state.specs.declared.solver.Solver.{Solver}
 use Rattle.fzn_reduction.specs.Forgetting.{is_cut}
-use Rattle.fzn_engine.specs.Volume.{volume}
-use Rattle.fzn_engine.specs.Outcome.{HasRoom, IsReached, count, IsCertified, IsRefuted, IsEnded, EndsTruly, IsOutcome}
-use Rattle.fzn_engine.specs.Changes.{HasWritten, IsRecorded, IsKeptBy, IsClosed, Goes, Continues, IsOngoing, IsOver, closed_after, ending_of}
-use Rattle.fzn_engine.specs.Moves.{IsDecided, Holds}
-use Rattle.fzn_engine.specs.Search.{IsInOrder, IsAfter, stock_of, Tally, tally_of, work_of, IsWithinLimits, IsComplete, work}
-use Rattle.fzn_engine.specs.State.{Stock, known_in, with_held, with_cuts, StateOf}
-use Rattle.fzn_engine.proofs.AcceptedLemmas.{logged-accepted}
-use Rattle.fzn_engine.proofs.ChangeLemmas.{State-length, State-within, State-decided, work-decided, State-certified}
+use Rattle.fzn_state.specs.Volume.{volume}
+use Rattle.fzn_engine.specs.Outcome.{HasRoom, IsReached, IsEnded, EndsTruly, IsOutcome}
+use Rattle.fzn_state.specs.Certified.{count, IsCertified, IsRefuted}
+use Rattle.fzn_engine.specs.Loop.{HasWritten, IsRecorded, Goes, Continues, IsOngoing, IsOver, closed_after, ending_of, IsWithinLimits, IsComplete}
+use Rattle.fzn_state.specs.Changes.{IsKeptBy, IsClosed, Holds}
+use Rattle.fzn_engine.specs.Moves.{IsDecided}
+use Rattle.fzn_state.specs.Search.{IsInOrder, IsAfter, stock_of, Tally, tally_of, work_of, work}
+use Rattle.fzn_state.specs.State.{Stock, known_in, with_held, with_cuts, StateOf}
+use Rattle.fzn_state.proofs.AcceptedLemmas.{logged-accepted}
+use Rattle.fzn_state.proofs.ChangeLemmas.{State-length, State-decided, work-decided, State-certified}
 use Rattle.fzn_engine.proofs.FoundLemmas.{choices-left, solution-accepted, solution-state, cut-impossible}
-use Rattle.fzn_engine.proofs.SolverLemmas.{solver-is, order-found}
-use Rattle.fzn_engine.proofs.SpelledLemmas.{solution-spelled, values-limited}
-use Rattle.fzn_engine.proofs.UnitLemmas.{within-tally}
-use Rattle.fzn_engine.proofs.VolumeLemmas.{volume-empty}
-use Rattle.fzn_engine.proofs.WithinLemmas.{IsWithin-larger}
+use Rattle.fzn_state.proofs.SolverLemmas.{solver-is, order-found}
+use Rattle.fzn_state.proofs.SpelledLemmas.{solution-spelled, values-limited}
+use Rattle.fzn_engine.proofs.LoopLemmas.{within-tally}
+use Rattle.fzn_state.proofs.VolumeLemmas.{volume-empty}
 
 -- ---- nothing is left
 

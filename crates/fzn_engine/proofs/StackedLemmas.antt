@@ -12,15 +12,15 @@ use Rattle.fzn_trail.specs.Unit.{IsFalseOrUnit}
 use Rattle.fzn_clauses.proofs.WatchingLemmas.{IsWatching-asserted}
 use Rattle.fzn_learned.specs.Reasoned.{IsKnown, clause_of, IsForced}
 use Rattle.fzn_propagator.specs.declared.propagator.Inference.{Inference}
-use Rattle.fzn_engine.specs.declared.solver.Solver.{Solver}
+use Rattle.fzn_state.specs.declared.solver.Solver.{Solver}
 use Rattle.fzn_propagator.specs.Constraints.{IsInference}
-use Rattle.fzn_engine.specs.Changes.{IsBehind}
+use Rattle.fzn_engine.specs.Loop.{IsBehind}
 use Rattle.fzn_engine.specs.Moves.{IsForcedBy}
-use Rattle.fzn_engine.specs.Search.{IsAfter, stock_of}
-use Rattle.fzn_engine.specs.State.{known_in}
-use Rattle.fzn_engine.proofs.ChangeLemmas.{State-length, State-stacked}
-use Rattle.fzn_engine.proofs.LearnLemmas.{forced-state, forced-works}
-use Rattle.fzn_engine.proofs.VariableLemmas.{variable-of}
+use Rattle.fzn_state.specs.Search.{IsAfter, stock_of}
+use Rattle.fzn_state.specs.State.{known_in}
+use Rattle.fzn_state.proofs.ChangeLemmas.{State-length, State-stacked}
+use Rattle.fzn_state.proofs.LearnLemmas.{forced-state, forced-works}
+use Rattle.fzn_state.proofs.VariableLemmas.{variable-of}
 
 module _ {model : Model} {old : Solver} {before : List Step} (h : IsAfter model old before) {inference : Inference} (is : IsInference model old.trail inference) where
   abbrev it : Inferred

@@ -1,5 +1,5 @@
--- What is held, and what changes the trail.
-use Rattle.std.specs.Prelude.{◌≡◌, ℕ, ◌+◌, Bool, true, false, List, [], ◌∷◌, take}
+-- What each move makes of the trail.
+use Rattle.std.specs.Prelude.{◌≡◌, ℕ, ◌+◌, Bool, true, false, List, [], ◌∷◌}
 use Rattle.fzn_domain.specs.declared.literal.Lit.{Lit}
 use Rattle.fzn_domain.specs.Narrow.{possible_in}
 use Rattle.std.specs.List.{All}
@@ -7,12 +7,11 @@ use Rattle.fzn_trail.specs.declared.trail.Reason.{Reason}
 use Rattle.fzn_trail.specs.declared.trail.Entry.{Entry}
 use Rattle.fzn_trail.specs.declared.trail.Reason.TheVariants.{Decision}
 use Rattle.fzn_trail.specs.Levels.{pushed, asserted, returned}
-use Rattle.fzn_clauses.specs.Kept.{KeepsWatching}
 use Rattle.fzn_learned.specs.Reasoned.{IsBelow, clause_of}
 use Rattle.fzn_search.specs.Fixed.{Splits}
-use Rattle.fzn_engine.specs.State.{known_in, with_held, with_stack}
-use Rattle.fzn_engine.specs.declared.solver.Solver.{Solver}
-use Rattle.fzn_engine.specs.Search.{stock_of}
+use Rattle.fzn_state.specs.State.{known_in, with_stack}
+use Rattle.fzn_state.specs.declared.solver.Solver.{Solver}
+use Rattle.fzn_state.specs.Search.{stock_of}
 
 -- all but the trail, the decisions and the number of solutions is the same
 pub record IsSame (old new : Solver) : Type 0 where
@@ -21,17 +20,6 @@ pub record IsSame (old new : Solver) : Type 0 where
   pub scratch : new.scratch ≡ old.scratch
   pub learn : new.learn ≡ old.learn
   pub steps : new.steps ≡ old.steps
-
--- the clause of the next step is held
-pub record Holds (clause : List Lit) (old new : Solver) : Type 0 where
-  pub stock : stock_of new ≡ with_held clause (old.steps + 1) (stock_of old)
-  pub keeps : KeepsWatching old.clauses new.clauses
-  pub trail : new.trail ≡ old.trail
-  pub search : new.search ≡ old.search
-  pub scratch : new.scratch ≡ old.scratch
-  pub learn : new.learn ≡ old.learn
-  pub found : new.found ≡ old.found
-  pub steps : new.steps ≡ old.steps + 1
 
 -- the trail is at a level, and the stack holds at least the inferences that its entries rest on
 pub record IsBackAt (level : ℕ) (old new : Solver) : Type 0 where
@@ -45,16 +33,6 @@ pub record IsBackAt (level : ℕ) (old new : Solver) : Type 0 where
   pub learn : new.learn ≡ old.learn
   pub found : new.found ≡ old.found
   pub steps : new.steps ≡ old.steps
-
--- of the inferences at least those stand that entries rest on
-pub record IsCut (old new : Solver) : Type 0 where
-  pub count : ℕ
-  pub enough : All (λ (entry : Entry). IsBelow count entry.reason) old.trail.entries
-  pub is : new ≡ record old { inferences = take count old.inferences; notes = new.notes }
-
--- what serves later conflicts alone may differ
-abbrev pub IsNoted : Solver → Solver → Type 0
-IsNoted old new = new ≡ record old { notes = new.notes }
 
 -- the clause's first possible literal was asserted, or it has none
 abbrev pub IsForcedBy : Solver → Reason → Solver → Bool → Type 0

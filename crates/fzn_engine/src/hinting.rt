@@ -6,91 +6,88 @@ ghost use Rattle.fzn_meaning.specs.WellFormed.{IsWellFormed};
 ghost use Rattle.fzn_clauses.specs.Held.{IsHeld, AllHeld, clause_of};
 ghost use Rattle.fzn_clauses.specs.Watching.{held_by};
 ghost use Rattle.fzn_reduction.specs.Forgetting.{is_cut};
-ghost use Rattle.fzn_engine.specs.Hinted.{Heeds, AreCutsTrue};
-ghost use Rattle.fzn_engine.specs.Search.{IsReady, IsLeft, IsWithinLimits};
+ghost use Rattle.fzn_engine.specs.Hinted.{TakesHints, AreCutsTrue};
+ghost use Rattle.fzn_state.specs.Search.{IsReady, IsLeft};
+ghost use Rattle.fzn_engine.specs.Loop.{IsWithinLimits};
 
-use crate::changes::is_reached;
-use crate::fault::Fault;
 use crate::limits::Limits;
-use crate::sink::Sink;
-use crate::solver::Solver;
+use crate::solutions::{is_reached, write_solution};
 use fzn_clauses::Clauses;
 use fzn_domain::Lit;
 use fzn_meaning::{Model, is_solution};
 use fzn_printer::Ending;
 use fzn_reduction::Cuts;
+use fzn_state::{Fault, Sink, Solver};
 use fzn_trail::ClauseId;
 use std::alloc::Global;
 
 /// How many hints are looked at one after the other, before the search goes on.
 const MOST_HINTS: usize = 65_536;
 
-impl Solver {
-    /// Takes the solutions that the sink proposes, at the start and after each restart, until it has no more for now. Answers how the search
-    /// ends where there are as many solutions then as the limit.
-    pub fn heed<S: Sink>(
-        &mut self,
-        alloc: Global,
-        model: &Model,
-        limits: Limits,
-        sink: &mut S,
-    ) -> Result<Option<Ending>, Fault>
-        requires ready { IsReady model.now self.old (S.written sink.old) (S.keeps model.now sink.old) }
-        requires within { IsWithinLimits model.now limits self.old }
-        ensures heeds { IfOk result (Heeds model.now limits self.old self.new (S.written sink.new)) }
-        ensures left { IsLeft model.now (S.written sink.new) (S.keeps model.now sink.new) (S.origin sink.new ≡ S.origin sink.old) }
-    {
-        'hints: for _ in 0..MOST_HINTS {
-            if !self.notes.is_hint_due() {
-                return Ok(None);
-            }
-            let ending = self.heed_next(alloc, model, limits, sink)?;
-            if ending.is_some() {
-                return Ok(ending);
-            }
-        }
-        Ok(None)
-    }
-
-    /// Takes the next solution that the sink proposes. What is no solution, or does not pass the cuts of those that were found, is passed
-    /// over.
-    fn heed_next<S: Sink>(
-        &mut self,
-        alloc: Global,
-        model: &Model,
-        limits: Limits,
-        sink: &mut S,
-    ) -> Result<Option<Ending>, Fault>
-        requires ready { IsReady model.now self.old (S.written sink.old) (S.keeps model.now sink.old) }
-        requires within { IsWithinLimits model.now limits self.old }
-        ensures heeds { IfOk result (Heeds model.now limits self.old self.new (S.written sink.new)) }
-        ensures left { IsLeft model.now (S.written sink.new) (S.keeps model.now sink.new) (S.origin sink.new ≡ S.origin sink.old) }
-    {
-        let Some(values) = sink.hint(alloc)? else {
-            self.notes.heed_no_more();
-            return Ok(None);
-        };
-        if !self.is_new(model, values.as_slice()) {
-            self.notes.pass_over();
+/// Takes the solutions that the sink proposes, at the start and after each restart, until it has no more for now. Answers how the search
+/// ends where there are as many solutions then as the limit.
+pub(crate) fn take_hints<S: Sink>(
+    solver: &mut Solver,
+    alloc: Global,
+    model: &Model,
+    limits: Limits,
+    sink: &mut S,
+) -> Result<Option<Ending>, Fault>
+    requires ready { IsReady model.now solver.old (S.written sink.old) (S.keeps model.now sink.old) }
+    requires within { IsWithinLimits model.now limits solver.old }
+    ensures takes { IfOk result (TakesHints model.now limits solver.old solver.new (S.written sink.new)) }
+    ensures left { IsLeft model.now (S.written sink.new) (S.keeps model.now sink.new) (S.origin sink.new ≡ S.origin sink.old) }
+{
+    'hints: for _ in 0..MOST_HINTS {
+        if !solver.notes.is_hint_due() {
             return Ok(None);
         }
-        self.write_solution(alloc, model, sink, values)?;
-        self.notes.take_hint();
-        if is_reached(model.goal, limits.solutions, self.found) {
-            return Ok(Some(Ending::SolutionLimit));
+        let ending = take_next_hint(solver, alloc, model, limits, sink)?;
+        if ending.is_some() {
+            return Ok(ending);
         }
-        Ok(None)
     }
+    Ok(None)
+}
 
-    /// Whether the values are a solution that makes each cut true that is held.
-    fn is_new(&self, model: &Model, values: &[i64]) -> bool
-        requires model { IsWellFormed model.now }
-        requires over { AllHeld (IsClauseOver (length model.now.vars)) (held_by self.now.clauses) }
-        ensures solution { IsTrue result → IsSolution model.now values.now }
-        ensures cuts { IsTrue result → AreCutsTrue (held_by self.now.clauses) self.now.cuts values.now }
-    {
-        is_solution(model, values) && are_cuts_true(&self.clauses, &self.cuts, values)
+/// Takes the next solution that the sink proposes. What is no solution, or does not pass the cuts of those that were found, is passed
+/// over.
+fn take_next_hint<S: Sink>(
+    solver: &mut Solver,
+    alloc: Global,
+    model: &Model,
+    limits: Limits,
+    sink: &mut S,
+) -> Result<Option<Ending>, Fault>
+    requires ready { IsReady model.now solver.old (S.written sink.old) (S.keeps model.now sink.old) }
+    requires within { IsWithinLimits model.now limits solver.old }
+    ensures takes { IfOk result (TakesHints model.now limits solver.old solver.new (S.written sink.new)) }
+    ensures left { IsLeft model.now (S.written sink.new) (S.keeps model.now sink.new) (S.origin sink.new ≡ S.origin sink.old) }
+{
+    let Some(values) = sink.hint(alloc)? else {
+        solver.notes.heed_no_more();
+        return Ok(None);
+    };
+    if !is_new(solver, model, values.as_slice()) {
+        solver.notes.pass_over();
+        return Ok(None);
     }
+    write_solution(solver, alloc, model, sink, values)?;
+    solver.notes.take_hint();
+    if is_reached(model.goal, limits.solutions, solver.found) {
+        return Ok(Some(Ending::SolutionLimit));
+    }
+    Ok(None)
+}
+
+/// Whether the values are a solution that makes each cut true that is held.
+fn is_new(solver: &Solver, model: &Model, values: &[i64]) -> bool
+    requires model { IsWellFormed model.now }
+    requires over { AllHeld (IsClauseOver (length model.now.vars)) (held_by solver.now.clauses) }
+    ensures solution { IsTrue result → IsSolution model.now values.now }
+    ensures cuts { IsTrue result → AreCutsTrue (held_by solver.now.clauses) solver.now.cuts values.now }
+{
+    is_solution(model, values) && are_cuts_true(&solver.clauses, &solver.cuts, values)
 }
 
 /// Whether the values make each cut true that is held.

@@ -5,20 +5,20 @@ ghost use Rattle.fzn_meaning.specs.Solutions.{declared_sets};
 ghost use Rattle.fzn_meaning.specs.WellFormed.{IsWellFormed};
 ghost use Rattle.fzn_cert.specs.declared.step.Step.TheVariants.{Resolve};
 ghost use Rattle.fzn_cert.specs.Accepted.{AllAccepted};
-ghost use Rattle.fzn_engine.specs.Outcome.{HasRoom, count, IsOutcome};
-ghost use Rattle.fzn_engine.specs.Search.{IsLeft};
+ghost use Rattle.fzn_engine.specs.Outcome.{HasRoom, IsOutcome};
+ghost use Rattle.fzn_state.specs.Certified.{count};
+ghost use Rattle.fzn_state.specs.Search.{IsLeft};
 
-use crate::fault::Fault;
+use crate::cdcl::search;
 use crate::limits::Limits;
 use crate::report::Report;
-use crate::sink::Sink;
-use crate::solver::Solver;
 use fzn_cert::Step;
 use fzn_list::Items;
 use fzn_meaning::{Model, Var};
 use fzn_printer::Ending;
 use fzn_propagator::Constraints;
 use fzn_search::Choice;
+use fzn_state::{Fault, Sink, Solver};
 use fzn_strategy::{Annotation, Learn};
 use std::alloc::Global;
 
@@ -59,7 +59,7 @@ pub fn solve<S: Sink, C: Constraints>(
         });
     }
     let mut solver = Solver::new(alloc, model, learn, choice, annotations)?;
-    let ending = solver.run(alloc, model, limits, constraints, sink)?;
+    let ending = search(&mut solver, alloc, model, limits, constraints, sink)?;
     Ok(Report {
         solutions: solver.found,
         nodes: solver.search.nodes(),

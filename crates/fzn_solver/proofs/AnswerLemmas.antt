@@ -17,7 +17,7 @@ use Rattle.fzn_cert.specs.Writer.{contents_of as cert_contents}
 use Rattle.fzn_strategy.specs.declared.learn.Learn.{Learn}
 use Rattle.fzn_engine.specs.declared.limits.Limits.{Limits}
 use Rattle.fzn_engine.specs.declared.report.Report.{Report}
-use Rattle.fzn_engine.specs.Volume.{volume}
+use Rattle.fzn_state.specs.Volume.{volume}
 use Rattle.fzn_engine.specs.Outcome.{HasRoom, IsReached, EndsTruly as EndsTrulyThere, IsOutcome}
 use Rattle.fzn_printer.specs.declared.printer.Ending.{Ending}
 use Rattle.fzn_printer.specs.declared.printer.Ending.TheVariants.{Complete, Unsatisfiable, NodeLimit, SolutionLimit}

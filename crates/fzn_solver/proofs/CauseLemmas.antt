@@ -8,8 +8,8 @@ use Rattle.fzn_cert.specs.declared.writer.StepWriter.{StepWriter}
 use Rattle.fzn_cert.specs.Accepted.{AllAccepted}
 use Rattle.fzn_cert.specs.Spelling.{HasRoom}
 use Rattle.fzn_cert.specs.Writer.{IsLineFault, IsStepFault, step_count, has_failed_in as cert_failed}
-use Rattle.fzn_engine.specs.declared.fault.Fault.{Fault}
-use Rattle.fzn_engine.specs.declared.fault.Fault.TheVariants as engine
+use Rattle.fzn_state.specs.declared.fault.Fault.{Fault}
+use Rattle.fzn_state.specs.declared.fault.Fault.TheVariants as engine
 use Rattle.fzn_printer.specs.Printer.{is_open, has_failed_in as out_failed}
 use Rattle.fzn_solver.specs.declared.writers.Writers.{Writers}
 use Rattle.fzn_solver.specs.Causes.{IsTooLong, HasCause, IsCause, IsLineCause, AreOpen}

@@ -13,8 +13,8 @@ use Rattle.fzn_cert.specs.Spelling.{end_line}
 use Rattle.fzn_cert.specs.Writer.{contents_of as cert_contents}
 use Rattle.fzn_cert.proofs.SoundLaws.{accepted-proper}
 use Rattle.fzn_strategy.specs.declared.learn.Learn.{Learn}
-use Rattle.fzn_engine.specs.declared.fault.Fault.{Fault}
-use Rattle.fzn_engine.specs.declared.fault.Fault.TheVariants as engine
+use Rattle.fzn_state.specs.declared.fault.Fault.{Fault}
+use Rattle.fzn_state.specs.declared.fault.Fault.TheVariants as engine
 use Rattle.fzn_engine.specs.declared.limits.Limits.{Limits}
 use Rattle.fzn_engine.specs.Outcome.{IsOutcome}
 use Rattle.fzn_printer.specs.declared.printer.Ending.{Ending}

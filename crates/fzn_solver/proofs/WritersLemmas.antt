@@ -9,7 +9,7 @@ use Rattle.fzn_streams.specs.Output.{AppendsFront}
 use Rattle.fzn_streams.proofs.CallerLemmas.{front-none, front-then}
 use Rattle.fzn_meaning.specs.declared.model.Model.{Model}
 use Rattle.fzn_meaning.specs.Solutions.{IsAssignment}
-use Rattle.fzn_engine.specs.declared.fault.Fault.{Fault}
+use Rattle.fzn_state.specs.declared.fault.Fault.{Fault}
 use Rattle.fzn_cert.specs.declared.step.Step.{Step}
 use Rattle.fzn_cert.specs.declared.step.Step.TheVariants.{Solution}
 use Rattle.fzn_cert.specs.declared.step.Version.TheVariants.{Two}

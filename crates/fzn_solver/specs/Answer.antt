@@ -9,8 +9,8 @@ use Rattle.fzn_printer.specs.declared.printer.Ending.{Ending}
 use Rattle.fzn_printer.specs.declared.printer.Ending.TheVariants.{Complete, Unsatisfiable, NodeLimit, SolutionLimit}
 use Rattle.fzn_printer.specs.Answer.{answer_text}
 use Rattle.fzn_printer.specs.Shown.{is_closed}
-use Rattle.fzn_engine.specs.Resolved.{resolved, FreshAfter}
-use Rattle.fzn_engine.specs.Volume.{volume, spread}
+use Rattle.fzn_state.specs.Resolved.{resolved, FreshAfter}
+use Rattle.fzn_state.specs.Volume.{volume, spread}
 use Rattle.fzn_engine.specs.Wanted.{HasRoom, IsReached}
 use Rattle.fzn_engine.specs.declared.report.Report.{Report}
 use Rattle.fzn_solver.specs.Standing.{found_by, certificate}

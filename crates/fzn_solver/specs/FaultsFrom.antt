@@ -2,8 +2,8 @@
 use Rattle.std.specs.Prelude.{ℕ}
 use Rattle.fzn_cert.specs.declared.write_fault.WriteFault.{WriteFault}
 use Rattle.fzn_cert.specs.declared.write_fault.WriteFault.TheVariants as certificate
-use Rattle.fzn_engine.specs.declared.fault.Fault.{Fault}
-use Rattle.fzn_engine.specs.declared.fault.Fault.TheVariants as engine
+use Rattle.fzn_state.specs.declared.fault.Fault.{Fault}
+use Rattle.fzn_state.specs.declared.fault.Fault.TheVariants as engine
 use Rattle.fzn_fault.specs.declared.stop.Stop.TheVariants as stops
 use Rattle.fzn_fault.specs.Stops.{status_of as stop_status}
 use Rattle.fzn_reading.specs.declared.fault.ModelFault.{ModelFault}

@@ -13,8 +13,8 @@ use Rattle.fzn_cert.specs.declared.writer.StepWriter.{StepWriter}
 use Rattle.fzn_cert.specs.Verdict.{AllHaveLines}
 use Rattle.fzn_cert.specs.Spelling.{step_line, header_text, end_line, HasRoom}
 use Rattle.fzn_cert.specs.Writer.{contents_of as cert_contents, out_name as cert_name, stage_of, step_count, version_of}
-use Rattle.fzn_engine.specs.declared.fault.Fault.{Fault}
-use Rattle.fzn_engine.specs.declared.fault.Fault.TheVariants.{WriteOutput}
+use Rattle.fzn_state.specs.declared.fault.Fault.{Fault}
+use Rattle.fzn_state.specs.declared.fault.Fault.TheVariants.{WriteOutput}
 use Rattle.fzn_printer.specs.declared.printer.Printer.{Printer}
 use Rattle.fzn_printer.specs.Printer.{contents_of as out_contents, out_name, is_open, has_printed}
 use Rattle.fzn_printer.specs.Shown.{shown, ending_text}

@@ -3,10 +3,10 @@ ghost use Rattle.std.specs.Prelude.{◌≡◌};
 ghost use Rattle.fzn_solver.specs.declared.fault.RunFault.TheVariants.{Memory};
 ghost use Rattle.fzn_solver.specs.FaultsFrom.{fault_of_model, fault_of_engine, status_of};
 
-use fzn_engine::Fault as EngineFault;
 use fzn_fault::Stop;
 use fzn_lexer::Fault;
 use fzn_reading::ModelFault;
+use fzn_state::Fault as EngineFault;
 use std::alloc::AllocError;
 use thiserror::Error;
 

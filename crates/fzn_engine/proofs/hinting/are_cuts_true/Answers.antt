@@ -1,5 +1,5 @@
 -- Each number was looked at.
-use Rattle.std.proofs.Common.{◌≡◌, ℕ, Bool, true, false, List, [], Option, None, get_or, refl, sym, subst, below_more, arith, rules}
+use Rattle.std.proofs.Common.{◌≡◌, ℕ, true, false, [], None, get_or, refl, sym, subst, below_more, arith, rules}
 use Rattle.std.specs.Prelude.{IsSome}
 use Rattle.std.specs.Option.{unwrap_or}
 use Rattle.fzn_domain.specs.Narrow.{is_clause_true}

@@ -1,7 +1,0 @@
-use Rattle.std.proofs.Common.{◌≡◌}
-use Rattle.fzn_engine.specs.Changes.{IsTended}
-use Rattle.fzn_engine.proofs.solver.Solver.prove_wanted.Given as goal
-
-abbrev pub invariant-wanted : goal.invariant-wanted
-invariant-wanted g l =
-    IsTended l.model l.fn.self l.self (g.S.Sink.written l.sink) × g.S.Sink.keeps l.model l.sink × (g.S.Sink.origin l.sink ≡ g.S.Sink.origin l.initial.sink)

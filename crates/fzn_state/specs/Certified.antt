@@ -1,0 +1,26 @@
+-- What a search has written at any moment: accepted steps, learned clauses that are new, and decisions that the conflicts bound.
+use Rattle.std.specs.Prelude.{◌≡◌, ℕ, ◌+◌, ◌*◌, ◌<◌, ◌≤◌, true, List, [], length}
+use Rattle.fzn_meaning.specs.declared.model.Model.{Model}
+use Rattle.fzn_meaning.specs.Solutions.{declared_sets}
+use Rattle.fzn_cert.specs.declared.step.Step.{Step}
+use Rattle.fzn_cert.specs.Accepted.{AllAccepted, past_of}
+use Rattle.fzn_strategy.specs.declared.learn.Learn.{Learn}
+use Rattle.fzn_strategy.specs.declared.learn.Learn.TheVariants.{Plain}
+use Rattle.fzn_state.specs.Volume.{volume, spread}
+use Rattle.fzn_state.specs.Resolved.{resolved, FreshAfter}
+
+-- the solutions among the steps
+abbrev pub count : Model → List Step → ℕ
+count model steps = length (past_of model steps).solutions
+
+-- some step gave the empty clause
+abbrev pub IsRefuted : Model → List Step → Type 0
+IsRefuted model steps = (past_of model steps).refuted ≡ true
+
+-- what a run has written at any moment
+pub record IsCertified (model : Model) (learn : Learn) (steps : List Step) (nodes : ℕ) : Type 0 where
+  pub accepted : AllAccepted model steps
+  -- in plain learning each learned clause is false at an assignment at which those before it are true
+  pub fresh : learn ≡ Plain → 0 < volume (declared_sets model.vars) → FreshAfter (declared_sets model.vars) [] (resolved steps)
+  -- the decisions are bounded by the conflicts
+  pub nodes_by_conflicts : nodes ≤ (length (resolved steps) + 1) * spread (declared_sets model.vars)
