@@ -7,6 +7,8 @@ import subprocess
 from nickelmouse.parents import dies_with_its_parent
 
 ENDING = (signal.SIGINT, signal.SIGTERM, signal.SIGHUP)
+# By how much a program that can be spared is nicer than others.
+NICER = 5
 
 
 class Interrupted(Exception):
@@ -18,7 +20,8 @@ class Interrupted(Exception):
 
 
 def give_way():
-    """Has the machine end this process before others where memory is short."""
+    """Has the machine end this process before others where memory is short, and run others first where processors are."""
+    os.nice(NICER)
     with contextlib.suppress(OSError), open('/proc/self/oom_score_adj', 'wb', buffering=0) as file:
         file.write(b'1000')
 
@@ -44,7 +47,7 @@ class Processes:
 
     def start(self, words, end=subprocess.Popen.kill, is_alone=False, is_spare=False, kind=subprocess.Popen, **options):
         """Starts a program, which ends with the thread that starts it. `end` ends it, without waiting; where it is alone, it has a group of its
-        own; where it can be spared, it is ended before others when memory is short. `kind` makes it."""
+        own; where it can be spared, it gives way to others when memory or processors are short. `kind` makes it."""
         parent = os.getpid()
         process = kind(words, preexec_fn=lambda: in_the_child(parent, is_alone, is_spare), **options)
         self.going[process] = end

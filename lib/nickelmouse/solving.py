@@ -76,7 +76,7 @@ class Search:
         self.files.remove(f'{self.name}.fzc')
         with open(self.path('answer'), 'wb') as answer, open(self.path('checking'), 'wb') as checking:
             checker = self.checker = started([self.programs.check, *self.checking, self.files.path('model.fzn'), '/dev/stdin'],
-                              stdin=subprocess.PIPE, stdout=answer, stderr=checking)
+                              is_spare=self.worker.is_spare, stdin=subprocess.PIPE, stdout=answer, stderr=checking)
         follower = Follower(self.path('fzc'), checker.stdin, self.cut, self.heard)
         self.lines = follower.lines
         told = self.told = self.searched(follower)

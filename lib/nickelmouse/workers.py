@@ -30,7 +30,7 @@ class Told:
 
 class Worker:
     """One run of fznsolve over the file `model`, with these words. `before` are words in front of the command, which start it in another way
-    or elsewhere. One that can be spared is ended before others where memory is short."""
+    or elsewhere. One that can be spared gives way to others where memory or processors are short."""
 
     def __init__(self, solve, words, model, certificate, before=(), is_spare=False):
         self.command = [*before, solve, *words, '--cert', certificate, model]
