@@ -1,18 +1,17 @@
 #!/usr/bin/env python3
 """What several processors give a whole run: the wall time of `nickelmouse --jobs N` over that of `--jobs 1`.
 
-    bench/jobs.py [--jobs N] [--limit SECONDS] [--least SECONDS] [--words=-f] [--known FILE.csv] FILE.fzn ..
+    bench/jobs.py [--jobs N] [--limit SECONDS] [--least SECONDS] [--times K] [--words=-f] FILE.fzn ..
 
-runs each file with one job and then with N (4), each with `--time-limit` SECONDS (60), and prints a row: the seconds of both, the second over
-the first, and how each answer ends. Files that one job ends in fewer than --least seconds (2) have no row. --known names a table of ladder-like
-rows `file,seconds`, whose seconds stand for the run with one job where they are fewer than --least. The last lines have the geometric mean of
-the quotients where both end, how many are above 1.2, which files the N jobs alone end, and whose answers differ; status 1 where one differs or is
-not checked."""
+runs each file with one job and with N (4) in turn, K times (1), each with `--time-limit` SECONDS (60), and prints a row: the medians of the
+seconds of both, the second over the first, and how each answer ends. Files that one job ends in fewer than --least seconds (2) have no row. The
+last lines have the geometric mean of the quotients where one job ends, which are above 1.2, which files the N jobs alone end, and whose answers
+differ; status 1 where one differs or is not checked."""
 import argparse
-import csv
 import math
 import os
 import shlex
+import statistics
 import subprocess
 import sys
 import time
@@ -39,12 +38,13 @@ class Run:
         return ('closed' if self.is_closed else 'open') + (f' at {self.value}' if self.value else '') + ('' if self.is_checked else ', not checked')
 
 
-def short(path, options):
-    """The files whose seconds are known to be few."""
-    if not path:
-        return set()
-    with open(path, newline='', encoding='utf-8') as file:
-        return {row[0] for row in csv.reader(file) if len(row) > 1 and row[1] and float(row[1]) < options.least}
+class Runs:
+    """The runs of a file with so many jobs: the median of their seconds, whether all are closed, and whether all are checked and agree."""
+
+    def __init__(self, runs):
+        self.first, self.seconds = runs[0], statistics.median(run.seconds for run in runs)
+        self.is_closed = all(run.is_closed for run in runs)
+        self.is_right = all(run.is_checked for run in runs) and (not self.is_closed or len({run.value for run in runs}) == 1)
 
 
 def main():
@@ -53,22 +53,22 @@ def main():
     parser.add_argument('--limit', type=float, default=60)
     parser.add_argument('--least', type=float, default=2)
     parser.add_argument('--words', default='-f')
-    parser.add_argument('--known', default='')
+    parser.add_argument('--times', type=int, default=1)
     parser.add_argument('files', nargs='+')
     options = parser.parse_args()
-    passed_over, logs, high, gained, wrong = short(options.known, options), [], [], [], []
+    logs, high, gained, wrong = [], [], [], []
     print(f'| model | 1 job, s | {options.jobs} jobs, s | quotient | 1 job | {options.jobs} jobs |\n|---|---|---|---|---|---|', flush=True)
     for path in options.files:
         name = os.path.splitext(os.path.basename(path))[0]
-        if name in passed_over:
+        first = Run(path, 1, options)
+        if first.is_closed and first.seconds < options.least:
             continue
-        one = Run(path, 1, options)
-        if one.is_closed and one.seconds < options.least:
-            continue
-        several = Run(path, options.jobs, options)
+        pairs = [(first, Run(path, options.jobs, options))]
+        pairs += [(Run(path, 1, options), Run(path, options.jobs, options)) for _ in range(options.times - 1)]
+        one, several = Runs([pair[0] for pair in pairs]), Runs([pair[1] for pair in pairs])
         quotient = several.seconds / one.seconds
-        print(f'| {name} | {one.seconds:.2f} | {several.seconds:.2f} | {quotient:.2f} | {one} | {several} |', flush=True)
-        if not (one.is_checked and several.is_checked) or one.is_closed and several.is_closed and one.value != several.value:
+        print(f'| {name} | {one.seconds:.2f} | {several.seconds:.2f} | {quotient:.2f} | {one.first} | {several.first} |', flush=True)
+        if not (one.is_right and several.is_right) or one.is_closed and several.is_closed and one.first.value != several.first.value:
             wrong.append(name)
         if one.is_closed:
             logs.append(math.log(quotient))
