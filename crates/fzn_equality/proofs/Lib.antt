@@ -1,3 +1,4 @@
+mod AgainstLemmas
 pub mod CallerLemmas
 mod ElementLemmas
 mod EqualityLemmas

@@ -1,3 +1,4 @@
+pub mod ElementPasses
 pub mod Equality
-pub mod Rows
+pub mod ExtremumPasses
 pub mod Shared

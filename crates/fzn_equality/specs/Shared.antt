@@ -1,14 +1,15 @@
--- Claims without which two terms share no value.
-use Rattle.std.specs.Prelude.{ℕ, List}
-use Rattle.std.specs.List.{All}
+-- What follows where two terms share no value.
+use Rattle.std.specs.Prelude.{ℕ, List, [], ◌∷◌}
 use Rattle.fzn_domain.specs.IntSet.{IntSet}
 use Rattle.fzn_meaning.specs.declared.term.Term.{Term}
-use Rattle.fzn_meaning.specs.Term.{IsTerm}
+use Rattle.fzn_meaning.specs.declared.constraint.Constraint.{Constraint}
 use Rattle.fzn_builtin_rules.specs.Rows.{ShareNone}
+use Rattle.fzn_rules.specs.declared.rule.Rule.TheVariants.{Rows}
+use Rattle.fzn_rules.specs.Rules.{IsMet}
 use Rattle.fzn_terms.specs.declared.claim.Claim.{Claim}
-use Rattle.fzn_terms.specs.Denied.{IsDenied}
+use Rattle.fzn_terms.specs.Denied.{AreDenying}
 
--- claims of variables among so many; where all are denied the terms share no value
-pub record KeepApart (count : ℕ) (left right : Term) (claims : List Claim) : Type 0 where
-  pub terms : All (λ claim. IsTerm count claim.term) claims
-  pub apart : (sets : List IntSet) → All (IsDenied sets) claims → ShareNone sets left right
+-- the rule `rows` is met on so many sets that deny the claim and on which the terms share no value
+abbrev pub IsMetApart : ℕ → Claim → Term → Term → Constraint → Type 0
+IsMetApart count claim one other constraint =
+    (sets : List IntSet) → AreDenying count (claim ∷ []) sets → ShareNone sets one other → IsMet constraint sets Rows

@@ -1,31 +1,28 @@
 // Elements: by the rule `rows`.
-ghost use Rattle.std.specs.Prelude.{◌≡◌, ◌<◌, ◌≤◌, ◌≤ℤ◌, pos, negsuc, length, slice_index_or, List, IfOk, IfSome, OnOk};
+ghost use Rattle.std.specs.Prelude.{◌≡◌, ◌<◌, ◌≤◌, length, List, IfOk, IfSome};
 ghost use Rattle.std.specs.List.{All};
-ghost use Rattle.fzn_domain.specs.Limits.{IsInLimits};
+ghost use Rattle.fzn_domain.specs.IntSet.{IntSet};
 ghost use Rattle.fzn_domain.specs.Narrow.{NoneEmpty};
 ghost use Rattle.fzn_meaning.specs.declared.constraint.Constraint.TheVariants as constraint;
 ghost use Rattle.fzn_meaning.specs.Term.{IsTerm};
-ghost use Rattle.fzn_rules.specs.declared.rule.Rule.TheVariants as rule;
-ghost use Rattle.fzn_domain.specs.IntSet.{IntSet};
 ghost use Rattle.fzn_terms.specs.Denied.{IsDenied};
-ghost use Rattle.fzn_terms.specs.Intervals.{IsLimitedInterval, ends_of};
-ghost use Rattle.fzn_propagator.specs.Clause.{IsJustified};
 ghost use Rattle.fzn_propagator.specs.Inference.{AreFoundOf};
-ghost use Rattle.fzn_equality.specs.Rows.{IsRuledOut, LeavesNoIndex};
+ghost use Rattle.fzn_equality.specs.ElementPasses.{IsInferred, AreFoundIn, LeavesNoIndex, IsRuledOut};
 
-use crate::shared::{share_none, shared_values};
-use crate::terms::{Bound, apart, claim_of, narrowings, other_than_each, take_out};
+use crate::element::pass::ElementPass;
+use crate::pair::Pair;
+use crate::shared::explain_apart;
+use crate::terms::{Bound, claim_of, may_lead, values_of_none};
 use fzn_domain::{Lit, Memory, Op};
 use fzn_list::Items;
 use fzn_meaning::Term;
 use fzn_propagator::Findings;
 use fzn_rules::Rule;
-use fzn_terms::{
-    Claim, Interval, explanation_of, greatest_of, interval_of, is_never, is_thinned_beside,
-    least_of, may_be,
-};
+use fzn_terms::{Claim, explanation_of, greatest_of, interval_of, is_never, least_of, may_be};
 use fzn_trail::Trail;
 use std::alloc::Global;
+
+pub(crate) mod pass;
 
 /// For how many claims a list has room at first.
 const ROOM: usize = 32;
@@ -51,406 +48,247 @@ pub fn infer_element(
     requires before { AreFoundOf number (constraint.Element index entries.now value) trail.now found.old }
     ensures { AreFoundOf number (constraint.Element index entries.now value) trail.now found.new }
 {
-    let before = found.len();
-    let leads = interval_of(trail, index);
-    hold_index(alloc, trail, number, index, entries, value, leads, found)?;
-    if before < found.len() {
-        return Ok(());
-    }
-    if leads.is_single() {
-        return equate_entry(alloc, trail, number, index, entries, value, found);
-    }
-    let value_ends = interval_of(trail, value);
-    part_entries(
-        alloc, trail, number, index, entries, value, value_ends, found,
-    )?;
-    if before < found.len() {
-        return Ok(());
-    }
-    let ends = ends_of_all(alloc, trail, index, entries, value_ends)?;
-    bound_value(
+    let pass = ElementPass {
         alloc,
-        trail,
         number,
+        trail,
         index,
+        leads: interval_of(trail, index),
         entries,
         value,
-        ends.as_slice(),
-        found,
-    )?;
-    if before < found.len() {
-        return Ok(());
-    }
-    let others = values_of_none(alloc, trail, index, entries, value, value_ends)?;
-    bound_value(
-        alloc,
-        trail,
-        number,
-        index,
-        entries,
-        value,
-        others.as_slice(),
-        found,
-    )
-}
-
-// ---- what is found
-
-/// Whether the index, which has these ends, may lie before the list, or behind it.
-fn is_outside(leads: Interval, count: usize, at_start: bool) -> bool
-    requires short { count ≤ 100000 }
-{
-    if at_start {
-        leads.low < 1
-    } else {
-        leads.high > count as i64
-    }
-}
-
-/// The greatest and the least value of the entries to which the index may lead, where the result may be beyond it.
-fn ends_of_all(
-    alloc: Global,
-    trail: &Trail,
-    index: Term,
-    entries: &[Term],
-    value_ends: Interval,
-) -> Result<Items<Bound>, Memory>
-    requires index { IsTerm (length trail.now.declared) index }
-    requires entries { All (IsTerm (length trail.now.declared)) entries.now }
-    requires short { length entries.now ≤ 100000 }
-    requires filled { NoneEmpty trail.now.sets }
-{
-    let mut least = i64::MAX;
-    let mut greatest = i64::MIN;
-    for k in 0..entries.len() {
-        if may_be(trail, index, &(k as i64 + 1)) {
-            least = least.min(least_of(trail, entries[k]));
-            greatest = greatest.max(greatest_of(trail, entries[k]));
-        }
-    }
-    let mut ends = Items::new(alloc);
-    if greatest < value_ends.high {
-        ends.push((Op::AtMost, greatest))?;
-    }
-    if value_ends.low < least {
-        ends.push((Op::AtLeast, least))?;
-    }
-    Ok(ends)
-}
-
-/// That the result is another than each of its values, where it is narrow, that no entry has to which the index may lead.
-fn values_of_none(
-    alloc: Global,
-    trail: &Trail,
-    index: Term,
-    entries: &[Term],
-    value: Term,
-    value_ends: Interval,
-) -> Result<Items<Bound>, Memory>
-    requires index { IsTerm (length trail.now.declared) index }
-    requires entries { All (IsTerm (length trail.now.declared)) entries.now }
-    requires short { length entries.now ≤ 100000 }
-    requires value { IsTerm (length trail.now.declared) value }
-    requires value_ends { value_ends ≡ ends_of trail.now.sets value }
-    requires limited { IsLimitedInterval value_ends }
-    requires filled { NoneEmpty trail.now.sets }
-{
-    let Term::Variable(var) = value else {
-        return Ok(Items::new(alloc));
+        ends: interval_of(trail, value),
     };
-    if !is_thinned_beside(trail, value, value_ends, entries) {
-        return Ok(Items::new(alloc));
+    pass.find(found)
+}
+
+impl<'a> ElementPass<'a> {
+    fn find(&self, found: &mut Findings) -> Result<(), Memory>
+        requires { AreFoundIn self.now found.old }
+        ensures { AreFoundIn self.now found.new }
+    {
+        let before = found.len();
+        self.hold_index(true, found)?;
+        self.hold_index(false, found)?;
+        if before < found.len() {
+            return Ok(());
+        }
+        if self.leads.is_single() {
+            return self.equate_entry(found);
+        }
+        self.part_entries(found)?;
+        if before < found.len() {
+            return Ok(());
+        }
+        let ends = self.ends_of_all()?;
+        self.bound_value(ends.as_slice(), found)?;
+        if before < found.len() {
+            return Ok(());
+        }
+        let others = values_of_none(
+            self.alloc,
+            self.trail,
+            self.value,
+            self.ends,
+            self.entries,
+            Some(self.index),
+        )?;
+        self.bound_value(others.as_slice(), found)
     }
-    let mut left = trail.domain(var).copy()?;
-    for k in 0..entries.len() {
-        if may_be(trail, index, &(k as i64 + 1)) {
-            take_out(trail, entries[k], var, &mut left)?;
-            if left.is_empty() {
-                return Ok(Items::new(alloc));
+
+    // ---- what is found
+
+    /// Whether the index may lead to place k, counted from 0.
+    fn may_lead(&self, k: usize) -> bool
+        requires { k < length self.now.entries.now }
+    {
+        may_lead(self.trail, Some(self.index), k)
+    }
+
+    /// The greatest and the least value of the entries to which the index may lead, where the result may be beyond it.
+    fn ends_of_all(&self) -> Result<Items<Bound>, Memory> {
+        let mut least = i64::MAX;
+        let mut greatest = i64::MIN;
+        for k in 0..self.entries.len() {
+            if self.may_lead(k) {
+                least = least.min(least_of(self.trail, self.entries[k]));
+                greatest = greatest.max(greatest_of(self.trail, self.entries[k]));
             }
         }
+        let mut ends = Items::new(self.alloc);
+        if greatest < self.ends.high {
+            ends.push((Op::AtMost, greatest))?;
+        }
+        if self.ends.low < least {
+            ends.push((Op::AtLeast, least))?;
+        }
+        Ok(ends)
     }
-    other_than_each(alloc, &left)
-}
 
-// ---- what is handed over
-
-/// The clauses that the index lies within the list, at its beginning and at its end, where it may lie outside.
-fn hold_index(
-    alloc: Global,
-    trail: &Trail,
-    number: u64,
-    index: Term,
-    entries: &[Term],
-    value: Term,
-    leads: Interval,
-    found: &mut Findings,
-) -> Result<(), Memory>
-    requires index { IsTerm (length trail.now.declared) index }
-    requires short { length entries.now ≤ 100000 }
-    requires before { AreFoundOf number (constraint.Element index entries.now value) trail.now found.old }
-    ensures { AreFoundOf number (constraint.Element index entries.now value) trail.now found.new }
-{
-    if is_outside(leads, entries.len(), true) {
-        let from_start = index_within(alloc, trail, index, entries, value, true)?;
-        found.hand_over(number, Rule::Rows, from_start)?;
-    }
-    if is_outside(leads, entries.len(), false) {
-        let up_to_end = index_within(alloc, trail, index, entries, value, false)?;
-        found.hand_over(number, Rule::Rows, up_to_end)?;
-    }
-    Ok(())
-}
-
-/// Where the index leads to one place: what the entry there and the result have to be, since the other is.
-fn equate_entry(
-    alloc: Global,
-    trail: &Trail,
-    number: u64,
-    index: Term,
-    entries: &[Term],
-    value: Term,
-    found: &mut Findings,
-) -> Result<(), Memory>
-    requires index { IsTerm (length trail.now.declared) index }
-    requires entries { All (IsTerm (length trail.now.declared)) entries.now }
-    requires short { length entries.now ≤ 100000 }
-    requires value { IsTerm (length trail.now.declared) value }
-    requires filled { NoneEmpty trail.now.sets }
-    requires before { AreFoundOf number (constraint.Element index entries.now value) trail.now found.old }
-    ensures { AreFoundOf number (constraint.Element index entries.now value) trail.now found.new }
-{
-    let first = least_of(trail, index);
-    if first < 1 || first > entries.len() as i64 {
-        return Ok(());
-    }
-    let place = first as usize - 1;
-    let bounds = narrowings(alloc, trail, value, entries[place])?;
-    for k in 0..bounds.len() {
-        let claim = claim_of(value, bounds.as_slice()[k]);
-        let clause = index_or_apart(alloc, trail, index, entries, value, place, claim)?;
-        found.hand_over(number, Rule::Rows, clause)?;
-    }
-    Ok(())
-}
-
-/// For each place to which the index may lead and whose entry has no value in common with the result: the clause that it leads elsewhere,
-/// or they share one.
-fn part_entries(
-    alloc: Global,
-    trail: &Trail,
-    number: u64,
-    index: Term,
-    entries: &[Term],
-    value: Term,
-    value_ends: Interval,
-    found: &mut Findings,
-) -> Result<(), Memory>
-    requires index { IsTerm (length trail.now.declared) index }
-    requires entries { All (IsTerm (length trail.now.declared)) entries.now }
-    requires short { length entries.now ≤ 100000 }
-    requires value { IsTerm (length trail.now.declared) value }
-    requires filled { NoneEmpty trail.now.sets }
-    requires limited { IsLimitedInterval value_ends }
-    requires before { AreFoundOf number (constraint.Element index entries.now value) trail.now found.old }
-    ensures { AreFoundOf number (constraint.Element index entries.now value) trail.now found.new }
-{
-    for k in 0..entries.len() {
-        if may_be(trail, index, &(k as i64 + 1)) {
-            part_entry(
-                alloc, trail, number, index, entries, value, value_ends, k, found,
-            )?;
+    /// The result and the entry at this place, counted from 0.
+    fn pair_at(&self, place: usize) -> Pair<'a>
+        requires { place < length self.now.entries.now }
+    {
+        Pair {
+            trail: self.trail,
+            one: self.value,
+            other: self.entries[place],
+            ends: self.ends,
+            other_ends: interval_of(self.trail, self.entries[place]),
         }
     }
-    Ok(())
-}
 
-/// The same of one place, by the ends or the one value of one of the two, else by all that both may be.
-fn part_entry(
-    alloc: Global,
-    trail: &Trail,
-    number: u64,
-    index: Term,
-    entries: &[Term],
-    value: Term,
-    value_ends: Interval,
-    place: usize,
-    found: &mut Findings,
-) -> Result<(), Memory>
-    requires index { IsTerm (length trail.now.declared) index }
-    requires entries { All (IsTerm (length trail.now.declared)) entries.now }
-    requires short { length entries.now ≤ 100000 }
-    requires value { IsTerm (length trail.now.declared) value }
-    requires filled { NoneEmpty trail.now.sets }
-    requires limited { IsLimitedInterval value_ends }
-    requires place { place < length entries.now }
-    requires before { AreFoundOf number (constraint.Element index entries.now value) trail.now found.old }
-    ensures { AreFoundOf number (constraint.Element index entries.now value) trail.now found.new }
-{
-    let ends = interval_of(trail, entries[place]);
-    if let Some(bound) = apart(trail, value, entries[place], value_ends, ends) {
-        let claim = claim_of(value, bound);
-        let clause = index_or_apart(alloc, trail, index, entries, value, place, claim)?;
-        return found.hand_over(number, Rule::Rows, clause);
+    // ---- what is handed over
+
+    /// The clause that the index lies within the list, at its beginning or at its end, where it may lie outside.
+    fn hold_index(&self, at_start: bool, found: &mut Findings) -> Result<(), Memory>
+        requires { AreFoundIn self.now found.old }
+        ensures { AreFoundIn self.now found.new }
+    {
+        let is_outside = if at_start {
+            self.leads.low < 1
+        } else {
+            self.leads.high > self.entries.len() as i64
+        };
+        if is_outside {
+            let within = self.index_within(at_start)?;
+            found.hand_over(self.number, Rule::Rows, within)?;
+        }
+        Ok(())
     }
-    if share_none(trail, value, entries[place], value_ends, ends) {
-        let clause = index_or_shared(alloc, trail, index, entries, value, place, entries[place])?;
-        return found.hand_over(number, Rule::Rows, clause);
+
+    /// Where the index leads to one place: what the entry there and the result have to be, since the other is.
+    fn equate_entry(&self, found: &mut Findings) -> Result<(), Memory>
+        requires { AreFoundIn self.now found.old }
+        ensures { AreFoundIn self.now found.new }
+    {
+        if self.leads.low < 1 || self.leads.low > self.entries.len() as i64 {
+            return Ok(());
+        }
+        let place = self.leads.low as usize - 1;
+        let bounds = self.pair_at(place).narrowings(self.alloc)?;
+        for k in 0..bounds.len() {
+            let clause = self.index_or_shared(place, Some(bounds.as_slice()[k]))?;
+            found.hand_over(self.number, Rule::Rows, clause)?;
+        }
+        Ok(())
     }
-    Ok(())
-}
 
-/// For each of these: the clause that the result stands so to the number, or the index leads to an entry that does not.
-fn bound_value(
-    alloc: Global,
-    trail: &Trail,
-    number: u64,
-    index: Term,
-    entries: &[Term],
-    value: Term,
-    bounds: &[Bound],
-    found: &mut Findings,
-) -> Result<(), Memory>
-    requires index { IsTerm (length trail.now.declared) index }
-    requires entries { All (IsTerm (length trail.now.declared)) entries.now }
-    requires short { length entries.now ≤ 100000 }
-    requires value { IsTerm (length trail.now.declared) value }
-    requires filled { NoneEmpty trail.now.sets }
-    requires before { AreFoundOf number (constraint.Element index entries.now value) trail.now found.old }
-    ensures { AreFoundOf number (constraint.Element index entries.now value) trail.now found.new }
-{
-    for k in 0..bounds.len() {
-        let claim = claim_of(value, bounds[k]);
-        let clause = value_or_entries(alloc, trail, index, entries, value, claim)?;
-        found.hand_over(number, Rule::Rows, clause)?;
+    /// For each place to which the index may lead and whose entry has no value in common with the result: the clause that it leads
+    /// elsewhere, or they share one.
+    fn part_entries(&self, found: &mut Findings) -> Result<(), Memory>
+        requires { AreFoundIn self.now found.old }
+        ensures { AreFoundIn self.now found.new }
+    {
+        for k in 0..self.entries.len() {
+            if self.may_lead(k) {
+                self.part_entry(k, found)?;
+            }
+        }
+        Ok(())
     }
-    Ok(())
-}
 
-// ---- what refutes
-
-/// The clause that the index lies within the list, at its beginning or at its end.
-fn index_within(
-    alloc: Global,
-    trail: &Trail,
-    index: Term,
-    entries: &[Term],
-    value: Term,
-    at_start: bool,
-) -> Result<Option<Items<Lit>>, Memory>
-    requires index { IsTerm (length trail.now.declared) index }
-    requires short { length entries.now ≤ 100000 }
-    ensures { IfOk result (λ found. IfSome found (IsJustified trail.now (constraint.Element index entries.now value) rule.Rows)) }
-{
-    explanation_of(alloc, trail, &[within(index, entries.len(), at_start)])
-}
-
-/// That the index is no less than 1, or no more than the number of entries.
-fn within(index: Term, count: usize, at_start: bool) -> Claim
-    requires { count ≤ 100000 }
-    ensures term { result.term ≡ index }
-    ensures within { (sets : List IntSet) → IsDenied sets result → LeavesNoIndex sets index count }
-{
-    let (op, number) = if at_start {
-        (Op::AtLeast, 1)
-    } else {
-        (Op::AtMost, count as i64)
-    };
-    Claim {
-        term: index,
-        op,
-        number,
+    /// The same of one place, by the ends or the one value of one of the two, else by all that both may be.
+    fn part_entry(&self, place: usize, found: &mut Findings) -> Result<(), Memory>
+        requires place { place < length self.now.entries.now }
+        requires before { AreFoundIn self.now found.old }
+        ensures { AreFoundIn self.now found.new }
+    {
+        let pair = self.pair_at(place);
+        let bound = pair.apart();
+        if bound.is_some() || pair.share_none() {
+            let clause = self.index_or_shared(place, bound)?;
+            found.hand_over(self.number, Rule::Rows, clause)?;
+        }
+        Ok(())
     }
-}
 
-/// The clause that the index is not this place, counted from 0, or the claim is true of the result, or its opposite of the entry.
-fn index_or_apart(
-    alloc: Global,
-    trail: &Trail,
-    index: Term,
-    entries: &[Term],
-    value: Term,
-    place: usize,
-    claim: Claim,
-) -> Result<Option<Items<Lit>>, Memory>
-    requires index { IsTerm (length trail.now.declared) index }
-    requires entries { All (IsTerm (length trail.now.declared)) entries.now }
-    requires short { length entries.now ≤ 100000 }
-    requires value { IsTerm (length trail.now.declared) value }
-    requires place { place < length entries.now }
-    requires claim { claim.term ≡ value }
-    ensures { IfOk result (λ found. IfSome found (IsJustified trail.now (constraint.Element index entries.now value) rule.Rows)) }
-{
-    let Some(other) = claim.opposite(entries[place]) else {
-        return Ok(None);
-    };
-    let leads = Claim::other_than(index, place as i64 + 1);
-    explanation_of(alloc, trail, &[leads, claim, other])
-}
+    /// For each of these: the clause that the result stands so to the number, or the index leads to an entry that does not.
+    fn bound_value(&self, bounds: &[Bound], found: &mut Findings) -> Result<(), Memory>
+        requires { AreFoundIn self.now found.old }
+        ensures { AreFoundIn self.now found.new }
+    {
+        for k in 0..bounds.len() {
+            let clause = self.value_or_entries(bounds[k])?;
+            found.hand_over(self.number, Rule::Rows, clause)?;
+        }
+        Ok(())
+    }
 
-/// The clause that the index leads elsewhere, or the entry and the result share a value.
-fn index_or_shared(
-    alloc: Global,
-    trail: &Trail,
-    index: Term,
-    entries: &[Term],
-    value: Term,
-    place: usize,
-    entry: Term,
-) -> Result<Option<Items<Lit>>, Memory>
-    requires index { IsTerm (length trail.now.declared) index }
-    requires entries { All (IsTerm (length trail.now.declared)) entries.now }
-    requires short { length entries.now ≤ 100000 }
-    requires value { IsTerm (length trail.now.declared) value }
-    requires filled { NoneEmpty trail.now.sets }
-    requires place { place < length entries.now }
-    requires entry { entry ≡ slice_index_or entries.now place entry }
-    requires entry_fits { IsTerm (length trail.now.declared) entry }
-    ensures { IfOk result (λ found. IfSome found (IsJustified trail.now (constraint.Element index entries.now value) rule.Rows)) }
-{
-    let Some(mut claims) = shared_values(alloc, trail, entry, value)? else {
-        return Ok(None);
-    };
-    claims.push(Claim::other_than(index, place as i64 + 1))?;
-    explanation_of(alloc, trail, claims.as_slice())
-}
+    // ---- what refutes
 
-/// The clause that the claim is true of the result, or the index leads to an entry of which its opposite is.
-fn value_or_entries(
-    alloc: Global,
-    trail: &Trail,
-    index: Term,
-    entries: &[Term],
-    value: Term,
-    claim: Claim,
-) -> Result<Option<Items<Lit>>, Memory>
-    requires index { IsTerm (length trail.now.declared) index }
-    requires entries { All (IsTerm (length trail.now.declared)) entries.now }
-    requires short { length entries.now ≤ 100000 }
-    requires value { IsTerm (length trail.now.declared) value }
-    requires claim { claim.term ≡ value }
-    requires filled { NoneEmpty trail.now.sets }
-    ensures { IfOk result (λ found. IfSome found (IsJustified trail.now (constraint.Element index entries.now value) rule.Rows)) }
-{
-    let (low, high) = (least_of(trail, index), greatest_of(trail, index));
-    let mut claims = Items::with_capacity(alloc, entries.len().saturating_add(3).min(ROOM))?;
-    claims.push(claim)?;
-    claims.push(Claim::below(index, low))?;
-    claims.push(Claim::above(index, high))?;
-    for k in 0..entries.len() {
-        let place = k as i64 + 1;
-        if low <= place && place <= high {
-            let Some(entry) = claim.opposite(entries[k]) else {
-                return Ok(None);
-            };
-            let ruled_out = other_place_or(trail, index, k, entry);
-            claims.push(ruled_out)?;
+    /// The clause that the index lies within the list, at its beginning or at its end.
+    fn index_within(&self, at_start: bool) -> Result<Option<Items<Lit>>, Memory>
+        ensures { IfOk result (λ found. IfSome found (IsInferred self.now)) }
+    {
+        explanation_of(self.alloc, self.trail, &[self.within(at_start)])
+    }
+
+    /// That the index is no less than 1, or no more than the number of entries.
+    fn within(&self, at_start: bool) -> Claim
+        ensures term { result.term ≡ self.now.index }
+        ensures within { (sets : List IntSet) → IsDenied sets result → LeavesNoIndex self.now sets }
+    {
+        let (op, number) = if at_start {
+            (Op::AtLeast, 1)
+        } else {
+            (Op::AtMost, self.entries.len() as i64)
+        };
+        Claim {
+            term: self.index,
+            op,
+            number,
         }
     }
-    explanation_of(alloc, trail, claims.as_slice())
+
+    /// The clause that the index is not this place, counted from 0, or the result stands so to the number, or the entry does not; without a
+    /// number, that the entry and the result share a value.
+    fn index_or_shared(
+        &self,
+        place: usize,
+        bound: Option<Bound>,
+    ) -> Result<Option<Items<Lit>>, Memory>
+        requires { place < length self.now.entries.now }
+        ensures { IfOk result (λ found. IfSome found (IsInferred self.now)) }
+    {
+        let elsewhere = Claim::other_than(self.index, place as i64 + 1);
+        let entry = self.entries[place];
+        if let Some(bound) = bound {
+            return explain_apart(self.alloc, self.trail, elsewhere, self.value, bound, entry);
+        }
+        let pair = Pair {
+            trail: self.trail,
+            one: entry,
+            other: self.value,
+            ends: interval_of(self.trail, entry),
+            other_ends: self.ends,
+        };
+        pair.explain_shared(self.alloc, elsewhere)
+    }
+
+    /// The clause that the result stands so to the number, or the index leads to an entry that does not.
+    fn value_or_entries(&self, bound: Bound) -> Result<Option<Items<Lit>>, Memory>
+        ensures { IfOk result (λ found. IfSome found (IsInferred self.now)) }
+    {
+        let claim = claim_of(self.value, bound);
+        let room = self.entries.len().saturating_add(3).min(ROOM);
+        let mut claims = Items::with_capacity(self.alloc, room)?;
+        claims.push(claim)?;
+        claims.push(Claim::below(self.index, self.leads.low))?;
+        claims.push(Claim::above(self.index, self.leads.high))?;
+        for k in 0..self.entries.len() {
+            let place = k as i64 + 1;
+            if self.leads.low <= place && place <= self.leads.high {
+                let Some(entry) = claim.opposite(self.entries[k]) else {
+                    return Ok(None);
+                };
+                claims.push(other_place_or(self.trail, self.index, k, entry))?;
+            }
+        }
+        explanation_of(self.alloc, self.trail, claims.as_slice())
+    }
 }
 
-/// That the index leads to this entry, where the trail says that it does not; else the claim of the entry.
+/// That the index leads to place k, counted from 0, where the trail says that it does not; else the claim of the entry there.
 fn other_place_or(trail: &Trail, index: Term, k: usize, entry: Claim) -> Claim
     requires index { IsTerm (length trail.now.declared) index }
     requires entry { IsTerm (length trail.now.declared) entry.term }

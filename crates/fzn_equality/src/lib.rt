@@ -2,8 +2,8 @@
 //!
 //! In: the terms of such a constraint, and a trail. Out: clauses that follow from the constraint by the rule `rows`, and are false or
 //! force one literal each; finding none guarantees nothing. The ends are looked at first, and single values of narrow terms alone, so that
-//! a look costs what the constraint is, however many values a term has. Proved against `specs/Shared.antt` and `specs/Rows.antt`: what the
-//! claims of a clause leave to the terms where they are denied.
+//! a look costs what the constraint is, however many values a term has. Proved against `specs/Shared.antt`: what follows where two terms
+//! share no value; `specs/ElementPasses.antt` and `specs/ExtremumPasses.antt`: what a pass finds.
 #![tactic(auto)]
 
 pub use element::infer_element;
@@ -13,5 +13,6 @@ pub use extremum::infer_extremum;
 mod element;
 mod equality;
 mod extremum;
+mod pair;
 mod shared;
 mod terms;

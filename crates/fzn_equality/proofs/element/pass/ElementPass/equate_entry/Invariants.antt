@@ -1,0 +1,5 @@
+use Rattle.fzn_equality.specs.ElementPasses.{AreFoundIn}
+use Rattle.fzn_equality.proofs.element.pass.ElementPass.equate_entry.Given as goal
+
+abbrev pub invariant-loop-k : goal.invariant-loop-k
+invariant-loop-k l = AreFoundIn l.self l.found

@@ -1,6 +1,0 @@
-use Rattle.fzn_meaning.specs.declared.constraint.Constraint.TheVariants as constraint
-use Rattle.fzn_propagator.specs.Inference.{AreFoundOf}
-use Rattle.fzn_equality.proofs.extremum.bound_extremum.Given as goal
-
-abbrev pub invariant-loop-k : goal.invariant-loop-k
-invariant-loop-k l = AreFoundOf l.number (constraint.Extremum l.extreme l.entries l.of) l.trail l.found
