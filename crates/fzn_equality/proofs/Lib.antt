@@ -1,7 +1,5 @@
-mod AgainstLemmas
 pub mod CallerLemmas
-mod ElementLemmas
+mod EntryLemmas
 mod EqualityLemmas
-mod ExtremumLemmas
 mod ListLemmas
 mod SharedLemmas

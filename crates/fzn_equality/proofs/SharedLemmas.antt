@@ -37,28 +37,25 @@ refuted_apart count besides claim opposite_claim other constraint is met sets de
 -- where the claims are denied, the two share no number but from this one up to the high one
 pub record ShareFrom (pair : Pair) (high : ℤ) (claims : List Claim) (from : ℤ) : Type 0 where
   pub terms : All (λ (c : Claim). IsTerm (length pair.trail.now.declared) c.term) claims
-  pub under : (sets : List IntSet) → All (IsDenied sets) claims → (v : ℤ) → MayBe sets pair.one v → MayBe sets pair.other v → v ≤ℤ high
-  pub over : (sets : List IntSet) → All (IsDenied sets) claims → (v : ℤ) → MayBe sets pair.one v → MayBe sets pair.other v → from ≤ℤ v
+  pub within : (sets : List IntSet) → All (IsDenied sets) claims → (v : ℤ) → MayBe sets pair.one v → MayBe sets pair.other v → (from ≤ℤ v) × (v ≤ℤ high)
 
 module _ (pair : Pair) (high : ℤ) where
   pub share_first : (below above : Claim) (low : ℤ) → IsTerm (length pair.trail.now.declared) below.term → IsTerm (length pair.trail.now.declared) above.term → ((sets : List IntSet) (v : ℤ) → IsDenied sets below → MayBe sets pair.one v → MayBe sets pair.other v → low ≤ℤ v) → ((sets : List IntSet) (v : ℤ) → IsDenied sets above → MayBe sets pair.one v → MayBe sets pair.other v → v ≤ℤ high) → ShareFrom pair high (below ∷ above ∷ []) low
   share_first below above low first second is_below is_above = record {
     terms = All-from_recursion (λ (c : Claim). IsTerm (length pair.trail.now.declared) c.term) (below ∷ above ∷ []) (first, (second, tt));
-    under = λ sets all v here there. is_above sets v (recursion_from_All (IsDenied sets) (below ∷ above ∷ []) all).1.0 here there;
-    over = λ sets all v here there. is_below sets v (recursion_from_All (IsDenied sets) (below ∷ above ∷ []) all).0 here there;
+    within = λ sets all v here there. let each = recursion_from_All (IsDenied sets) (below ∷ above ∷ []) all in (is_below sets v each.0 here there, is_above sets v each.1.0 here there);
   }
 
   module _ (claims : List Claim) (from : ℤ) (so_far : ShareFrom pair high claims from) (claim : Claim) (fits : IsTerm (length pair.trail.now.declared) claim.term) where
     pub share_push : ((sets : List IntSet) → IsDenied sets claim → MayBe sets pair.one from → MayBe sets pair.other from → ⊥) → ShareFrom pair high (claims ++ claim ∷ []) (from +ℤ pos 1)
     share_push denies = record {
       terms = All-push (λ (c : Claim). IsTerm (length pair.trail.now.declared) c.term) claims claim so_far.terms fits;
-      under = λ sets all. so_far.under sets (All-front (IsDenied sets) claims claim all);
-      over = λ sets all v here there.
-          let least = so_far.over sets (All-front (IsDenied sets) claims claim all) v here there in
+      within = λ sets all v here there.
+          let old = so_far.within sets (All-front (IsDenied sets) claims claim all) v here there in
           elim (cases_Bool (int_lt from v)) [
-            | inl after ↦ omega (arith, ints)
+            | inl after ↦ (omega (arith, ints, old.0), old.1)
             | inr before ↦
-                let same : v ≡ from = omega (arith, ints) in
+                let same : v ≡ from = omega (arith, ints, old.0) in
                 absurd (denies sets (All-last (IsDenied sets) claims claim all) (subst (MayBe sets pair.one) same here) (subst (MayBe sets pair.other) same there))
           ];
     }
@@ -68,4 +65,4 @@ module _ (pair : Pair) (high : ℤ) where
     refuted_shared constraint past met sets denying =
         let old = All-front (IsDenied sets) claims claim denying.denied in
         met sets (denying_one (length pair.trail.now.declared) (claims ++ claim ∷ []) claim sets denying (All-last (IsDenied sets) claims claim denying.denied))
-        (λ v here there. let least = so_far.over sets old v here there in let most = so_far.under sets old v here there in omega (arith, ints))
+        (λ v here there. let within = so_far.within sets old v here there in omega (arith, ints, within.0, within.1))

@@ -62,6 +62,7 @@ pub fn infer_element(
 }
 
 impl<'a> ElementPass<'a> {
+    /// Appends what the pass finds, up to what first shows something.
     fn find(&self, found: &mut Findings) -> Result<(), Memory>
         requires { AreFoundIn self.now found.old }
         ensures { AreFoundIn self.now found.new }

@@ -54,6 +54,7 @@ pub fn infer_extremum(
 }
 
 impl<'a> ExtremumPass<'a> {
+    /// Appends what the pass finds, by the ends, and where they show nothing, by the values of the result.
     fn find(&self, found: &mut Findings) -> Result<(), Memory>
         requires { AreFoundIn self.now found.old }
         ensures { AreFoundIn self.now found.new }

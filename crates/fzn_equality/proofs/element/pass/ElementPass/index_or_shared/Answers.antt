@@ -1,7 +1,7 @@
 use Rattle.std.proofs.Common.{arith}
 use Rattle.std.proofs.lemmas.Int.{ints}
 use Rattle.fzn_equality.specs.ElementPasses.{constraint_of}
-use Rattle.fzn_equality.proofs.ElementLemmas.{met_at}
+use Rattle.fzn_equality.proofs.EntryLemmas.{met_at}
 use Rattle.fzn_equality.proofs.element.pass.ElementPass.index_or_shared.Goals as goal
 
 pub returns-in-Some : goal.returns-in-Some

@@ -2,7 +2,7 @@ use Rattle.std.proofs.Common.{◌∷◌, []}
 use Rattle.fzn_rules.specs.declared.rule.Rule.TheVariants as rule
 use Rattle.fzn_terms.proofs.ExplanationLemmas.{justified_found}
 use Rattle.fzn_equality.specs.ElementPasses.{constraint_of}
-use Rattle.fzn_equality.proofs.ElementLemmas.{refuted_outside}
+use Rattle.fzn_equality.proofs.EntryLemmas.{refuted_outside}
 use Rattle.fzn_equality.proofs.element.pass.ElementPass.index_within.Goals as goal
 
 pub returns : goal.returns

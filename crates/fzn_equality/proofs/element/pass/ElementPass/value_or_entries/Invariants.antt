@@ -1,4 +1,4 @@
-use Rattle.fzn_equality.proofs.ElementLemmas.{IsAgainstValue}
+use Rattle.fzn_equality.proofs.EntryLemmas.{IsAgainstValue}
 use Rattle.fzn_equality.proofs.element.pass.ElementPass.value_or_entries.Given as goal
 
 abbrev pub invariant-loop-k : goal.invariant-loop-k

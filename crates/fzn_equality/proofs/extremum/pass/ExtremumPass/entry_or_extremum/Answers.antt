@@ -3,7 +3,7 @@ use Rattle.std.proofs.lemmas.Int.{ints}
 use Rattle.fzn_rules.specs.declared.rule.Rule.TheVariants as rule
 use Rattle.fzn_terms.proofs.ExplanationLemmas.{justified_found}
 use Rattle.fzn_equality.specs.ExtremumPasses.{constraint_of}
-use Rattle.fzn_equality.proofs.ExtremumLemmas.{refuted_passing}
+use Rattle.fzn_equality.proofs.EntryLemmas.{refuted_passing}
 use Rattle.fzn_equality.proofs.extremum.pass.ExtremumPass.entry_or_extremum.Goals as goal
 
 pub returns : goal.returns

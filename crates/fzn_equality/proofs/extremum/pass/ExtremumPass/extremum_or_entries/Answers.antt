@@ -1,10 +1,9 @@
-use Rattle.std.proofs.Common.{◌≡◌, ◌+◌, ℕ, length, List, ◌∷◌, ◌++◌, [], arith, sym, ap, subst, ◌∙◌, IfOk, IfSome}
+use Rattle.std.proofs.Common.{◌≡◌, ℕ, length, List, ◌∷◌, ◌++◌, [], arith, ap, subst, ◌∙◌}
 use Rattle.fzn_rules.specs.declared.rule.Rule.TheVariants as rule
 use Rattle.fzn_terms.specs.declared.claim.Claim.{Claim}
-use Rattle.fzn_terms.specs.Denied.{IsExplanation}
 use Rattle.fzn_terms.proofs.ExplanationLemmas.{justified_found}
 use Rattle.fzn_equality.specs.ExtremumPasses.{constraint_of}
-use Rattle.fzn_equality.proofs.ExtremumLemmas.{IsAgainstExtremum, extremum_first, extremum_push, refuted_each}
+use Rattle.fzn_equality.proofs.EntryLemmas.{IsAgainstExtremum, extremum_first, extremum_push, refuted_each}
 use Rattle.fzn_equality.proofs.extremum.pass.ExtremumPass.extremum_or_entries.Goals as goal
 
 pub loop-k-init : goal.loop-k-init
@@ -12,14 +11,11 @@ loop-k-init c =
     let pass = c.args.self.now in
     let claim = c.claim_of-claim.result in
     let first : c.push.new.self ≡ claim ∷ [] = c.in_ok-push.ensures.ok ∙ ap (λ (xs : List Claim). xs ++ claim ∷ []) c.in_ok-claims.ensures in
-    subst (λ (xs : List Claim). IsAgainstExtremum pass claim xs 0) (sym first) (extremum_first pass claim c.claim_of-claim.ensures)
+    rw first (extremum_first pass claim c.claim_of-claim.ensures)
 
 pub loop-k-preserved : goal.loop-k-preserved
 loop-k-preserved c =
-    let pass = c.args.self.now in
-    let claim = c.claim_of-claim.result in
-    subst (λ (xs : List Claim). IsAgainstExtremum pass claim xs (c.loop-k.k + 1)) (sym c.in_ok-push-2.ensures.ok)
-    (extremum_push pass claim c.loop-k.claims c.loop-k.k _ c.in-Some.entry c.loop-k.invariant c.loop-k-test.true c.claim_of-claim.ensures c.in-Some.ensures)
+    rw c.in_ok-push-2.ensures.ok (extremum_push c.args.self.now c.claim_of-claim.result c.loop-k.claims c.loop-k.k _ c.in-Some.entry c.loop-k.invariant c.loop-k-test.true c.claim_of-claim.ensures c.in-Some.ensures)
 
 pub returns : goal.returns
 returns c =
@@ -27,4 +23,4 @@ returns c =
     let end : c.loop-k.k ≡ length pass.entries.now = omega arith in
     justified_found c.explanation_of.result pass.trail.now c.loop-k.claims (constraint_of pass) rule.Rows
     (refuted_each pass c.claim_of-claim.result c.loop-k.claims (subst (λ (n : ℕ). IsAgainstExtremum pass c.claim_of-claim.result c.loop-k.claims n) end c.loop-k.invariant))
-    (subst (λ (xs : List Claim). IfOk c.explanation_of.result (λ o. IfSome o (IsExplanation pass.trail.now xs))) c.as_slice.ensures c.explanation_of.ensures)
+    (rw c.as_slice.ensures at c.explanation_of.ensures)

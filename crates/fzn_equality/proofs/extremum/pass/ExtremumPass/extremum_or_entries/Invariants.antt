@@ -1,4 +1,4 @@
-use Rattle.fzn_equality.proofs.ExtremumLemmas.{IsAgainstExtremum}
+use Rattle.fzn_equality.proofs.EntryLemmas.{IsAgainstExtremum}
 use Rattle.fzn_equality.proofs.extremum.pass.ExtremumPass.extremum_or_entries.Given as goal
 
 abbrev pub invariant-loop-k : goal.invariant-loop-k
