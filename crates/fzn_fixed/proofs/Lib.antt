@@ -1,5 +1,4 @@
 mod DenialLemmas
 mod FixedLemmas
-mod LastLemmas
 mod MeaningLemmas
 mod ImageLemmas

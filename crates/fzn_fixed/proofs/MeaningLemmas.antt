@@ -14,36 +14,47 @@ use Rattle.fzn_sets.specs.Terms.{least_value}
 use Rattle.fzn_sets.proofs.CallerLemmas.{MayBe-term_value}
 use Rattle.fzn_builtin_rules.specs.Form.{form_of}
 use Rattle.fzn_builtin_rules.specs.Choices.{inputs_of, result_of, Relates}
-use Rattle.fzn_trail.specs.Levels.{Levels}
-use Rattle.fzn_propagator.specs.Inference.{AllFixed, HoldsWhereFixed}
+use Rattle.fzn_propagator.specs.Inference.{AllFixed}
 use Rattle.fzn_fixed.specs.declared.image.Image.{Image}
 use Rattle.fzn_fixed.specs.declared.parts.Parts.{Parts}
+use Rattle.fzn_fixed.specs.declared.pass.Pass.{Pass}
 use Rattle.fzn_fixed.specs.Demand.{AdmitsEach, AdmitsWhere}
-use Rattle.fzn_terms.specs.Values.{IsFixed}
 use Rattle.fzn_terms.proofs.FixedLemmas.{fixed_to, fixed_ends}
 use Rattle.fzn_fixed.specs.Denial.{IsTrueOn}
 use Rattle.fzn_fixed.specs.Image.{Admits, IsImage}
 use Rattle.fzn_fixed.specs.Parts.{IsReady}
-use Rattle.fzn_fixed.proofs.FixedLemmas.{values_on}
+use Rattle.fzn_fixed.specs.Passes.{HoldsFixed, AreFixed, least_values}
 
--- the values of the places stand in the constraint's relation where, and only where, the values meet it
-meets : (c : Constraint) (values : List ℤ) → form_of c ≡ None → IfSome (inputs_of c) (λ inputs. Relates c (values_of values inputs) (switch_value values (result_of c)) → Meets c values)
-unfolding Meets inputs_of result_of Relates form_of
-meets (constraint.Arithmetic operation left right result) values other = λ related. related
-meets (constraint.IntAbs of result) values other = λ related. related
-meets (constraint.Extremum extreme entries result) values other = λ related. related
-meets (constraint.Element index entries value) values other = λ related. related
-meets (constraint.SetIn term set switch) values other = λ related. related
-meets (constraint.BoolXor left right result) values other = λ related. related
-meets (constraint.ArrayBoolXor inputs) values other = λ related. related
-meets (constraint.Compare relation left right switch) values other = absurd (none-some _ (sym other))
-meets (constraint.BoolNot left right) values other = absurd (none-some _ (sym other))
-meets (constraint.BoolToInt boolean integer) values other = absurd (none-some _ (sym other))
-meets (constraint.Linear sum comparison bound switch) values other = absurd (none-some _ (sym other))
-meets (constraint.BoolLinEq sum total) values other = absurd (none-some _ (sym other))
-meets (constraint.Gated gate inputs result) values other = absurd (none-some _ (sym other))
-meets (constraint.BoolClause positive negative) values other = absurd (none-some _ (sym other))
-meets _ values other = tt
+-- the input places and the result's are terms, and their values stand in the constraint's relation where, and only where, the values meet it
+abbrev pub AreInputs : Constraint → List Term → Type 0
+AreInputs c inputs = ((count : ℕ) → IsWellFormed count c → All (IsTerm count) inputs × IsSwitch count (result_of c)) × ((values : List ℤ) → Relates c (values_of values inputs) (switch_value values (result_of c)) → Meets c values)
+
+facts_of : (c : Constraint) → form_of c ≡ None → IfSome (inputs_of c) (AreInputs c)
+unfolding Meets inputs_of result_of Relates IsWellFormed form_of
+facts_of (constraint.Arithmetic operation left right result) other = (λ count formed. (All-from_recursion (IsTerm count) (left ∷ right ∷ []) (formed.0, (formed.1, tt)), formed.2), λ values related. related)
+facts_of (constraint.IntAbs of result) other = (λ count formed. (All-from_recursion (IsTerm count) (of ∷ []) (formed.0, tt), formed.1), λ values related. related)
+facts_of (constraint.Extremum extreme entries result) other = (λ count formed. (formed.0.0, formed.1), λ values related. related)
+facts_of (constraint.Element index entries value) other = (λ count formed. (All-cons (IsTerm count) index entries formed.0 formed.1.0, formed.2), λ values related. related)
+facts_of (constraint.SetIn term set switch) other = (λ count formed. (All-from_recursion (IsTerm count) (term ∷ []) (formed.0, tt), formed.2), λ values related. related)
+facts_of (constraint.BoolXor left right result) other = (λ count formed. (All-from_recursion (IsTerm count) (left ∷ right ∷ []) (formed.0, (formed.1, tt)), formed.2), λ values related. related)
+facts_of (constraint.ArrayBoolXor inputs) other = (λ count formed. (formed.0, tt), λ values related. related)
+facts_of (constraint.Compare relation left right switch) other = absurd (none-some _ (sym other))
+facts_of (constraint.BoolNot left right) other = absurd (none-some _ (sym other))
+facts_of (constraint.BoolToInt boolean integer) other = absurd (none-some _ (sym other))
+facts_of (constraint.Linear sum comparison bound switch) other = absurd (none-some _ (sym other))
+facts_of (constraint.BoolLinEq sum total) other = absurd (none-some _ (sym other))
+facts_of (constraint.Gated gate inputs result) other = absurd (none-some _ (sym other))
+facts_of (constraint.BoolClause positive negative) other = absurd (none-some _ (sym other))
+facts_of _ other = tt
+
+inputs_facts : (c : Constraint) (inputs : List Term) → inputs_of c ≡ Some inputs → form_of c ≡ None → AreInputs c inputs
+inputs_facts c inputs is other = subst (λ (o : Option (List Term)). IfSome o (AreInputs c)) is (facts_of c other)
+
+pub inputs_fit : (count : ℕ) (parts : Parts) → IsReady count parts → All (IsTerm count) parts.inputs
+inputs_fit count parts ready = ((inputs_facts parts.constraint parts.inputs ready.parts_of.inputs ready.other).0 count ready.formed).0
+
+pub result_fits : (count : ℕ) (parts : Parts) → IsReady count parts → IsSwitch count parts.result
+result_fits count parts ready = subst (IsSwitch count) ready.parts_of.result ((inputs_facts parts.constraint parts.inputs ready.parts_of.inputs ready.other).0 count ready.formed).1
 
 module _ (sets : List IntSet) (values : List ℤ) (within : IsWithin sets values) where
   -- it is one that is admitted of each
@@ -60,78 +71,33 @@ related_of : (values : List ℤ) (of : Option Term) (image : Image) (R : Option 
 related_of values None image R is here = is.1 here
 related_of values (Some term) image R is here = (is (term_value values term)).1 here
 
-module _ (trail : Levels) (parts : Parts) (image : Image) (ready : IsReady (length trail.declared) parts) (fit : All (IsTerm (length trail.declared)) parts.inputs) (is : IsImage parts.constraint (values_on trail parts.inputs) image) where
-  holds_by : ((values : List ℤ) → IsWithin trail.declared values → IsWithin trail.sets values → Admits image (switch_value values parts.result)) → HoldsWhereFixed trail parts.constraint
+module _ (pass : Pass) (image : Image) (is : IsImage pass.constraint.now (least_values pass) image) where
+  holds_by : ((values : List ℤ) → IsWithin pass.trail.now.declared values → IsWithin pass.trail.now.sets values → Admits image (switch_value values pass.result)) → HoldsFixed pass
   holds_by each fixed values declared present =
-      let C = parts.constraint in
+      let C = pass.constraint.now in
+      let trail = pass.trail.now in
+      let inputs = pass.inputs.now in
       let count : length trail.declared ≡ length trail.sets = sym declared.one_each ∙ present.one_each in
-      let same : values_of values parts.inputs ≡ values_on trail parts.inputs = values_are trail.sets values present fixed parts.inputs (subst (λ (n : ℕ). All (IsTerm n) parts.inputs) count fit) in
-      let here : Admits image (switch_value values (result_of C)) = subst (λ (of : Option Term). Admits image (switch_value values of)) (sym ready.parts_of.result) (each values declared present) in
-      let related : Relates C (values_of values parts.inputs) (switch_value values (result_of C)) =
-      subst (λ (xs : List ℤ). Relates C xs (switch_value values (result_of C))) (sym same) (related_of values (result_of C) image (Relates C (values_on trail parts.inputs)) is here) in
-      subst (λ (o : Option (List Term)). IfSome o (λ inputs. Relates C (values_of values inputs) (switch_value values (result_of C)) → Meets C values)) ready.parts_of.inputs (meets C values ready.other) related
+      let same : values_of values inputs ≡ least_values pass = values_are trail.sets values present fixed inputs (subst (λ (n : ℕ). All (IsTerm n) inputs) count pass.inputs_fit) in
+      let here : Admits image (switch_value values (result_of C)) = subst (λ (of : Option Term). Admits image (switch_value values of)) (sym pass.result_is) (each values declared present) in
+      (inputs_facts C inputs pass.inputs_are pass.other).1 values
+      (subst (λ (xs : List ℤ). Relates C xs (switch_value values (result_of C))) (sym same) (related_of values (result_of C) image (Relates C (least_values pass)) is here))
 
   -- each declared value of the result is admitted
-  pub holds_of_each : IsSwitch (length trail.declared) parts.result → AdmitsEach trail.declared parts.result image → HoldsWhereFixed trail parts.constraint
-  holds_of_each fits each = holds_by (λ values declared present. admitted trail.declared values declared parts.result image fits each)
+  pub holds_of_each : AdmitsEach pass.trail.now.declared pass.result image → HoldsFixed pass
+  holds_of_each each = holds_by (λ values declared present. admitted pass.trail.now.declared values declared pass.result image pass.result_fits each)
 
   -- the literal says so, and is true
-  pub holds_of_literal : (lit : Lit) → AdmitsWhere trail.declared parts.result image lit → IsTrueOn trail.sets lit → HoldsWhereFixed trail parts.constraint
+  pub holds_of_literal : (lit : Lit) → AdmitsWhere pass.trail.now.declared pass.result image lit → IsTrueOn pass.trail.now.sets lit → HoldsFixed pass
   holds_of_literal lit where_true holds = holds_by (λ values declared present.
       let variable = where_true.variable in
-      let there : contains (set_of trail.declared lit.var) (value_of values lit.var) ≡ true = declared.inside (lit.var.0 - 1) (omega arith) in
-      let now : contains (set_of trail.sets lit.var) (value_of values lit.var) ≡ true = present.inside (lit.var.0 - 1) (let a = declared.one_each in let b = present.one_each in omega arith) in
+      let there : contains (set_of pass.trail.now.declared lit.var) (value_of values lit.var) ≡ true = declared.inside (lit.var.0 - 1) (omega arith) in
+      let now : contains (set_of pass.trail.now.sets lit.var) (value_of values lit.var) ≡ true = present.inside (lit.var.0 - 1) (let a = declared.one_each in let b = present.one_each in omega arith) in
       subst (λ (of : Option Term). Admits image (switch_value values of)) (sym where_true.of_result)
       ((where_true.admitted (value_of values lit.var) there).1 (holds (value_of values lit.var) now)))
 
 -- some input has several values
-pub holds_of_wide : (trail : Levels) (parts : Parts) → All (IsTerm (length trail.declared)) parts.inputs → (All (IsFixed trail.sets) parts.inputs → ⊥) → HoldsWhereFixed trail parts.constraint
-holds_of_wide trail parts fit wide fixed values declared present =
-    let count : length trail.declared ≡ length trail.sets = sym declared.one_each ∙ present.one_each in
-    absurd (wide (λ k d below. fixed_ends trail.sets values present fixed (get_or parts.inputs k d) (subst (λ (n : ℕ). IsTerm n (get_or parts.inputs k d)) count (fit k d below))))
-
--- ---- the places of a constraint that is no sum
-
-fit_of : (count : ℕ) (c : Constraint) → form_of c ≡ None → IsWellFormed count c → IfSome (inputs_of c) (All (IsTerm count))
-unfolding inputs_of IsWellFormed form_of
-fit_of count (constraint.Arithmetic operation left right result) other formed = All-from_recursion (IsTerm count) (left ∷ right ∷ []) (formed.0, (formed.1, tt))
-fit_of count (constraint.IntAbs of result) other formed = All-from_recursion (IsTerm count) (of ∷ []) (formed.0, tt)
-fit_of count (constraint.Extremum extreme entries result) other formed = formed.0.0
-fit_of count (constraint.Element index entries value) other formed = All-cons (IsTerm count) index entries formed.0 formed.1.0
-fit_of count (constraint.SetIn term set switch) other formed = All-from_recursion (IsTerm count) (term ∷ []) (formed.0, tt)
-fit_of count (constraint.BoolXor left right result) other formed = All-from_recursion (IsTerm count) (left ∷ right ∷ []) (formed.0, (formed.1, tt))
-fit_of count (constraint.ArrayBoolXor inputs) other formed = formed.0
-fit_of count (constraint.Compare relation left right switch) other formed = absurd (none-some _ (sym other))
-fit_of count (constraint.BoolNot left right) other formed = absurd (none-some _ (sym other))
-fit_of count (constraint.BoolToInt boolean integer) other formed = absurd (none-some _ (sym other))
-fit_of count (constraint.Linear sum comparison bound switch) other formed = absurd (none-some _ (sym other))
-fit_of count (constraint.BoolLinEq sum total) other formed = absurd (none-some _ (sym other))
-fit_of count (constraint.Gated gate inputs result) other formed = absurd (none-some _ (sym other))
-fit_of count (constraint.BoolClause positive negative) other formed = absurd (none-some _ (sym other))
-fit_of count _ other formed = tt
-
-result_fit : (count : ℕ) (c : Constraint) → form_of c ≡ None → IsWellFormed count c → IfSome (inputs_of c) (λ _. IsSwitch count (result_of c))
-unfolding inputs_of result_of IsWellFormed form_of
-result_fit count (constraint.Arithmetic operation left right result) other formed = formed.2
-result_fit count (constraint.IntAbs of result) other formed = formed.1
-result_fit count (constraint.Extremum extreme entries result) other formed = formed.1
-result_fit count (constraint.Element index entries value) other formed = formed.2
-result_fit count (constraint.SetIn term set switch) other formed = formed.2
-result_fit count (constraint.BoolXor left right result) other formed = formed.2
-result_fit count (constraint.ArrayBoolXor inputs) other formed = tt
-result_fit count (constraint.Compare relation left right switch) other formed = absurd (none-some _ (sym other))
-result_fit count (constraint.BoolNot left right) other formed = absurd (none-some _ (sym other))
-result_fit count (constraint.BoolToInt boolean integer) other formed = absurd (none-some _ (sym other))
-result_fit count (constraint.Linear sum comparison bound switch) other formed = absurd (none-some _ (sym other))
-result_fit count (constraint.BoolLinEq sum total) other formed = absurd (none-some _ (sym other))
-result_fit count (constraint.Gated gate inputs result) other formed = absurd (none-some _ (sym other))
-result_fit count (constraint.BoolClause positive negative) other formed = absurd (none-some _ (sym other))
-result_fit count _ other formed = tt
-
-pub inputs_fit : (count : ℕ) (parts : Parts) → IsReady count parts → All (IsTerm count) parts.inputs
-inputs_fit count parts ready = subst (λ (o : Option (List Term)). IfSome o (All (IsTerm count))) ready.parts_of.inputs (fit_of count parts.constraint ready.other ready.formed)
-
-pub result_fits : (count : ℕ) (parts : Parts) → IsReady count parts → IsSwitch count parts.result
-result_fits count parts ready =
-    subst (IsSwitch count) ready.parts_of.result
-    (subst (λ (o : Option (List Term)). IfSome o (λ _. IsSwitch count (result_of parts.constraint))) ready.parts_of.inputs (result_fit count parts.constraint ready.other ready.formed))
+pub holds_of_wide : (pass : Pass) → (AreFixed pass → ⊥) → HoldsFixed pass
+holds_of_wide pass wide fixed values declared present =
+    let count : length pass.trail.now.declared ≡ length pass.trail.now.sets = sym declared.one_each ∙ present.one_each in
+    absurd (wide (λ k d below. fixed_ends pass.trail.now.sets values present fixed (get_or pass.inputs.now k d) (subst (λ (n : ℕ). IsTerm n (get_or pass.inputs.now k d)) count (pass.inputs_fit k d below))))

@@ -3,10 +3,10 @@ ghost use Rattle.std.specs.Prelude.{List, Some, length};
 ghost use Rattle.fzn_domain.specs.IntSet.{IntSet};
 ghost use Rattle.fzn_domain.specs.Narrow.{IsVariable};
 ghost use Rattle.fzn_meaning.specs.declared.term.Term.TheVariants.{Constant, Variable};
-ghost use Rattle.fzn_meaning.specs.Meaning.{IsSwitch};
 ghost use Rattle.fzn_fixed.specs.Demand.{IsDemand};
 
 use crate::image::Image;
+use crate::pass::Pass;
 use fzn_domain::{Lit, Op, VarId};
 use fzn_meaning::Term;
 use fzn_trail::Trail;
@@ -22,35 +22,31 @@ pub enum Demand {
     Literal(Lit),
 }
 
-/// What the image asks of the result, whose declared set may hold more than the trail leaves.
-pub fn demand_of(trail: &Trail, of: Option<Term>, image: Image) -> Demand
-    requires { IsSwitch (length trail.now.declared) of }
-    ensures { IsDemand trail.now.declared of image result }
-{
-    let Some(term) = of else {
-        return match image {
-            Image::Holds => Demand::Nothing,
-            _ => Demand::Impossible,
+impl<'a> Pass<'a> {
+    /// What the image asks of the result, whose declared set may hold more than the trail leaves.
+    pub(crate) fn demand(&self, image: Image) -> Demand
+        ensures { IsDemand self.now.trail.now.declared self.now.result image result }
+    {
+        let Some(term) = self.result else {
+            return match image {
+                Image::Holds => Demand::Nothing,
+                _ => Demand::Impossible,
+            };
         };
-    };
-    match term {
-        Term::Constant(k) => of_constant(k, image),
-        Term::Variable(var) => of_variable(trail, var, image),
+        match term {
+            Term::Constant(k) => of_constant(k, image),
+            Term::Variable(var) => of_variable(self.trail, var, image),
+        }
     }
 }
 
 fn of_constant(k: i64, image: Image) -> Demand
     ensures { (declared : List IntSet) → IsDemand declared (Some (Constant k)) image result }
 {
-    let holds = match image {
-        Image::Only(value) => k == value,
-        Image::AllBut(value) => k != value,
-        _ => false,
-    };
-    if holds {
-        Demand::Nothing
-    } else {
-        Demand::Impossible
+    match image {
+        Image::Only(value) if k == value => Demand::Nothing,
+        Image::AllBut(value) if k != value => Demand::Nothing,
+        _ => Demand::Impossible,
     }
 }
 

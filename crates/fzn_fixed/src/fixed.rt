@@ -1,22 +1,19 @@
 // What follows where each input has one value: by the rule `fixed`.
 ghost use Rattle.std.specs.Prelude.{length, IfOk, IfSome, IfNone};
-ghost use Rattle.std.specs.List.{All};
 ghost use Rattle.fzn_domain.specs.Narrow.{IsVariable, NoneEmpty};
-ghost use Rattle.fzn_meaning.specs.Term.{IsTerm};
 ghost use Rattle.fzn_rules.specs.declared.rule.Rule.TheVariants as rule;
 ghost use Rattle.fzn_propagator.specs.Clause.{IsWritable, IsJustified};
 ghost use Rattle.fzn_propagator.specs.Inference.{HoldsWhereFixed};
-ghost use Rattle.fzn_terms.specs.Values.{IsFixed};
 ghost use Rattle.fzn_fixed.specs.Denial.{IsDenialOr, IsTrueOn};
 ghost use Rattle.fzn_fixed.specs.Parts.{IsReady};
+ghost use Rattle.fzn_fixed.specs.Passes.{IsInferred, HoldsFixed, AreFixed};
 
-use crate::demand::{Demand, demand_of};
+use crate::demand::Demand;
 use crate::image::image_of;
 use crate::parts::Parts;
-use crate::values::{denial, values_of};
+use crate::pass::Pass;
 use fzn_domain::{Lit, Memory};
 use fzn_list::Items;
-use fzn_meaning::Term;
 use fzn_terms::are_fixed;
 use fzn_trail::Trail;
 use std::alloc::Global;
@@ -33,42 +30,43 @@ pub fn refute_fixed(
     ensures found { IfOk result (λ found. IfSome found (IsJustified trail.now parts.now.constraint rule.Fixed)) }
     ensures none { IfOk result (λ found. IfNone found (HoldsWhereFixed trail.now parts.now.constraint)) }
 {
-    let inputs = parts.inputs.as_slice();
-    if !are_fixed(trail, inputs) {
-        return Ok(None);
-    }
-    let values = values_of(alloc, trail, inputs)?;
-    let chosen = values.as_slice();
-    let image = image_of(&parts.constraint, chosen);
-    match demand_of(trail, parts.result, image) {
-        Demand::Nothing => Ok(None),
-        Demand::Impossible => {
-            let clause = denial(alloc, trail, inputs)?;
-            Ok(Some(clause))
-        }
-        Demand::Literal(lit) => force(alloc, trail, inputs, lit),
-    }
+    Pass::new(alloc, trail, parts).refute()
 }
 
-/// A clause that the literal is true or some input has another value, where the trail does not say that it is true.
-fn force(
-    alloc: Global,
-    trail: &Trail,
-    inputs: &[Term],
-    lit: Lit,
-) -> Result<Option<Items<Lit>>, Memory>
-    requires inputs { All (IsTerm (length trail.now.declared)) inputs.now }
-    requires filled { NoneEmpty trail.now.sets }
-    requires fixed { All (IsFixed trail.now.sets) inputs.now }
-    requires variable { IsVariable (length trail.now.declared) lit.var }
-    requires writable { IsWritable lit }
-    ensures found { IfOk result (λ found. IfSome found (IsDenialOr trail.now inputs.now lit)) }
-    ensures none { IfOk result (λ found. IfNone found (IsTrueOn trail.now.sets lit)) }
-{
-    if trail.domain(lit.var).is_false(lit.negated()) {
-        return Ok(None);
+impl<'a> Pass<'a> {
+    /// The clause that an input has another value, or the result is what these give.
+    fn refute(&self) -> Result<Option<Items<Lit>>, Memory>
+        ensures found { IfOk result (λ found. IfSome found (IsInferred self.now)) }
+        ensures none { IfOk result (λ found. IfNone found (HoldsFixed self.now)) }
+    {
+        if !are_fixed(self.trail, self.inputs) {
+            return Ok(None);
+        }
+        let values = self.values()?;
+        let image = image_of(self.constraint, values.as_slice());
+        match self.demand(image) {
+            Demand::Nothing => Ok(None),
+            Demand::Impossible => {
+                let clause = self.denial()?;
+                Ok(Some(clause))
+            }
+            Demand::Literal(lit) => self.force(lit),
+        }
     }
-    let mut clause = denial(alloc, trail, inputs)?;
-    clause.push(lit)?;
-    Ok(Some(clause))
+
+    /// A clause that the literal is true or some input has another value, where the trail does not say that it is true.
+    fn force(&self, lit: Lit) -> Result<Option<Items<Lit>>, Memory>
+        requires fixed { AreFixed self.now }
+        requires variable { IsVariable (length self.now.trail.now.declared) lit.var }
+        requires writable { IsWritable lit }
+        ensures found { IfOk result (λ found. IfSome found (IsDenialOr self.now.trail.now self.now.inputs.now lit)) }
+        ensures none { IfOk result (λ found. IfNone found (IsTrueOn self.now.trail.now.sets lit)) }
+    {
+        if self.trail.domain(lit.var).is_false(lit.negated()) {
+            return Ok(None);
+        }
+        let mut clause = self.denial()?;
+        clause.push(lit)?;
+        Ok(Some(clause))
+    }
 }

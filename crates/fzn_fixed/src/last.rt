@@ -1,24 +1,25 @@
 // The last input that has several values: by the rule `fixed`.
-ghost use Rattle.std.specs.Prelude.{◌≡◌, ℕ, ◌<◌, length, List, Option, None, Some, IfOk, IfSome};
+ghost use Rattle.std.specs.Prelude.{◌≡◌, ◌<◌, length, List, IfOk, IfSome};
 ghost use Rattle.std.specs.List.{All};
 ghost use Rattle.fzn_domain.specs.IntSet.{IntSet};
 ghost use Rattle.fzn_domain.specs.Limits.{IsInLimits};
 ghost use Rattle.fzn_domain.specs.Narrow.{NoneEmpty};
-ghost use Rattle.fzn_meaning.specs.Meaning.{IsSwitch};
 ghost use Rattle.fzn_meaning.specs.Term.{IsTerm};
 ghost use Rattle.fzn_builtin_rules.specs.Choices.{NoneOf};
 ghost use Rattle.fzn_rules.specs.declared.rule.Rule.TheVariants as rule;
 ghost use Rattle.fzn_terms.specs.Denied.{IsDenied};
 ghost use Rattle.fzn_propagator.specs.Clause.{IsJustified};
-ghost use Rattle.fzn_fixed.specs.Image.{Admits};
+ghost use Rattle.fzn_fixed.specs.Image.{Admits, IsImage};
 ghost use Rattle.fzn_fixed.specs.Parts.{IsReady};
+ghost use Rattle.fzn_fixed.specs.Passes.{IsInferred};
 
 use crate::image::{Image, image_of};
 use crate::parts::Parts;
+use crate::pass::Pass;
+use crate::values::Values;
 use fzn_domain::{Lit, Memory};
 use fzn_list::Items;
-use fzn_meaning::Term;
-use fzn_terms::{Claim, explanation_of, greatest_of, is_fixed, least_of, may_be};
+use fzn_terms::{Claim, explanation_of, interval_of, is_fixed, least_of, may_be};
 use fzn_trail::Trail;
 use std::alloc::Global;
 
@@ -33,151 +34,117 @@ pub fn infer_last(alloc: Global, trail: &Trail, parts: &Parts) -> Result<Option<
     requires filled { NoneEmpty trail.now.sets }
     ensures { IfOk result (λ found. IfSome found (IsJustified trail.now parts.now.constraint rule.Fixed)) }
 {
-    if !is_settled(trail, parts.result) {
-        return Ok(None);
-    }
-    let inputs = parts.inputs.as_slice();
-    let Some(place) = last_open(trail, inputs) else {
-        return Ok(None);
-    };
-    let (low, high) = (
-        least_of(trail, inputs[place]),
-        greatest_of(trail, inputs[place]),
-    );
-    for step in 0..STEPS {
-        let value = low + step as i64;
-        if high < value {
+    Pass::new(alloc, trail, parts).refute_last()
+}
+
+impl<'a> Pass<'a> {
+    /// The clause that the one input with several values has not one of them.
+    fn refute_last(&self) -> Result<Option<Items<Lit>>, Memory>
+        ensures { IfOk result (λ found. IfSome found (IsInferred self.now)) }
+    {
+        if !self.is_settled() {
             return Ok(None);
         }
-        if may_be(trail, inputs[place], &value) {
-            let values = values_with(alloc, trail, inputs, place, value)?;
-            let image = image_of(&parts.constraint, values.as_slice());
-            if is_missed(trail, parts.result, image) {
-                return other_values(alloc, trail, parts, values.as_slice());
+        let Some(place) = self.last_open() else {
+            return Ok(None);
+        };
+        let ends = interval_of(self.trail, self.inputs[place]);
+        for step in 0..STEPS {
+            let value = ends.low + step as i64;
+            if ends.high < value {
+                return Ok(None);
+            }
+            if may_be(self.trail, self.inputs[place], &value) {
+                let values = self.values_with(place, value)?;
+                let image = image_of(self.constraint, values.as_slice());
+                if self.is_missed(image) {
+                    return self.other_values(values.as_slice(), image);
+                }
             }
         }
+        Ok(None)
     }
-    Ok(None)
-}
 
-// ---- what is found
+    // ---- what is found
 
-/// The place of the only term that has several values.
-fn last_open(trail: &Trail, terms: &[Term]) -> Option<usize>
-    requires terms { All (IsTerm (length trail.now.declared)) terms.now }
-    requires filled { NoneEmpty trail.now.sets }
-    ensures { IfSome result (λ place. place < length terms.now) }
-{
-    let mut found = None;
-    for k in 0..terms.len() {
-        if !is_fixed(trail, terms[k]) {
-            if found.is_some() {
-                return None;
+    /// The place of the only input that has several values.
+    fn last_open(&self) -> Option<usize>
+        ensures { IfSome result (λ place. place < length self.now.inputs.now) }
+    {
+        let mut found = None;
+        for k in 0..self.inputs.len() {
+            if !is_fixed(self.trail, self.inputs[k]) {
+                if found.is_some() {
+                    return None;
+                }
+                found = Some(k);
             }
-            found = Some(k);
+        }
+        found
+    }
+
+    /// The least value of each input, and this value of the one at the place.
+    fn values_with(&self, place: usize, value: i64) -> Result<Values, Memory>
+        requires place { place < length self.now.inputs.now }
+        requires value { IsInLimits value }
+        ensures one_each { IfOk result (λ values. length values.items ≡ length self.now.inputs.now) }
+        ensures in_limits { IfOk result (λ values. All IsInLimits values.items) }
+    {
+        let mut values = self.values()?;
+        values[place] = value;
+        Ok(values)
+    }
+
+    /// Whether there is no result, or it has one value.
+    fn is_settled(&self) -> bool {
+        match self.result {
+            Some(term) => is_fixed(self.trail, term),
+            None => true,
         }
     }
-    found
-}
 
-/// The least value of each term, and this value of the one at the place.
-fn values_with(
-    alloc: Global,
-    trail: &Trail,
-    terms: &[Term],
-    place: usize,
-    value: i64,
-) -> Result<Items<i64>, Memory>
-    requires terms { All (IsTerm (length trail.now.declared)) terms.now }
-    requires filled { NoneEmpty trail.now.sets }
-    requires value { IsInLimits value }
-    ensures one_each { IfOk result (λ values. length values ≡ length terms.now) }
-    ensures in_limits { IfOk result (All IsInLimits) }
-{
-    let mut values = Items::new(alloc);
-    for k in 0..terms.len() {
-        let next = value_or_least(trail, terms[k], k == place, value);
-        values.push(next)?;
-    }
-    Ok(values)
-}
-
-/// This value, or the least of the term.
-fn value_or_least(trail: &Trail, term: Term, is_open: bool, value: i64) -> i64
-    requires term { IsTerm (length trail.now.declared) term }
-    requires filled { NoneEmpty trail.now.sets }
-    requires value { IsInLimits value }
-    ensures { IsInLimits result }
-{
-    if is_open {
-        value
-    } else {
-        least_of(trail, term)
-    }
-}
-
-/// Whether there is no result, or it has one value.
-fn is_settled(trail: &Trail, of: Option<Term>) -> bool
-    requires of { IsSwitch (length trail.now.declared) of }
-    requires filled { NoneEmpty trail.now.sets }
-{
-    match of {
-        Some(term) => is_fixed(trail, term),
-        None => true,
-    }
-}
-
-/// Whether the trail leaves the result no value that the image admits.
-fn is_missed(trail: &Trail, of: Option<Term>, image: Image) -> bool
-    requires of { IsSwitch (length trail.now.declared) of }
-    requires filled { NoneEmpty trail.now.sets }
-{
-    match (of, image) {
-        (_, Image::Fails) => true,
-        (Some(term), Image::Only(value)) => !may_be(trail, term, &value),
-        (Some(term), Image::AllBut(value)) => {
-            is_fixed(trail, term) && least_of(trail, term) == value
+    /// Whether the trail leaves the result no value that the image admits.
+    fn is_missed(&self, image: Image) -> bool {
+        match (self.result, image) {
+            (_, Image::Fails) => true,
+            (Some(term), Image::Only(value)) => !may_be(self.trail, term, &value),
+            (Some(term), Image::AllBut(value)) => {
+                is_fixed(self.trail, term) && least_of(self.trail, term) == value
+            }
+            _ => false,
         }
-        _ => false,
     }
-}
 
-// ---- what refutes
+    // ---- what refutes
 
-/// The clause that some input has another value than this one, or the result has one that these values admit.
-fn other_values(
-    alloc: Global,
-    trail: &Trail,
-    parts: &Parts,
-    values: &[i64],
-) -> Result<Option<Items<Lit>>, Memory>
-    requires ready { IsReady (length trail.now.declared) parts.now }
-    requires one_each { length values.now ≡ length parts.now.inputs }
-    requires in_limits { All IsInLimits values.now }
-    ensures { IfOk result (λ found. IfSome found (IsJustified trail.now parts.now.constraint rule.Fixed)) }
-{
-    let inputs = parts.inputs.as_slice();
-    let image = image_of(&parts.constraint, values);
-    let Some(claim) = admitted(parts.result, image) else {
-        return Ok(None);
-    };
-    let mut claims = Items::new(alloc);
-    for k in 0..inputs.len() {
-        claims.push(Claim::other_than(inputs[k], values[k]))?;
+    /// The clause that some input has another value than this one, or the result has one that these values admit, which have this image.
+    fn other_values(&self, values: &[i64], image: Image) -> Result<Option<Items<Lit>>, Memory>
+        requires one_each { length values.now ≡ length self.now.inputs.now }
+        requires in_limits { All IsInLimits values.now }
+        requires image { IsImage self.now.constraint.now values.now image }
+        ensures { IfOk result (λ found. IfSome found (IsInferred self.now)) }
+    {
+        let Some(claim) = self.admitted(image) else {
+            return Ok(None);
+        };
+        let mut claims = Items::new(self.alloc);
+        for k in 0..self.inputs.len() {
+            claims.push(Claim::other_than(self.inputs[k], values[k]))?;
+        }
+        claims.push(claim)?;
+        explanation_of(self.alloc, self.trail, claims.as_slice())
     }
-    claims.push(claim)?;
-    explanation_of(alloc, trail, claims.as_slice())
-}
 
-/// The claim that the result has a value which the image admits. Nothing where the constraint holds without a result.
-fn admitted(of: Option<Term>, image: Image) -> Option<Claim>
-    ensures term { IfSome result (λ claim. (count : ℕ) → IsSwitch count of → IsTerm count claim.term) }
-    ensures none { IfSome result (λ claim. (sets : List IntSet) → IsDenied sets claim → NoneOf sets of (Admits image)) }
-{
-    match (of, image) {
-        (None, Image::Holds) => None,
-        (Some(term), Image::Only(value)) => Some(Claim::equal(term, value)),
-        (Some(term), Image::AllBut(value)) => Some(Claim::other_than(term, value)),
-        _ => Some(Claim::never()),
+    /// The claim that the result has a value which the image admits. Nothing where the constraint holds without a result.
+    fn admitted(&self, image: Image) -> Option<Claim>
+        ensures term { IfSome result (λ claim. IsTerm (length self.now.trail.now.declared) claim.term) }
+        ensures none { IfSome result (λ claim. (sets : List IntSet) → IsDenied sets claim → NoneOf sets self.now.result (Admits image)) }
+    {
+        match (self.result, image) {
+            (None, Image::Holds) => None,
+            (Some(term), Image::Only(value)) => Some(Claim::equal(term, value)),
+            (Some(term), Image::AllBut(value)) => Some(Claim::other_than(term, value)),
+            _ => Some(Claim::never()),
+        }
     }
 }

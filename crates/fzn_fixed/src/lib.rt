@@ -15,4 +15,5 @@ mod fixed;
 mod image;
 mod last;
 mod parts;
+mod pass;
 mod values;

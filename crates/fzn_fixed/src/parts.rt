@@ -1,4 +1,6 @@
 // The copy of a constraint, with the places that its result follows from.
+#![tactic(auto, unfolding(fzn_builtin_rules::specs::Form::form_of, fzn_builtin_rules::specs::Choices::inputs_of, fzn_builtin_rules::specs::Choices::result_of))]
+
 ghost use Rattle.std.specs.Prelude.{◌≡◌, ◌∷◌, ◌++◌, [], IfOk, IfSome, IfNone, OnOk, None};
 ghost use Rattle.fzn_meaning.specs.declared.constraint.Constraint.TheVariants as constraint;
 ghost use Rattle.fzn_builtin_rules.specs.Choices.{inputs_of};
@@ -22,7 +24,6 @@ pub struct Parts {
 }
 
 /// The parts of a constraint, and nothing where it is a sum or one of the five globals. It answers `Err` where memory runs out.
-#[tactic(auto, unfolding(fzn_builtin_rules::specs::Form::form_of, fzn_builtin_rules::specs::Choices::inputs_of))]
 pub fn parts_of(alloc: Global, constraint: &Constraint) -> Result<Option<Parts>, Memory>
     ensures found { IfOk result (λ found. IfSome found (ArePartsOf constraint.now)) }
     ensures other { IfOk result (λ found. IfSome found (λ _. form_of constraint.now ≡ None)) }
@@ -62,7 +63,6 @@ pub fn parts_of(alloc: Global, constraint: &Constraint) -> Result<Option<Parts>,
     Ok(Some(parts))
 }
 
-#[tactic(auto, unfolding(fzn_builtin_rules::specs::Choices::inputs_of, fzn_builtin_rules::specs::Choices::result_of))]
 fn arithmetic(
     alloc: Global,
     operation: Operation,
@@ -84,7 +84,6 @@ fn arithmetic(
     })
 }
 
-#[tactic(auto, unfolding(fzn_builtin_rules::specs::Choices::inputs_of, fzn_builtin_rules::specs::Choices::result_of))]
 fn absolute(alloc: Global, of: Term, absolute: Term) -> Result<Parts, Memory>
     ensures { IfOk result (ArePartsOf (constraint.IntAbs of absolute)) }
 {
@@ -98,7 +97,6 @@ fn absolute(alloc: Global, of: Term, absolute: Term) -> Result<Parts, Memory>
     })
 }
 
-#[tactic(auto, unfolding(fzn_builtin_rules::specs::Choices::inputs_of, fzn_builtin_rules::specs::Choices::result_of))]
 fn extremum(extreme: Extreme, entries: &Shared<Term>, value: Term) -> Result<Parts, Memory>
     ensures { IfOk result (ArePartsOf (constraint.Extremum extreme entries.now value)) }
 {
@@ -113,7 +111,6 @@ fn extremum(extreme: Extreme, entries: &Shared<Term>, value: Term) -> Result<Par
     })
 }
 
-#[tactic(auto, unfolding(fzn_builtin_rules::specs::Choices::inputs_of, fzn_builtin_rules::specs::Choices::result_of))]
 fn element(alloc: Global, index: Term, entries: &Shared<Term>, value: Term) -> Result<Parts, Memory>
     ensures { IfOk result (ArePartsOf (constraint.Element index entries.now value)) }
 {
@@ -131,7 +128,6 @@ fn element(alloc: Global, index: Term, entries: &Shared<Term>, value: Term) -> R
     })
 }
 
-#[tactic(auto, unfolding(fzn_builtin_rules::specs::Choices::inputs_of, fzn_builtin_rules::specs::Choices::result_of))]
 fn member(alloc: Global, term: Term, set: &Domain, switch: Option<Term>) -> Result<Parts, Memory>
     ensures { IfOk result (ArePartsOf (constraint.SetIn term set.now switch)) }
 {
@@ -146,7 +142,6 @@ fn member(alloc: Global, term: Term, set: &Domain, switch: Option<Term>) -> Resu
     })
 }
 
-#[tactic(auto, unfolding(fzn_builtin_rules::specs::Choices::inputs_of, fzn_builtin_rules::specs::Choices::result_of))]
 fn one_of_two(alloc: Global, left: Term, right: Term, value: Term) -> Result<Parts, Memory>
     ensures { IfOk result (ArePartsOf (constraint.BoolXor left right value)) }
 {
@@ -161,7 +156,6 @@ fn one_of_two(alloc: Global, left: Term, right: Term, value: Term) -> Result<Par
     })
 }
 
-#[tactic(auto, unfolding(fzn_builtin_rules::specs::Choices::inputs_of, fzn_builtin_rules::specs::Choices::result_of))]
 fn odd(inputs: &Shared<Term>) -> Result<Parts, Memory>
     ensures { IfOk result (ArePartsOf (constraint.ArrayBoolXor inputs.now)) }
 {
