@@ -1,5 +1,5 @@
 -- Intervals in which nothing meets a constraint refute it.
-use Rattle.std.proofs.Common.{◌≡◌, ℕ, ◌*◌, ◌≤◌, true, false, List, [], ◌∷◌, length, refl, sym, ap, subst, ◌⊎◌, inl, inr, arith, ℤ, pos, negsuc, ◌+ℤ◌, ◌-ℤ◌, unsigned_abs, ◌*ℤ◌, ◌<ℤ◌, ◌≤ℤ◌}
+use Rattle.std.proofs.Common.{◌≡◌, ℕ, ◌*◌, ◌≤◌, true, false, List, [], ◌∷◌, length, refl, sym, ap, subst, ◌∙◌, All, ◌⊎◌, inl, inr, arith, ℤ, pos, negsuc, ◌+ℤ◌, ◌-ℤ◌, unsigned_abs, ◌*ℤ◌, ◌<ℤ◌, ◌≤ℤ◌}
 use Rattle.std.proofs.lemmas.Int.{ints}
 use Rattle.std.proofs.lemmas.List.Elements.{All-from_recursion, recursion_from_All}
 use Rattle.std.proofs.Math.IntN.{*ℤ_comm, pos-*ℤ-pos}
@@ -14,7 +14,7 @@ use Rattle.fzn_meaning.specs.declared.arithmetic.Operation.{Operation}
 use Rattle.fzn_meaning.specs.declared.arithmetic.Operation.TheVariants as operation
 use Rattle.fzn_meaning.specs.declared.constraint.Constraint.TheVariants as constraint
 use Rattle.fzn_meaning.specs.Term.{IsTerm}
-use Rattle.fzn_sets.specs.Terms.{least_value, greatest_value}
+use Rattle.fzn_sets.specs.Terms.{MayBe, least_value, greatest_value}
 use Rattle.fzn_sets.proofs.ValueLemmas.{IsBetween, MayBe-ends}
 use Rattle.fzn_builtin_rules.specs.Choices.{inputs_of, result_of, Relates, NoneOf, count_of, IsChoice}
 use Rattle.fzn_builtin_rules.specs.Product.{corners, IsBoxMet}
@@ -28,6 +28,8 @@ use Rattle.fzn_terms.specs.declared.interval.Interval.{Interval}
 use Rattle.fzn_arithmetic.specs.declared.excluded.Shape.{Shape}
 use Rattle.fzn_arithmetic.specs.declared.excluded.Shape.TheVariants.{Product, Quotient, Remainder, Absolute}
 use Rattle.fzn_terms.specs.Intervals.{IsIn, LiesIn}
+use Rattle.fzn_arithmetic.specs.declared.pass.Pass.{Pass}
+use Rattle.fzn_arithmetic.specs.Passes.{constraint_of}
 use Rattle.fzn_arithmetic.specs.Excluded.{shaped, rule_of, IsProductBeyond, IsAbsoluteBeyond, NoneGives, IsFew, AreFewPairs, Excludes}
 
 -- ---- products of numbers between bounds
@@ -104,20 +106,6 @@ pub absolute_sides : (v : ℤ) → (pos (unsigned_abs v) ≡ v) ⊎ (pos (unsign
 absolute_sides (pos n) = inl refl
 absolute_sides (negsuc n) = inr (grind (arith, ints))
 
-pub absolute_above : (a b low high : ℤ) → ((high <ℤ pos 0) ⊎ ((high <ℤ a) ⊎ (b <ℤ (pos 0 -ℤ high)))) → (v : ℤ) → a ≤ℤ v → v ≤ℤ b → low ≤ℤ pos (unsigned_abs v) → pos (unsigned_abs v) ≤ℤ high → ⊥
-absolute_above a b low high beyond v from to over under =
-    let natural : pos 0 ≤ℤ pos (unsigned_abs v) = omega (arith, ints) in
-    elim (absolute_sides v) [
-      | inl same ↦ elim beyond [ inl h ↦ absurd (omega (arith, ints)) | inr rest ↦ elim rest [ inl h ↦ absurd (omega (arith, ints)) | inr h ↦ absurd (omega (arith, ints)) ] ]
-      | inr opposite ↦ elim beyond [ inl h ↦ absurd (omega (arith, ints)) | inr rest ↦ elim rest [ inl h ↦ absurd (omega (arith, ints)) | inr h ↦ absurd (omega (arith, ints)) ] ]
-    ]
-
-pub absolute_below : (a b low : ℤ) → (pos 0 -ℤ low) <ℤ a → b <ℤ low → (v : ℤ) → a ≤ℤ v → v ≤ℤ b → low ≤ℤ pos (unsigned_abs v) → ⊥
-absolute_below a b low first second v from to over = elim (absolute_sides v) [
-  | inl same ↦ absurd (omega (arith, ints))
-  | inr opposite ↦ absurd (omega (arith, ints))
-]
-
 -- ---- terms that lie in such intervals
 
 module _ (sets : List IntSet) (left right of : Term) (l r o : Interval) (filled : is_some_empty sets ≡ false) (in_l : LiesIn sets left l) (in_r : LiesIn sets right r) (in_o : LiesIn sets of o) where
@@ -170,8 +158,36 @@ module _ (sets : List IntSet) (left right of : Term) (l r o : Interval) (filled 
   met_shaped Remainder first second third none = met_choices operation.Remainder none.0 none.1
   met_shaped Absolute first second third none = met_absolute none
 
-pub refuted_shaped : (count : ℕ) (shape : Shape) (left right of : Term) (l r o : Interval) (a b c d e f : Claim) → IsTerm count left → IsTerm count right → IsTerm count of → ((sets : List IntSet) → IsDenied sets a → IsDenied sets b → LiesIn sets left l) → ((sets : List IntSet) → IsDenied sets c → IsDenied sets d → LiesIn sets right r) → ((sets : List IntSet) → IsDenied sets e → IsDenied sets f → LiesIn sets of o) → Excludes shape l r o → Refute count (a ∷ b ∷ c ∷ d ∷ e ∷ f ∷ []) (shaped shape left right of) (rule_of shape)
-refuted_shaped count shape left right of l r o a b c d e f first second third in_left in_right in_of none sets denying =
+-- ---- claims that say that some term lies elsewhere
+
+pub refuted_shaped : (pass : Pass) (l r o : Interval) (a b c d e f : Claim) → ((sets : List IntSet) → IsDenied sets a → IsDenied sets b → LiesIn sets pass.left l) → ((sets : List IntSet) → IsDenied sets c → IsDenied sets d → LiesIn sets pass.right r) → ((sets : List IntSet) → IsDenied sets e → IsDenied sets f → LiesIn sets pass.of o) → Excludes pass.shape l r o → Refute (length pass.trail.now.declared) (a ∷ b ∷ c ∷ d ∷ e ∷ f ∷ []) (constraint_of pass) (rule_of pass.shape)
+refuted_shaped pass l r o a b c d e f in_left in_right in_of none sets denying =
     let each = recursion_from_All (IsDenied sets) (a ∷ b ∷ c ∷ d ∷ e ∷ f ∷ []) denying.denied in
-    met_shaped sets left right of l r o denying.filled (in_left sets each.0 each.1.0) (in_right sets each.1.1.0 each.1.1.1.0) (in_of sets each.1.1.1.1.0 each.1.1.1.1.1.0) shape
-    (subst (λ (n : ℕ). IsTerm n left) (sym denying.one_each) first) (subst (λ (n : ℕ). IsTerm n right) (sym denying.one_each) second) (subst (λ (n : ℕ). IsTerm n of) (sym denying.one_each) third) none
+    met_shaped sets pass.left pass.right pass.of l r o denying.filled (in_left sets each.0 each.1.0) (in_right sets each.1.1.0 each.1.1.1.0) (in_of sets each.1.1.1.1.0 each.1.1.1.1.1.0) pass.shape
+    (subst (λ (n : ℕ). IsTerm n pass.left) (sym denying.one_each) pass.left_fits) (subst (λ (n : ℕ). IsTerm n pass.right) (sym denying.one_each) pass.right_fits) (subst (λ (n : ℕ). IsTerm n pass.of) (sym denying.one_each) pass.of_fits) none
+
+-- the absolute value of none that the first term may be is one that the other may be
+refuted_where : (pass : Pass) (claims : List Claim) → pass.shape ≡ Absolute → ((sets : List IntSet) → All (IsDenied sets) claims → (v : ℤ) → MayBe sets pass.left v → MayBe sets pass.of (pos (unsigned_abs v)) → ⊥) → Refute (length pass.trail.now.declared) claims (constraint_of pass) (rule_of pass.shape)
+unfolding IsMet IsRowsMet
+refuted_where pass claims is never =
+    subst (λ (s : Shape). Refute (length pass.trail.now.declared) claims (shaped s pass.left pass.right pass.of) (rule_of s)) (sym is) (λ sets denying. inl (λ v may there. never sets denying.denied v may there))
+
+-- the first term has one value alone, and the other not its absolute value
+pub refuted_value : (pass : Pass) (value number : ℤ) (first second : Claim) → pass.shape ≡ Absolute → number ≡ pos (unsigned_abs value) → ((sets : List IntSet) (v : ℤ) → IsDenied sets first → MayBe sets pass.left v → v ≡ value) → ((sets : List IntSet) → IsDenied sets second → MayBe sets pass.of number → ⊥) → Refute (length pass.trail.now.declared) (first ∷ second ∷ []) (constraint_of pass) (rule_of pass.shape)
+refuted_value pass value number first second shape number_is only never = refuted_where pass (first ∷ second ∷ []) shape (λ sets all v may there.
+    let each = recursion_from_All (IsDenied sets) (first ∷ second ∷ []) all in
+    let same : v ≡ value = only sets v each.0 may in
+    never sets each.1.0 (subst (λ (x : ℤ). MayBe sets pass.of x) (sym number_is) (subst (λ (x : ℤ). MayBe sets pass.of (pos (unsigned_abs x))) same there)))
+
+-- a number of that absolute value
+absolute_of : (P : ℤ → Type 0) (v value opposite : ℤ) → opposite ≡ pos 0 -ℤ value → pos (unsigned_abs v) ≡ value → P v → (P value → ⊥) → (P opposite → ⊥) → ⊥
+absolute_of P v value opposite opposite_is is here first second = elim (absolute_sides v) [
+  | inl same ↦ first (subst P (sym same ∙ is) here)
+  | inr other ↦ let at : v ≡ opposite = omega (arith, ints) in second (subst P at here)
+]
+
+-- the absolute value is one value alone, and the first term has no number of that absolute value
+pub refuted_absolute : (pass : Pass) (value opposite : ℤ) (first second third : Claim) → pass.shape ≡ Absolute → opposite ≡ pos 0 -ℤ value → ((sets : List IntSet) (v : ℤ) → IsDenied sets first → MayBe sets pass.of v → v ≡ value) → ((sets : List IntSet) → IsDenied sets second → MayBe sets pass.left value → ⊥) → ((sets : List IntSet) → IsDenied sets third → MayBe sets pass.left opposite → ⊥) → Refute (length pass.trail.now.declared) (first ∷ second ∷ third ∷ []) (constraint_of pass) (rule_of pass.shape)
+refuted_absolute pass value opposite first second third shape opposite_is only never never_opposite = refuted_where pass (first ∷ second ∷ third ∷ []) shape (λ sets all v may there.
+    let each = recursion_from_All (IsDenied sets) (first ∷ second ∷ third ∷ []) all in
+    absolute_of (MayBe sets pass.left) v value opposite opposite_is (only sets _ each.0 there) may (never sets each.1.0) (never_opposite sets each.1.1.0))

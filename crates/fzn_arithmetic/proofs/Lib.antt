@@ -1,2 +1,1 @@
-mod AbsoluteLemmas
 mod ExcludedLemmas

@@ -1,1 +1,2 @@
 pub mod Excluded
+pub mod Passes

@@ -1,12 +1,13 @@
 // Products, quotients, remainders and absolute values by intervals of their places.
 ghost use Rattle.std.specs.Prelude.{◌≡◌, length, IfOk, IfSome};
-ghost use Rattle.fzn_domain.specs.Narrow.{NoneEmpty};
 ghost use Rattle.fzn_meaning.specs.Term.{IsTerm};
-ghost use Rattle.fzn_propagator.specs.Inference.{HasWritableHints, AreFoundOf};
-ghost use Rattle.fzn_propagator.specs.Clause.{IsJustified};
-ghost use Rattle.fzn_arithmetic.specs.Excluded.{shaped, rule_of};
+ghost use Rattle.fzn_propagator.specs.Inference.{HasWritableHints};
+ghost use Rattle.fzn_terms.specs.Intervals.{IsLimitedInterval};
+ghost use Rattle.fzn_arithmetic.specs.Excluded.{rule_of};
+ghost use Rattle.fzn_arithmetic.specs.Passes.{IsInferred, AreFoundIn};
 
 use crate::excluded::{Shape, is_excluded};
+use crate::pass::Pass;
 use crate::seeming::{seem_beyond, seems_excluded};
 use fzn_domain::{Lit, Memory};
 use fzn_list::Items;
@@ -14,7 +15,6 @@ use fzn_meaning::Term;
 use fzn_propagator::Findings;
 use fzn_rules::Rule;
 use fzn_terms::{Interval, explanation_of, interval_of};
-use fzn_trail::Trail;
 use std::alloc::Global;
 
 /// How far an end of a quotient's or a remainder's places is moved at most, by steps of few pairs each.
@@ -25,10 +25,10 @@ const HALVINGS: usize = 64;
 
 /// An interval of each place.
 #[derive(Clone, Copy)]
-struct Intervals {
-    left: Interval,
-    right: Interval,
-    of: Interval,
+pub(crate) struct Intervals {
+    pub left: Interval,
+    pub right: Interval,
+    pub of: Interval,
 }
 
 /// One of the places.
@@ -37,6 +37,13 @@ enum Argument {
     Left,
     Right,
     Result,
+}
+
+/// An end of an interval.
+#[derive(Clone, Copy)]
+enum End {
+    Low,
+    High,
 }
 
 impl Intervals {
@@ -48,190 +55,121 @@ impl Intervals {
         }
     }
 
-    /// With another interval at the place.
-    fn with(self, place: Argument, interval: Interval) -> Intervals {
+    /// With one end at the place moved to a number.
+    fn moved(mut self, place: Argument, end: End, number: i64) -> Intervals {
+        let mut interval = self.at(place);
+        match end {
+            End::Low => interval.low = number,
+            End::High => interval.high = number,
+        }
         match place {
-            Argument::Left => Intervals {
-                left: interval,
-                ..self
-            },
-            Argument::Right => Intervals {
-                right: interval,
-                ..self
-            },
-            Argument::Result => Intervals {
-                of: interval,
-                ..self
-            },
+            Argument::Left => self.left = interval,
+            Argument::Right => self.right = interval,
+            Argument::Result => self.of = interval,
+        }
+        self
+    }
+
+    #[inline(always)]
+    fn seem_excluded(self, shape: Shape) -> bool {
+        seems_excluded(shape, self.left, self.right, self.of)
+    }
+
+    /// With one end moved towards a number as far as they are excluded: where they are, so are all that are narrower.
+    #[inline(always)]
+    fn widened(self, shape: Shape, place: Argument, end: End, far: i64) -> Intervals {
+        let mut good = match end {
+            End::Low => self.at(place).low,
+            End::High => self.at(place).high,
+        };
+        let widest = self.moved(place, end, far);
+        if good == far || widest.seem_excluded(shape) {
+            return widest;
+        }
+        let mut bad = far;
+        for _ in 0..HALVINGS {
+            let middle = good.saturating_add(bad.saturating_sub(good) / 2);
+            if middle == good {
+                return self.moved(place, end, good);
+            }
+            if self.moved(place, end, middle).seem_excluded(shape) {
+                good = middle;
+            } else {
+                bad = middle;
+            }
+        }
+        self.moved(place, end, good)
+    }
+
+    /// With each end moved towards the declared one as far as they are excluded.
+    fn weakened(self, shape: Shape, declared: Intervals) -> Intervals {
+        let mut weak = self;
+        for place in [Argument::Left, Argument::Right, Argument::Result] {
+            let far = declared.at(place);
+            weak = weak.widened(shape, place, End::Low, far.low);
+            weak = weak.widened(shape, place, End::High, far.high);
+        }
+        weak
+    }
+
+    /// All that are excluded with one of these cut down to a part at one of its ends; or these alone, where they are.
+    fn all_excluded(self, alloc: Global, shape: Shape) -> Result<Items<Intervals>, Memory> {
+        let mut all = Items::new(alloc);
+        if self.seem_excluded(shape) {
+            all.push(self)?;
+            return Ok(all);
+        }
+        self.add_excluded(shape, Argument::Left, &mut all)?;
+        self.add_excluded(shape, Argument::Right, &mut all)?;
+        self.add_excluded(shape, Argument::Result, &mut all)?;
+        Ok(all)
+    }
+
+    /// Adds the same with the interval of this place cut down.
+    #[inline(always)]
+    fn add_excluded(
+        self,
+        shape: Shape,
+        place: Argument,
+        all: &mut Items<Intervals>,
+    ) -> Result<(), Memory> {
+        let whole = self.at(place);
+        if whole.is_single() {
+            return Ok(()); // That would be the intervals as they are.
+        }
+        let lowest = self.moved(place, End::High, whole.low);
+        if lowest.seem_excluded(shape) && !self.is_far(shape, place, End::High, &whole.low) {
+            all.push(lowest.widened(shape, place, End::High, whole.high))?;
+        }
+        let highest = self.moved(place, End::Low, whole.high);
+        if highest.seem_excluded(shape) && !self.is_far(shape, place, End::Low, &whole.high) {
+            all.push(highest.widened(shape, place, End::Low, whole.low))?;
+        }
+        Ok(())
+    }
+
+    /// Whether the first place or the second has no number from its other end on that is nearer than FAR: it would take hundreds of steps
+    /// to go there.
+    fn is_far(self, shape: Shape, place: Argument, moving: End, other: &i64) -> bool {
+        let whole = self.at(place);
+        if whole.high.saturating_sub(whole.low) <= FAR {
+            return false;
+        }
+        let number = match moving {
+            End::High => other.saturating_add(FAR),
+            End::Low => other.saturating_sub(FAR),
+        };
+        let part = self.moved(place, moving, number);
+        match (shape, place) {
+            (_, Argument::Result) => false,
+            (Shape::Remainder, Argument::Right) => true, // No closed form tells which divisors leave a remainder.
+            _ => seem_beyond(shape, part.left, part.right, part.of),
         }
     }
 }
-
-/// An end of an interval.
-#[derive(Clone, Copy)]
-enum End {
-    Low,
-    High,
-}
-
-/// Appends to `found` the clauses that a place has no value at an end of its interval, from where none meets the constraint.
-pub fn infer_ends(
-    alloc: Global,
-    trail: &Trail,
-    number: u64,
-    shape: Shape,
-    left: Term,
-    right: Term,
-    of: Term,
-    found: &mut Findings,
-) -> Result<(), Memory>
-    requires left { IsTerm (length trail.now.declared) left }
-    requires right { IsTerm (length trail.now.declared) right }
-    requires of { IsTerm (length trail.now.declared) of }
-    requires filled { NoneEmpty trail.now.sets }
-    requires before { AreFoundOf number (shaped shape left right of) trail.now found.old }
-    ensures { AreFoundOf number (shaped shape left right of) trail.now found.new }
-{
-    let now = Intervals {
-        left: interval_of(trail, left),
-        right: interval_of(trail, right),
-        of: interval_of(trail, of),
-    };
-    let all = all_excluded(alloc, shape, now)?;
-    refute_each(
-        alloc,
-        trail,
-        number,
-        shape,
-        left,
-        right,
-        of,
-        all.as_slice(),
-        found,
-    )
-}
-
-// ---- what is found
-
-/// All intervals that are excluded with one of these cut down to a part at one of its ends; or these alone, where they are.
-fn all_excluded(alloc: Global, shape: Shape, now: Intervals) -> Result<Items<Intervals>, Memory> {
-    let mut all = Items::new(alloc);
-    if are_excluded(shape, now) {
-        all.push(now)?;
-        return Ok(all);
-    }
-    add_excluded(shape, now, Argument::Left, &mut all)?;
-    add_excluded(shape, now, Argument::Right, &mut all)?;
-    add_excluded(shape, now, Argument::Result, &mut all)?;
-    Ok(all)
-}
-
-/// Adds the same with the interval of this place cut down.
-#[inline(always)]
-fn add_excluded(
-    shape: Shape,
-    now: Intervals,
-    place: Argument,
-    all: &mut Items<Intervals>,
-) -> Result<(), Memory> {
-    let whole = now.at(place);
-    if whole.is_single() {
-        return Ok(()); // That would be the intervals as they are.
-    }
-    let lowest = moved(now, place, End::High, whole.low);
-    if are_excluded(shape, lowest) && !is_far(shape, now, place, End::High, &whole.low) {
-        all.push(widened(shape, lowest, place, End::High, whole.high))?;
-    }
-    let highest = moved(now, place, End::Low, whole.high);
-    if are_excluded(shape, highest) && !is_far(shape, now, place, End::Low, &whole.high) {
-        all.push(widened(shape, highest, place, End::Low, whole.low))?;
-    }
-    Ok(())
-}
-
-/// Whether the first place or the second has no number from its other end on that is nearer than FAR: it would take hundreds of steps to
-/// go there.
-fn is_far(shape: Shape, now: Intervals, place: Argument, moving: End, other: &i64) -> bool {
-    let whole = now.at(place);
-    if whole.high.saturating_sub(whole.low) <= FAR {
-        return false;
-    }
-    let number = match moving {
-        End::High => other.saturating_add(FAR),
-        End::Low => other.saturating_sub(FAR),
-    };
-    let part = moved(now, place, moving, number);
-    match (shape, place) {
-        (_, Argument::Result) => false,
-        (Shape::Remainder, Argument::Right) => true, // No closed form tells which divisors leave a remainder.
-        _ => seem_beyond(shape, part.left, part.right, part.of),
-    }
-}
-
-/// The intervals, each end moved towards the declared one as far as they are excluded.
-fn weakened(shape: Shape, found: Intervals, declared: Intervals) -> Intervals {
-    let first = weakened_at(shape, found, declared, Argument::Left);
-    let second = weakened_at(shape, first, declared, Argument::Right);
-    weakened_at(shape, second, declared, Argument::Result)
-}
-
-fn weakened_at(shape: Shape, found: Intervals, declared: Intervals, place: Argument) -> Intervals {
-    let far = declared.at(place);
-    let lower = widened(shape, found, place, End::Low, far.low);
-    widened(shape, lower, place, End::High, far.high)
-}
-
-/// The intervals with one end moved towards a number as far as they are excluded: where they are, so are all that are narrower.
-#[inline(always)]
-fn widened(shape: Shape, intervals: Intervals, place: Argument, end: End, far: i64) -> Intervals {
-    let mut good = match end {
-        End::Low => intervals.at(place).low,
-        End::High => intervals.at(place).high,
-    };
-    let widest = moved(intervals, place, end, far);
-    if good == far || are_excluded(shape, widest) {
-        return widest;
-    }
-    let mut bad = far;
-    for _ in 0..HALVINGS {
-        let middle = good.saturating_add(bad.saturating_sub(good) / 2);
-        if middle == good {
-            return moved(intervals, place, end, good);
-        }
-        if are_excluded(shape, moved(intervals, place, end, middle)) {
-            good = middle;
-        } else {
-            bad = middle;
-        }
-    }
-    moved(intervals, place, end, good)
-}
-
-/// The intervals with one end moved to a number.
-fn moved(intervals: Intervals, place: Argument, end: End, number: i64) -> Intervals {
-    let interval = intervals.at(place);
-    let moved = match end {
-        End::Low => Interval {
-            low: number,
-            high: interval.high,
-        },
-        End::High => Interval {
-            low: interval.low,
-            high: number,
-        },
-    };
-    intervals.with(place, moved)
-}
-
-#[inline(always)]
-fn are_excluded(shape: Shape, intervals: Intervals) -> bool {
-    seems_excluded(shape, intervals.left, intervals.right, intervals.of)
-}
-
-// ---- what refutes
 
 /// The rule by which it follows that intervals of this shape are excluded.
-fn rule_of(shape: Shape) -> Rule
+pub(crate) fn rule_of(shape: Shape) -> Rule
     ensures rule { result ≡ rule_of shape }
     ensures hints { HasWritableHints result }
 {
@@ -242,137 +180,89 @@ fn rule_of(shape: Shape) -> Rule
     }
 }
 
-/// For each of these: the clause that some place has a value outside of its interval.
-fn refute_each(
-    alloc: Global,
-    trail: &Trail,
-    number: u64,
-    shape: Shape,
-    left: Term,
-    right: Term,
-    of: Term,
-    all: &[Intervals],
-    found: &mut Findings,
-) -> Result<(), Memory>
-    requires left { IsTerm (length trail.now.declared) left }
-    requires right { IsTerm (length trail.now.declared) right }
-    requires of { IsTerm (length trail.now.declared) of }
-    requires before { AreFoundOf number (shaped shape left right of) trail.now found.old }
-    ensures { AreFoundOf number (shaped shape left right of) trail.now found.new }
-{
-    for k in 0..all.len() {
-        refute(alloc, trail, number, shape, left, right, of, all[k], found)?;
+impl<'a> Pass<'a> {
+    /// The interval of each place on the trail.
+    pub(crate) fn intervals(&self) -> Intervals
+        ensures left { IsLimitedInterval result.left }
+        ensures right { IsLimitedInterval result.right }
+    {
+        Intervals {
+            left: interval_of(self.trail, self.left),
+            right: interval_of(self.trail, self.right),
+            of: interval_of(self.trail, self.of),
+        }
     }
-    Ok(())
-}
 
-/// The clause that some place has a value outside of its interval, these widened as far as they are excluded. Nothing where they are not.
-fn refute(
-    alloc: Global,
-    trail: &Trail,
-    number: u64,
-    shape: Shape,
-    left: Term,
-    right: Term,
-    of: Term,
-    excluded: Intervals,
-    found: &mut Findings,
-) -> Result<(), Memory>
-    requires left { IsTerm (length trail.now.declared) left }
-    requires right { IsTerm (length trail.now.declared) right }
-    requires of { IsTerm (length trail.now.declared) of }
-    requires before { AreFoundOf number (shaped shape left right of) trail.now found.old }
-    ensures { AreFoundOf number (shaped shape left right of) trail.now found.new }
-{
-    let declared = Intervals {
-        left: declared_interval_of(trail, left),
-        right: declared_interval_of(trail, right),
-        of: declared_interval_of(trail, of),
-    };
-    let weak = weakened(shape, excluded, declared);
-    hand_over_outside(
-        alloc, trail, number, shape, left, right, of, weak.left, weak.right, weak.of, found,
-    )
-}
-
-/// Puts the clause behind what was found that some place has a value outside of its interval, where these are excluded.
-pub fn hand_over_outside(
-    alloc: Global,
-    trail: &Trail,
-    number: u64,
-    shape: Shape,
-    left: Term,
-    right: Term,
-    of: Term,
-    in_left: Interval,
-    in_right: Interval,
-    in_of: Interval,
-    found: &mut Findings,
-) -> Result<(), Memory>
-    requires left { IsTerm (length trail.now.declared) left }
-    requires right { IsTerm (length trail.now.declared) right }
-    requires of { IsTerm (length trail.now.declared) of }
-    requires before { AreFoundOf number (shaped shape left right of) trail.now found.old }
-    ensures { AreFoundOf number (shaped shape left right of) trail.now found.new }
-{
-    let clause = outside_of(
-        alloc, trail, shape, left, right, of, in_left, in_right, in_of,
-    )?;
-    found.hand_over(number, rule_of(shape), clause)
-}
-
-/// The clause that the left, the right or the third place has a value outside of its interval, where these are excluded.
-fn outside_of(
-    alloc: Global,
-    trail: &Trail,
-    shape: Shape,
-    left: Term,
-    right: Term,
-    of: Term,
-    in_left: Interval,
-    in_right: Interval,
-    in_of: Interval,
-) -> Result<Option<Items<Lit>>, Memory>
-    requires left { IsTerm (length trail.now.declared) left }
-    requires right { IsTerm (length trail.now.declared) right }
-    requires of { IsTerm (length trail.now.declared) of }
-    ensures { IfOk result (λ found. IfSome found (IsJustified trail.now (shaped shape left right of) (rule_of shape))) }
-{
-    if !is_excluded(shape, in_left, in_right, in_of) {
-        return Ok(None);
+    /// From the least to the greatest declared value of each place.
+    fn declared(&self) -> Intervals {
+        Intervals {
+            left: self.declared_interval_of(self.left),
+            right: self.declared_interval_of(self.right),
+            of: self.declared_interval_of(self.of),
+        }
     }
-    let (left_below, left_above) = in_left.outside(left);
-    let (right_below, right_above) = in_right.outside(right);
-    let (of_below, of_above) = in_of.outside(of);
-    explanation_of(
-        alloc,
-        trail,
-        &[
-            left_below,
-            left_above,
-            right_below,
-            right_above,
-            of_below,
-            of_above,
-        ],
-    )
-}
 
-/// From the least to the greatest declared value.
-fn declared_interval_of(trail: &Trail, term: Term) -> Interval
-    requires term { IsTerm (length trail.now.declared) term }
-{
-    match term {
-        Term::Constant(k) => Interval { low: k, high: k },
-        Term::Variable(var) => {
-            let declared = trail.declared(var);
-            if declared.is_empty() {
-                return Interval { low: 0, high: 0 };
-            }
-            Interval {
-                low: declared.min(),
-                high: declared.max(),
+    fn declared_interval_of(&self, term: Term) -> Interval
+        requires { IsTerm (length self.now.trail.now.declared) term }
+    {
+        match term {
+            Term::Constant(k) => Interval::only(k),
+            Term::Variable(var) => {
+                let declared = self.trail.declared(var);
+                if declared.is_empty() {
+                    return Interval::only(0);
+                }
+                Interval {
+                    low: declared.min(),
+                    high: declared.max(),
+                }
             }
         }
+    }
+
+    /// Finds that a place has no value at an end of its interval, of those on the trail, from where none meets the constraint.
+    pub(crate) fn find_ends(&self, now: Intervals, found: &mut Findings) -> Result<(), Memory>
+        requires { AreFoundIn self.now found.old }
+        ensures { AreFoundIn self.now found.new }
+    {
+        let all = now.all_excluded(self.alloc, self.shape)?;
+        for excluded in all.as_slice() {
+            let weak = (*excluded).weakened(self.shape, self.declared());
+            self.find_outside(weak, found)?;
+        }
+        Ok(())
+    }
+
+    /// Finds that some place has a value outside of its interval, where these are excluded.
+    pub(crate) fn find_outside(&self, within: Intervals, found: &mut Findings) -> Result<(), Memory>
+        requires { AreFoundIn self.now found.old }
+        ensures { AreFoundIn self.now found.new }
+    {
+        let clause = self.outside(within)?;
+        found.hand_over(self.number, rule_of(self.shape), clause)
+    }
+
+    /// The clause that some place has a value outside of its interval, where these are excluded.
+    fn outside(&self, within: Intervals) -> Result<Option<Items<Lit>>, Memory>
+        ensures { IfOk result (λ found. IfSome found (IsInferred self.now)) }
+    {
+        if !is_excluded(self.shape, within.left, within.right, within.of) {
+            return Ok(None);
+        }
+        let (left_below, left_above) = within.left.outside(self.left);
+        let (right_below, right_above) = within.right.outside(self.right);
+        let (of_below, of_above) = within.of.outside(self.of);
+        explanation_of(
+            self.alloc,
+            self.trail,
+            &[
+                left_below,
+                left_above,
+                right_below,
+                right_above,
+                of_below,
+                of_above,
+            ],
+        )
     }
 }

@@ -13,5 +13,6 @@ mod absolute;
 mod excluded;
 mod exclusion;
 mod operation;
+mod pass;
 mod quotient;
 mod seeming;

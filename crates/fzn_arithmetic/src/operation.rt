@@ -1,13 +1,15 @@
 // Which operations are looked at how.
-ghost use Rattle.std.specs.Prelude.{length};
+ghost use Rattle.std.specs.Prelude.{◌≡◌, length, IfSome};
 ghost use Rattle.fzn_domain.specs.Narrow.{NoneEmpty};
+ghost use Rattle.fzn_meaning.specs.declared.term.Term.{Term};
 ghost use Rattle.fzn_meaning.specs.declared.constraint.Constraint.TheVariants as constraint;
 ghost use Rattle.fzn_meaning.specs.Term.{IsTerm};
 ghost use Rattle.fzn_propagator.specs.Inference.{AreFoundOf};
+ghost use Rattle.fzn_arithmetic.specs.Excluded.{shaped};
+ghost use Rattle.fzn_arithmetic.specs.Passes.{AreFoundIn};
 
 use crate::excluded::Shape;
-use crate::exclusion::infer_ends;
-use crate::quotient::infer_quotient;
+use crate::pass::Pass;
 use fzn_domain::Memory;
 use fzn_meaning::{Operation, Term};
 use fzn_propagator::Findings;
@@ -32,34 +34,43 @@ pub fn infer_operation(
     requires before { AreFoundOf number (constraint.Arithmetic operation left right of) trail.now found.old }
     ensures { AreFoundOf number (constraint.Arithmetic operation left right of) trail.now found.new }
 {
+    let Some(shape) = shape_of(operation) else {
+        return Ok(());
+    };
+    let pass = Pass {
+        alloc,
+        number,
+        trail,
+        shape,
+        left,
+        right,
+        of,
+    };
+    pass.find(found)
+}
+
+/// What the result of the operation is to its places. Nothing of a sum.
+fn shape_of(operation: Operation) -> Option<Shape>
+    ensures { IfSome result (λ shape. (left right of : Term) → shaped shape left right of ≡ constraint.Arithmetic operation left right of) }
+{
     match operation {
-        Operation::Times => {
-            infer_ends(alloc, trail, number, Shape::Product, left, right, of, found)
+        Operation::Times => Some(Shape::Product),
+        Operation::Quotient => Some(Shape::Quotient),
+        Operation::Remainder => Some(Shape::Remainder),
+        Operation::Plus => None,
+    }
+}
+
+impl<'a> Pass<'a> {
+    /// Finds what the ends or the values of the places show.
+    pub(crate) fn find(&self, found: &mut Findings) -> Result<(), Memory>
+        requires { AreFoundIn self.now found.old }
+        ensures { AreFoundIn self.now found.new }
+    {
+        match self.shape {
+            Shape::Product => self.find_ends(self.intervals(), found),
+            Shape::Quotient | Shape::Remainder => self.find_quotients(found),
+            Shape::Absolute => self.find_absolutes(found),
         }
-        Operation::Quotient => {
-            infer_quotient(
-                alloc,
-                trail,
-                number,
-                Shape::Quotient,
-                left,
-                right,
-                of,
-                found,
-            )
-        }
-        Operation::Remainder => {
-            infer_quotient(
-                alloc,
-                trail,
-                number,
-                Shape::Remainder,
-                left,
-                right,
-                of,
-                found,
-            )
-        }
-        Operation::Plus => Ok(()),
     }
 }

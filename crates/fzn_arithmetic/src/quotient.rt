@@ -1,157 +1,88 @@
 // Quotients and remainders of few pairs: by the rule `enum`.
-ghost use Rattle.std.specs.Prelude.{length};
-ghost use Rattle.fzn_domain.specs.Narrow.{NoneEmpty};
-ghost use Rattle.fzn_meaning.specs.Term.{IsTerm};
-ghost use Rattle.fzn_propagator.specs.Inference.{AreFoundOf};
+ghost use Rattle.std.specs.Prelude.{pos, ◌≤ℤ◌};
 ghost use Rattle.fzn_terms.specs.Intervals.{IsLimitedInterval};
-ghost use Rattle.fzn_arithmetic.specs.Excluded.{shaped};
+ghost use Rattle.fzn_arithmetic.specs.Passes.{AreFoundIn};
 
 use crate::excluded::{Shape, are_few};
-use crate::exclusion::{hand_over_outside, infer_ends};
+use crate::exclusion::Intervals;
+use crate::pass::Pass;
 use fzn_domain::{Domain, GREATEST_VALUE, LEAST_VALUE, Lit, Memory, Op, VarId};
 use fzn_fixed::{Image, of_operation};
 use fzn_list::Items;
 use fzn_meaning::{Operation, Term};
 use fzn_propagator::Findings;
 use fzn_terms::{Interval, MOST_VALUES, interval_of, is_thinned};
-use fzn_trail::Trail;
 use std::alloc::Global;
 
-/// Appends to `found` clauses that are false or force a literal each, where the ends of the places show some, else where values of the
-/// result are given by no pair.
-pub fn infer_quotient(
-    alloc: Global,
-    trail: &Trail,
-    number: u64,
-    shape: Shape,
-    left: Term,
-    right: Term,
-    of: Term,
-    found: &mut Findings,
-) -> Result<(), Memory>
-    requires left { IsTerm (length trail.now.declared) left }
-    requires right { IsTerm (length trail.now.declared) right }
-    requires of { IsTerm (length trail.now.declared) of }
-    requires filled { NoneEmpty trail.now.sets }
-    requires before { AreFoundOf number (shaped shape left right of) trail.now found.old }
-    ensures { AreFoundOf number (shaped shape left right of) trail.now found.new }
-{
-    let (dividends, divisors) = (interval_of(trail, left), interval_of(trail, right));
-    if !are_pairs_few(dividends, divisors)
-        && !is_last_open(dividends, divisors, interval_of(trail, of))
+impl<'a> Pass<'a> {
+    /// Finds what the ends of the places show, else which values of the result are given by no pair.
+    pub(crate) fn find_quotients(&self, found: &mut Findings) -> Result<(), Memory>
+        requires { AreFoundIn self.now found.old }
+        ensures { AreFoundIn self.now found.new }
     {
-        return Ok(());
+        let now = self.intervals();
+        if !are_few(now.left, now.right) && !now.is_last_open() {
+            return Ok(());
+        }
+        let before = found.len();
+        self.find_ends(now, found)?;
+        if before < found.len() {
+            return Ok(());
+        }
+        self.part_results(now, found)
     }
-    let before = found.len();
-    infer_ends(alloc, trail, number, shape, left, right, of, found)?;
-    if before < found.len() {
-        return Ok(());
+
+    /// Finds of each of these values that the result has another, or one of the others a value outside of its interval.
+    fn part_results(&self, now: Intervals, found: &mut Findings) -> Result<(), Memory>
+        requires left { IsLimitedInterval now.left }
+        requires right { IsLimitedInterval now.right }
+        requires before { AreFoundIn self.now found.old }
+        ensures { AreFoundIn self.now found.new }
+    {
+        let values = self.values_of_none(now.left, now.right)?;
+        for value in values.as_slice() {
+            let of = Interval::only(*value);
+            self.find_outside(Intervals { of, ..now }, found)?;
+        }
+        Ok(())
     }
-    let values = values_of_none(alloc, trail, shape, dividends, divisors, of)?;
-    part_values(
-        alloc,
-        trail,
-        number,
-        shape,
-        left,
-        right,
-        of,
-        dividends,
-        divisors,
-        values.as_slice(),
-        found,
-    )
-}
 
-/// For each of these values: the clause that the result has another, or one of the others a value outside of its interval.
-fn part_values(
-    alloc: Global,
-    trail: &Trail,
-    number: u64,
-    shape: Shape,
-    left: Term,
-    right: Term,
-    of: Term,
-    dividends: Interval,
-    divisors: Interval,
-    values: &[i64],
-    found: &mut Findings,
-) -> Result<(), Memory>
-    requires left { IsTerm (length trail.now.declared) left }
-    requires right { IsTerm (length trail.now.declared) right }
-    requires of { IsTerm (length trail.now.declared) of }
-    requires before { AreFoundOf number (shaped shape left right of) trail.now found.old }
-    ensures { AreFoundOf number (shaped shape left right of) trail.now found.new }
-{
-    for k in 0..values.len() {
-        hand_over_outside(
-            alloc,
-            trail,
-            number,
-            shape,
-            left,
-            right,
-            of,
-            dividends,
-            divisors,
-            Interval::only(values[k]),
-            found,
-        )?;
-    }
-    Ok(())
-}
-
-/// Whether there are at most 4,096 pairs.
-fn are_pairs_few(left: Interval, right: Interval) -> bool {
-    left.is_limited() && right.is_limited() && are_few(left, right)
-}
-
-/// Whether at most one of the intervals has several numbers.
-fn is_last_open(left: Interval, right: Interval, of: Interval) -> bool {
-    match (left.is_single(), right.is_single(), of.is_single()) {
-        (true, true, _) | (true, _, true) | (_, true, true) => true,
-        _ => false,
+    /// The values of the result, where it is narrow and the pairs are few, that no pair gives: so many that the pairs which rule them out
+    /// are about as few.
+    fn values_of_none(&self, left: Interval, right: Interval) -> Result<Items<i64>, Memory>
+        requires left { IsLimitedInterval left }
+        requires right { IsLimitedInterval right }
+    {
+        let Term::Variable(var) = self.of else {
+            return Ok(Items::new(self.alloc));
+        };
+        let pairs = pair_count(left, right);
+        let ends = interval_of(self.trail, self.of);
+        if !are_few(left, right) || !is_thinned(self.trail, self.of, ends, pairs as usize) {
+            return Ok(Items::new(self.alloc));
+        }
+        let mut rest = self.trail.domain(var).copy()?;
+        take_all_given(self.shape, left, right, var, &mut rest)?;
+        first_values(self.alloc, &rest, pairs)
     }
 }
 
-/// The values of the result, where it is narrow and the pairs are few, that no pair gives: so many that the pairs which rule them out are
-/// about as few.
-fn values_of_none(
-    alloc: Global,
-    trail: &Trail,
-    shape: Shape,
-    left: Interval,
-    right: Interval,
-    of: Term,
-) -> Result<Items<i64>, Memory>
-    requires of { IsTerm (length trail.now.declared) of }
-    requires filled { NoneEmpty trail.now.sets }
-{
-    let Term::Variable(var) = of else {
-        return Ok(Items::new(alloc));
-    };
-    if !left.is_limited() {
-        return Ok(Items::new(alloc));
+impl Intervals {
+    /// Whether at most one of the intervals has several numbers.
+    fn is_last_open(self) -> bool {
+        let (left, right) = (self.left.is_single(), self.right.is_single());
+        left && right || (left || right) && self.of.is_single()
     }
-    if !right.is_limited() {
-        return Ok(Items::new(alloc));
-    }
-    if !is_result_narrow(trail, left, right, of) {
-        return Ok(Items::new(alloc));
-    }
-    let mut rest = trail.domain(var).copy()?;
-    take_all_given(shape, left, right, var, &mut rest)?;
-    first_values(alloc, &rest, values_a_pass(left, right))
 }
 
-/// Whether the pairs are few, and the result is narrow beside them.
-fn is_result_narrow(trail: &Trail, left: Interval, right: Interval, of: Term) -> bool
+/// How many pairs of few there are.
+fn pair_count(left: Interval, right: Interval) -> i64
     requires left { IsLimitedInterval left }
     requires right { IsLimitedInterval right }
-    requires of { IsTerm (length trail.now.declared) of }
-    requires filled { NoneEmpty trail.now.sets }
+    ensures { pos 1 ≤ℤ result }
 {
-    are_few(left, right) && is_thinned(trail, of, interval_of(trail, of), pair_count(left, right))
+    let (wide, high) = (left.high - left.low + 1, right.high - right.low + 1);
+    wide.saturating_mul(high).max(1)
 }
 
 /// Takes what each number of the first interval gives with those of the second out of the set, until it has no more.
@@ -166,7 +97,17 @@ fn take_all_given(
     requires right { IsLimitedInterval right }
 {
     for number in left.low..left.high + 1 {
-        take_given(operation_of(shape), number, right, var, rest)?;
+        for divisor in right.low..right.high + 1 {
+            if let Image::Only(value) = image_at(shape, number, divisor)
+                && rest.contains(value)
+            {
+                rest.restrict(Lit {
+                    var,
+                    op: Op::NotEqual,
+                    value,
+                })?;
+            }
+        }
         if rest.is_empty() {
             return Ok(());
         }
@@ -174,8 +115,27 @@ fn take_all_given(
     Ok(())
 }
 
-/// The first of these values, so many at most.
-fn first_values(alloc: Global, rest: &Domain, most: i64) -> Result<Items<i64>, Memory> {
+/// What the two numbers give, where both are numbers of a domain.
+fn image_at(shape: Shape, left: i64, right: i64) -> Image {
+    if left < LEAST_VALUE
+        || GREATEST_VALUE < left
+        || right < LEAST_VALUE
+        || GREATEST_VALUE < right
+    {
+        return Image::Fails;
+    }
+    match shape {
+        Shape::Quotient => of_operation(Operation::Quotient, &left, &right),
+        Shape::Remainder => of_operation(Operation::Remainder, &left, &right),
+        Shape::Product | Shape::Absolute => of_operation(Operation::Times, &left, &right), // Not asked.
+    }
+}
+
+/// The first of these values, so many at most that few pairs rule them out, where it takes so many for each.
+fn first_values(alloc: Global, rest: &Domain, pairs: i64) -> Result<Items<i64>, Memory>
+    requires { pos 1 ≤ℤ pairs }
+{
+    let most = (MOST_VALUES / pairs).max(1);
     let mut values = Items::new(alloc);
     let mut passed = i64::MIN;
     for _ in 0..most {
@@ -186,70 +146,4 @@ fn first_values(alloc: Global, rest: &Domain, most: i64) -> Result<Items<i64>, M
         passed = value;
     }
     Ok(values)
-}
-
-/// How many pairs of few there are.
-fn pair_count(left: Interval, right: Interval) -> usize
-    requires left { IsLimitedInterval left }
-    requires right { IsLimitedInterval right }
-{
-    let pairs = (left.high - left.low + 1).saturating_mul(right.high - right.low + 1);
-    if pairs < 1 { 0 } else { pairs as usize }
-}
-
-/// How many values are ruled out in one pass at most, by all pairs each.
-fn values_a_pass(left: Interval, right: Interval) -> i64
-    requires left { IsLimitedInterval left }
-    requires right { IsLimitedInterval right }
-{
-    let pairs = (left.high - left.low + 1).saturating_mul(right.high - right.low + 1);
-    if pairs < 1 {
-        1
-    } else {
-        (MOST_VALUES / pairs).max(1)
-    }
-}
-
-/// Takes what this number gives with those of the interval out of the set.
-fn take_given(
-    operation: Operation,
-    left: i64,
-    right: Interval,
-    var: VarId,
-    rest: &mut Domain,
-) -> Result<(), Memory>
-    requires right { IsLimitedInterval right }
-{
-    for number in right.low..right.high + 1 {
-        if let Image::Only(value) = image_at(operation, left, number)
-            && rest.contains(value)
-        {
-            rest.restrict(Lit {
-                var,
-                op: Op::NotEqual,
-                value,
-            })?;
-        }
-    }
-    Ok(())
-}
-
-/// What the operation gives, where both are numbers of a domain.
-fn image_at(operation: Operation, left: i64, right: i64) -> Image {
-    if left < LEAST_VALUE
-        || GREATEST_VALUE < left
-        || right < LEAST_VALUE
-        || GREATEST_VALUE < right
-    {
-        return Image::Fails;
-    }
-    of_operation(operation, &left, &right)
-}
-
-fn operation_of(shape: Shape) -> Operation {
-    match shape {
-        Shape::Quotient => Operation::Quotient,
-        Shape::Remainder => Operation::Remainder,
-        Shape::Product | Shape::Absolute => Operation::Times, // Not asked.
-    }
 }

@@ -17,27 +17,22 @@ pub fn seems_excluded(shape: Shape, left: Interval, right: Interval, of: Interva
             left.is_limited()
                 && right.is_limited()
                 && of.is_limited()
-                && is_gone_over(left, right)
                 && is_given_by_no_divisor(shape, left, right, of)
         }
     }
 }
 
-/// Whether `is_excluded` goes over all of these pairs: they are few, and fewer numbers of the first interval than it takes steps.
-fn is_gone_over(left: Interval, right: Interval) -> bool
-    requires left { IsLimitedInterval left }
-    requires right { IsLimitedInterval right }
-{
-    are_few(left, right) && left.high - left.low + 1 < STEPS as i64
-}
-
-/// Whether no number of the second interval, as a divisor of one of the first, gives one of the third. It goes over the divisors, and where
-/// the first few give none it asks by the ends of all.
+/// Whether no number of the second interval, as a divisor of one of the first, gives one of the third, and `is_excluded` goes over all of
+/// these pairs: they are few, and fewer numbers of the first interval than it takes steps. It goes over the divisors, and where the first
+/// few give none it asks by the ends of all.
 fn is_given_by_no_divisor(shape: Shape, left: Interval, right: Interval, of: Interval) -> bool
     requires left { IsLimitedInterval left }
     requires right { IsLimitedInterval right }
     requires of { IsLimitedInterval of }
 {
+    if !are_few(left, right) || STEPS as i64 <= left.high - left.low + 1 {
+        return false;
+    }
     for step in 0..STEPS {
         let divisor = right.low + step as i64;
         if right.high < divisor {

@@ -1,0 +1,20 @@
+-- The constraint of a pass over three places, and what it finds.
+use Rattle.std.specs.Prelude.{List}
+use Rattle.fzn_domain.specs.declared.literal.Lit.{Lit}
+use Rattle.fzn_meaning.specs.declared.constraint.Constraint.{Constraint}
+use Rattle.fzn_propagator.specs.declared.propagator.Inference.{Inference}
+use Rattle.fzn_propagator.specs.Clause.{IsJustified}
+use Rattle.fzn_propagator.specs.Inference.{AreFoundOf}
+use Rattle.fzn_arithmetic.specs.declared.pass.Pass.{Pass}
+use Rattle.fzn_arithmetic.specs.Excluded.{shaped, rule_of}
+
+abbrev pub constraint_of : Pass → Constraint
+constraint_of pass = shaped pass.shape pass.left pass.right pass.of
+
+-- the rule for its shape justifies the clause from the constraint
+abbrev pub IsInferred : Pass → List Lit → Type 0
+IsInferred pass clause = IsJustified pass.trail.now (constraint_of pass) (rule_of pass.shape) clause
+
+-- so of each of these inferences, which have its number
+abbrev pub AreFoundIn : Pass → List Inference → Type 0
+AreFoundIn pass found = AreFoundOf pass.number (constraint_of pass) pass.trail.now found
