@@ -1,12 +1,8 @@
 -- Members of a set, or the numbers that are none, by what a switch asks for.
-use Rattle.std.specs.Prelude.{◌≡◌, ℕ, Bool, true, false, not, ℤ, pos, ◌≤ℤ◌, ◌<ℤ◌, List, Option, Some, None}
-use Rattle.std.specs.List.{All}
+use Rattle.std.specs.Prelude.{◌≡◌, Bool, true, false, not, ℤ, pos, ◌≤ℤ◌, ◌<ℤ◌, List, Option, Some, None}
 use Rattle.fzn_domain.specs.IntSet.{IntSet, contains}
 use Rattle.fzn_meaning.specs.declared.term.Term.{Term}
-use Rattle.fzn_meaning.specs.Term.{IsTerm}
 use Rattle.fzn_sets.specs.Terms.{MayBe}
-use Rattle.fzn_terms.specs.declared.claim.Claim.{Claim}
-use Rattle.fzn_terms.specs.Denied.{IsDenied}
 
 -- the first number from this one up that is a member, or that is none
 pub record IsNextAsked (s : IntSet) (asked : Bool) (from next : ℤ) : Type 0 where
@@ -23,8 +19,3 @@ IsSwitchedTo sets None true = Unit {0}
 IsSwitchedTo sets None false = ⊥
 IsSwitchedTo sets (Some switch) true = (v : ℤ) → MayBe sets switch v → v ≡ pos 1
 IsSwitchedTo sets (Some switch) false = (v : ℤ) → MayBe sets switch v → v ≡ pos 0
-
--- claims of the term; where they are denied, none of its values is asked for
-pub record AreAsked (term : Term) (s : IntSet) (asked : Bool) (claims : List Claim) : Type 0 where
-  pub terms : (count : ℕ) → IsTerm count term → All (λ claim. IsTerm count claim.term) claims
-  pub none : (sets : List IntSet) → All (IsDenied sets) claims → (v : ℤ) → MayBe sets term v → contains s v ≡ not asked

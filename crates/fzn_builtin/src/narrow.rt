@@ -7,7 +7,7 @@ ghost use Rattle.fzn_meaning.specs.Meaning.{IsWellFormed};
 ghost use Rattle.fzn_propagator.specs.Inference.{AreFoundOf};
 ghost use Rattle.fzn_fixed.specs.Parts.{IsReady};
 
-use crate::member::infer_member;
+use crate::member::Pass;
 use fzn_arithmetic::{infer_absolute_value, infer_operation};
 use fzn_domain::Memory;
 use fzn_equality::{infer_element, infer_extremum};
@@ -67,33 +67,31 @@ fn narrow_rows(
             index,
             entries,
             value,
-        } => infer_element(
-            alloc,
-            trail,
-            number,
-            *index,
-            entries.as_slice(),
-            *value,
-            found,
-        ),
+        } => {
+            let entries = entries.as_slice();
+            infer_element(alloc, trail, number, *index, entries, *value, found)
+        }
         Constraint::Extremum {
             extreme,
             entries,
             result,
-        } => infer_extremum(
-            alloc,
-            trail,
-            number,
-            *extreme,
-            entries.as_slice(),
-            *result,
-            found,
-        ),
+        } => {
+            let entries = entries.as_slice();
+            infer_extremum(alloc, trail, number, *extreme, entries, *result, found)
+        }
         Constraint::IntAbs { of, result } => {
             infer_absolute_value(alloc, trail, number, *of, *result, found)
         }
         Constraint::SetIn { term, set, switch } => {
-            infer_member(alloc, trail, number, *term, set, *switch, found)
+            let pass = Pass {
+                alloc,
+                number,
+                trail,
+                term: *term,
+                set,
+                switch: *switch,
+            };
+            pass.find(found)
         }
         _ => Ok(()),
     }

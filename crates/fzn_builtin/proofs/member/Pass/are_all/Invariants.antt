@@ -1,5 +1,5 @@
 use Rattle.fzn_domain.specs.Limits.{IsInLimits}
-use Rattle.fzn_builtin.proofs.member.are_all.Given as goal
+use Rattle.fzn_builtin.proofs.member.Pass.are_all.Given as goal
 
 abbrev pub invariant-loop : goal.invariant-loop
 invariant-loop l = IsInLimits l.from
