@@ -72,16 +72,22 @@ pub fn value_left(before: &Domain, lit: Lit) -> Option<i64> {
     let (least, greatest) = (before.min(), before.max());
     match lit.op {
         Op::Equal => Some(lit.value),
-        Op::AtMost => match before.above(least) {
-            Some(next) if next <= lit.value => None,
-            _ => Some(least),
-        },
-        Op::AtLeast => match before.below(greatest) {
-            Some(next) if lit.value <= next => None,
-            _ => Some(greatest),
-        },
+        Op::AtMost => {
+            if has_above(before, least, lit.value) {
+                None
+            } else {
+                Some(least)
+            }
+        }
+        Op::AtLeast => {
+            if has_below(before, greatest, lit.value) {
+                None
+            } else {
+                Some(greatest)
+            }
+        }
         Op::NotEqual => {
-            if before.above(least) != Some(greatest) {
+            if before.len() != 2 {
                 None
             } else if lit.value == least {
                 Some(greatest)
@@ -90,4 +96,21 @@ pub fn value_left(before: &Domain, lit: Lit) -> Option<i64> {
             }
         }
     }
+}
+
+/// Whether the set has a value above this one of its values, up to that number. Both ends are looked at first, since to go on from a value
+/// takes longer the more of those behind it are missing.
+fn has_above(set: &Domain, value: i64, most: i64) -> bool {
+    value < most
+        && (set.contains(value.saturating_add(1))
+            || set.contains(most)
+            || set.above(value).is_some_and(|next| next <= most))
+}
+
+/// The same below.
+fn has_below(set: &Domain, value: i64, least: i64) -> bool {
+    least < value
+        && (set.contains(value.saturating_sub(1))
+            || set.contains(least)
+            || set.below(value).is_some_and(|next| least <= next))
 }

@@ -1,3 +1,4 @@
+mod ChainLemmas
 mod HeardLemmas
 mod PropagatorLemmas
 mod TableLemmas

@@ -4,7 +4,7 @@ use Rattle.std.specs.FinSet as set
 use Rattle.std.specs.List.{list_any}
 use Rattle.std.specs.Ordering.{int_eq, eq_by_cmp}
 use Rattle.std.proofs.lemmas.Int.{ints}
-use Rattle.std.proofs.lemmas.Bool.{cases_Bool, true≢false}
+use Rattle.std.proofs.lemmas.Bool.{cases_Bool, cases_lt, true≢false}
 use Rattle.std.proofs.lemmas.Bool.Decides.{Decides-int_eq}
 use Rattle.std.proofs.lemmas.List.{length-map}
 use Rattle.fzn_domain.specs.declared.literal.Lit.{Lit}
@@ -85,6 +85,18 @@ module _ (declared : List IntSet) (places : List Term) (rows : List ℤ) (p : �
   -- one row more, whose value does not stand so to the bound
   pub matches_other : (r : ℕ) → Says declared old (λ sets. AreMatchesOut sets places rows p op bound r) → compares op (number_at places rows r p) bound ≡ false → Says declared old (λ sets. AreMatchesOut sets places rows p op bound (r + 1))
   matches_other r before fails sets left = below_more (λ (s : ℕ). compares op (number_at places rows s p) bound ≡ true → IsRowOut sets places rows s) r (before sets left) (λ stands. absurd (true≢false (sym stands ∙ fails)))
+
+module _ (places : List Term) (rows : List ℤ) (p : ℕ) (op : Op) (bound : ℤ) where
+  -- up to a row before which none stands so to the bound
+  pub matches_none : (sets : List IntSet) (next : ℕ) → ((r : ℕ) → r < next → compares op (number_at places rows r p) bound ≡ false) → AreMatchesOut sets places rows p op bound next
+  matches_none sets next none r below stands = absurd (true≢false (sym stands ∙ none r below))
+
+  -- up to a row between which and the last none does
+  pub matches_passed : (declared : List IntSet) (clause : List Lit) (r next : ℕ) → Says declared clause (λ sets. AreMatchesOut sets places rows p op bound (r + 1)) → ((s : ℕ) → r < s → s < next → compares op (number_at places rows s p) bound ≡ false) → Says declared clause (λ sets. AreMatchesOut sets places rows p op bound next)
+  matches_passed declared clause r next before between sets left s below stands = elim (cases_lt s (r + 1)) [
+    | inl lt ↦ before sets left s lt stands
+    | inr ge ↦ absurd (true≢false (sym stands ∙ between s (omega (arith, ge)) below))
+  ]
 
 -- the rows whose value stands so to the bound are out, and each value of the place stands so
 pub claim_explained : (trail : Levels) (places : List Term) (rows : List ℤ) (p : ℕ) (op : Op) (bound : ℤ) (old new : List Lit) (count : ℕ) → p < length places → ((r : ℕ) → IsWhole places rows r → r < count) → Says trail.declared old (λ sets. AreMatchesOut sets places rows p op bound count) → IsForced trail (that (place_at places p) op bound) old new → IsJustifiedBy trail (AreRowsOutOn places rows) new

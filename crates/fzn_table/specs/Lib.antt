@@ -1,3 +1,4 @@
+pub mod Chains
 pub mod Passes
 pub mod Propagator
 pub mod Supports

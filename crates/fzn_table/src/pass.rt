@@ -5,6 +5,7 @@ ghost use Rattle.fzn_domain.specs.Limits.{IsInLimits};
 ghost use Rattle.fzn_domain.specs.Narrow.{NoneEmpty};
 ghost use Rattle.fzn_meaning.specs.Term.{IsTerm, numbers_in};
 ghost use Rattle.fzn_terms.specs.Values.{AreTerms-prop};
+ghost use Rattle.fzn_table.specs.Chains.{AreAllChained};
 
 use crate::supports::Supports;
 use fzn_meaning::Term;
@@ -12,7 +13,7 @@ use fzn_trail::Trail;
 use std::alloc::Global;
 
 /// One pass over the places and the rows of a table, as they stand on a trail on which each present set has a value.
-#[derive(Clone, Copy)]
+#[derive(Drop)]
 pub(crate) struct Pass<'a> {
     pub alloc: Global,
     /// The number of the constraint, counted from 1.
@@ -32,6 +33,7 @@ pub(crate) struct Pass<'a> {
     ghost some: { 0 < length places.now },
     ghost counted: { count ≡ length rows.now / length places.now },
     ghost numbers: { All IsInLimits (numbers_in rows.now) },
+    ghost chained: { AreAllChained places.now (numbers_in rows.now) supports.now.chains.items },
     ghost filled: { NoneEmpty trail.now.sets },
 }
 

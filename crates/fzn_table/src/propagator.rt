@@ -1,18 +1,13 @@
-// The propagator of a table, and which constraint gets one.
-ghost use Rattle.std.specs.Prelude.{◌≡◌, ◌-◌, ◌≤◌, ℤ, List, length, IfOk, IfSome, IfNone, slice_index_or};
-ghost use Rattle.fzn_meaning.specs.declared.constraint.Constraint.{Constraint};
-ghost use Rattle.fzn_meaning.specs.declared.constraint.Constraint.TheVariants as constraint;
-ghost use Rattle.fzn_meaning.specs.declared.term.Term.{Term};
-ghost use Rattle.fzn_meaning.specs.Solutions.{declared_sets};
-ghost use Rattle.fzn_meaning.specs.WellFormed.{IsWellFormed};
-ghost use Rattle.fzn_table.specs.Propagator.{table_number, TableIsFor, TableFits};
+// The propagator of a table.
+ghost use Rattle.std.specs.Prelude.{◌≡◌, IfOk};
+ghost use Rattle.fzn_table.specs.Chains.{AreAllChained};
 
 use crate::pass::Pass;
 use crate::supports::Supports;
 use crate::table::bar_unsupported;
 use fzn_domain::Memory;
 use fzn_list::Shared;
-use fzn_meaning::{Constraint, Model, Rows, Term};
+use fzn_meaning::{Rows, Term};
 use fzn_propagator::{Cost, Event, Findings, Propagator, Subscriptions};
 use fzn_trail::Trail;
 use std::alloc::Global;
@@ -28,11 +23,12 @@ pub struct TablePropagator {
     pub rows: Rows,
     /// The rows that have each value at each place.
     pub(crate) supports: Supports,
+    ghost chained: { AreAllChained places rows supports.chains.items },
 }
 
 impl TablePropagator {
-    /// The propagator of the table of these places and rows, which has this number.
-    fn new(
+    /// The propagator of the table of these places and rows, which has this number. `Err` where memory runs out.
+    pub(crate) fn new(
         alloc: Global,
         number: u64,
         places: &Shared<Term>,
@@ -46,19 +42,21 @@ impl TablePropagator {
             number,
             places: places.share()?,
             rows: rows.share()?,
-            supports: Supports::new(alloc, places.as_slice().len(), rows.constants())?,
+            supports: Supports::new(alloc, places.as_slice(), rows.constants())?,
         })
     }
 }
 
 impl Propagator for TablePropagator {
-    ghost use Rattle.std.specs.Prelude.{[], OnOk};
+    ghost use Rattle.std.specs.Prelude.{[], List, length, OnOk};
     ghost use Rattle.fzn_domain.specs.IntSet.{IntSet};
     ghost use Rattle.fzn_domain.specs.Narrow.{NoneEmpty};
+    ghost use Rattle.fzn_meaning.specs.declared.constraint.Constraint.{Constraint};
     ghost use Rattle.fzn_propagator.specs.declared.cost.Cost.TheVariants as cost;
     ghost use Rattle.fzn_propagator.specs.declared.event.Event.TheVariants as event;
     ghost use Rattle.fzn_propagator.specs.Inference.{AreInferencesOf, AreExhausted};
     ghost use Rattle.fzn_propagator.specs.Subscriptions.{terms_of, waits_each, AreHeard};
+    ghost use Rattle.fzn_table.specs.Propagator.{table_number, TableIsFor, TableFits};
     ghost use Rattle.fzn_table.specs.Supports.{AreSupported};
 
     ghost number = { table_number };
@@ -112,37 +110,4 @@ impl Propagator for TablePropagator {
         };
         bar_unsupported(&pass, found)
     }
-}
-
-/// The propagator of the constraint of this number, counted from 1, where it is a table. It takes memory by the numbers of the table, and
-/// answers `Err` where memory runs out.
-pub fn propagator_of(
-    alloc: Global,
-    model: &Model,
-    c: usize,
-) -> Result<Option<TablePropagator>, Memory>
-    requires model { IsWellFormed model.now }
-    requires number { (1 ≤ c) × (c ≤ length model.now.constraints) }
-    ensures number { IfOk result (λ found. IfSome found (λ propagator. table_number propagator ≡ c)) }
-    ensures is_for { IfOk result (λ found. IfSome found (λ propagator. (default : Constraint) → TableIsFor propagator (slice_index_or model.now.constraints (c - 1) default))) }
-    ensures fits { IfOk result (λ found. IfSome found (λ propagator. TableFits propagator (declared_sets model.now.vars))) }
-    ensures none { IfOk result (λ found. IfNone found ((default : Constraint) (places : List Term) (rows : List ℤ) → slice_index_or model.now.constraints (c - 1) default ≡ constraint.Table places rows → ⊥)) }
-{
-    propagator_for(alloc, c as u64, &model.constraints.as_slice()[c - 1])
-}
-
-/// The propagator of a constraint, with this number.
-fn propagator_for(
-    alloc: Global,
-    number: u64,
-    given: &Constraint,
-) -> Result<Option<TablePropagator>, Memory>
-    ensures number { IfOk result (λ found. IfSome found (λ propagator. table_number propagator ≡ number)) }
-    ensures is_for { IfOk result (λ found. IfSome found (λ propagator. TableIsFor propagator given.now)) }
-    ensures none { IfOk result (λ found. IfNone found ((places : List Term) (rows : List ℤ) → given.now ≡ constraint.Table places rows → ⊥)) }
-{
-    let Constraint::Table { places, rows } = given else {
-        return Ok(None);
-    };
-    Ok(Some(TablePropagator::new(alloc, number, places, rows)?))
 }

@@ -1,10 +1,14 @@
 // The rows of a table that have a value at a place. They take memory by the numbers of the table, however many values a place has.
-ghost use Rattle.std.specs.Prelude.{◌<◌, length};
+ghost use Rattle.std.specs.Prelude.{◌≡◌, ◌≢◌, ℕ, ◌<◌, ℤ, List, length, IfOk};
 ghost use Rattle.std.specs.List.{All};
-ghost use Rattle.fzn_meaning.specs.Term.{IsTerm};
+ghost use Rattle.fzn_meaning.specs.declared.term.Term.{Term};
+ghost use Rattle.fzn_meaning.specs.Term.{IsTerm, numbers_in};
+ghost use Rattle.fzn_table.specs.Chains.{IsColumn, IsChainedAt, AreAllChained};
+ghost use Rattle.fzn_table.specs.Supports.{number_at, IsWhole};
 
+use crate::chains::Chains;
 use crate::words::first_common;
-use fzn_domain::Memory;
+use fzn_domain::{Memory, Op};
 use fzn_meaning::Term;
 use fzn_terms::{Interval, may_be};
 use fzn_trail::Trail;
@@ -35,29 +39,48 @@ enum RowSet {
     Listed { start: usize, end: usize },
 }
 
-/// The values of each place, and the rows that have each. Which rows these are is open: each is looked at again before it counts.
+/// So many entries are gone over one by one for the next value of a place, before the rows that are possible are.
+const FEW_ENTRIES: usize = 64;
+
+/// The values of each place, and the rows that have each. Which rows these are is open but for the chains: each is looked at again before it
+/// counts.
 #[derive(Debug, Drop)]
-pub struct Supports {
+pub(crate) struct Supports {
     /// How many words a set of bits takes.
     width: usize,
     /// By their places, and those of one place by their values.
     entries: Vec<Entry>,
+    /// Where the entries of each place begin.
+    starts: Vec<usize>,
     /// The sets of bits, one after the other.
     words: Vec<u64>,
     /// The rows that are listed, those of one entry after those of the other.
     listed: Vec<usize>,
+    /// Of each place the rows that have the same number there.
+    chains: Vec<Chains>,
 }
 
 impl Supports {
-    /// Made once: of a table's rows, each as long as there are places.
-    pub fn new(alloc: Global, places: usize, rows: &[Term]) -> Result<Supports, Memory> {
+    /// Made once: of a table's rows, each as long as there are places. `Err` where memory runs out.
+    pub(crate) fn new(alloc: Global, places: &[Term], rows: &[Term]) -> Result<Supports, Memory>
+        ensures { IfOk result (λ supports. AreAllChained places.now (numbers_in rows.now) supports.chains.items) }
+    {
+        let mut supports = Supports::without_chains(alloc, places.len(), rows)?;
+        supports.chains = chains_of(alloc, places, rows)?;
+        Ok(supports)
+    }
+
+    /// The same, where the rows are not linked yet.
+    fn without_chains(alloc: Global, places: usize, rows: &[Term]) -> Result<Supports, Memory> {
         let mut numbers = numbers_of(alloc, places, rows)?;
         numbers.sort_by_key(|number| (number.place, number.value))?;
         let mut supports = Supports {
             width: rows.len().checked_div(places).unwrap_or(0) / 64 + 1,
             entries: Vec::new(alloc),
+            starts: Vec::new(alloc),
             words: Vec::new(alloc),
             listed: Vec::new(alloc),
+            chains: Vec::new(alloc),
         };
         for alike in numbers.chunk_by(|a, b| a.place == b.place && a.value == b.value) {
             supports.add_entry(alike)?;
@@ -70,6 +93,9 @@ impl Supports {
         let Some(first) = alike.first() else {
             return Ok(());
         };
+        if self.starts.len() <= first.place {
+            self.starts.push(self.entries.len())?;
+        }
         let rows = if alike.len() < self.width {
             self.add_listed(alike)?
         } else {
@@ -101,6 +127,30 @@ impl Supports {
         Ok(RowSet::Bits { start })
     }
 
+    /// A row before which none has the value at the place: the first that has it, where one does.
+    pub(crate) fn first_with(&self, place: usize, value: &i64) -> usize
+        ensures { (places : List Term) (rows : List ℤ) → AreAllChained places rows self.now.chains.items → (r : ℕ) → r < result → IsWhole places rows r → number_at places rows r place ≢ value.now }
+    {
+        if place < self.chains.len() {
+            self.chains[place].first(value)
+        } else {
+            0
+        }
+    }
+
+    /// The next row that has the same value at the place as this one; where there is none, or none is known, some row behind it.
+    pub(crate) fn next_with(&self, place: usize, row: usize) -> usize
+        requires { row < usize.MAX }
+        ensures behind { row < result }
+        ensures between { (places : List Term) (rows : List ℤ) → AreAllChained places rows self.now.chains.items → (r : ℕ) → row < r → r < result → IsWhole places rows row → IsWhole places rows r → number_at places rows r place ≢ number_at places rows row place }
+    {
+        if place < self.chains.len() {
+            self.chains[place].next(row)
+        } else {
+            row + 1
+        }
+    }
+
     /// No fewer than there are rows.
     pub fn rows(&self) -> usize {
         self.width.saturating_mul(64)
@@ -113,8 +163,18 @@ impl Supports {
             .partition_point(|entry| (entry.place, entry.value) < (place, value))
     }
 
-    /// The entry of a value at a place.
+    /// The entry of a value at a place: by its distance from the place's first, where no value is left out between them, or else by halves.
+    #[inline(always)]
     fn entry_of(&self, place: usize, value: i64) -> Option<Entry> {
+        let start = *self.starts.get(place)?;
+        let first = *self.entries.get(start)?;
+        let near = usize::try_from(value.saturating_sub(first.value)).ok()?;
+        if let Some(entry) = self.entries.get(start.saturating_add(near))
+            && entry.place == place
+            && entry.value == value
+        {
+            return Some(*entry);
+        }
         let entry = *self.entries.get(self.before(place, value))?;
         if entry.place == place && entry.value == value {
             Some(entry)
@@ -207,34 +267,122 @@ impl Supports {
     }
 
     /// The least value of the place from its least on that a row among these has there, or any row behind its greatest.
-    pub fn next_from(&self, possible: &[u64], place: usize, ends: Interval) -> i64 {
-        for k in self.before(place, ends.low)..self.entries.len() {
-            let entry = self.entries[k];
-            if entry.place != place {
-                break;
-            }
+    pub fn next_from(&self, possible: &[u64], rows: &[Term], place: usize, ends: Interval) -> i64 {
+        let from = self.before(place, ends.low);
+        for k in from..from.saturating_add(FEW_ENTRIES) {
+            let Some(entry) = self.entry_at(k, place) else {
+                return ends.high.saturating_add(1);
+            };
             if ends.high < entry.value || self.first_among(entry.rows, possible).is_some() {
                 return entry.value;
             }
         }
-        ends.high.saturating_add(1)
+        let behind = match self.entry_at(self.before(place, ends.high.saturating_add(1)), place) {
+            Some(entry) => entry.value,
+            None => ends.high.saturating_add(1),
+        };
+        self.nearest_possible(possible, rows, place, ends, Op::AtMost, behind)
     }
 
     /// The greatest value of the place up to its greatest that a row among these has there, or any row before its least.
-    pub fn last_up_to(&self, possible: &[u64], place: usize, ends: Interval) -> i64 {
-        for k in (0..self.before(place, ends.high.saturating_add(1))).rev() {
-            let Some(entry) = self.entries.get(k) else {
-                break;
+    pub fn last_up_to(&self, possible: &[u64], rows: &[Term], place: usize, ends: Interval) -> i64 {
+        let from = self.before(place, ends.high.saturating_add(1));
+        for k in (from.saturating_sub(FEW_ENTRIES)..from).rev() {
+            let Some(entry) = self.entry_at(k, place) else {
+                return ends.low.saturating_sub(1);
             };
-            if entry.place != place {
-                break;
-            }
             if entry.value < ends.low || self.first_among(entry.rows, possible).is_some() {
                 return entry.value;
             }
         }
-        ends.low.saturating_sub(1)
+        if from <= FEW_ENTRIES {
+            return ends.low.saturating_sub(1);
+        }
+        let before = match self.entry_at(self.before(place, ends.low).wrapping_sub(1), place) {
+            Some(entry) => entry.value,
+            None => ends.low.saturating_sub(1),
+        };
+        self.nearest_possible(possible, rows, place, ends, Op::AtLeast, before)
     }
+
+    /// The entry at this index, where it is one of the place.
+    #[inline(always)]
+    fn entry_at(&self, index: usize, place: usize) -> Option<Entry> {
+        let entry = *self.entries.get(index)?;
+        if entry.place == place {
+            Some(entry)
+        } else {
+            None
+        }
+    }
+
+    /// Of the values between the ends that some row among these has at the place, the least or the greatest, by how it stands to the others; or
+    /// this one, where none has any.
+    fn nearest_possible(
+        &self,
+        possible: &[u64],
+        rows: &[Term],
+        place: usize,
+        ends: Interval,
+        op: Op,
+        otherwise: i64,
+    ) -> i64 {
+        let mut nearest = otherwise;
+        for q in 0..possible.len() {
+            let mut bits = possible[q];
+            for _ in 0..64 {
+                if bits == 0 {
+                    break;
+                }
+                let row = q
+                    .saturating_mul(64)
+                    .saturating_add(bits.trailing_zeros() as usize);
+                bits &= bits - 1;
+                let at = row.saturating_mul(self.starts.len()).saturating_add(place);
+                if let Some(term) = rows.get(at) {
+                    let value = term.number();
+                    if ends.low <= value && value <= ends.high && op.compares(value, nearest) {
+                        nearest = value;
+                    }
+                }
+            }
+        }
+        nearest
+    }
+}
+
+/// Of each place the rows that have the same number there.
+fn chains_of(alloc: Global, places: &[Term], rows: &[Term]) -> Result<Vec<Chains>, Memory>
+    ensures { IfOk result (λ chains. AreAllChained places.now (numbers_in rows.now) chains.items) }
+{
+    let mut all = Vec::with_capacity(alloc, places.len())?;
+    for p in 0..places.len() {
+        let chains = chains_at(alloc, places, rows, p)?;
+        all.push(chains)?;
+    }
+    Ok(all)
+}
+
+/// The same of one place.
+fn chains_at(alloc: Global, places: &[Term], rows: &[Term], p: usize) -> Result<Chains, Memory>
+    requires { p < length places.now }
+    ensures { IfOk result (IsChainedAt places.now (numbers_in rows.now) p) }
+{
+    let column = column(alloc, places, rows, p)?;
+    Chains::new(alloc, column.as_slice())
+}
+
+/// The numbers that the rows have at the place.
+fn column(alloc: Global, places: &[Term], rows: &[Term], p: usize) -> Result<Vec<i64>, Memory>
+    requires { p < length places.now }
+    ensures { IfOk result (λ column. IsColumn places.now (numbers_in rows.now) p column.items) }
+{
+    let count = rows.len() / places.len();
+    let mut column = Vec::with_capacity(alloc, count)?;
+    for r in 0..count {
+        column.push(rows[r * places.len() + p].number())?;
+    }
+    Ok(column)
 }
 
 /// The numbers of these rows, row by row.

@@ -1,5 +1,5 @@
 // What follows from the rows of a table: by the rule `rows`.
-ghost use Rattle.std.specs.Prelude.{◌≡◌, ◌≢◌, ◌↔◌, ◌<◌, ◌-ℤ◌, ◌<ℤ◌, false, true, ℤ, [], IsTrue, MatchBool, IfOk, IfSome, IfNone, OnOk, length};
+ghost use Rattle.std.specs.Prelude.{◌≡◌, ◌≢◌, ◌↔◌, ℕ, ◌/◌, ◌<◌, ◌≤◌, ◌-ℤ◌, ◌<ℤ◌, false, true, ℤ, [], IsTrue, MatchBool, IfOk, IfSome, IfNone, OnOk, length};
 ghost use Rattle.fzn_domain.specs.IntSet.{least, greatest};
 ghost use Rattle.fzn_domain.specs.Limits.{IsInLimits, IsNearLimits};
 ghost use Rattle.fzn_domain.specs.Literal.{compares};
@@ -235,6 +235,34 @@ fn is_open(pass: &Pass, r: usize) -> bool
     true
 }
 
+/// A row before which the value of none at the place stands so to the bound.
+fn first_row(pass: &Pass, p: usize, op: Op, bound: &i64) -> usize
+    requires in_range { p < length pass.now.places.now }
+    ensures in_rows { result ≤ length pass.now.rows.now / length pass.now.places.now }
+    ensures before { (r : ℕ) → r < result → compares op (number_in_row pass.now r p) bound.now ≡ false }
+{
+    match op {
+        Op::Equal => pass.supports.first_with(p, bound).min(pass.count()),
+        _ => 0,
+    }
+}
+
+/// A row behind this one; of those between them the value of none at the place stands so to the bound.
+fn next_row(pass: &Pass, p: usize, op: Op, bound: &i64, r: usize) -> usize
+    requires in_range { p < length pass.now.places.now }
+    requires row { r < length pass.now.rows.now / length pass.now.places.now }
+    ensures behind { r < result }
+    ensures in_rows { result ≤ length pass.now.rows.now / length pass.now.places.now }
+    ensures between { (s : ℕ) → r < s → s < result → compares op (number_in_row pass.now s p) bound.now ≡ false }
+{
+    match op {
+        Op::Equal if pass.number_at(r, p) == *bound => {
+            pass.supports.next_with(p, r).min(pass.count())
+        }
+        _ => r + 1,
+    }
+}
+
 /// The clause that no value of the place, counted from 0, stands so to the bound, or some row whose value there does stands: an inference
 /// by the rule `rows`. Nothing where such a row stands. Some value of the place has to stand so.
 fn explain_claim(pass: &Pass, p: usize, op: Op, bound: &i64) -> Result<Option<Items<Lit>>, Memory>
@@ -245,12 +273,14 @@ fn explain_claim(pass: &Pass, p: usize, op: Op, bound: &i64) -> Result<Option<It
     ensures none { IfOk result (λ found. IfNone found (IsClaimSupported pass.now p op bound.now)) }
 {
     let mut clause = Items::new(pass.alloc);
-    for r in 0..pass.count() {
+    let mut r = first_row(pass, p, op, bound);
+    while r < pass.count() {
         if row_stands(pass, r, p, op, bound) {
             if !refute_row(pass, r, p, &mut clause)? {
                 return Ok(None);
             }
         }
+        r = next_row(pass, p, op, bound, r);
     }
     let claim = Claim {
         term: pass.places[p],
@@ -464,11 +494,11 @@ fn bar_ends(
     ensures none { OnOk result (found.new ≡ [] → HasSupport pass.now p ends.low × HasSupport pass.now p ends.high) }
     ensures marks { AreOpenRows pass.now marks.new.items }
 {
-    let next = pass.supports.next_from(pass.possible, p, ends);
+    let next = pass.supports.next_from(pass.possible, pass.rows, p, ends);
     let bound = next.saturating_sub(1);
     let row = pass.supports.row_of(pass.possible, p, ends.low);
     let is_low_barred = bar_end(pass, p, Op::AtMost, bound, &ends.low, row, marks, found)?;
-    let last = pass.supports.last_up_to(pass.possible, p, ends);
+    let last = pass.supports.last_up_to(pass.possible, pass.rows, p, ends);
     let bound = last.saturating_add(1);
     let row = pass.supports.row_of(pass.possible, p, ends.high);
     let is_high_barred = bar_end(pass, p, Op::AtLeast, bound, &ends.high, row, marks, found)?;

@@ -19,3 +19,10 @@ returns-clause-none c =
 
 pub returns-clause-supported : goal.returns-clause-supported
 returns-clause-supported c = rw (c.as_slice-places.ensures, c.constants-rows.ensures) at c.bar_unsupported.ensures.none
+
+pub invariant_of-pass-clause-chained : goal.invariant_of-pass-clause-chained
+invariant_of-pass-clause-chained c = rw (c.as_slice-places.ensures, c.constants-rows.ensures) c.args.self.now.chained
+
+pub invariant_of-pass-clause-numbers : goal.invariant_of-pass-clause-numbers
+unfolding IsWellFormed
+invariant_of-pass-clause-numbers c = rw c.constants-rows.ensures c.requires.fits.2

@@ -6,7 +6,7 @@ use Rattle.fzn_meaning.specs.Meaning.{IsWellFormed}
 use Rattle.fzn_meaning.specs.Solutions.{declared_sets}
 use Rattle.fzn_table.specs.declared.propagator.TablePropagator.{TablePropagator}
 use Rattle.fzn_table.specs.Propagator.{TableIsFor, TableFits}
-use Rattle.fzn_table.proofs.propagator.propagator_of.Goals as goal
+use Rattle.fzn_table.proofs.constraint.propagator_of.Goals as goal
 
 fits_of : {E : Type 0} (result : Result (Option TablePropagator) E) (C : Constraint) (declared : List IntSet) → IsWellFormed (length declared) C → IfOk result (λ found. IfSome found (λ p. TableIsFor p C)) → IfOk result (λ found. IfSome found (λ p. TableFits p declared))
 fits_of (Ok (Some q)) C declared formed h = subst (IsWellFormed (length declared)) (sym h) formed
