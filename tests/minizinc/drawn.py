@@ -1,0 +1,194 @@
+"""Small models that are drawn, the same in each run: one predicate of the library each, over domains, constants and lengths of all kinds.
+
+fzn-gecode takes them with MiniZinc's own decompositions, and has to find the same solutions. Some have wide domains or many places, of which a
+later constraint leaves a few: there the library says the predicate in other words than where the file is short."""
+import random
+
+SEED, COUNT, FEWER = 5, 4, 2
+LARGE = ('wide', 'many', 'long')
+END = 'solve satisfy;\n'
+
+
+class Draw:
+    """Draws models; each method `of_..` gives the text of one."""
+
+    def __init__(self, seed):
+        self.random = random.Random(seed)
+
+    def domain(self, least, greatest, fewest=1):
+        """A set of numbers, at most four of them, as MiniZinc writes it."""
+        values = sorted(self.random.sample(range(least, greatest + 1), self.random.randint(fewest, min(4, greatest - least + 1))))
+        return f'{values[0]}..{values[-1]}' if self.random.random() < 0.5 else '{%s}' % ', '.join(map(str, values))
+
+    def numbers(self, count, least, greatest):
+        return [self.random.randint(least, greatest) for _ in range(count)]
+
+    def variables(self, name, count, least, greatest):
+        """The declarations of variables with domains of their own, and the text of their list. Now and then one is a constant."""
+        names, text = [], ''
+        for k in range(1, count + 1):
+            if self.random.random() < 0.15:
+                names.append(str(self.random.randint(least, greatest)))
+            else:
+                names.append(f'{name}{k}')
+                text += f'var {self.domain(least, greatest)}: {name}{k};\n'
+        return text, f'[{", ".join(names)}]'
+
+    def stated(self, call):
+        """A predicate as a constraint, or within a formula."""
+        way = self.random.choice(['%s', '%s', 'r <-> %s', 'r -> %s', 'r \\/ not %s'])
+        return ('var bool: r;\n' if 'r ' in way else '') + f'constraint {way % call};\n'
+
+    def beside(self, values, first):
+        """A list with an index set that begins with a number."""
+        return f'array1d({first}..{first + len(values) - 1}, {values})'
+
+    def of_bin_packing(self):
+        count = self.random.randint(1, 4)
+        text, bins = self.variables('b', count, -1, 3)
+        return f'include "bin_packing.mzn";\n{text}' + self.stated(f'bin_packing({self.random.randint(0, 8)}, {bins}, {self.numbers(count, 0, 5)})')
+
+    def of_bin_packing_of_any_weights(self):
+        count = self.random.randint(1, 4)
+        text, bins = self.variables('b', count, 0, 2)
+        return f'include "bin_packing.mzn";\n{text}constraint fzn_bin_packing({self.random.randint(-2, 5)}, {bins}, {self.numbers(count, -3, 5)});\n'
+
+    def of_bin_packing_capa(self):
+        count = self.random.randint(1, 4)
+        text, bins = self.variables('b', count, 0, 4)
+        capacities = self.beside(self.numbers(self.random.randint(1, 3), 0, 8), self.random.randint(0, 2))
+        return f'include "bin_packing_capa.mzn";\n{text}' + self.stated(f'bin_packing_capa({capacities}, {bins}, {self.numbers(count, 0, 5)})')
+
+    def of_bin_packing_capa_of_any_weights(self):
+        count = self.random.randint(1, 4)
+        text, bins = self.variables('b', count, 0, 4)
+        capacities = self.beside(self.numbers(self.random.randint(1, 3), -2, 6), self.random.randint(0, 2))
+        return f'include "bin_packing_capa.mzn";\n{text}constraint fzn_bin_packing_capa({capacities}, {bins}, {self.numbers(count, -3, 5)});\n'
+
+    def of_bin_packing_load(self):
+        count, bins = self.random.randint(1, 4), self.random.randint(1, 3)
+        text, items = self.variables('b', count, 0, 3)
+        first = self.random.randint(0, 2)
+        text += ''.join(f'var {self.random.randint(-2, 3)}..{self.random.randint(3, 9)}: l{k};\n' for k in range(bins))
+        loads = f'array1d({first}..{first + bins - 1}, [{", ".join(f"l{k}" for k in range(bins))}])'
+        least = self.random.choice([0, 0, 0, -3])
+        call, weights = 'fzn_bin_packing_load' if least else 'bin_packing_load', self.numbers(count, least, 5)
+        call = f'{call}({loads}, {items}, {weights})'
+        return f'include "bin_packing_load.mzn";\n{text}' + (f'constraint {call};\n' if least else self.stated(call))
+
+    def of_lex(self):
+        """The compiler fails at `r <-> lex_less(x, y)` over constants, whatever the library."""
+        least = self.random.randint(-1, 1)
+        greatest = least + self.random.choice([1, 1, 2])
+        lengths = [self.random.randint(1, 4) for _ in range(2)]
+        text = ''.join(f'var {self.domain(least, greatest, 2)}: {name}{k};\n' for name, length in zip('xy', lengths) for k in range(length))
+        x, y = (f'[{", ".join(f"{name}{k}" for k in range(length))}]' for name, length in zip('xy', lengths))
+        call = self.random.choice(['lex_less', 'lex_lesseq'])
+        return f'include "{call}.mzn";\n{text}' + self.stated(f'{call}({x}, {y})')
+
+    def of_lex_of_booleans(self):
+        call, x, y = self.random.choice(['lex_less', 'lex_lesseq']), self.random.randint(1, 4), self.random.randint(1, 4)
+        return (f'include "{call}.mzn";\narray[1..{x}] of var bool: x;\narray[1..{y}] of var bool: y;\n' +
+                self.stated(f'{call}(x, y)'))
+
+    def of_lex2(self):
+        rows, columns = self.random.randint(1, 3), self.random.randint(1, 3)
+        return f'include "lex2.mzn";\narray[1..{rows}, 1..{columns}] of var 0..1: x;\nconstraint lex2(x);\n'
+
+    def in_other_words(self, begin, call, same):
+        """A model with a predicate, and behind it the same with a formula in its place, since MiniZinc has no word for it in a formula."""
+        stated = self.stated('%s')
+        return f'{begin}{stated.replace("%s", call)}', f'{begin}{stated.replace("%s", same)}'
+
+    def of_value_precede(self):
+        text, x = self.variables('x', self.random.randint(1, 4), 0, 3)
+        s, t = self.numbers(2, 0, 3)
+        return self.in_other_words(f'include "value_precede.mzn";\n{text}', f'value_precede({s}, {t}, {x})', before(s, t, x))
+
+    def of_value_precede_chain(self):
+        text, x = self.variables('x', self.random.randint(1, 4), 0, 4)
+        chain = self.random.sample(range(0, 5), self.random.randint(1, 4))
+        same = ' /\\ '.join(['true'] + [before(s, t, x) for s, t in zip(chain, chain[1:])])
+        return self.in_other_words(f'include "value_precede_chain.mzn";\n{text}', f'value_precede_chain({chain}, {x})', f'({same})')
+
+    def of_alldifferent_except(self):
+        text, x = self.variables('x', self.random.randint(1, 4), 0, 4)
+        call = self.random.choice(['alldifferent_except_0(%s)', 'alldifferent_except(%s, {1, 2})', 'alldifferent_except(%s, {0, 3, 4})'])
+        return f'include "alldifferent_except.mzn"; include "alldifferent_except_0.mzn";\n{text}' + self.stated(call % x)
+
+    def of_sliding_sum(self):
+        count = self.random.randint(1, 5)
+        text, x = self.variables('x', count, -1, 2)
+        low = self.random.randint(-2, 2)
+        call = f'sliding_sum({low}, {low + self.random.randint(0, 3)}, {self.random.randint(1, count)}, {x})'
+        return f'include "sliding_sum.mzn";\n{text}constraint {call};\n'
+
+    def of_disjunctive(self):
+        count = self.random.randint(2, 3)
+        starts, s = self.variables('s', count, 0, 4)
+        lengths, d = self.variables('d', count, 0, 2)
+        call = self.random.choice(['disjunctive', 'disjunctive_strict'])
+        return f'include "{call}.mzn";\n{starts}{lengths}constraint {call}({s}, {d});\n'
+
+    def of_wide_bin_packing(self):
+        weights, capacity = self.numbers(3, 1, 5), self.random.randint(4, 9)
+        return (f'include "bin_packing.mzn";\narray[1..3] of var 1..7000: b;\nconstraint bin_packing({capacity}, b, {weights});\n'
+                'constraint forall (v in b) (v in {1, 4000, 7000});\n')
+
+    def of_wide_bin_packing_capa(self):
+        weights, capacities = self.numbers(3, 1, 5), self.numbers(3, 0, 9)
+        listed = f'[ if k = 2 then {capacities[0]} elseif k = 7000 then {capacities[1]} else {capacities[2]} endif | k in 1..7000 ]'
+        return (f'include "bin_packing_capa.mzn";\narray[1..3] of var 0..7001: b;\nconstraint bin_packing_capa({listed}, b, {weights});\n'
+                'constraint forall (v in b) (v in {0, 2, 4000, 7000});\n')
+
+    def of_wide_bin_packing_load(self):
+        weights, most = self.numbers(30, 0, 2), self.random.randint(18, 24)
+        return (f'include "bin_packing_load.mzn";\narray[1..30] of var 1..700: b;\narray[1..700] of var 0..{most}: l;\n'
+                f'constraint bin_packing_load(l, b, {weights});\n'
+                'constraint forall (i in 1..27) (b[i] = 1 + 349 * (i mod 2)) /\\ forall (i in 28..30) (b[i] in {1, 350, 700});\n')
+
+    def of_wide_alldifferent_except(self):
+        return ('include "alldifferent_except.mzn";\narray[1..3] of var 0..20000: x;\n'
+                f'constraint alldifferent_except(x, {self.random.choice(["{0}", "{5, 20000}", "{0, 5}"])});\n'
+                'constraint forall (v in x) (v in {0, 5, 20000});\n')
+
+    def of_long_chain(self):
+        chain = self.random.sample(range(0, 70), 60) if self.random.random() < 0.5 else list(range(1, 71))
+        values = sorted(self.random.sample(range(0, 70), 2) + chain[:3])
+        same = ' /\\ '.join(before(s, t, 'x') for s, t in zip(chain, chain[1:]))
+        model, other = self.in_other_words('include "value_precede_chain.mzn";\narray[1..4] of var 0..70: x;\n', f'value_precede_chain({chain}, x)', f'({same})')
+        left = 'constraint forall (v in x) (v in {%s});\n' % ', '.join(map(str, values))
+        return model + left, other + left
+
+    def of_wide_sliding_sum(self):
+        low, width = self.random.randint(0, 2), self.random.randint(40, 60)
+        return ('include "sliding_sum.mzn";\narray[1..200] of var -1..2: x;\n'
+                f'constraint sliding_sum({low}, {low + 3}, {width}, x);\n'
+                'constraint forall (i in 1..200) (if i mod 40 = 1 then true else x[i] = bool2int(i mod 37 = 0) endif);\n')
+
+    def of_many_branches(self):
+        return ('array[1..25] of var bool: c;\narray[1..26] of var bool: x;\nvar bool: y;\n'
+                'constraint fzn_if_then_else_var_bool(c ++ [true], x, y);\n'
+                f'constraint forall (i in 1..25) (i mod {self.random.randint(7, 9)} = 0 \\/ not c[i]);\n'
+                'constraint forall (i in 1..26) (x[i] <-> i mod 2 = 0);\n')
+
+    def of_many_tasks(self):
+        return ('include "disjunctive.mzn";\narray[1..210] of var 0..3000: s;\narray[1..210] of var 0..2: d;\nconstraint disjunctive(s, d);\n'
+                'constraint forall (i in 3..210) (s[i] = 10 * i /\\ d[i] = i mod 3);\n'
+                'constraint s[1] in 97..102 /\\ s[2] in 98..101;\n')
+
+
+def before(s, t, x):
+    """A formula that says that t stands nowhere before the first s."""
+    return f'({s} = {t} \\/ let {{ array[int] of var int: y = {x} }} in forall (k in index_set(y)) (y[k] = {t} -> exists (i in 1..k - 1) (y[i] = {s})))'
+
+
+def models(names):
+    """The models whose names begin with one of the names, or all: name, None, text."""
+    for method in sorted(name for name in vars(Draw) if name.startswith('of_')):
+        for k in range(1, (FEWER if method[3:].startswith(LARGE) else COUNT) + 1):
+            name = f'drawn_{method[3:]}_{k}'
+            if not names or any(name.startswith(one) for one in names):
+                drawn = getattr(Draw(f'{SEED} {name}'), method)()
+                model, same = drawn if isinstance(drawn, tuple) else (drawn, '')
+                yield name, None, model + END + (f'-- the same\n{same}{END}' if same else '')
