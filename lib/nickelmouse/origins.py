@@ -1,17 +1,21 @@
 """Where in a MiniZinc model a fault of its compiled file comes from, and what helps."""
+import re
+
 from nickelmouse.items import items_of_text
-from nickelmouse.places import table_of
+from nickelmouse.places import conjunct_of, table_of
 from nickelmouse.running import fault_in
 
 ADVICE = {
     5: 'floats are left out: count in whole units, as cents or grams',
     7: 'a variable without bounds: declare some, or give it -N..N with --bounds N',
-    8: 'a number beyond 1000000000: take larger units or tighter bounds',
+    8: 'take larger units or tighter bounds',
     16: 'more than 100000 variables, constraints or entries of one array: a smaller model, or tighter bounds',
     18: 'more than 16777216 bytes: a smaller model, or running totals in the place of long sums',
 }
 # What turns the front of a declaration, up to a fault in its type, into a whole one, for the reader to number it.
 CONTINUED = (b'bool: %s;', b'1: %s;')
+LARGEST = 1_000_000_000
+PARAMETER = re.compile(rb'(?:array \[[^\]]*\] of )?(?:set of )?int: (\w+)\b')
 
 
 class Origins:
@@ -47,11 +51,28 @@ class Origins:
                 return self.variables[len(before)]
         return None
 
+    def user_of(self, line):
+        """The key of the first constraint that names the parameter declared on a line, or nothing."""
+        declared = PARAMETER.match(self.lines[line - 1])
+        if declared is None:
+            return None
+        named = re.compile(rb'\b%s\b' % declared[1])
+        users = (number for number, text in enumerate(self.lines, 1) if text.startswith(b'constraint ') and named.search(text))
+        return self.constraint_at(next(users, 0))
+
     def of(self, fault):
         """Where the item with a fault comes from, as text; empty, where that is not known."""
-        key = self.unbounded_at(fault) or self.constraint_at(fault.line) or self.variable_at(fault)
+        key = self.unbounded_at(fault) or self.constraint_at(fault.line) or self.user_of(fault.line) or self.variable_at(fault)
         steps = self.paths.get(key)
-        return f', from {steps[0].file} line {steps[0].begin[0]}' if steps else ''
+        if not steps:
+            return ''
+        step = conjunct_of(steps)[0] if key.isdigit() else steps[0]
+        return f', from {step.file} line {step.begin[0]}'
+
+    def number_at(self, fault):
+        """What is to be said of the number at a fault: that it is too large."""
+        number = re.match(rb'-?\w*', self.lines[fault.line - 1][fault.column - 1:])[0].decode()
+        return f'{number} is less than -{LARGEST}' if number.startswith('-') else f'{number} is more than {LARGEST}'
 
 
 def explained(check, said, text, table):
@@ -63,5 +84,7 @@ def explained(check, said, text, table):
     if fault.number == 18:
         return f'the compiled file has {advice}'
     origins = Origins(check, text, table)
+    if fault.number == 8:
+        advice = f'{origins.number_at(fault)}: {advice}'
     line = origins.lines[fault.line - 1].decode('latin-1')[:100]
     return f"line {fault.line} of the compiled file is '{line}'{origins.of(fault)}" + (f': {advice}' if advice else '')
