@@ -173,8 +173,8 @@ class Draw:
                 'constraint forall (i in 1..26) (x[i] <-> i mod 2 = 0);\n')
 
     def of_many_tasks(self):
-        return ('include "disjunctive.mzn";\narray[1..210] of var 0..3000: s;\narray[1..210] of var 0..2: d;\nconstraint disjunctive(s, d);\n'
-                'constraint forall (i in 3..210) (s[i] = 10 * i /\\ d[i] = i mod 3);\n'
+        return ('include "disjunctive.mzn";\narray[1..60] of var 0..900: s;\narray[1..60] of var 0..2: d;\nconstraint disjunctive(s, d);\n'
+                'constraint forall (i in 3..60) (s[i] = 10 * i /\\ d[i] = i mod 3);\n'
                 'constraint s[1] in 97..102 /\\ s[2] in 98..101;\n')
 
 

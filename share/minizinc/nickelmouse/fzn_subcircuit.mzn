@@ -15,7 +15,8 @@ predicate fzn_subcircuit(array[int] of var int: x) =
       bool_clause([none[k]], [none[k - 1], out[k]]) /\ bool_clause([none[k - 1]], [none[k]]) /\ bool_clause([out[k]], [none[k]]));
     array[1..n] of var bool: first = [none[k - 1] /\ not out[k] | k in 1..n];
   } in
-  n = 0 \/ (
+  if n = 0 then true
+  else
     all_different(next) /\
     forall (i in 1..n) (
       next[i] in 1..n /\
@@ -28,4 +29,5 @@ predicate fzn_subcircuit(array[int] of var int: x) =
       forall (i in 1..n) (
         let { var 0..n: after = step[next[i]] } in
         out[i] \/ after = 1 \/ after = step[i] + 1)
-    endif);
+    endif
+  endif;

@@ -6,4 +6,4 @@ predicate fzn_symmetric_all_different(array[int] of var int: x) =
     int: before = min(index_set(x)) - 1;
     array[int] of var int: y = if before = 0 then array1d(x) else [v - before | v in x] endif;
   } in
-  length(x) = 0 \/ fzn_inverse(y, y);
+  if length(x) = 0 then true else fzn_inverse(y, y) endif;

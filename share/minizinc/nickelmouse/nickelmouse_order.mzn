@@ -2,10 +2,13 @@
 predicate nickelmouse_order(var int: s1, var int: d1, var int: s2, var int: d2) =
   let { var bool: is_first = (s1 + d1 <= s2) } in is_first \/ s2 + d2 <= s1;
 
-% the orders of the tasks of one resource, up to 200 tasks
+% two tasks of one resource never run together
+test nickelmouse_clash(var int: d1, var int: r1, var int: d2, var int: r2, int: b) = lb(d1) > 0 /\ lb(d2) > 0 /\ lb(r1) + lb(r2) > b;
+
+% the orders of the tasks of one resource, up to 200 tasks and 1,225 pairs, as 50 tasks of a machine have
 predicate nickelmouse_orders(array[int] of var int: s, array[int] of var int: d, array[int] of var int: r, int: b) =
-  if length(s) > 200 then true
+  if length(s) > 200 \/ sum (i, j in index_set(s) where i < j /\ nickelmouse_clash(d[i], r[i], d[j], r[j], b)) (1) > 1225 then true
   else
-    forall (i, j in index_set(s) where i < j /\ lb(d[i]) > 0 /\ lb(d[j]) > 0 /\ lb(r[i]) + lb(r[j]) > b) (
+    forall (i, j in index_set(s) where i < j /\ nickelmouse_clash(d[i], r[i], d[j], r[j], b)) (
       nickelmouse_order(s[i], d[i], s[j], d[j]))
   endif;
