@@ -177,6 +177,12 @@ class Draw:
                 'constraint forall (i in 3..60) (s[i] = 10 * i /\\ d[i] = i mod 3);\n'
                 'constraint s[1] in 97..102 /\\ s[2] in 98..101;\n')
 
+    def of_many_places(self):
+        count = self.random.randint(3, 5)
+        begin = 'include "subcircuit.mzn";\narray[1..101] of var 1..101: x;\n'
+        left = f'constraint forall (i in {count + 1}..101) (x[i] = i) /\\ forall (i in 1..{count}) (x[i] <= {count});\n'
+        return f'{begin}constraint subcircuit(x);\n{left}', f'{begin}{left}constraint subcircuit([ x[i] | i in 1..{count} ]);\n'
+
 
 def before(s, t, x):
     """A formula that says that t stands nowhere before the first s."""

@@ -1,16 +1,14 @@
 include "nickelmouse_bins.mzn";
 
-% Tasks, and a sum for each bin, where these are short.
+% Tasks, where each bin is filled by what its capacity is less than the greatest one. Where something is negative, a sum for each bin.
 predicate fzn_bin_packing_capa(array[int] of int: c, array[int] of var int: bin, array[int] of int: w) =
-  let {
-    array[int] of var int: b = array1d(bin);
-    array[int] of int: weight = array1d(w);
-    bool: is_usual = length(c) > 0 /\ forall (v in c) (v >= 0) /\ forall (v in weight) (v >= 0);
-    int: capacity = if is_usual then min(max(c), sum(weight)) else 0 endif;
-    array[int] of int: lesser = [ k | k in index_set(c) where c[k] < capacity ];
-  } in
+  let { array[int] of var int: b = array1d(bin); array[int] of int: weight = array1d(w) } in
   forall (v in b) (v in index_set(c)) /\
-  if is_usual then nickelmouse_bins(capacity, b, weight, lesser, [capacity - c[k] | k in lesser]) else true endif /\
-  if not is_usual \/ nickelmouse_are_few_bins(b) then
+  if exists (v in array1d(c) ++ weight) (v < 0) then
     forall (k in index_set(c)) (bool_lin_le(nickelmouse_weights(b, weight, k), nickelmouse_are_in(b, weight, k), c[k]))
-  else true endif;
+  else
+    let {
+      int: capacity = min(max([0] ++ array1d(c)), sum(weight));
+      array[int] of int: lesser = [ k | k in index_set(c) where c[k] < capacity ];
+    } in nickelmouse_bins(capacity, b, weight, lesser, [capacity - c[k] | k in lesser])
+  endif;

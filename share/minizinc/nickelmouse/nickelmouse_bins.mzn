@@ -15,8 +15,8 @@ predicate nickelmouse_bins(int: capacity, array[int] of var int: bin, array[int]
     if length(large) > 1 then fzn_all_different_int([bin[i] | i in large]) else true endif
   endif;
 
-% the Booleans that say of each item whether it is in a bin are few
-test nickelmouse_are_few_bins(array[int] of var int: bin) =
+% the pairs of an item and a bin are few
+test nickelmouse_are_few_pairs(array[int] of var int: bin) =
   forall (v in bin) (has_bounds(v)) /\ sum (v in bin) (card(dom(v))) <= 1000;
 
 % what the items in a bin weigh: the weights, and of each whether it is there
