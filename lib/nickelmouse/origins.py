@@ -15,7 +15,8 @@ ADVICE = {
 # What turns the front of a declaration, up to a fault in its type, into a whole one, for the reader to number it.
 CONTINUED = (b'bool: %s;', b'1: %s;')
 LARGEST = 1_000_000_000
-PARAMETER = re.compile(rb'(?:array \[[^\]]*\] of )?(?:set of )?int: (\w+)\b')
+# The declaration of a parameter, or of an array, which may have constants among its entries.
+DECLARED = re.compile(rb'(?:array \[[^\]]*\] of (?:var )?)?(?:set of )?int: (\w+)\b')
 
 
 class Origins:
@@ -52,8 +53,8 @@ class Origins:
         return None
 
     def user_of(self, line):
-        """The key of the first constraint that names the parameter declared on a line, or nothing."""
-        declared = PARAMETER.match(self.lines[line - 1])
+        """The key of the first constraint that names the parameter or the array declared on a line, or nothing."""
+        declared = DECLARED.match(self.lines[line - 1])
         if declared is None:
             return None
         named = re.compile(rb'\b%s\b' % declared[1])

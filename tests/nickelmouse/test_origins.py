@@ -18,13 +18,15 @@ int: most = 2000000000;
 array [1..1] of int: unused = [5000000000];
 var 0..9: x;
 var 0..9: y;
+array [1..2] of var int: q = [x,6000000000];
 constraint int_lin_le(w,[x,y],5);
 constraint int_le(x,most);
 constraint int_le(x,4000000000);
+constraint fzn_all_different_int(q);
 solve satisfy;
 """
 CONSTRAINTS = ('x\tx\tm.mzn|1|5|1|6|id|x;\ny\ty\tm.mzn|2|5|2|6|id|y;\n0\t0\tm.mzn|7|12|9|20|ca|forall;m.mzn|8|3|8|20|ac;m.mzn|8|3|8|9|bin|\'<=\';\n'
-               '1\t1\tm.mzn|4|12|4|20|bin|\'<=\';\n2\t2\tm.mzn|5|12|5|20|bin|\'<=\';\n')
+               '1\t1\tm.mzn|4|12|4|20|bin|\'<=\';\n2\t2\tm.mzn|5|12|5|20|bin|\'<=\';\n3\t3\tm.mzn|6|12|6|20|ca|all_different;\n')
 
 
 class OriginsTest(unittest.TestCase):
@@ -43,12 +45,13 @@ class OriginsTest(unittest.TestCase):
         """A number in a list of parameters comes from the first constraint that names the list: from the conjunct, where that has a loop."""
         with mock.patch('nickelmouse.origins.items_of_text', return_value=None):
             said = [explained('', f'line {line} column {column}: fault 8 LiteralRange', LARGE, CONSTRAINTS) for line, column in (
-                (1, 27), (2, 13), (3, 32), (8, 21))]
+                (1, 27), (2, 13), (3, 32), (9, 21), (6, 33))]
         self.assertEqual([line.partition("'")[2] for line in said], [
             "array [1..2] of int: w = [-3000000000,2];', from m.mzn line 8: -3000000000 is less than -1000000000: take larger units or tighter bounds",
             "int: most = 2000000000;', from m.mzn line 4: 2000000000 is more than 1000000000: take larger units or tighter bounds",
             "array [1..1] of int: unused = [5000000000];': 5000000000 is more than 1000000000: take larger units or tighter bounds",
-            "constraint int_le(x,4000000000);', from m.mzn line 5: 4000000000 is more than 1000000000: take larger units or tighter bounds"])
+            "constraint int_le(x,4000000000);', from m.mzn line 5: 4000000000 is more than 1000000000: take larger units or tighter bounds",
+            "array [1..2] of var int: q = [x,6000000000];', from m.mzn line 6: 6000000000 is more than 1000000000: take larger units or tighter bounds"])
 
 
 if __name__ == '__main__':
