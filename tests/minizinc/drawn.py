@@ -1,11 +1,12 @@
 """Small models that are drawn, the same in each run: one predicate of the library each, over domains, constants and lengths of all kinds.
 
-fzn-gecode takes them with MiniZinc's own decompositions, and has to find the same solutions. Some have wide domains or many places, of which a
-later constraint leaves a few: there the library says the predicate in other words than where the file is short."""
+fzn-gecode takes them with MiniZinc's own decompositions, and has to find the same solutions. Some have wide domains or many places, of which the
+rest of the constraint leaves a few: there the library says the predicate in other words than where the file is short. The rest stands behind it
+in one item, since the compiler looks at an item that is about single variables before the others."""
 import random
 
 SEED, COUNT, FEWER = 5, 4, 2
-LARGE = ('wide', 'many', 'long')
+LARGE = ('wide', 'many')
 END = 'solve satisfy;\n'
 
 
@@ -34,10 +35,10 @@ class Draw:
                 text += f'var {self.domain(least, greatest)}: {name}{k};\n'
         return text, f'[{", ".join(names)}]'
 
-    def stated(self, call):
-        """A predicate as a constraint, or within a formula."""
+    def stated(self, call, rest=''):
+        """A predicate as a constraint, or within a formula, and the rest of the constraint."""
         way = self.random.choice(['%s', '%s', 'r <-> %s', 'r -> %s', 'r \\/ not %s'])
-        return ('var bool: r;\n' if 'r ' in way else '') + f'constraint {way % call};\n'
+        return ('var bool: r;\n' if 'r ' in way else '') + f'constraint ({way % call}){rest};\n'
 
     def beside(self, values, first):
         """A list with an index set that begins with a number."""
@@ -95,10 +96,10 @@ class Draw:
         rows, columns = self.random.randint(1, 3), self.random.randint(1, 3)
         return f'include "lex2.mzn";\narray[1..{rows}, 1..{columns}] of var 0..1: x;\nconstraint lex2(x);\n'
 
-    def in_other_words(self, begin, call, same):
+    def in_other_words(self, begin, call, same, rest=''):
         """A model with a predicate, and behind it the same with a formula in its place, since MiniZinc has no word for it in a formula."""
-        stated = self.stated('%s')
-        return f'{begin}{stated.replace("%s", call)}', f'{begin}{stated.replace("%s", same)}'
+        stated = self.stated('%s', rest)
+        return begin + stated.replace('%s', call), begin + stated.replace('%s', same)
 
     def of_value_precede(self):
         text, x = self.variables('x', self.random.randint(1, 4), 0, 3)
@@ -132,56 +133,56 @@ class Draw:
 
     def of_wide_bin_packing(self):
         weights, capacity = self.numbers(3, 1, 5), self.random.randint(4, 9)
-        return (f'include "bin_packing.mzn";\narray[1..3] of var 1..7000: b;\nconstraint bin_packing({capacity}, b, {weights});\n'
-                'constraint forall (v in b) (v in {1, 4000, 7000});\n')
+        return (f'include "bin_packing.mzn";\narray[1..3] of var 1..7000: b;\nconstraint bin_packing({capacity}, b, {weights}) /\\ '
+                'forall (v in b) (v in {1, 4000, 7000});\n')
 
     def of_wide_bin_packing_capa(self):
         weights, capacities = self.numbers(3, 1, 5), self.numbers(3, 0, 9)
         listed = f'[ if k = 2 then {capacities[0]} elseif k = 7000 then {capacities[1]} else {capacities[2]} endif | k in 1..7000 ]'
-        return (f'include "bin_packing_capa.mzn";\narray[1..3] of var 0..7001: b;\nconstraint bin_packing_capa({listed}, b, {weights});\n'
-                'constraint forall (v in b) (v in {0, 2, 4000, 7000});\n')
+        return (f'include "bin_packing_capa.mzn";\narray[1..3] of var 0..7001: b;\nconstraint bin_packing_capa({listed}, b, {weights}) /\\ '
+                'forall (v in b) (v in {0, 2, 4000, 7000});\n')
 
     def of_wide_bin_packing_load(self):
         weights, most = self.numbers(30, 0, 2), self.random.randint(18, 24)
         return (f'include "bin_packing_load.mzn";\narray[1..30] of var 1..700: b;\narray[1..700] of var 0..{most}: l;\n'
-                f'constraint bin_packing_load(l, b, {weights});\n'
-                'constraint forall (i in 1..27) (b[i] = 1 + 349 * (i mod 2)) /\\ forall (i in 28..30) (b[i] in {1, 350, 700});\n')
+                f'constraint bin_packing_load(l, b, {weights}) /\\ '
+                'forall (i in 1..27) (b[i] = 1 + 349 * (i mod 2)) /\\ forall (i in 28..30) (b[i] in {1, 350, 700});\n')
 
     def of_wide_alldifferent_except(self):
         return ('include "alldifferent_except.mzn";\narray[1..3] of var 0..20000: x;\n'
-                f'constraint alldifferent_except(x, {self.random.choice(["{0}", "{5, 20000}", "{0, 5}"])});\n'
-                'constraint forall (v in x) (v in {0, 5, 20000});\n')
+                f'constraint alldifferent_except(x, {self.random.choice(["{0}", "{5, 20000}", "{0, 5}"])}) /\\ '
+                'forall (v in x) (v in {0, 5, 20000});\n')
 
     def of_long_chain(self):
-        chain = self.random.sample(range(0, 70), 60) if self.random.random() < 0.5 else list(range(1, 71))
-        values = sorted(self.random.sample(range(0, 70), 2) + chain[:3])
+        chain = self.random.sample(range(0, 120), 110) if self.random.random() < 0.5 else list(range(1, 121))
+        values = sorted(self.random.sample(range(0, 120), 2) + chain[:3])
         same = ' /\\ '.join(before(s, t, 'x') for s, t in zip(chain, chain[1:]))
-        model, other = self.in_other_words('include "value_precede_chain.mzn";\narray[1..4] of var 0..70: x;\n', f'value_precede_chain({chain}, x)', f'({same})')
-        left = 'constraint forall (v in x) (v in {%s});\n' % ', '.join(map(str, values))
-        return model + left, other + left
+        rest = ' /\\ forall (v in x) (exists (a in {%s}) (v = a))' % ', '.join(map(str, values))  # not in the declared sets
+        return self.in_other_words('include "value_precede_chain.mzn";\narray[1..4] of var 0..120: x;\n', f'value_precede_chain({chain}, x)',
+                                   f'({same})', rest)
 
     def of_wide_sliding_sum(self):
         low, width = self.random.randint(0, 2), self.random.randint(40, 60)
         return ('include "sliding_sum.mzn";\narray[1..200] of var -1..2: x;\n'
-                f'constraint sliding_sum({low}, {low + 3}, {width}, x);\n'
-                'constraint forall (i in 1..200) (if i mod 40 = 1 then true else x[i] = bool2int(i mod 37 = 0) endif);\n')
+                f'constraint sliding_sum({low}, {low + 3}, {width}, x) /\\ '
+                'forall (i in 1..200) (if i mod 40 = 1 then true else x[i] = bool2int(i mod 37 = 0) endif);\n')
 
     def of_many_branches(self):
         return ('array[1..25] of var bool: c;\narray[1..26] of var bool: x;\nvar bool: y;\n'
-                'constraint fzn_if_then_else_var_bool(c ++ [true], x, y);\n'
-                f'constraint forall (i in 1..25) (i mod {self.random.randint(7, 9)} = 0 \\/ not c[i]);\n'
+                'constraint fzn_if_then_else_var_bool(c ++ [true], x, y) /\\ '
+                f'forall (i in 1..25) (i mod {self.random.randint(7, 9)} = 0 \\/ not c[i]);\n'
                 'constraint forall (i in 1..26) (x[i] <-> i mod 2 = 0);\n')
 
     def of_many_tasks(self):
-        return ('include "disjunctive.mzn";\narray[1..60] of var 0..900: s;\narray[1..60] of var 0..2: d;\nconstraint disjunctive(s, d);\n'
-                'constraint forall (i in 3..60) (s[i] = 10 * i /\\ d[i] = i mod 3);\n'
+        return ('include "disjunctive.mzn";\narray[1..60] of var 0..900: s;\narray[1..60] of var 0..2: d;\nconstraint disjunctive(s, d) /\\ '
+                'forall (i in 3..60) (s[i] = 10 * i /\\ d[i] = i mod 3);\n'
                 'constraint s[1] in 97..102 /\\ s[2] in 98..101;\n')
 
     def of_many_places(self):
         count = self.random.randint(3, 5)
         begin = 'include "subcircuit.mzn";\narray[1..101] of var 1..101: x;\n'
-        left = f'constraint forall (i in {count + 1}..101) (x[i] = i) /\\ forall (i in 1..{count}) (x[i] <= {count});\n'
-        return f'{begin}constraint subcircuit(x);\n{left}', f'{begin}{left}constraint subcircuit([ x[i] | i in 1..{count} ]);\n'
+        left = f'forall (i in {count + 1}..101) (x[i] = i) /\\ forall (i in 1..{count}) (x[i] <= {count})'
+        return f'{begin}constraint subcircuit(x) /\\ {left};\n', f'{begin}constraint {left} /\\ subcircuit([ x[i] | i in 1..{count} ]);\n'
 
 
 def before(s, t, x):

@@ -18,5 +18,5 @@ predicate fzn_value_precede_chain_int(array[int] of int: T, array[int] of var in
     forall (k in 1..n) (
       fzn_table_int([met[k - 1], y[k], met[k]],
         [ [q, v, if q < m /\ v = chain[min(m, q + 1)] then q + 1 else q endif][c]
-        | q in 0..m, v in dom(y[k]) where not (v in {chain[i] | i in q + 2..m}), c in 1..3 ]))
+        | q in 0..min(m, k - 1), v in dom(y[k]) where not (v in {chain[i] | i in q + 2..m}), c in 1..3 ]))
   endif;

@@ -19,6 +19,6 @@ predicate fzn_value_precede_chain_int_reif(array[int] of int: T, array[int] of v
       constraint forall (k in 1..n) (
         fzn_table_int([met[k - 1], y[k], met[k]],
           [ [q, v, if q < 0 \/ v in {chain[i] | i in q + 2..m} then -1 elseif q < m /\ v = chain[min(m, q + 1)] then q + 1 else q endif][c]
-          | q in -1..m, v in dom(y[k]), c in 1..3 ]));
+          | q in -1..min(m, k - 1), v in dom(y[k]), c in 1..3 ]));
     } in b <-> met[n] >= 0
   endif;

@@ -1,13 +1,13 @@
-% A chain of different values whose tables would have too many rows. The compiler writes equal tables once.
+% A chain of different values whose tables would have too many rows. The compiler writes equal tables once: where all have the same values,
+% those behind the first `length(chain)` are equal.
 test nickelmouse_is_long_chain(array[int] of int: chain, array[int] of var int: x) =
   length(x) > 0 /\ length(chain) > 0 /\
   card(array2set(chain)) = length(chain) /\
   forall (v in x) (has_bounds(v)) /\
   let {
     int: values = card(dom_array(x));
-    int: rows = (length(chain) + 2) * values;
-    int: written = if forall (v in x) (card(dom(v)) = values) then rows else length(x) * rows endif;
-  } in rows > 3000 \/ written > 30000;
+    int: tables = if forall (v in x) (card(dom(v)) = values) then min(length(chain), length(x)) else length(x) endif;
+  } in tables * (length(chain) + 2) * values > 30000;
 
 % for each value its number in the chain, counted from 1: at most 0 where it has none
 function array[int] of var int: nickelmouse_links(array[int] of int: chain, array[int] of var int: x) ::promise_total =
