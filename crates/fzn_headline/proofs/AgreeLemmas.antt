@@ -15,7 +15,7 @@ use Rattle.fzn_printer.specs.Shown.{is_closed}
 use Rattle.fzn_reading.specs.Reads.{Reads}
 use Rattle.fzn_solver.specs.Standing.{found_by, certificate}
 use Rattle.fzn_options.specs.declared.solve.Options.{Options}
-use Rattle.fzn_headline.specs.Headline.{Ran, Check, Checked, Agrees, IsOutside}
+use Rattle.fzn_headline.specs.Headline.{RanWell, Check, Checked, Agrees, IsFromOutside}
 
 -- what was read, and another model after a fault
 abbrev model_of : Result Model (Halt Fault) → Model → Model
@@ -52,8 +52,8 @@ module _ (one_model : (bytes : List ℕ) (x y : Result Model (Halt Fault)) → R
   model-same file a b p q = ap (λ (r : Result Model (Halt Fault)). model_of r a) (one_model file (Ok a) (Ok b) p q (λ e. cc) (λ e. cc))
 
   pub agrees : (file printed bytes : List ℕ) (options : Options) (report : Report) (file_failed cert_failed out_failed : Bool) (again : List ℕ) (result : Result Verdict CheckFault)
-      → Ran file options printed bytes report → Checked file bytes options.all (call_of file_failed cert_failed out_failed again result)
-      → MatchResult result (Agrees printed report again) (IsOutside (call_of file_failed cert_failed out_failed again result))
+      → RanWell file options printed bytes report → Checked file bytes options.all (call_of file_failed cert_failed out_failed again result)
+      → MatchResult result (Agrees printed report again) (IsFromOutside (call_of file_failed cert_failed out_failed again result))
   agrees file printed bytes options report file_failed cert_failed out_failed again (Ok v) (out, cert, ran) (to, answered, _, _) =
       let model = ran.model in
       let certified = ran.answer.certified in

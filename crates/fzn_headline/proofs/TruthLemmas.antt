@@ -9,10 +9,10 @@ use Rattle.fzn_printer.specs.Answer.{answer_text}
 use Rattle.fzn_printer.specs.Shown.{is_closed}
 use Rattle.fzn_solver.specs.Standing.{found_by}
 use Rattle.fzn_options.specs.declared.solve.Options.{Options}
-use Rattle.fzn_headline.specs.Headline.{Ran, Checked, PrintsTruth, IsPrinted}
+use Rattle.fzn_headline.specs.Headline.{RanWell, Checked, PrintsTruth, PrintsTrueAnswer}
 use Rattle.fzn_headline.proofs.AgreeLemmas.{call_of}
 
-pub run-prints : (file printed certificate : List ℕ) (options : Options) (report : Report) → Ran file options printed certificate report → PrintsTruth file options printed report
+pub run-prints : (file printed certificate : List ℕ) (options : Options) (report : Report) → RanWell file options printed certificate report → PrintsTruth file options printed report
 run-prints file printed certificate options report (out, cert, ran) =
     let found = found_by ran.model ran.answer.steps in
     record {
@@ -33,7 +33,7 @@ nothing : (out printed : List ℕ) → out ++ printed ≡ out → printed ≡ []
 nothing out printed kept = append_cancel_left out printed [] (kept ∙ sym (append-nil out))
 
 module _ (file certificate : List ℕ) (all file_failed cert_failed out_failed : Bool) (printed : List ℕ) where
-  pub check-prints : (result : Result Verdict CheckFault) → Checked file certificate all (call_of file_failed cert_failed out_failed printed result) → IsPrinted file all printed result
+  pub check-prints : (result : Result Verdict CheckFault) → Checked file certificate all (call_of file_failed cert_failed out_failed printed result) → PrintsTrueAnswer file all printed result
   check-prints (Ok verdict) (out, answered, _, _) = (
     answered.model,
     answered.found,

@@ -17,8 +17,8 @@ use Rattle.fzn_options.specs.declared.solve.Options.{Options}
 -- ---- what the two calls promise, over streams that tell their bytes
 
 -- `run_tracked` answered Ok with this report: it added what is printed to its output, and the certificate to its other writer
-abbrev pub Ran : List ℕ → Options → List ℕ → List ℕ → Report → Type 0
-Ran file options printed certificate report =
+abbrev pub RanWell : List ℕ → Options → List ℕ → List ℕ → Report → Type 0
+RanWell file options printed certificate report =
     (out cert : List ℕ) × IsRun (Some file) options (Some out) (Some (out ++ printed)) (Some cert) (Some (cert ++ certificate)) report
 
 -- a call of `check_tracked`, which asks that none has failed on its streams before: on which of them one failed, what it added to its
@@ -62,25 +62,25 @@ abbrev pub Agrees : List ℕ → Report → List ℕ → Verdict → Type 0
 Agrees printed report again verdict = (verdict.solutions ≡ report.solutions) × (verdict.closed ≡ is_closed report.ending) × (again ≡ printed)
 
 -- memory ran out, a read failed, or a write failed
-abbrev pub IsOutside : Check → CheckFault → Type 0
-IsOutside call Memory = Unit {0}
-IsOutside call Read = (call.file_failed ≡ true) ⊎ (call.cert_failed ≡ true)
-IsOutside call WriteOutput = call.out_failed ≡ true
-IsOutside call _ = ⊥
+abbrev pub IsFromOutside : Check → CheckFault → Type 0
+IsFromOutside call Memory = Unit {0}
+IsFromOutside call Read = (call.file_failed ≡ true) ⊎ (call.cert_failed ≡ true)
+IsFromOutside call WriteOutput = call.out_failed ≡ true
+IsFromOutside call _ = ⊥
 
 -- a true answer is printed; after a failed write a beginning of one, and after any other fault nothing
-abbrev pub IsPrinted : List ℕ → Bool → List ℕ → Result Verdict CheckFault → Type 0
-IsPrinted file all printed (Ok verdict) = (model : Model) × (found : List (List ℤ)) × IsTrueAnswer file all model found verdict.closed printed
-IsPrinted file all printed (Err WriteOutput) =
+abbrev pub PrintsTrueAnswer : List ℕ → Bool → List ℕ → Result Verdict CheckFault → Type 0
+PrintsTrueAnswer file all printed (Ok verdict) = (model : Model) × (found : List (List ℤ)) × IsTrueAnswer file all model found verdict.closed printed
+PrintsTrueAnswer file all printed (Err WriteOutput) =
     (model : Model) × (found : List (List ℤ)) × (closed : Bool) × (text : List ℕ) × IsTrueAnswer file all model found closed text
     × (count : ℕ) × (printed ≡ take count text)
-IsPrinted file all printed (Err _) = printed ≡ []
+PrintsTrueAnswer file all printed (Err _) = printed ≡ []
 
 pub record Headline (file : List ℕ) (options : Options) : Type 0 where
   -- a run that ends without a fault has printed a true answer
-  pub run : (printed certificate : List ℕ) (report : Report) → Ran file options printed certificate report → PrintsTruth file options printed report
+  pub run : (printed certificate : List ℕ) (report : Report) → RanWell file options printed certificate report → PrintsTruth file options printed report
   -- the check of its certificate accepts and prints the same bytes, unless the machine fails it
-  pub check : (printed certificate : List ℕ) (report : Report) (call : Check) → Ran file options printed certificate report
-      → Checked file certificate options.all call → MatchResult call.result (Agrees printed report call.printed) (IsOutside call)
+  pub check : (printed certificate : List ℕ) (report : Report) (call : Check) → RanWell file options printed certificate report
+      → Checked file certificate options.all call → MatchResult call.result (Agrees printed report call.printed) (IsFromOutside call)
   -- whatever bytes a check is given as a certificate, what it prints is a true answer
-  pub whatever : (certificate : List ℕ) (all : Bool) (call : Check) → Checked file certificate all call → IsPrinted file all call.printed call.result
+  pub whatever : (certificate : List ℕ) (all : Bool) (call : Check) → Checked file certificate all call → PrintsTrueAnswer file all call.printed call.result
