@@ -21,16 +21,16 @@ use Rattle.fzn_cert.specs.Sound.{IsSound}
 use Rattle.fzn_cert.proofs.SoundLaws.{sound-start, sound-after, exhausted-sound}
 use Rattle.fzn_checker.specs.declared.hold.Held.{Held}
 use Rattle.fzn_trim.specs.Kept.{IsTrimOf}
-use Rattle.fzn_trim.specs.Core.{only, constraint_of, RestsOn, IsCore}
+use Rattle.fzn_trim.specs.Core.{only, inferred_from, RestsOn, IsCore}
 use Rattle.fzn_trim.proofs.ListLemmas.{picked-all, picked-contains, picked-few}
 
 -- ---- the numbers
 
 -- accepted steps infer from constraints of the model
-cited-within : (model : Model) (past : Past) (steps : List Step) → AllAcceptedAfter model past steps → All (IsConstraintNumber model) (filter_map constraint_of steps)
+cited-within : (model : Model) (past : Past) (steps : List Step) → AllAcceptedAfter model past steps → All (IsConstraintNumber model) (filter_map inferred_from steps)
 cited-within model past [] accepted = All-nil (IsConstraintNumber model)
 cited-within model past (Infer c rule clause ∷ steps) accepted =
-    All-cons (IsConstraintNumber model) c (filter_map constraint_of steps) accepted.0.1 (cited-within model (after model past (Infer c rule clause)) steps accepted.1)
+    All-cons (IsConstraintNumber model) c (filter_map inferred_from steps) accepted.0.1 (cited-within model (after model past (Infer c rule clause)) steps accepted.1)
 cited-within model past (Resolve clause ids ∷ steps) accepted = cited-within model (after model past (Resolve clause ids)) steps accepted.1
 cited-within model past (Solution values ∷ steps) accepted = cited-within model (after model past (Solution values)) steps accepted.1
 cited-within model past (Delete ids ∷ steps) accepted = cited-within model (after model past (Delete ids)) steps accepted.1
@@ -67,7 +67,7 @@ module _ (model : Model) (numbers : List ℕ) (wf : IsWellFormed model) (rising 
 
   -- ---- accepted steps are sound for it
 
-  sound-step : (past : Past) (step : Step) → IsSound (only model numbers) past → IsAccepted model past step → All (Contains numbers) (filter_map constraint_of (step ∷ [])) → IsSound (only model numbers) (after model past step)
+  sound-step : (past : Past) (step : Step) → IsSound (only model numbers) past → IsAccepted model past step → All (Contains numbers) (filter_map inferred_from (step ∷ [])) → IsSound (only model numbers) (after model past step)
   sound-step past (Infer c rule clause) sound accepted listed =
       let alone = infer-alone past c rule clause accepted (listed 0 c (omega arith)) in
       sound-after (only model numbers) past (Infer alone.0 rule clause) formed sound alone.1
@@ -77,14 +77,14 @@ module _ (model : Model) (numbers : List ℕ) (wf : IsWellFormed model) (rising 
   sound-step past (Delete ids) sound accepted listed = sound-after (only model numbers) past (Delete ids) formed sound accepted
 
   -- the first step's number, and those of the others
-  first-listed : (step : Step) (steps : List Step) → All (Contains numbers) (filter_map constraint_of (step ∷ steps)) → All (Contains numbers) (filter_map constraint_of (step ∷ [])) × All (Contains numbers) (filter_map constraint_of steps)
+  first-listed : (step : Step) (steps : List Step) → All (Contains numbers) (filter_map inferred_from (step ∷ steps)) → All (Contains numbers) (filter_map inferred_from (step ∷ [])) × All (Contains numbers) (filter_map inferred_from steps)
   first-listed (Infer c rule clause) steps h =
-      (All-cons (Contains numbers) c [] (All-head (Contains numbers) c (filter_map constraint_of steps) h) (All-nil (Contains numbers)), All-tail (Contains numbers) c (filter_map constraint_of steps) h)
+      (All-cons (Contains numbers) c [] (All-head (Contains numbers) c (filter_map inferred_from steps) h) (All-nil (Contains numbers)), All-tail (Contains numbers) c (filter_map inferred_from steps) h)
   first-listed (Resolve clause ids) steps h = (All-nil (Contains numbers), h)
   first-listed (Solution values) steps h = (All-nil (Contains numbers), h)
   first-listed (Delete ids) steps h = (All-nil (Contains numbers), h)
 
-  sound-steps : (past : Past) (steps : List Step) → IsSound (only model numbers) past → AllAcceptedAfter model past steps → All (Contains numbers) (filter_map constraint_of steps) → IsSound (only model numbers) (fold (after model) past steps)
+  sound-steps : (past : Past) (steps : List Step) → IsSound (only model numbers) past → AllAcceptedAfter model past steps → All (Contains numbers) (filter_map inferred_from steps) → IsSound (only model numbers) (fold (after model) past steps)
   sound-steps past [] sound accepted listed = sound
   sound-steps past (step ∷ steps) sound accepted listed =
       let parts = first-listed step steps listed in
@@ -93,9 +93,9 @@ module _ (model : Model) (numbers : List ℕ) (wf : IsWellFormed model) (rising 
 -- ---- the core
 
 pub rests-on : (model : Model) (steps : List Step) (found : List (List ℤ)) (numbers : List ℕ) → IsWellFormed model → AllAccepted model steps → (past_of model steps).solutions ≡ found → (past_of model steps).refuted ≡ true
-    → ((number : ℕ) → Contains numbers number ↔ Contains (filter_map constraint_of steps) number) → IsStrictlyIncreasing numbers → RestsOn model found numbers
+    → ((number : ℕ) → Contains numbers number ↔ Contains (filter_map inferred_from steps) number) → IsStrictlyIncreasing numbers → RestsOn model found numbers
 rests-on model steps found numbers wf accepted found_are refuted cited rising =
-    let all_cited = filter_map constraint_of steps in
+    let all_cited = filter_map inferred_from steps in
     let cited_within : All (IsConstraintNumber model) all_cited = cited-within model start steps accepted in
     let within : All (IsConstraintNumber model) numbers =
     λ k d lt. All-contains (IsConstraintNumber model) all_cited (get_or numbers k d) cited_within ((cited (get_or numbers k d)).0 (Contains-get_or numbers k d lt)) in
@@ -112,7 +112,7 @@ rests-on model steps found numbers wf accepted found_are refuted cited rising =
     }
 
 pub closed-core : (model : Model) (held : Held) (kept : List Step) (numbers : List ℕ) → IsWellFormed model → held.closed ≡ true → IsTrimOf model held kept
-    → ((number : ℕ) → Contains numbers number ↔ Contains (filter_map constraint_of kept) number) → IsStrictlyIncreasing numbers → IsCore model held.solutions.items held.closed numbers
+    → ((number : ℕ) → Contains numbers number ↔ Contains (filter_map inferred_from kept) number) → IsStrictlyIncreasing numbers → IsCore model held.solutions.items held.closed numbers
 closed-core model held kept numbers wf closed trim cited rising =
     subst (λ (b : Bool). IsCore model held.solutions.items b numbers) (sym closed)
     (rests-on model kept held.solutions.items numbers wf trim.accepted trim.found (trim.may_end closed) cited rising)

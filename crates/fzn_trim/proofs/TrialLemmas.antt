@@ -18,17 +18,17 @@ use Rattle.fzn_checker.specs.declared.hold.Taken.{Taken}
 use Rattle.fzn_checker.specs.Held.{HasTaken, Stands}
 use Rattle.fzn_checker.proofs.CallerLemmas.{all_more}
 use Rattle.fzn_trim.specs.Kept.{IsTrimOf}
-use Rattle.fzn_trim.specs.Planned.{renumbered, MayStand}
+use Rattle.fzn_trim.specs.Planned.{renumbered, CitesNumbers}
 
 -- ---- a step with other citations
 
-pub deletion-spelled : (ids : List ℕ) → MayStand (Delete ids) → IsSpelled Two (Delete ids)
+pub deletion-spelled : (ids : List ℕ) → CitesNumbers (Delete ids) → IsSpelled Two (Delete ids)
 deletion-spelled ids may =
     let parts = and_true (not (length ids == 0)) (ids_rise ids) may.1 in
     let some : 0 < length ids = grind (arith, parts.0) in
     (refl, some, recursion_from_All IsNumber ids may.0, IdsRise-from_test ids parts.1)
 
-pub renumbered-spelled : (numbers : List ℕ) (step : Step) → IsSpelled Two step → MayStand (renumbered numbers step) → IsSpelled Two (renumbered numbers step)
+pub renumbered-spelled : (numbers : List ℕ) (step : Step) → IsSpelled Two step → CitesNumbers (renumbered numbers step) → IsSpelled Two (renumbered numbers step)
 renumbered-spelled numbers (Infer constraint rule clause) spelled may = spelled
 renumbered-spelled numbers (Resolve clause ids) spelled may = (spelled.0, recursion_from_All IsNumber _ may)
 renumbered-spelled numbers (Solution values) spelled may = spelled

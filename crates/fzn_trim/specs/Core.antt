@@ -13,9 +13,9 @@ abbrev pub only : Model → List ℕ → Model
 only model numbers = record model { constraints = flat_map (λ number. slice_range model.constraints (number - 1) number) numbers }
 
 -- the constraint that a step infers from
-abbrev pub constraint_of : Step → Option ℕ
-constraint_of (Infer constraint rule clause) = Some constraint
-constraint_of _ = None
+abbrev pub inferred_from : Step → Option ℕ
+inferred_from (Infer constraint rule clause) = Some constraint
+inferred_from _ = None
 
 -- These numbers, in rising order, are those of the constraints that accepted steps with these solutions infer from, up to the empty clause.
 -- So what is said of the solutions follows from these constraints alone.
@@ -24,7 +24,7 @@ pub record RestsOn (model : Model) (found : List (List ℤ)) (numbers : List ℕ
   pub accepted : AllAccepted model steps
   pub solutions : (past_of model steps).solutions ≡ found
   pub refuted : (past_of model steps).refuted ≡ true
-  pub cited : (number : ℕ) → Contains numbers number ↔ Contains (filter_map constraint_of steps) number
+  pub cited : (number : ℕ) → Contains numbers number ↔ Contains (filter_map inferred_from steps) number
   pub rising : IsStrictlyIncreasing numbers
   pub exhausted : IsExhausted (only model numbers) found
 

@@ -15,8 +15,8 @@ abbrev pub kept_by : Option Plan → List Step → List Step
 kept_by None held = held
 kept_by (Some plan) held = planned plan held
 
-abbrev pub steps_in : Kept → List Step
-steps_in kept = kept_by kept.plan kept.held
+abbrev pub kept_steps : Kept → List Step
+kept_steps kept = kept_by kept.plan kept.held
 
 pub record IsTrimOf (model : Model) (held : Held) (steps : List Step) : Type 0 where
   pub accepted : AllAccepted model steps

@@ -22,38 +22,38 @@ use Rattle.fzn_trim.specs.Core.{IsCore}
 abbrev pub labelled : List ℕ → ℕ → List ℕ
 labelled label number = label ++ decimal number
 
-abbrev pub position_text : Position → List ℕ
-position_text position = labelled (codes " line ") position.line ++ labelled (codes " column ") position.column ++ codes ": "
+abbrev pub position_label : Position → List ℕ
+position_label position = labelled (codes " line ") position.line ++ labelled (codes " column ") position.column ++ codes ": "
 
 -- the bytes of the item, and a line feed
-abbrev pub item_text : List ℕ → Span → List ℕ
-item_text bytes item = slice_range bytes item.start item.end ++ 10 ∷ []
+abbrev pub item_line : List ℕ → Span → List ℕ
+item_line bytes item = slice_range bytes item.start item.end ++ 10 ∷ []
 
-abbrev pub line_of : List ℕ → ℕ → Span → List ℕ
-line_of bytes number item = decimal number ++ position_text item.position ++ item_text bytes item
+abbrev pub listed_line : List ℕ → ℕ → Span → List ℕ
+listed_line bytes number item = decimal number ++ position_label item.position ++ item_line bytes item
 
 abbrev pub line_at : List ℕ → ℕ → Option Span → List ℕ
 line_at bytes number None = []
-line_at bytes number (Some item) = line_of bytes number item
+line_at bytes number (Some item) = listed_line bytes number item
 
 -- the line of the constraint with this number, by the items that state the constraints
 abbrev pub number_line : List ℕ → List Span → ℕ → List ℕ
 number_line bytes sources number = line_at bytes number (slice_get sources (number - 1))
 
-abbrev pub ending_text : Bool → List ℕ
-ending_text true = 10 ∷ []
-ending_text false = codes ", open" ++ 10 ∷ []
+abbrev pub open_mark : Bool → List ℕ
+open_mark true = 10 ∷ []
+open_mark false = codes ", open" ++ 10 ∷ []
 
 -- two counts, and this ending
-abbrev pub counts_text : ℕ → ℕ → List ℕ → List ℕ
-counts_text listed constraints ending = decimal listed ++ codes " of " ++ decimal constraints ++ ending
+abbrev pub share_ended : ℕ → ℕ → List ℕ → List ℕ
+share_ended listed constraints ending = decimal listed ++ codes " of " ++ decimal constraints ++ ending
 
-abbrev pub count_text : ℕ → ℕ → Bool → List ℕ
-count_text listed constraints closed = counts_text listed constraints (ending_text closed)
+abbrev pub share_text : ℕ → ℕ → Bool → List ℕ
+share_text listed constraints closed = share_ended listed constraints (open_mark closed)
 
 -- a line for each constraint listed, and how many they are
 abbrev pub core_text : List ℕ → List Span → List ℕ → Bool → List ℕ
-core_text bytes sources numbers closed = flat_map (number_line bytes sources) numbers ++ count_text (length numbers) (length sources) closed
+core_text bytes sources numbers closed = flat_map (number_line bytes sources) numbers ++ share_text (length numbers) (length sources) closed
 
 -- ---- the answer
 
@@ -73,8 +73,8 @@ pub record Lists (file cert : Option (List ℕ)) (text : List ℕ) (answer : Lis
   pub counts : (answer.listed ≡ length numbers) × (answer.constraints ≡ length model.constraints)
 
 -- such a text is printed, whole
-abbrev pub IsListed : Option (List ℕ) → Option (List ℕ) → Option (List ℕ) → Option (List ℕ) → Listed → Type 0
-IsListed file cert before after answer = (text : List ℕ) × Lists file cert text answer × Appends before after text
+abbrev pub IsCoreListed : Option (List ℕ) → Option (List ℕ) → Option (List ℕ) → Option (List ℕ) → Listed → Type 0
+IsCoreListed file cert before after answer = (text : List ℕ) × Lists file cert text answer × Appends before after text
 
 -- The file's first fault, or the first faulty line of the certificate; nothing is printed then. After a failed write a beginning of such a
 -- text stands.

@@ -30,8 +30,8 @@ abbrev pub planned : Plan → List Step → List Step
 planned plan held = map (planned_step plan held) plan.lines.items
 
 -- the clauses that a step cites have numbers, and those of a deletion are some and rise
-abbrev pub MayStand : Step → Type 0
-MayStand (Infer constraint rule clause) = Unit {0}
-MayStand (Resolve clause ids) = All IsNumber ids
-MayStand (Solution values) = Unit {0}
-MayStand (Delete ids) = All IsNumber ids × (is_deletion ids ≡ true)
+abbrev pub CitesNumbers : Step → Type 0
+CitesNumbers (Infer constraint rule clause) = Unit {0}
+CitesNumbers (Resolve clause ids) = All IsNumber ids
+CitesNumbers (Solution values) = Unit {0}
+CitesNumbers (Delete ids) = All IsNumber ids × (is_deletion ids ≡ true)

@@ -37,17 +37,17 @@ abbrev pub IsTrimmed : Option (List ℕ) → Option (List ℕ) → Option (List 
 IsTrimmed file cert before after trimmed = (bytes : List ℕ) × Trims file cert bytes trimmed × Appends before after bytes
 
 -- a beginning of such bytes is written
-abbrev pub IsBegun : Option (List ℕ) → Option (List ℕ) → Option (List ℕ) → Option (List ℕ) → Type 0
-IsBegun file cert before after = (trimmed : Trimmed) × (bytes : List ℕ) × Trims file cert bytes trimmed × AppendsFront before after bytes
+abbrev pub IsTrimBegun : Option (List ℕ) → Option (List ℕ) → Option (List ℕ) → Option (List ℕ) → Type 0
+IsTrimBegun file cert before after = (trimmed : Trimmed) × (bytes : List ℕ) × Trims file cert bytes trimmed × AppendsFront before after bytes
 
 -- The file's first fault, or the first faulty line of the certificate; nothing is written then. After a failed write a beginning of the
 -- new bytes stands, and after want of memory one may stand.
 abbrev pub IsTrimFault : Option (List ℕ) → Option (List ℕ) → Option (List ℕ) → Option (List ℕ) → CheckFault → Type 0
 IsTrimFault file cert before after (File fault) = Keeps before after × IfSome file (λ bytes. Reads bytes (Err (errors.Fault fault)))
 IsTrimFault file cert before after (Refused line refusal) = Keeps before after × ((model : Model) × States file model × VerdictOn model cert (refused line refusal))
-IsTrimFault file cert before after Memory = Keeps before after ⊎ IsBegun file cert before after
+IsTrimFault file cert before after Memory = Keeps before after ⊎ IsTrimBegun file cert before after
 IsTrimFault file cert before after Read = Keeps before after
-IsTrimFault file cert before after WriteCert = IsBegun file cert before after
+IsTrimFault file cert before after WriteCert = IsTrimBegun file cert before after
 IsTrimFault file cert before after NotVersionOne = ⊥
 IsTrimFault file cert before after WriteOutput = ⊥
 

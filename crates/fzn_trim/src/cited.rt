@@ -6,8 +6,8 @@ ghost use Rattle.fzn_meaning.specs.WellFormed.{IsWellFormed};
 ghost use Rattle.fzn_cert.specs.declared.step.Version.TheVariants.{Two};
 ghost use Rattle.fzn_cert.specs.Verdict.{AllHaveLines};
 ghost use Rattle.fzn_checker.specs.Held.{Stands};
-ghost use Rattle.fzn_trim.specs.Kept.{steps_in};
-ghost use Rattle.fzn_trim.specs.Core.{IsCore, constraint_of};
+ghost use Rattle.fzn_trim.specs.Kept.{kept_steps};
+ghost use Rattle.fzn_trim.specs.Core.{IsCore, inferred_from};
 
 use crate::kept::Kept;
 use crate::trial::trimmed_steps;
@@ -35,7 +35,7 @@ pub fn core_numbers(alloc: Global, model: &Model, held: Held) -> Result<Vec<u64>
 
 /// The numbers of the constraints that the steps infer from, each once, in rising order.
 fn cited_by(alloc: Global, kept: &Kept) -> Result<Vec<u64>, Memory>
-    ensures cited { IfOk result (λ numbers. (number : ℕ) → Contains numbers.items number ↔ Contains (filter_map constraint_of (steps_in kept.now)) number) }
+    ensures cited { IfOk result (λ numbers. (number : ℕ) → Contains numbers.items number ↔ Contains (filter_map inferred_from (kept_steps kept.now)) number) }
     ensures rising { IfOk result (λ numbers. IsStrictlyIncreasing numbers.items) }
 {
     let mut numbers = numbers_in(alloc, kept)?;
@@ -46,7 +46,7 @@ fn cited_by(alloc: Global, kept: &Kept) -> Result<Vec<u64>, Memory>
 
 /// The number of the constraint of each step that infers from one.
 fn numbers_in(alloc: Global, kept: &Kept) -> Result<Vec<u64>, Memory>
-    ensures { IfOk result (λ numbers. numbers.items ≡ filter_map constraint_of (steps_in kept.now)) }
+    ensures { IfOk result (λ numbers. numbers.items ≡ filter_map inferred_from (kept_steps kept.now)) }
 {
     let mut numbers = Vec::new(alloc);
     for place in 0..kept.len() {
@@ -61,7 +61,7 @@ fn numbers_in(alloc: Global, kept: &Kept) -> Result<Vec<u64>, Memory>
 
 /// Puts the number of the constraint at the end, where the step infers from one.
 fn push_number(step: &Step, numbers: &mut Vec<u64>) -> Result<(), Memory>
-    ensures { OnOk result (numbers.new.items ≡ numbers.old.items ++ filter_map constraint_of (step.now ∷ [])) }
+    ensures { OnOk result (numbers.new.items ≡ numbers.old.items ++ filter_map inferred_from (step.now ∷ [])) }
 {
     match step {
         Step::Infer { constraint, .. } => {

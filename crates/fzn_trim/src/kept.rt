@@ -1,6 +1,6 @@
 // The steps of a trimmed certificate.
 ghost use Rattle.std.specs.Prelude.{◌≡◌, length, slice_get, IfOk};
-ghost use Rattle.fzn_trim.specs.Kept.{steps_in};
+ghost use Rattle.fzn_trim.specs.Kept.{kept_steps};
 
 use crate::plan::Plan;
 use fzn_cert::Step;
@@ -20,7 +20,7 @@ pub struct Kept {
 impl Kept {
     /// How many steps there are.
     pub fn len(&self) -> usize
-        ensures { result ≡ length (steps_in self.now) }
+        ensures { result ≡ length (kept_steps self.now) }
     {
         match &self.plan {
             None => self.held.len(),
@@ -30,7 +30,7 @@ impl Kept {
 
     /// The step at this place, counted from 0, and none behind the last. It answers `Err` where memory runs out.
     pub fn get(&self, alloc: Global, place: usize) -> Result<Option<Step>, Memory>
-        ensures { IfOk result (λ found. found ≡ slice_get (steps_in self.now) place) }
+        ensures { IfOk result (λ found. found ≡ slice_get (kept_steps self.now) place) }
     {
         match &self.plan {
             None => self.held.get(alloc, place),

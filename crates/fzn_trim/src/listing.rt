@@ -3,7 +3,7 @@ ghost use Rattle.std.specs.Prelude.{◌≡◌, false, IfOk, IfErr};
 ghost use Rattle.fzn_cert_reader.specs.Reader.{progress, input_of};
 ghost use Rattle.fzn_checker.specs.Answered.{IsCheckDue};
 ghost use Rattle.fzn_checker.specs.Checked.{IsUnread};
-ghost use Rattle.fzn_trim.specs.Listing.{IsListed, IsListFault};
+ghost use Rattle.fzn_trim.specs.Listing.{IsCoreListed, IsListFault};
 
 use crate::cited::core_numbers;
 use crate::print::put_core;
@@ -39,7 +39,7 @@ pub fn core<R: Read + Drop, C: Read + Drop, W: Write>(
     cert: C,
     out: &mut W,
 ) -> Result<Listed, CheckFault>
-    ensures ok { IfOk result (IsListed (R.remaining file) (C.remaining cert) (W.contents out.old) (W.contents out.new)) }
+    ensures ok { IfOk result (IsCoreListed (R.remaining file) (C.remaining cert) (W.contents out.old) (W.contents out.new)) }
     ensures err { IfErr result (IsListFault (R.remaining file) (C.remaining cert) (W.contents out.old) (W.contents out.new)) }
 {
     let mut file = TrackedReader::new(file);
@@ -60,7 +60,7 @@ pub fn core_tracked<R: TrackedRead, C: TrackedRead + Drop, W: TrackedWrite>(
 ) -> Result<Listed, CheckFault>
     requires unread { IsUnread (progress C.remaining cert.old) }
     requires fresh { (R.has_failed file.old ≡ false) × (C.has_failed (input_of cert.old) ≡ false) × (W.has_failed out.old ≡ false) }
-    ensures ok { IfOk result (IsListed (R.remaining file.old) (progress C.remaining cert.old).left (W.contents out.old) (W.contents out.new)) }
+    ensures ok { IfOk result (IsCoreListed (R.remaining file.old) (progress C.remaining cert.old).left (W.contents out.old) (W.contents out.new)) }
     ensures err { IfErr result (IsListFault (R.remaining file.old) (progress C.remaining cert.old).left (W.contents out.old) (W.contents out.new)) }
     ensures due { IfErr result (IsCheckDue (R.has_failed file.new) (C.has_failed (input_of cert.new)) (W.has_failed out.new)) }
     ensures same_stream { W.stream out.new ≡ W.stream out.old }

@@ -4,7 +4,7 @@ ghost use Rattle.fzn_cert.specs.declared.step.Step.{Step};
 ghost use Rattle.fzn_cert.specs.declared.step.Step.TheVariants.{Delete};
 ghost use Rattle.fzn_cert.specs.declared.step.Version.TheVariants.{Two};
 ghost use Rattle.fzn_cert.specs.Spelling.{step_text, IsSpelled};
-ghost use Rattle.fzn_trim.specs.Planned.{new_number, renumbered, planned_step, planned, MayStand};
+ghost use Rattle.fzn_trim.specs.Planned.{new_number, renumbered, planned_step, planned, CitesNumbers};
 
 use fzn_cert::Step;
 use fzn_cert_reader::Script;
@@ -70,7 +70,7 @@ impl Plan {
     /// memory runs out.
     pub fn step(&self, alloc: Global, held: &Script, line: Line) -> Result<Step, Memory>
         ensures value { IfOk result (λ step. step ≡ planned_step self.now held.now line) }
-        ensures spelled { IfOk result (λ step. MayStand step → IsSpelled Two step) }
+        ensures spelled { IfOk result (λ step. CitesNumbers step → IsSpelled Two step) }
     {
         match line {
             Line::Keep { place } => match held.get(alloc, place)? {

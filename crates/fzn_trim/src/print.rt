@@ -3,7 +3,7 @@ ghost use Rattle.std.specs.Prelude.{◌≡◌, ◌-◌, ◌∷◌, [], ◌++◌,
 ghost use Rattle.std.specs.List.{flat_map};
 ghost use Rattle.std.specs.Fmt.{decimal};
 ghost use Rattle.fzn_streams.specs.Output.{Puts, IsDue};
-ghost use Rattle.fzn_trim.specs.Listing.{core_text, count_text, counts_text, ending_text, item_text, labelled, line_of, number_line, position_text};
+ghost use Rattle.fzn_trim.specs.Listing.{core_text, share_text, share_ended, open_mark, item_line, labelled, listed_line, number_line, position_label};
 
 use fzn_lexer::{Position, Span};
 use fzn_streams::{TrackedWrite, WriteFailed, put};
@@ -64,7 +64,7 @@ fn put_line<W: TrackedWrite>(
     number: u64,
     item: Span,
 ) -> Result<(), WriteFailed>
-    ensures text { Puts (W.contents out.old) (W.contents out.new) result (line_of bytes.now number item) }
+    ensures text { Puts (W.contents out.old) (W.contents out.new) result (listed_line bytes.now number item) }
     ensures due { IsDue W.stream W.has_failed out.old out.new result }
 {
     put_number(out, number)?;
@@ -74,7 +74,7 @@ fn put_line<W: TrackedWrite>(
 
 #[tactic(auto, using(fzn_streams::proofs::CallerLemmas::puts))]
 fn put_position<W: TrackedWrite>(out: &mut W, position: Position) -> Result<(), WriteFailed>
-    ensures text { Puts (W.contents out.old) (W.contents out.new) result (position_text position) }
+    ensures text { Puts (W.contents out.old) (W.contents out.new) result (position_label position) }
     ensures due { IsDue W.stream W.has_failed out.old out.new result }
 {
     put_labelled(out, b" line ", position.line as u64)?;
@@ -93,7 +93,7 @@ fn put_labelled<W: TrackedWrite>(out: &mut W, label: &[u8], number: u64) -> Resu
 
 /// The bytes of the item, and a line feed.
 fn put_item<W: TrackedWrite>(out: &mut W, bytes: &[u8], item: Span) -> Result<(), WriteFailed>
-    ensures text { Puts (W.contents out.old) (W.contents out.new) result (item_text bytes.now item) }
+    ensures text { Puts (W.contents out.old) (W.contents out.new) result (item_line bytes.now item) }
     ensures due { IsDue W.stream W.has_failed out.old out.new result }
 {
     put_ended(out, text_of(bytes, item))
@@ -125,7 +125,7 @@ fn put_count<W: TrackedWrite>(
     constraints: usize,
     closed: bool,
 ) -> Result<(), WriteFailed>
-    ensures text { Puts (W.contents out.old) (W.contents out.new) result (count_text listed constraints closed) }
+    ensures text { Puts (W.contents out.old) (W.contents out.new) result (share_text listed constraints closed) }
     ensures due { IsDue W.stream W.has_failed out.old out.new result }
 {
     put_counts(out, listed, constraints, ending(closed))
@@ -139,7 +139,7 @@ fn put_counts<W: TrackedWrite>(
     constraints: usize,
     ending: &[u8],
 ) -> Result<(), WriteFailed>
-    ensures text { Puts (W.contents out.old) (W.contents out.new) result (counts_text listed constraints ending.now) }
+    ensures text { Puts (W.contents out.old) (W.contents out.new) result (share_ended listed constraints ending.now) }
     ensures due { IsDue W.stream W.has_failed out.old out.new result }
 {
     put_number(out, listed as u64)?;
@@ -158,7 +158,7 @@ fn put_last<W: TrackedWrite>(out: &mut W, bytes: &[u8]) -> Result<(), WriteFaile
 }
 
 fn ending(closed: bool) -> &'static [u8]
-    ensures { result.now ≡ ending_text closed }
+    ensures { result.now ≡ open_mark closed }
 {
     if closed { b"\n" } else { b", open\n" }
 }

@@ -8,8 +8,8 @@ ghost use Rattle.fzn_cert.specs.declared.step.Version.TheVariants.{Two};
 ghost use Rattle.fzn_cert.specs.Spelling.{step_text, IsNumber, HasRoom, HasLine};
 ghost use Rattle.fzn_cert.specs.Verdict.{AllHaveLines, MayEnd};
 ghost use Rattle.fzn_checker.specs.Held.{past_in, MayTake, HasTaken, Stands};
-ghost use Rattle.fzn_trim.specs.Kept.{steps_in, IsTrimOf};
-ghost use Rattle.fzn_trim.specs.Planned.{planned, planned_step, MayStand};
+ghost use Rattle.fzn_trim.specs.Kept.{kept_steps, IsTrimOf};
+ghost use Rattle.fzn_trim.specs.Planned.{planned, planned_step, CitesNumbers};
 
 use crate::kept::Kept;
 use crate::plan::{Line, Plan, planned_lines};
@@ -27,7 +27,7 @@ pub fn trimmed_steps(alloc: Global, model: &Model, held: Held) -> Result<Kept, M
     requires model { IsWellFormed model.now }
     requires stands { Stands model.now held }
     requires lines { AllHaveLines Two 0 held.steps }
-    ensures { IfOk result (λ kept. IsTrimOf model.now held (steps_in kept)) }
+    ensures { IfOk result (λ kept. IsTrimOf model.now held (kept_steps kept)) }
 {
     let plan = planned_lines(alloc, model, &held)?;
     if is_trim(alloc, model, &held, &plan)? {
@@ -90,7 +90,7 @@ fn takes(
 
 /// Whether the clauses that a step cites have numbers, and those of a deletion are some and rise.
 fn may_stand(step: &Step) -> bool
-    ensures { IsTrue result → MayStand step.now }
+    ensures { IsTrue result → CitesNumbers step.now }
 {
     match step {
         Step::Resolve { ids, .. } => are_numbers(ids.as_slice()),

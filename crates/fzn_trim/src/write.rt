@@ -5,7 +5,7 @@ ghost use Rattle.fzn_cert.specs.declared.step.Version.TheVariants.{Two};
 ghost use Rattle.fzn_cert.specs.Spelling.{end_line, step_line};
 ghost use Rattle.fzn_cert.specs.Verdict.{lines_of};
 ghost use Rattle.fzn_checker.specs.Held.{certificate_of};
-ghost use Rattle.fzn_trim.specs.Kept.{steps_in};
+ghost use Rattle.fzn_trim.specs.Kept.{kept_steps};
 ghost use Rattle.fzn_trim.specs.Planned.{planned, planned_step};
 ghost use Rattle.fzn_trim.specs.Written.{IsWriteFault, IsWriteDue};
 
@@ -27,7 +27,7 @@ pub fn write_certificate<W: TrackedWrite>(
     closed: bool,
     new: &mut W,
 ) -> Result<(), CheckFault>
-    ensures text { Puts (W.contents new.old) (W.contents new.new) result (certificate_of model.now Two (steps_in kept.now) closed) }
+    ensures text { Puts (W.contents new.old) (W.contents new.new) result (certificate_of model.now Two (kept_steps kept.now) closed) }
     ensures fault { IfErr result IsWriteFault }
     ensures due { IfErr result (IsWriteDue (W.has_failed new.new)) }
     ensures same_stream { W.stream new.new ≡ W.stream new.old }
@@ -47,7 +47,7 @@ fn put_lines<W: TrackedWrite>(
     closed: bool,
     new: &mut W,
 ) -> Result<(), CheckFault>
-    ensures text { Puts (W.contents new.old) (W.contents new.new) result (header.now ++ (lines_of (steps_in kept.now) ++ end_line closed)) }
+    ensures text { Puts (W.contents new.old) (W.contents new.new) result (header.now ++ (lines_of (kept_steps kept.now) ++ end_line closed)) }
     ensures fault { IfErr result IsWriteFault }
     ensures due { IfErr result (IsWriteDue (W.has_failed new.new)) }
     ensures same_stream { W.stream new.new ≡ W.stream new.old }
@@ -59,7 +59,7 @@ fn put_lines<W: TrackedWrite>(
 
 /// Writes the lines of the steps.
 fn put_steps<W: TrackedWrite>(alloc: Global, kept: &Kept, new: &mut W) -> Result<(), CheckFault>
-    ensures text { Puts (W.contents new.old) (W.contents new.new) result (lines_of (steps_in kept.now)) }
+    ensures text { Puts (W.contents new.old) (W.contents new.new) result (lines_of (kept_steps kept.now)) }
     ensures fault { IfErr result IsWriteFault }
     ensures due { IfErr result (IsWriteDue (W.has_failed new.new)) }
     ensures same_stream { W.stream new.new ≡ W.stream new.old }

@@ -1,14 +1,14 @@
 use Rattle.std.proofs.Common.{arith, sym, ◌∙◌}
 use Rattle.std.proofs.lemmas.Option.{get_or_from_slice_get}
-use Rattle.fzn_trim.specs.Kept.{steps_in}
-use Rattle.fzn_trim.specs.Core.{constraint_of}
+use Rattle.fzn_trim.specs.Kept.{kept_steps}
+use Rattle.fzn_trim.specs.Core.{inferred_from}
 use Rattle.fzn_trim.proofs.ListLemmas.{found-more}
 use Rattle.fzn_trim.proofs.cited.numbers_in.Goals as goal
 
 pub loop-place-preserved : goal.loop-place-preserved
 loop-place-preserved c =
-    let steps = steps_in c.args.kept.now in
+    let steps = kept_steps c.args.kept.now in
     let place = c.loop-place.place in
     let step = c.in-Some.step in
-    found-more constraint_of c.loop-place.numbers.items c.push_number.new.numbers.items steps place step (omega arith)
+    found-more inferred_from c.loop-place.numbers.items c.push_number.new.numbers.items steps place step (omega arith)
     (sym (get_or_from_slice_get steps place step step (sym c.in_ok-step.ensures ∙ c.in-Some.is))) c.loop-place.invariant c.in_ok-push_number.ensures

@@ -5,7 +5,7 @@ use Rattle.fzn_checker.specs.FileFaults.{fault_from}
 use Rattle.fzn_checker.specs.Held.{certificate_of}
 use Rattle.fzn_checker.proofs.CallerLemmas.{error-is, lines-two}
 use Rattle.fzn_trim.specs.declared.trimming.Trimmed.{Trimmed}
-use Rattle.fzn_trim.specs.Kept.{steps_in}
+use Rattle.fzn_trim.specs.Kept.{kept_steps}
 use Rattle.fzn_trim.specs.Trimmed.{IsTrimFault}
 use Rattle.fzn_trim.proofs.TrimLemmas.{trims-of, certificate-fault, write-fault, model-fault}
 use Rattle.fzn_trim.proofs.trimming.trim_tracked.Goals as goal
@@ -38,7 +38,7 @@ returns-in_err-write_certificate-clause-err g c =
     let before = g.W.Write.contents c.args.new.now in
     let after = g.W.Write.contents c.write_certificate.new.new in
     let held = c.in_ok-held.held in
-    let kept = steps_in c.in_ok-kept.kept in
+    let kept = kept_steps c.in_ok-kept.kept in
     let trimmed : Trimmed = record { steps = length held.steps; kept = length kept } in
     error-is c.from_residual-in_err-write_certificate.result c.in_err-write_certificate.field-0.0 (IsTrimFault file cert before after) c.from_residual-in_err-write_certificate.ensures.1
     (write-fault file cert before after (certificate_of c.in_ok-model.model Two kept held.closed) trimmed c.in_err-write_certificate.field-0.0
@@ -50,7 +50,7 @@ returns-clause-ok g c =
     let file = g.R.Read.remaining c.args.file.now in
     let cert = (progress g.C.Read.remaining c.args.cert.now).left in
     let held = c.in_ok-held.held in
-    let kept = steps_in c.in_ok-kept.kept in
+    let kept = kept_steps c.in_ok-kept.kept in
     let trimmed : Trimmed = record { steps = c.len-steps.result; kept = c.len.result } in (
       certificate_of c.in_ok-model.model Two kept held.closed,
       trims-of file cert c.in_ok-model.model c.in_ok-model.ensures.right held kept trimmed c.in_ok-model.ensures.well_formed c.in_ok-held.ensures.ok c.in_ok-kept.ensures

@@ -2,7 +2,7 @@ use Rattle.std.proofs.Common.{sym, subst, Ok, Err}
 use Rattle.std.specs.Prelude.{Result, IfOk}
 use Rattle.fzn_cert.specs.declared.step.Version.TheVariants.{Two}
 use Rattle.fzn_cert.specs.Spelling.{IsSpelled}
-use Rattle.fzn_trim.specs.Planned.{MayStand}
+use Rattle.fzn_trim.specs.Planned.{CitesNumbers}
 use Rattle.fzn_trim.proofs.TrialLemmas.{deletion-spelled}
 use Rattle.fzn_trim.proofs.plan.Plan.step.Goals as goal
 
@@ -12,5 +12,5 @@ ok-then (Err e) P Q h f = tt
 
 pub returns-in-Some-get-clause-spelled : goal.returns-in-Some-get-clause-spelled
 returns-in-Some-get-clause-spelled c =
-    ok-then c.deletion.result _ (λ step. MayStand step → IsSpelled Two step) c.deletion.ensures
-    (λ step is may. subst (IsSpelled Two) (sym is) (deletion-spelled c.as_slice.result.now (subst MayStand is may)))
+    ok-then c.deletion.result _ (λ step. CitesNumbers step → IsSpelled Two step) c.deletion.ensures
+    (λ step is may. subst (IsSpelled Two) (sym is) (deletion-spelled c.as_slice.result.now (subst CitesNumbers is may)))
