@@ -21,7 +21,7 @@ use Rattle.fzn_mending.specs.declared.places.ConstantGoal.{ConstantGoal}
 use Rattle.fzn_items.specs.declared.counts.Counts.{Counts}
 use Rattle.fzn_mending.specs.declared.places.Place.{Place}
 use Rattle.fzn_sources.specs.Items.{items_of}
-use Rattle.fzn_items.specs.Listed.{IsFaultOf, IsList, IsListing, IsListingFault, Itemizes}
+use Rattle.fzn_items.specs.Listed.{IsFaultOrMemory, IsList, IsListing, IsListingFault, Itemizes}
 use Rattle.fzn_mending.specs.Mending.{mended, places, constant}
 use Rattle.fzn_sources.proofs.FrontLemmas.{known_tokens}
 
@@ -77,14 +77,14 @@ mended-listing bytes tokens told own tree items types goal model text counts fau
 }
 
 -- the fault of a file is that of its list
-pub told-fault : (bytes : List ℕ) (fault : Fault) (halt : Halt Fault) → Reads bytes (Err (errors.Fault fault)) → IsFaultOf fault halt → IsListingFault bytes halt
+pub told-fault : (bytes : List ℕ) (fault : Fault) (halt : Halt Fault) → Reads bytes (Err (errors.Fault fault)) → IsFaultOrMemory fault halt → IsListingFault bytes halt
 told-fault bytes fault errors.Memory read is = tt
 told-fault bytes fault (errors.Fault other) read is = subst (λ (f : Fault). Reads bytes (Err (errors.Fault f))) (sym is) read
 
 -- where memory ran out nothing is said
-pub memory-told : {A : Type 0} (fault : Fault) (result : Result A (Halt Fault)) → IsErrAnd result (λ e. e ≡ errors.Memory) → IfErr result (IsFaultOf fault)
+pub memory-told : {A : Type 0} (fault : Fault) (result : Result A (Halt Fault)) → IsErrAnd result (λ e. e ≡ errors.Memory) → IfErr result (IsFaultOrMemory fault)
 memory-told fault (Ok value) h = absurd h
-memory-told fault (Err e) h = subst (IsFaultOf fault) (sym h) tt
+memory-told fault (Err e) h = subst (IsFaultOrMemory fault) (sym h) tt
 
 -- ---- the whole file
 

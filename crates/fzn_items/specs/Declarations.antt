@@ -19,12 +19,12 @@ use Rattle.fzn_tree.specs.declared.tree.Values.TheVariants as values_are
 use Rattle.fzn_tree.specs.declared.tree.Var.{Var}
 use Rattle.fzn_tree.specs.declared.tree.Var.TheVariants as vars
 use Rattle.fzn_items.specs.Marks.{is_defined}
-use Rattle.fzn_items.specs.Pieces.{item_text, mark_text, number_text, entry_text}
+use Rattle.fzn_items.specs.Pieces.{span_text, mark_text, number_text, term_text}
 
 -- ---- parameters
 
 abbrev pub parameter_line : Span → Param → List ℕ
-parameter_line item param = codes "parameter " ++ param.name.text ++ item_text item ++ codes "\n"
+parameter_line item param = codes "parameter " ++ param.name.text ++ span_text item ++ codes "\n"
 
 -- the lines of these parameters, with their items
 abbrev pub parameter_lines : List Param → List Span → List ℕ
@@ -61,16 +61,16 @@ marks_text anns = mark_text (codes " output") (is_marked anns) ++ mark_text (cod
 
 -- the same, its type, its item and its marks
 abbrev pub single_line : NameList → Span → SingleVar → List ℕ
-single_line names item var = single_text names var.name ++ type_text var.base ++ item_text item ++ marks_text var.anns ++ codes "\n"
+single_line names item var = single_text names var.name ++ type_text var.base ++ span_text item ++ marks_text var.anns ++ codes "\n"
 
 -- ---- arrays
 
-abbrev pub range_text : IndexRange → List ℕ
-range_text range = codes " " ++ signed_decimal range.low ++ codes ".." ++ signed_decimal range.high
+abbrev pub dimension_text : IndexRange → List ℕ
+dimension_text range = codes " " ++ signed_decimal range.low ++ codes ".." ++ signed_decimal range.high
 
 -- the index ranges of an output mark
 abbrev pub ranges_text : Ann → List ℕ
-ranges_text ann = codes " output" ++ flat_map range_text (ranges_in (listed_terms (out-Ann ann).args))
+ranges_text ann = codes " output" ++ flat_map dimension_text (ranges_in (listed_terms (out-Ann ann).args))
 
 -- the marks among the annotations of an array with this many entries, which are one at most where nothing is faulty
 abbrev pub shown_text : ℕ → List Ann → List ℕ
@@ -78,14 +78,14 @@ shown_text count anns = flat_map ranges_text (filter (is_array_mark count) anns)
 
 -- the name of the array, and its item
 abbrev pub array_text : Name → Span → List ℕ
-array_text name item = codes "array " ++ name.text ++ item_text item
+array_text name item = codes "array " ++ name.text ++ span_text item
 
-abbrev pub entries_text : NameList → List Basic → List ℕ
-entries_text names entries = codes " :" ++ flat_map (λ entry. entry_text (term_of names entry)) entries
+abbrev pub cells_text : NameList → List Basic → List ℕ
+cells_text names entries = codes " :" ++ flat_map (λ entry. term_text (term_of names entry)) entries
 
 -- the same, its mark and its entries
 abbrev pub array_line : NameList → Span → ArrayVar → List ℕ
-array_line names item var = array_text var.name item ++ shown_text (length var.array.entries) var.anns ++ entries_text names var.array.entries ++ codes "\n"
+array_line names item var = array_text var.name item ++ shown_text (length var.array.entries) var.anns ++ cells_text names var.array.entries ++ codes "\n"
 
 -- ---- one or the other
 

@@ -16,7 +16,7 @@ use Rattle.fzn_mending.specs.declared.places.ConstantGoal.{ConstantGoal}
 use Rattle.fzn_items.specs.declared.counts.Counts.{Counts}
 use Rattle.fzn_mending.specs.declared.places.Part.{Part}
 use Rattle.fzn_mending.specs.declared.places.Place.{Place}
-use Rattle.fzn_items.specs.Pieces.{bytes_text, item_text, variable_text}
+use Rattle.fzn_items.specs.Pieces.{bytes_text, span_text, variable_text}
 
 -- ---- search annotations
 
@@ -53,7 +53,7 @@ goal_words None (goals.Maximize var) = direction false ++ variable_text var
 -- with the item that states it, the first of these
 abbrev pub goal_line : Option ConstantGoal → Goal → List Span → List ℕ
 goal_line constant goal [] = []
-goal_line constant goal (item ∷ items) = codes "goal " ++ goal_words constant goal ++ item_text item ++ codes "\n"
+goal_line constant goal (item ∷ items) = codes "goal " ++ goal_words constant goal ++ span_text item ++ codes "\n"
 
 -- ---- mended places
 
@@ -74,10 +74,10 @@ constant_line (Some constant) = codes "constant " ++ signed_decimal constant.val
 
 -- ---- the counts
 
-abbrev pub count_text : List ℕ → ℕ → List ℕ
-count_text word count = word ++ decimal count
+abbrev pub tally_text : List ℕ → ℕ → List ℕ
+tally_text word count = word ++ decimal count
 
 abbrev pub counts_line : Counts → List ℕ
 counts_line counts =
-    count_text (codes "end parameters ") counts.parameters ++ count_text (codes " variables ") counts.variables ++ count_text (codes " arrays ") counts.arrays
-    ++ count_text (codes " constraints ") counts.constraints ++ count_text (codes " mended ") counts.mended ++ codes "\n"
+    tally_text (codes "end parameters ") counts.parameters ++ tally_text (codes " variables ") counts.variables ++ tally_text (codes " arrays ") counts.arrays
+    ++ tally_text (codes " constraints ") counts.constraints ++ tally_text (codes " mended ") counts.mended ++ codes "\n"

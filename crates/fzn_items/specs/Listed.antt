@@ -43,8 +43,8 @@ constant_count None = 0
 constant_count (Some goal) = 1
 
 -- how many of each there are, and how many places are mended
-abbrev pub counts_of : Tree → Model → List Place → Option ConstantGoal → Counts
-counts_of tree model types goal = record {
+abbrev pub listed_counts : Tree → Model → List Place → Option ConstantGoal → Counts
+listed_counts tree model types goal = record {
   parameters = length tree.params;
   variables = length model.vars;
   arrays = length tree.vars - length model.vars;
@@ -58,7 +58,7 @@ items_text bytes tree items model annotations types goal =
     ++ flat_map search_line annotations
     ++ goal_line goal model.goal (goal_items tree items)
     ++ mended_text bytes types goal
-    ++ counts_line (counts_of tree model types goal)
+    ++ counts_line (listed_counts tree model types goal)
 
 -- ---- the answer
 
@@ -67,7 +67,7 @@ pub record IsList (bytes : List ℕ) (tree : Tree) (items : List Span) (model : 
   pub annotations : List Annotation
   pub over : All (IsOver (length model.vars)) annotations
   pub is : text ≡ items_text bytes tree items model annotations types goal
-  pub counted : counts ≡ counts_of tree model types goal
+  pub counted : counts ≡ listed_counts tree model types goal
 
 -- Where the file has no fault, the tree listed is its own and nothing is mended. Else it is that of its tokens mended.
 abbrev pub IsOwnOrMended : List Token → Tree → Tree → List Place → Option ConstantGoal → Type 0
@@ -90,9 +90,9 @@ pub record IsListing (bytes text : List ℕ) (counts : Counts) : Type 0 where
   pub list : IsList bytes tree (items_of tokens) model types goal text counts
 
 -- this fault, unless memory ran out
-abbrev pub IsFaultOf : Fault → Halt Fault → Type 0
-IsFaultOf fault errors.Memory = Unit {0}
-IsFaultOf fault (errors.Fault other) = other ≡ fault
+abbrev pub IsFaultOrMemory : Fault → Halt Fault → Type 0
+IsFaultOrMemory fault errors.Memory = Unit {0}
+IsFaultOrMemory fault (errors.Fault other) = other ≡ fault
 
 -- else they have this first fault
 abbrev pub IsListingFault : List ℕ → Halt Fault → Type 0

@@ -11,8 +11,8 @@ use Rattle.fzn_meaning.specs.declared.term.Term.TheVariants as terms
 abbrev pub bytes_text : ℕ → ℕ → List ℕ
 bytes_text start end = codes " bytes " ++ decimal (start + 1) ++ codes ".." ++ decimal end
 
-abbrev pub item_text : Span → List ℕ
-item_text item = bytes_text item.start item.end
+abbrev pub span_text : Span → List ℕ
+span_text item = bytes_text item.start item.end
 
 abbrev pub position_text : Position → List ℕ
 position_text position = codes " line " ++ decimal position.line ++ codes " column " ++ decimal position.column
@@ -32,6 +32,6 @@ number_text (terms.Constant value) = []
 number_text (terms.Variable var) = variable_text var
 
 -- the number of a variable, or a constant
-abbrev pub entry_text : Term → List ℕ
-entry_text (terms.Constant value) = codes " =" ++ signed_decimal value
-entry_text (terms.Variable var) = variable_text var
+abbrev pub term_text : Term → List ℕ
+term_text (terms.Constant value) = codes " =" ++ signed_decimal value
+term_text (terms.Variable var) = variable_text var

@@ -23,7 +23,7 @@ use Rattle.fzn_tree.specs.declared.tree.Var.{Var}
 use Rattle.fzn_tree.specs.declared.tree.Var.TheVariants as vars
 use Rattle.fzn_typing.specs.Models.{written}
 use Rattle.fzn_items.specs.Marks.{defined_by}
-use Rattle.fzn_items.specs.Pieces.{item_text, position_text, variable_text, number_text}
+use Rattle.fzn_items.specs.Pieces.{span_text, position_text, variable_text, number_text}
 
 -- ---- arguments
 
@@ -36,13 +36,13 @@ named_text name _ = []
 abbrev pub name_text : NameList → Name → List ℕ
 name_text names name = named_text name.text (meaning_of names name.text)
 
-abbrev pub value_text : NameList → Basic → List ℕ
-value_text names (basics.Literal literal) = []
-value_text names (basics.Name name) = name_text names name
+abbrev pub basic_text : NameList → Basic → List ℕ
+basic_text names (basics.Literal literal) = []
+basic_text names (basics.Name name) = name_text names name
 
 -- of an array literal the numbers of its variables
 abbrev pub arg_text : NameList → Arg → List ℕ
-arg_text names (args.Basic basic) = value_text names basic
+arg_text names (args.Basic basic) = basic_text names basic
 arg_text names (args.Array array) = flat_map (λ entry. number_text (term_of names entry)) array.entries
 
 -- ---- one constraint
@@ -57,16 +57,16 @@ numbered_text number name = codes "constraint " ++ decimal number ++ codes " " +
 
 -- the same, the item that states it, and what it defines
 abbrev pub head_of : ℕ → List ℕ → Span → Option VarId → List ℕ
-head_of number name item defined = numbered_text number name ++ position_text item.position ++ item_text item ++ defines_text defined ++ codes " :"
+head_of number name item defined = numbered_text number name ++ position_text item.position ++ span_text item ++ defines_text defined ++ codes " :"
 
 -- the same, and what it is about
-abbrev pub line_of : ℕ → List ℕ → Span → Option VarId → List ℕ → List ℕ
-line_of number name item defined about = head_of number name item defined ++ about ++ codes "\n"
+abbrev pub statement_line : ℕ → List ℕ → Span → Option VarId → List ℕ → List ℕ
+statement_line number name item defined about = head_of number name item defined ++ about ++ codes "\n"
 
 -- ---- constraint items
 
 abbrev pub con_line : NameList → ℕ → Span → Con → List ℕ
-con_line names number item con = line_of number con.name.text item (defined_by names con.anns) (flat_map (arg_text names) con.args)
+con_line names number item con = statement_line number con.name.text item (defined_by names con.anns) (flat_map (arg_text names) con.args)
 
 -- the lines of these constraint items, where the first has this number
 abbrev pub con_lines : NameList → ℕ → List Con → List Span → List ℕ
@@ -82,17 +82,17 @@ equality_name Boolean = codes "bool_eq"
 
 -- `= e` behind a variable x is about x and e
 abbrev pub pair_text : NameList → Name → Basic → List ℕ
-pair_text names name value = name_text names name ++ value_text names value
+pair_text names name value = name_text names name ++ basic_text names value
 
 abbrev pub equality_line : NameList → ℕ → Span → SingleVar → Basic → List ℕ
-equality_line names number item var value = line_of number (equality_name (kind_of var.base)) item None (pair_text names var.name value)
+equality_line names number item var value = statement_line number (equality_name (kind_of var.base)) item None (pair_text names var.name value)
 
 abbrev pub value_lines : NameList → ℕ → Span → SingleVar → Option Basic → List ℕ
 value_lines names number item var None = []
 value_lines names number item var (Some value) = equality_line names number item var value
 
 abbrev pub entry_line : NameList → ℕ → Span → Basic → List ℕ
-entry_line names number item entry = line_of number (codes "set_in") item None (number_text (term_of names entry))
+entry_line names number item entry = statement_line number (codes "set_in") item None (number_text (term_of names entry))
 
 abbrev pub entry_lines : NameList → ℕ → Span → List Basic → List ℕ
 entry_lines names number item [] = []

@@ -5,8 +5,8 @@ ghost use Rattle.fzn_meaning.specs.Meaning.{longest};
 ghost use Rattle.fzn_names.specs.Known.{known};
 ghost use Rattle.fzn_names.specs.Limits.{IsVarWithin};
 ghost use Rattle.fzn_names.specs.Values.{term_of};
-ghost use Rattle.fzn_items.specs.Declarations.{parameter_line, parameter_lines, after_comma, listed_text, values_text, type_text, single_text, marks_text, single_line, range_text, ranges_text, shown_text, array_text, entries_text, array_line, declaration_line, declaration_lines};
-ghost use Rattle.fzn_items.specs.Pieces.{entry_text};
+ghost use Rattle.fzn_items.specs.Declarations.{parameter_line, parameter_lines, after_comma, listed_text, values_text, type_text, single_text, marks_text, single_line, dimension_text, ranges_text, shown_text, array_text, cells_text, array_line, declaration_line, declaration_lines};
+ghost use Rattle.fzn_items.specs.Pieces.{term_text};
 
 use crate::marks::is_defined;
 use crate::pieces::{push_bytes, push_entry, push_integer, push_mark, push_number_of, push_place};
@@ -132,7 +132,7 @@ fn push_single(
 // ---- arrays
 
 fn push_index_range(text: &mut Vec<u8>, range: &IndexRange) -> Result<(), AllocError>
-    ensures { OnOk result (text.new.items ≡ text.old.items ++ range_text range.now) }
+    ensures { OnOk result (text.new.items ≡ text.old.items ++ dimension_text range.now) }
 {
     push_bytes(text, b" ")?;
     push_integer(text, range.low)?;
@@ -141,7 +141,7 @@ fn push_index_range(text: &mut Vec<u8>, range: &IndexRange) -> Result<(), AllocE
 }
 
 fn push_index_ranges(text: &mut Vec<u8>, ranges: &[IndexRange]) -> Result<(), AllocError>
-    ensures { OnOk result (text.new.items ≡ text.old.items ++ flat_map range_text ranges.now) }
+    ensures { OnOk result (text.new.items ≡ text.old.items ++ flat_map dimension_text ranges.now) }
 {
     for range in ranges {
         push_index_range(text, range)?;
@@ -177,7 +177,7 @@ fn push_shown(
 }
 
 fn push_entries(text: &mut Vec<u8>, names: &Names, mut entries: &[Basic]) -> Result<(), AllocError>
-    ensures { OnOk result (text.new.items ≡ text.old.items ++ flat_map (λ entry. entry_text (term_of (known names.now) entry)) entries.now) }
+    ensures { OnOk result (text.new.items ≡ text.old.items ++ flat_map (λ entry. term_text (term_of (known names.now) entry)) entries.now) }
 {
     while let [entry, rest @ ..] = entries {
         push_entry(text, term_of(names, entry))?;
@@ -187,7 +187,7 @@ fn push_entries(text: &mut Vec<u8>, names: &Names, mut entries: &[Basic]) -> Res
 }
 
 fn push_all_entries(text: &mut Vec<u8>, names: &Names, entries: &[Basic]) -> Result<(), AllocError>
-    ensures { OnOk result (text.new.items ≡ text.old.items ++ entries_text (known names.now) entries.now) }
+    ensures { OnOk result (text.new.items ≡ text.old.items ++ cells_text (known names.now) entries.now) }
 {
     push_bytes(text, b" :")?;
     push_entries(text, names, entries)

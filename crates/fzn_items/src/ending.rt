@@ -1,7 +1,7 @@
 // The lines of search annotations, of the goal, of mended places and of the counts.
 ghost use Rattle.std.specs.Prelude.{◌≡◌, ◌++◌, OnOk, slice_range};
 ghost use Rattle.std.specs.List.{flat_map};
-ghost use Rattle.fzn_items.specs.Ending.{var_choice_name, value_choice_name, search_line, direction, goal_words, goal_line, part_text, change_word, place_line, constant_line, count_text, counts_line};
+ghost use Rattle.fzn_items.specs.Ending.{var_choice_name, value_choice_name, search_line, direction, goal_words, goal_line, part_text, change_word, place_line, constant_line, tally_text, counts_line};
 ghost use Rattle.fzn_items.specs.Pieces.{variable_text};
 
 use crate::counts::Counts;
@@ -181,7 +181,7 @@ pub fn push_constant(text: &mut Vec<u8>, constant: Option<ConstantGoal>) -> Resu
 // ---- the counts
 
 fn push_count(text: &mut Vec<u8>, word: &[u8], count: usize) -> Result<(), AllocError>
-    ensures { OnOk result (text.new.items ≡ text.old.items ++ count_text word.now count) }
+    ensures { OnOk result (text.new.items ≡ text.old.items ++ tally_text word.now count) }
 {
     push_bytes(text, word)?;
     push_number(text, count)

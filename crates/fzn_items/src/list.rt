@@ -10,7 +10,7 @@ ghost use Rattle.fzn_typing.specs.Limits.{IsWithinLimits};
 ghost use Rattle.fzn_typing.specs.Models.{written};
 ghost use Rattle.fzn_typing.specs.Typed.{IsTyped};
 ghost use Rattle.fzn_sources.specs.Items.{goal_items};
-ghost use Rattle.fzn_items.specs.Listed.{IsList, constant_count, counts_of, items_text, mended_text, statements_text};
+ghost use Rattle.fzn_items.specs.Listed.{IsList, constant_count, listed_counts, items_text, mended_text, statements_text};
 
 use crate::counts::Counts;
 use crate::declarations::{push_declarations, push_parameters};
@@ -98,7 +98,7 @@ fn constant_count(constant: Option<ConstantGoal>) -> usize
 }
 
 fn counts_of(tree: &Tree, model: &Model, places: &[Place], constant: Option<ConstantGoal>) -> Counts
-    ensures { result ≡ counts_of tree.now model.now places.now constant }
+    ensures { result ≡ listed_counts tree.now model.now places.now constant }
 {
     Counts {
         parameters: tree.params.len(),

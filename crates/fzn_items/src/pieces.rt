@@ -1,7 +1,7 @@
 // Numbers, places and terms as text. Each call answers `Err` where memory runs out, and nothing is said of the text then.
 ghost use Rattle.std.specs.Prelude.{◌≡◌, ◌++◌, OnOk};
 ghost use Rattle.std.specs.Fmt.{decimal, signed_decimal};
-ghost use Rattle.fzn_items.specs.Pieces.{bytes_text, item_text, position_text, mark_text, variable_text, number_text, entry_text};
+ghost use Rattle.fzn_items.specs.Pieces.{bytes_text, span_text, position_text, mark_text, variable_text, number_text, term_text};
 
 use fzn_domain::VarId;
 use fzn_lexer::{Position, Span};
@@ -40,7 +40,7 @@ pub fn push_range(text: &mut Vec<u8>, start: usize, end: usize) -> Result<(), Al
 
 /// The first and the last byte of the item.
 pub fn push_place(text: &mut Vec<u8>, item: Span) -> Result<(), AllocError>
-    ensures { OnOk result (text.new.items ≡ text.old.items ++ item_text item) }
+    ensures { OnOk result (text.new.items ≡ text.old.items ++ span_text item) }
 {
     push_range(text, item.start, item.end)
 }
@@ -85,7 +85,7 @@ pub fn push_number_of(text: &mut Vec<u8>, term: Term) -> Result<(), AllocError>
 
 /// The number of a variable, or a constant.
 pub fn push_entry(text: &mut Vec<u8>, term: Term) -> Result<(), AllocError>
-    ensures { OnOk result (text.new.items ≡ text.old.items ++ entry_text term) }
+    ensures { OnOk result (text.new.items ≡ text.old.items ++ term_text term) }
 {
     match term {
         Term::Constant(value) => {

@@ -11,7 +11,7 @@ ghost use Rattle.fzn_typing.specs.Faults.{faults_of, tree_names};
 ghost use Rattle.fzn_typing.specs.Limits.{IsWithinLimits};
 ghost use Rattle.fzn_typing.specs.Typed.{IsTyped};
 ghost use Rattle.fzn_sources.specs.Items.{items_of};
-ghost use Rattle.fzn_items.specs.Listed.{IsFaultOf, IsListing, IsListingFault, Itemizes};
+ghost use Rattle.fzn_items.specs.Listed.{IsFaultOrMemory, IsListing, IsListingFault, Itemizes};
 
 use crate::list::{Listing, listing_of};
 use fzn_lexer::{Fault, Halt, Span, TokenList, tokens};
@@ -97,7 +97,7 @@ fn mended_in(
     requires items { items.now ≡ items_of tokens.now }
     requires faulty { first (faults_of stated.now) ≡ Some fault }
     ensures ok { IfOk result (λ listing. IsListing bytes.now listing.text.items listing.counts) }
-    ensures err { IfErr result (IsFaultOf fault) }
+    ensures err { IfErr result (IsFaultOrMemory fault) }
 {
     let params = stated.params.as_slice();
     let told = mended_tokens(alloc, tokens, params)?;
@@ -116,7 +116,7 @@ fn mended_in(
 fn tree_or(alloc: Global, tokens: &TokenList<'_>, fault: Fault) -> Result<Tree, Halt<Fault>>
     requires { EndsInEnd tokens.now }
     ensures ok { IfOk result (IsTree tokens.now) }
-    ensures err { IfErr result (IsFaultOf fault) }
+    ensures err { IfErr result (IsFaultOrMemory fault) }
 {
     match parse(alloc, tokens) {
         Ok(tree) => Ok(tree),
@@ -131,7 +131,7 @@ fn named_or(alloc: Global, tree: &Tree, fault: Fault) -> Result<Named, Halt<Faul
     ensures typed { IfOk result (λ named. IsTyped tree.now (Ok named.model)) }
     ensures names { IfOk result (λ named. known named.names ≡ tree_names tree.now) }
     ensures well_formed { IfOk result (λ named. IsWellFormed named.model) }
-    ensures err { IfErr result (IsFaultOf fault) }
+    ensures err { IfErr result (IsFaultOrMemory fault) }
 {
     match type_check(alloc, tree) {
         Ok(named) => Ok(named),

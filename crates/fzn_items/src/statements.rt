@@ -5,7 +5,7 @@ ghost use Rattle.fzn_names.specs.Known.{known};
 ghost use Rattle.fzn_names.specs.Values.{term_of};
 ghost use Rattle.fzn_typing.specs.Models.{written};
 ghost use Rattle.fzn_items.specs.Pieces.{number_text};
-ghost use Rattle.fzn_items.specs.Statements.{name_text, value_text, arg_text, defines_text, numbered_text, head_of, con_line, con_lines, equality_name, pair_text, equality_line, value_lines, entry_line, entry_lines, element_lines, var_lines, written_lines};
+ghost use Rattle.fzn_items.specs.Statements.{name_text, basic_text, arg_text, defines_text, numbered_text, head_of, con_line, con_lines, equality_name, pair_text, equality_line, value_lines, entry_line, entry_lines, element_lines, var_lines, written_lines};
 
 use crate::marks::defined_by;
 use crate::pieces::{
@@ -35,7 +35,7 @@ fn push_name(text: &mut Vec<u8>, names: &Names, name: &Name) -> Result<(), Alloc
 }
 
 fn push_value(text: &mut Vec<u8>, names: &Names, value: &Basic) -> Result<(), AllocError>
-    ensures { OnOk result (text.new.items ≡ text.old.items ++ value_text (known names.now) value.now) }
+    ensures { OnOk result (text.new.items ≡ text.old.items ++ basic_text (known names.now) value.now) }
 {
     match value {
         Basic::Literal(_) => Ok(()),

@@ -2,7 +2,7 @@ use Rattle.std.proofs.Common.{◌++◌, ℕ, List, codes, ap, ◌∙◌}
 use Rattle.fzn_names.specs.Known.{known}
 use Rattle.fzn_tree.specs.declared.tree.Ann.{Ann}
 use Rattle.fzn_items.specs.Declarations.{marks_text, single_text, type_text}
-use Rattle.fzn_items.specs.Pieces.{item_text}
+use Rattle.fzn_items.specs.Pieces.{span_text}
 use Rattle.fzn_items.proofs.TextLemmas.{behind, behind_eq}
 use Rattle.fzn_items.proofs.declarations.push_single.Goals as goal
 
@@ -14,7 +14,7 @@ returns c =
     let last : List ℕ = codes "\n" in
     let name = single_text (known c.args.names.now) var.name in
     let kind = type_text var.base in
-    let place = item_text c.args.item in
+    let place = span_text c.args.item in
     let marks = marks_text var.anns in
     let start = c.args.text.now.items in
     let with_kind = behind_eq start c.push_single_name.new.text.items c.push_type.new.text.items name kind c.in_ok-push_single_name.ensures c.in_ok-push_type.ensures in

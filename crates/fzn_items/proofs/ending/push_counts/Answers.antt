@@ -1,5 +1,5 @@
 use Rattle.std.proofs.Common.{◌++◌, ℕ, List, codes}
-use Rattle.fzn_items.specs.Ending.{count_text}
+use Rattle.fzn_items.specs.Ending.{tally_text}
 use Rattle.fzn_items.proofs.TextLemmas.{behind, behind_eq}
 use Rattle.fzn_items.proofs.ending.push_counts.Goals as goal
 
@@ -9,11 +9,11 @@ returns c =
     let r = c.push_bytes.result in
     let end = c.push_bytes.new.text.items in
     let last : List ℕ = codes "\n" in
-    let e = count_text (codes " mended ") counts.mended in
-    let d = count_text (codes " constraints ") counts.constraints in
-    let a = count_text (codes " arrays ") counts.arrays in
-    let b = count_text (codes " variables ") counts.variables in
-    let p = count_text (codes "end parameters ") counts.parameters in
+    let e = tally_text (codes " mended ") counts.mended in
+    let d = tally_text (codes " constraints ") counts.constraints in
+    let a = tally_text (codes " arrays ") counts.arrays in
+    let b = tally_text (codes " variables ") counts.variables in
+    let p = tally_text (codes "end parameters ") counts.parameters in
     let start = c.args.text.now.items in
     let with_b = behind_eq start c.push_count.new.text.items c.push_count-2.new.text.items p b c.in_ok-push_count.ensures c.in_ok-push_count-2.ensures in
     let with_a = behind_eq start c.push_count-2.new.text.items c.push_count-3.new.text.items (p ++ b) a with_b c.in_ok-push_count-3.ensures in

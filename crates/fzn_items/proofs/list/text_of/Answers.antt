@@ -4,7 +4,7 @@ use Rattle.fzn_lexer.specs.declared.token.Span.{Span}
 use Rattle.fzn_items.specs.declared.counts.Counts.{Counts}
 use Rattle.fzn_items.specs.Ending.{search_line, goal_line, counts_line}
 use Rattle.fzn_sources.specs.Items.{goal_items}
-use Rattle.fzn_items.specs.Listed.{counts_of, items_text, mended_text, statements_text}
+use Rattle.fzn_items.specs.Listed.{listed_counts, items_text, mended_text, statements_text}
 use Rattle.fzn_items.proofs.TextLemmas.{behind_eq}
 use Rattle.fzn_items.proofs.list.text_of.Goals as goal
 
@@ -19,7 +19,7 @@ returns c =
     let searches = flat_map search_line c.args.annotations.now in
     let wanted = goal_line c.args.constant model.goal (goal_items tree items) in
     let told = mended_text c.args.bytes.now c.args.places.now c.args.constant in
-    let counts = counts_line (counts_of tree model c.args.places.now c.args.constant) in
+    let counts = counts_line (listed_counts tree model c.args.places.now c.args.constant) in
     let with_searches = behind_eq start c.push_statements.new.text.items c.push_searches.new.text.items statements searches c.in_ok-push_statements.ensures c.in_ok-push_searches.ensures in
     let with_goal = behind_eq start c.push_searches.new.text.items c.push_goal.new.text.items (statements ++ searches) wanted with_searches
     (c.in_ok-push_goal.ensures ∙ ap (λ (all : List Span). c.push_searches.new.text.items ++ goal_line c.args.constant model.goal all) c.goal_items.ensures) in
