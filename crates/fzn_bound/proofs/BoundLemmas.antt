@@ -30,8 +30,8 @@ use Rattle.fzn_cert.specs.Sound.{IsSound}
 use Rattle.fzn_cert.proofs.SoundLaws.{sound-after, sound-start}
 use Rattle.fzn_bound.specs.declared.known.Known.{Known}
 use Rattle.fzn_bound.specs.declared.known.Known.TheVariants.{NoObjective}
-use Rattle.fzn_bound.specs.Known.{IsBetterValue, objective_in, IsBoundOf, IsTrueOf, NoneBetter, IsDeclared, IsObjective, Says, clause_of, IsAsStrong, IsStrongest, IsStrong}
-use Rattle.fzn_bound.specs.Said.{IsEnd, is_objective, has_side, said_of, said_in, stronger, strengthened, bound_after, weaker, unsolved, solved, found_of, known_of}
+use Rattle.fzn_bound.specs.Known.{IsBetterValue, objective_in, IsBoundOf, IsTrueOf, NoneBetter, IsDeclared, IsObjective, SaysBound, clause_given, IsAsStrong, IsStrongest, IsStrong}
+use Rattle.fzn_bound.specs.Said.{IsBestDeclared, is_objective, has_side, said_of, said_in, stronger, strengthened, bound_after, weaker, unsolved, solved, found_of, known_after}
 use Rattle.fzn_bound.specs.Bounded.{IsBoundBy}
 
 -- ---- one literal
@@ -156,7 +156,7 @@ not_satisfy (Minimize objective) var h is = cc
 not_satisfy (Maximize objective) var h is = cc
 
 -- where a clause says something, this number is said, and it is as strong
-says-said : (goal : Goal) (clause : List Lit) (k : ℤ) → Says goal clause k → (m : ℤ) × (said_in goal clause ≡ Some m) × (IsBetterValue goal m k → ⊥)
+says-said : (goal : Goal) (clause : List Lit) (k : ℤ) → SaysBound goal clause k → (m : ℤ) × (said_in goal clause ≡ Some m) × (IsBetterValue goal m k → ⊥)
 says-said goal [] k says = absurd says
 says-said goal (lit ∷ other ∷ rest) k says = absurd says
 says-said goal (lit ∷ []) k says = elim (cases_Bool (has_side goal lit.op)) [
@@ -191,21 +191,21 @@ own-not-better (Maximize var) b better = omega (arith, ints)
 
 -- the bound after the steps is as strong as the first, and as what each of them says
 strong-steps : (goal : Goal) (steps : List Step) (f b : ℤ) → fold (bound_after goal) (Some f) steps ≡ Some b
-    → (IsBetterValue goal b f → ⊥) × AllByRecursion (λ step. IsAsStrong goal (Says goal (clause_of step)) b) steps
+    → (IsBetterValue goal b f → ⊥) × AllByRecursion (λ step. IsAsStrong goal (SaysBound goal (clause_given step)) b) steps
 strong-steps goal [] f b is = (λ better. own-not-better goal f (subst (λ (x : ℤ). IsBetterValue goal x f) (sym (some_is f b is)) better), tt)
-strong-steps goal (step ∷ later) f b is = by_said (λ next h. strong-steps goal later next b h) (said_in goal (clause_of step)) refl is
+strong-steps goal (step ∷ later) f b is = by_said (λ next h. strong-steps goal later next b h) (said_in goal (clause_given step)) refl is
   where
-    by_said : ((next : ℤ) → fold (bound_after goal) (Some next) later ≡ Some b → (IsBetterValue goal b next → ⊥) × AllByRecursion (λ step. IsAsStrong goal (Says goal (clause_of step)) b) later)
-        → (said : Option ℤ) → said_in goal (clause_of step) ≡ said → fold (bound_after goal) (strengthened goal (Some f) said) later ≡ Some b
-        → (IsBetterValue goal b f → ⊥) × AllByRecursion (λ step. IsAsStrong goal (Says goal (clause_of step)) b) (step ∷ later)
+    by_said : ((next : ℤ) → fold (bound_after goal) (Some next) later ≡ Some b → (IsBetterValue goal b next → ⊥) × AllByRecursion (λ step. IsAsStrong goal (SaysBound goal (clause_given step)) b) later)
+        → (said : Option ℤ) → said_in goal (clause_given step) ≡ said → fold (bound_after goal) (strengthened goal (Some f) said) later ≡ Some b
+        → (IsBetterValue goal b f → ⊥) × AllByRecursion (λ step. IsAsStrong goal (SaysBound goal (clause_given step)) b) (step ∷ later)
     by_said strong_later None said_is is_after =
         let rest = strong_later f is_after in
-        (rest.0, (λ k says better. let m = says-said goal (clause_of step) k says in none_some m.0 (sym said_is ∙ m.1), rest.1))
+        (rest.0, (λ k says better. let m = says-said goal (clause_given step) k says in none_some m.0 (sym said_is ∙ m.1), rest.1))
     by_said strong_later (Some m) said_is is_after =
         let rest = strong_later (stronger goal f m) is_after in (
           strong-trans goal b (stronger goal f m) f rest.0 (stronger-first goal f m),
           (
-            λ k says better. let n = says-said goal (clause_of step) k says in
+            λ k says better. let n = says-said goal (clause_given step) k says in
                 strong-trans goal b (stronger goal f m) k rest.0
                 (strong-trans goal (stronger goal f m) m k (stronger-second goal f m) (subst (λ (x : ℤ). IsBetterValue goal x k → ⊥) (some_is n.0 m (sym n.1 ∙ said_is)) n.2)) better,
             rest.1,
@@ -216,7 +216,7 @@ none-steps : (goal : Goal) (steps : List Step) → fold (bound_after goal) None 
 none-steps goal [] = refl
 none-steps goal (step ∷ later) = none-steps goal later
 
-end-strong : (goal : Goal) (vars : List Var) (f : ℤ) → (goal ≡ Satisfy → ⊥) → IsEnd goal vars (Some f) → IsAsStrong goal (NoneBetter goal (IsDeclared goal vars)) f
+end-strong : (goal : Goal) (vars : List Var) (f : ℤ) → (goal ≡ Satisfy → ⊥) → IsBestDeclared goal vars (Some f) → IsAsStrong goal (NoneBetter goal (IsDeclared goal vars)) f
 end-strong Satisfy vars f other end k none = absurd (other refl)
 end-strong (Minimize var) vars f other end k none = none f end.0
 end-strong (Maximize var) vars f other end k none = none f end.0
@@ -229,8 +229,8 @@ strongest model steps b other by = by_first by.first refl
     by_first None is = absurd (none_some b (sym (by.is ∙ ap (λ (o : Option ℤ). fold (bound_after model.goal) o steps) is ∙ none-steps model.goal steps)))
     by_first (Some f) is =
         let parts = strong-steps model.goal steps f b (sym (by.is ∙ ap (λ (o : Option ℤ). fold (bound_after model.goal) o steps) is)) in (
-          λ k none. strong-trans model.goal b f k parts.0 (end-strong model.goal model.vars f other (subst (IsEnd model.goal model.vars) is by.end) k none),
-          All-from_recursion (λ step. IsAsStrong model.goal (Says model.goal (clause_of step)) b) steps parts.1,
+          λ k none. strong-trans model.goal b f k parts.0 (end-strong model.goal model.vars f other (subst (IsBestDeclared model.goal model.vars) is by.end) k none),
+          All-from_recursion (λ step. IsAsStrong model.goal (SaysBound model.goal (clause_given step)) b) steps parts.1,
         )
 
 -- ---- what steps say is true
@@ -285,7 +285,7 @@ passes-before model past (step ∷ later) a passes = passes-first model past ste
 
 -- what an accepted step says holds where all cuts so far are passed
 step-says : (model : Model) (past : Past) (step : Step) (a : List ℤ) → IsSound model (after model past step) → IsSolution model a → PassesCuts model (after model past step).solutions a
-    → IfSome (said_in model.goal (clause_of step)) (λ m. IsBetterValue model.goal (objective_in model.goal a) m → ⊥)
+    → IfSome (said_in model.goal (clause_given step)) (λ m. IsBetterValue model.goal (objective_in model.goal a) m → ⊥)
 step-says model past (Infer constraint rule clause) a sound solution passes =
     said-holds model.goal clause a ((front_of (λ held. IfSome held (λ c. is_clause_true a c ≡ true)) past.clauses (Some clause) (sound.clauses a solution passes)).1)
 step-says model past (Resolve clause ids) a sound solution passes =
@@ -301,13 +301,13 @@ steps-hold model past (step ∷ later) bound a wf sound accepted solution passes
     let next = sound-after model past step wf sound accepted.0 in
     let so_far = passes-before model (after model past step) later a passes in
     steps-hold model (after model past step) later (bound_after model.goal bound step) a wf next accepted.1 solution passes
-    (holds-more model.goal a bound (said_in model.goal (clause_of step)) holds (step-says model past step a next solution so_far))
+    (holds-more model.goal a bound (said_in model.goal (clause_given step)) holds (step-says model past step a next solution so_far))
 
 -- a value of the declared set
 inside : (model : Model) (var : VarId) (a : List ℤ) → IsAssignment model a → (1 ≤ var.0) × (var.0 ≤ length model.vars) → contains (set_of (declared_sets model.vars) var) (value_of a var) ≡ true
 inside model var a within is_var = let count = length-map model.vars (λ (v : Var). v.domain) in within.inside (var.0 - 1) (omega (arith, count, is_var.0, is_var.1))
 
-end-holds : (model : Model) (goal : Goal) (bound : Option ℤ) (a : List ℤ) → (goal ≡ Satisfy → ⊥) → IsGoal (length model.vars) goal → IsAssignment model a → IsEnd goal model.vars bound → Holds goal a bound
+end-holds : (model : Model) (goal : Goal) (bound : Option ℤ) (a : List ℤ) → (goal ≡ Satisfy → ⊥) → IsGoal (length model.vars) goal → IsAssignment model a → IsBestDeclared goal model.vars bound → Holds goal a bound
 end-holds model Satisfy bound a other is_goal within end = absurd (other refl)
 end-holds model (Minimize var) None a other is_goal within end = let e = end (value_of a var) in let i = inside model var a within is_goal in cc
 end-holds model (Minimize var) (Some f) a other is_goal within end = λ better. let le = end.1 (value_of a var) (inside model var a within is_goal) in omega (arith, ints, le, better)
@@ -379,10 +379,10 @@ true_of-found model (first ∷ rest) false bound other has =
     past_bound goal a None best h better = h
     past_bound goal a (Some b) best h better = h better
 
-by-goal : (model : Model) (P : Known → Type 0) (found : List (List ℤ)) (closed : Bool) (bound : Option ℤ) → (model.goal ≡ Satisfy → P NoObjective) → ((model.goal ≡ Satisfy → ⊥) → P (found_of model.goal found closed bound)) → P (known_of model.goal found closed bound)
+by-goal : (model : Model) (P : Known → Type 0) (found : List (List ℤ)) (closed : Bool) (bound : Option ℤ) → (model.goal ≡ Satisfy → P NoObjective) → ((model.goal ≡ Satisfy → ⊥) → P (found_of model.goal found closed bound)) → P (known_after model.goal found closed bound)
 by-goal model P found closed bound satisfy other = by_cases model.goal refl
   where
-    by_cases : (goal : Goal) → model.goal ≡ goal → P (known_of goal found closed bound)
+    by_cases : (goal : Goal) → model.goal ≡ goal → P (known_after goal found closed bound)
     by_cases Satisfy is = satisfy is
     by_cases (Minimize var) is = subst (λ (g : Goal). P (found_of g found closed bound)) is (other (λ e. clash (sym is ∙ e)))
       where
@@ -404,7 +404,7 @@ found_of-last goal (first ∷ rest) last closed bound some is =
     ap (λ (l : List ℤ). solved goal closed bound (objective_in goal l)) (get_or_default (first ∷ rest) (length (first ∷ rest) - 1) [] last (omega arith) ∙ is)
 
 -- what is known is true
-pub known-true : (model : Model) (found : List (List ℤ)) (closed : Bool) (bound : Option ℤ) → ((model.goal ≡ Satisfy → ⊥) → HasFound model found closed bound) → IsTrueOf model found closed (known_of model.goal found closed bound)
+pub known-true : (model : Model) (found : List (List ℤ)) (closed : Bool) (bound : Option ℤ) → ((model.goal ≡ Satisfy → ⊥) → HasFound model found closed bound) → IsTrueOf model found closed (known_after model.goal found closed bound)
 known-true model found closed bound has = by-goal model (IsTrueOf model found closed) found closed bound (λ is. is) (λ other. true_of-found model found closed bound other (has other))
 
 weaker-one : (goal : Goal) (b u : ℤ) → (weaker goal b u ≡ b) ⊎ (weaker goal b u ≡ u)
@@ -427,5 +427,5 @@ strong-found model steps [] false (Some b) other by = strongest model steps b ot
 strong-found model steps (first ∷ rest) closed bound other by = strong-solved model steps closed bound (objective_in model.goal (get_or (first ∷ rest) (length (first ∷ rest) - 1) [])) other by
 
 -- and as strong as the steps make it
-pub known-strong : (model : Model) (steps : List Step) (found : List (List ℤ)) (closed : Bool) (bound : Option ℤ) → IsBoundBy model steps bound → IsStrong model steps (known_of model.goal found closed bound)
+pub known-strong : (model : Model) (steps : List Step) (found : List (List ℤ)) (closed : Bool) (bound : Option ℤ) → IsBoundBy model steps bound → IsStrong model steps (known_after model.goal found closed bound)
 known-strong model steps found closed bound by = by-goal model (IsStrong model steps) found closed bound (λ is. tt) (λ other. strong-found model steps found closed bound other by)

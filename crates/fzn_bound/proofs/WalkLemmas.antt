@@ -28,9 +28,9 @@ use Rattle.fzn_checker.specs.Held.{past_in, HasTaken, IsCertificate}
 use Rattle.fzn_checker.proofs.CallerLemmas.{AreSpelled, spelled-fresh, spelled-more, certificate-read, certificate-accepted, found-refuted}
 use Rattle.fzn_bound.specs.declared.certificate.Walked.{Walked}
 use Rattle.fzn_bound.specs.declared.known.Known.{Known}
-use Rattle.fzn_bound.specs.Line.{line_of}
-use Rattle.fzn_bound.specs.Said.{bound_after, known_of, IsEnd}
-use Rattle.fzn_bound.specs.Bounded.{Bounds, IsBoundBy, IsBoundFault, IsWalked}
+use Rattle.fzn_bound.specs.Line.{bound_line}
+use Rattle.fzn_bound.specs.Said.{bound_after, known_after, IsBestDeclared}
+use Rattle.fzn_bound.specs.Bounded.{TellsBound, IsBoundBy, IsBoundFault, IsWalked}
 use Rattle.fzn_bound.proofs.BoundLemmas.{has-found, known-true, known-strong}
 
 -- ---- line by line
@@ -43,7 +43,7 @@ pub record IsOnWay (model : Model) (bytes : Option (List ℕ)) (now : Progress) 
   pub spelled : AreSpelled now steps
   pub by : IsBoundBy model steps bound
 
-pub way-start : (model : Model) (now : Progress) (taken : Taken) (bound : Option ℤ) → IsFresh now.left now → HasTaken model [] taken → IsEnd model.goal model.vars bound → IsOnWay model now.left now taken bound
+pub way-start : (model : Model) (now : Progress) (taken : Taken) (bound : Option ℤ) → IsFresh now.left now → HasTaken model [] taken → IsBestDeclared model.goal model.vars bound → IsOnWay model now.left now taken bound
 way-start model now taken bound fresh has_taken end = record {
   steps = [];
   has_taken = has_taken;
@@ -100,8 +100,8 @@ way-end model bytes old new walked way accepts ends counts same closed =
 
 module _ (file cert : Option (List ℕ)) (model : Model) (states : States file model) where
   pub bounds-of : (all : Bool) (walked : Walked) → IsWellFormed model → IsWalked model cert walked
-      → Bounds file cert all (answer_text model (past_in walked.taken).solutions walked.closed all ++ line_of model (known_of model.goal (past_in walked.taken).solutions walked.closed walked.bound))
-      (known_of model.goal (past_in walked.taken).solutions walked.closed walked.bound)
+      → TellsBound file cert all (answer_text model (past_in walked.taken).solutions walked.closed all ++ bound_line model (known_after model.goal (past_in walked.taken).solutions walked.closed walked.bound))
+      (known_after model.goal (past_in walked.taken).solutions walked.closed walked.bound)
   bounds-of all walked wf is =
       let past = past_in walked.taken in
       let steps = is.steps in
@@ -127,11 +127,11 @@ module _ (file cert : Option (List ℕ)) (model : Model) (states : States file m
       }
 
   -- the same by what was seen of the solutions, and by what is known
-  pub bounds-seen : (all : Bool) (walked : Walked) (seen : List (List ℤ)) (known : Known) → IsWellFormed model → IsWalked model cert walked → seen ≡ (past_in walked.taken).solutions → known ≡ known_of model.goal seen walked.closed walked.bound
-      → Bounds file cert all (answer_text model seen walked.closed all ++ line_of model known) known
+  pub bounds-seen : (all : Bool) (walked : Walked) (seen : List (List ℤ)) (known : Known) → IsWellFormed model → IsWalked model cert walked → seen ≡ (past_in walked.taken).solutions → known ≡ known_after model.goal seen walked.closed walked.bound
+      → TellsBound file cert all (answer_text model seen walked.closed all ++ bound_line model known) known
   bounds-seen all walked seen known wf is seen_is known_is =
-      subst (λ (k : Known). Bounds file cert all (answer_text model seen walked.closed all ++ line_of model k) k) (sym known_is)
-      (subst (λ (s : List (List ℤ)). Bounds file cert all (answer_text model s walked.closed all ++ line_of model (known_of model.goal s walked.closed walked.bound)) (known_of model.goal s walked.closed walked.bound)) (sym seen_is)
+      subst (λ (k : Known). TellsBound file cert all (answer_text model seen walked.closed all ++ bound_line model k) k) (sym known_is)
+      (subst (λ (s : List (List ℤ)). TellsBound file cert all (answer_text model s walked.closed all ++ bound_line model (known_after model.goal s walked.closed walked.bound)) (known_after model.goal s walked.closed walked.bound)) (sym seen_is)
       (bounds-of all walked wf is))
 
   -- nothing is printed for a certificate that is not accepted

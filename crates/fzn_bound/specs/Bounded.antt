@@ -17,12 +17,12 @@ use Rattle.fzn_checker.specs.Held.{past_in, HasTaken, IsCertificate}
 use Rattle.fzn_bound.specs.declared.certificate.Walked.{Walked}
 use Rattle.fzn_bound.specs.declared.known.Known.{Known}
 use Rattle.fzn_bound.specs.Known.{IsStrong, IsTrueOf}
-use Rattle.fzn_bound.specs.Line.{line_of}
-use Rattle.fzn_bound.specs.Said.{bound_after, IsEnd}
+use Rattle.fzn_bound.specs.Line.{bound_line}
+use Rattle.fzn_bound.specs.Said.{bound_after, IsBestDeclared}
 
 -- The file states a model, and the certificate has these steps and is accepted for it. What is known is true of the model, and has the
 -- strongest bound that the steps give. The text is that of the answer, and the line.
-pub record Bounds (file cert : Option (List ℕ)) (all : Bool) (text : List ℕ) (known : Known) : Type 0 where
+pub record TellsBound (file cert : Option (List ℕ)) (all : Bool) (text : List ℕ) (known : Known) : Type 0 where
   pub model : Model
   pub found : List (List ℤ)
   pub closed : Bool
@@ -32,11 +32,11 @@ pub record Bounds (file cert : Option (List ℕ)) (all : Bool) (text : List ℕ)
   pub certificate : IsCertificate model version cert steps closed
   pub holds : IsTrueOf model found closed known
   pub strong : IsStrong model steps known
-  pub is : text ≡ answer_text model found closed all ++ line_of model known
+  pub is : text ≡ answer_text model found closed all ++ bound_line model known
 
 -- such a text is printed, whole
-abbrev pub IsBounded : Option (List ℕ) → Option (List ℕ) → Bool → Option (List ℕ) → Option (List ℕ) → Known → Type 0
-IsBounded file cert all before after known = (text : List ℕ) × Bounds file cert all text known × Appends before after text
+abbrev pub IsBoundTold : Option (List ℕ) → Option (List ℕ) → Bool → Option (List ℕ) → Option (List ℕ) → Known → Type 0
+IsBoundTold file cert all before after known = (text : List ℕ) × TellsBound file cert all text known × Appends before after text
 
 -- The file's first fault, or the first faulty line of the certificate; nothing is printed then. After a failed write a beginning of such a
 -- text stands.
@@ -45,7 +45,7 @@ IsBoundFault file cert all before after (File fault) = Keeps before after × IfS
 IsBoundFault file cert all before after (Refused line refusal) = Keeps before after × ((model : Model) × States file model × VerdictOn model cert (refused line refusal))
 IsBoundFault file cert all before after Memory = Keeps before after
 IsBoundFault file cert all before after Read = Keeps before after
-IsBoundFault file cert all before after WriteOutput = (known : Known) × (text : List ℕ) × Bounds file cert all text known × AppendsFront before after text
+IsBoundFault file cert all before after WriteOutput = (known : Known) × (text : List ℕ) × TellsBound file cert all text known × AppendsFront before after text
 IsBoundFault file cert all before after NotVersionOne = ⊥
 IsBoundFault file cert all before after WriteCert = ⊥
 
@@ -54,7 +54,7 @@ IsBoundFault file cert all before after WriteCert = ⊥
 -- the strongest bound that the declared set and these steps give
 pub record IsBoundBy (model : Model) (steps : List Step) (bound : Option ℤ) : Type 0 where
   pub first : Option ℤ
-  pub end : IsEnd model.goal model.vars first
+  pub end : IsBestDeclared model.goal model.vars first
   pub is : bound ≡ fold (bound_after model.goal) first steps
 
 -- what is left was a certificate of accepted steps, and they were taken

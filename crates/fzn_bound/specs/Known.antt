@@ -67,15 +67,15 @@ IsObjective (Minimize objective) var = var ≡ objective
 IsObjective (Maximize objective) var = var ≡ objective
 
 -- the clause has one literal, on the objective, and no value at which it is true is better
-abbrev pub Says : Goal → List Lit → ℤ → Type 0
-Says goal (lit ∷ []) bound = IsObjective goal lit.var × NoneBetter goal (λ x. is_true_at lit x ≡ true) bound
-Says goal _ bound = ⊥
+abbrev pub SaysBound : Goal → List Lit → ℤ → Type 0
+SaysBound goal (lit ∷ []) bound = IsObjective goal lit.var × NoneBetter goal (λ x. is_true_at lit x ≡ true) bound
+SaysBound goal _ bound = ⊥
 
 -- the clause that a step gives
-abbrev pub clause_of : Step → List Lit
-clause_of (Infer constraint rule clause) = clause
-clause_of (Resolve clause ids) = clause
-clause_of _ = []
+abbrev pub clause_given : Step → List Lit
+clause_given (Infer constraint rule clause) = clause
+clause_given (Resolve clause ids) = clause
+clause_given _ = []
 
 -- no bound that is said so is stronger
 abbrev pub IsAsStrong : Goal → (ℤ → Type 0) → ℤ → Type 0
@@ -85,7 +85,7 @@ IsAsStrong goal IsSaid bound = (k : ℤ) → IsSaid k → IsBetterValue goal bou
 abbrev pub IsStrongest : Model → List Step → ℤ → Type 0
 IsStrongest model steps bound =
     IsAsStrong model.goal (NoneBetter model.goal (IsDeclared model.goal model.vars)) bound
-    × All (λ step. IsAsStrong model.goal (Says model.goal (clause_of step)) bound) steps
+    × All (λ step. IsAsStrong model.goal (SaysBound model.goal (clause_given step)) bound) steps
 
 -- the bound is the strongest that the declared set and the steps give, or the best value where that is weaker
 abbrev pub IsStrong : Model → List Step → Known → Type 0

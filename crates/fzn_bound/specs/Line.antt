@@ -18,8 +18,8 @@ name_for Satisfy vars = []
 name_for (Minimize var) vars = name_at (slice_get vars (var.0 - 1))
 name_for (Maximize var) vars = name_at (slice_get vars (var.0 - 1))
 
-abbrev pub name_of : Model → List ℕ
-name_of model = name_for model.goal model.vars
+abbrev pub objective_name : Model → List ℕ
+objective_name model = name_for model.goal model.vars
 
 abbrev pub side_of : Goal → List ℕ
 side_of Satisfy = codes "at least "
@@ -32,9 +32,9 @@ best_text name best = name ++ codes " = " ++ signed_decimal best ++ codes ", "
 abbrev pub bound_text : Goal → ℤ → List ℕ
 bound_text goal bound = side_of goal ++ signed_decimal bound ++ 10 ∷ []
 
-abbrev pub line_of : Model → Known → List ℕ
-line_of model NoObjective = codes "no objective" ++ 10 ∷ []
-line_of model NoSolution = codes "no solution" ++ 10 ∷ []
-line_of model (Unsolved bound) = bound_text model.goal bound
-line_of model (Open best bound) = best_text (name_of model) best ++ bound_text model.goal bound
-line_of model (Closed best) = best_text (name_of model) best ++ (codes "the best" ++ 10 ∷ [])
+abbrev pub bound_line : Model → Known → List ℕ
+bound_line model NoObjective = codes "no objective" ++ 10 ∷ []
+bound_line model NoSolution = codes "no solution" ++ 10 ∷ []
+bound_line model (Unsolved bound) = bound_text model.goal bound
+bound_line model (Open best bound) = best_text (objective_name model) best ++ bound_text model.goal bound
+bound_line model (Closed best) = best_text (objective_name model) best ++ (codes "the best" ++ 10 ∷ [])

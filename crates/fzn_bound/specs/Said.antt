@@ -14,24 +14,24 @@ use Rattle.fzn_meaning.specs.Solutions.{declared_sets}
 use Rattle.fzn_cert.specs.declared.step.Step.{Step}
 use Rattle.fzn_bound.specs.declared.known.Known.{Known}
 use Rattle.fzn_bound.specs.declared.known.Known.TheVariants.{NoObjective, NoSolution, Unsolved, Open, Closed}
-use Rattle.fzn_bound.specs.Known.{clause_of, objective_in}
+use Rattle.fzn_bound.specs.Known.{clause_given, objective_in}
 
 -- ---- the declared set
 
 -- the least value, and none of an empty set
-abbrev pub IsLeast : IntSet → Option ℤ → Type 0
-IsLeast s None = (x : ℤ) → contains s x ≡ false
-IsLeast s (Some least) = (contains s least ≡ true) × ((x : ℤ) → contains s x ≡ true → least ≤ℤ x)
+abbrev pub IsLeastMember : IntSet → Option ℤ → Type 0
+IsLeastMember s None = (x : ℤ) → contains s x ≡ false
+IsLeastMember s (Some least) = (contains s least ≡ true) × ((x : ℤ) → contains s x ≡ true → least ≤ℤ x)
 
-abbrev pub IsGreatest : IntSet → Option ℤ → Type 0
-IsGreatest s None = (x : ℤ) → contains s x ≡ false
-IsGreatest s (Some greatest) = (contains s greatest ≡ true) × ((x : ℤ) → contains s x ≡ true → x ≤ℤ greatest)
+abbrev pub IsGreatestMember : IntSet → Option ℤ → Type 0
+IsGreatestMember s None = (x : ℤ) → contains s x ≡ false
+IsGreatestMember s (Some greatest) = (contains s greatest ≡ true) × ((x : ℤ) → contains s x ≡ true → x ≤ℤ greatest)
 
 -- the best value of the objective's declared set
-abbrev pub IsEnd : Goal → List Var → Option ℤ → Type 0
-IsEnd Satisfy vars bound = bound ≡ None
-IsEnd (Minimize var) vars bound = IsLeast (set_of (declared_sets vars) var) bound
-IsEnd (Maximize var) vars bound = IsGreatest (set_of (declared_sets vars) var) bound
+abbrev pub IsBestDeclared : Goal → List Var → Option ℤ → Type 0
+IsBestDeclared Satisfy vars bound = bound ≡ None
+IsBestDeclared (Minimize var) vars bound = IsLeastMember (set_of (declared_sets vars) var) bound
+IsBestDeclared (Maximize var) vars bound = IsGreatestMember (set_of (declared_sets vars) var) bound
 
 -- ---- steps
 
@@ -68,7 +68,7 @@ strengthened goal (Some bound) (Some said) = Some (stronger goal bound said)
 
 -- after one more step
 abbrev pub bound_after : Goal → Option ℤ → Step → Option ℤ
-bound_after goal bound step = strengthened goal bound (said_in goal (clause_of step))
+bound_after goal bound step = strengthened goal bound (said_in goal (clause_given step))
 
 -- ---- the end
 
@@ -90,7 +90,7 @@ abbrev pub found_of : Goal → List (List ℤ) → Bool → Option ℤ → Known
 found_of goal [] closed bound = unsolved closed bound
 found_of goal (first ∷ rest) closed bound = solved goal closed bound (objective_in goal (slice_index_or (first ∷ rest) (length (first ∷ rest) - 1) []))
 
-abbrev pub known_of : Goal → List (List ℤ) → Bool → Option ℤ → Known
-known_of Satisfy found closed bound = NoObjective
-known_of (Minimize var) found closed bound = found_of (Minimize var) found closed bound
-known_of (Maximize var) found closed bound = found_of (Maximize var) found closed bound
+abbrev pub known_after : Goal → List (List ℤ) → Bool → Option ℤ → Known
+known_after Satisfy found closed bound = NoObjective
+known_after (Minimize var) found closed bound = found_of (Minimize var) found closed bound
+known_after (Maximize var) found closed bound = found_of (Maximize var) found closed bound

@@ -3,7 +3,7 @@ ghost use Rattle.std.specs.Prelude.{◌≡◌, false, IfOk, IfErr};
 ghost use Rattle.fzn_cert_reader.specs.Reader.{progress, input_of};
 ghost use Rattle.fzn_checker.specs.Answered.{IsCheckDue};
 ghost use Rattle.fzn_checker.specs.Checked.{IsUnread};
-ghost use Rattle.fzn_bound.specs.Bounded.{IsBounded, IsBoundFault};
+ghost use Rattle.fzn_bound.specs.Bounded.{IsBoundTold, IsBoundFault};
 
 use crate::certificate::walk_certificate;
 use crate::known::{Known, known_of};
@@ -30,7 +30,7 @@ pub fn bound<R: Read + Drop, C: Read + Drop, W: Write>(
     show_all: bool,
     out: &mut W,
 ) -> Result<Known, CheckFault>
-    ensures ok { IfOk result (IsBounded (R.remaining file) (C.remaining cert) show_all (W.contents out.old) (W.contents out.new)) }
+    ensures ok { IfOk result (IsBoundTold (R.remaining file) (C.remaining cert) show_all (W.contents out.old) (W.contents out.new)) }
     ensures err { IfErr result (IsBoundFault (R.remaining file) (C.remaining cert) show_all (W.contents out.old) (W.contents out.new)) }
 {
     let mut file = TrackedReader::new(file);
@@ -52,7 +52,7 @@ pub fn bound_tracked<R: TrackedRead, C: TrackedRead + Drop, W: TrackedWrite>(
 ) -> Result<Known, CheckFault>
     requires unread { IsUnread (progress C.remaining cert.old) }
     requires fresh { (R.has_failed file.old ≡ false) × (C.has_failed (input_of cert.old) ≡ false) × (W.has_failed out.old ≡ false) }
-    ensures ok { IfOk result (IsBounded (R.remaining file.old) (progress C.remaining cert.old).left show_all (W.contents out.old) (W.contents out.new)) }
+    ensures ok { IfOk result (IsBoundTold (R.remaining file.old) (progress C.remaining cert.old).left show_all (W.contents out.old) (W.contents out.new)) }
     ensures err { IfErr result (IsBoundFault (R.remaining file.old) (progress C.remaining cert.old).left show_all (W.contents out.old) (W.contents out.new)) }
     ensures due { IfErr result (IsCheckDue (R.has_failed file.new) (C.has_failed (input_of cert.new)) (W.has_failed out.new)) }
     ensures same_stream { W.stream out.new ≡ W.stream out.old }

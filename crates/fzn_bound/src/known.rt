@@ -3,7 +3,7 @@ ghost use Rattle.std.specs.Prelude.{◌≡◌, unwrap_or};
 ghost use Rattle.std.specs.List.{All};
 ghost use Rattle.fzn_meaning.specs.Solutions.{IsAssignment};
 ghost use Rattle.fzn_meaning.specs.WellFormed.{IsWellFormed};
-ghost use Rattle.fzn_bound.specs.Said.{known_of, solved, unsolved, weaker};
+ghost use Rattle.fzn_bound.specs.Said.{known_after, solved, unsolved, weaker};
 
 use fzn_list::Items;
 use fzn_meaning::{Goal, Model};
@@ -39,7 +39,7 @@ pub enum Known {
 pub fn known_of(model: &Model, found: &[Items<i64>], closed: bool, bound: Option<i64>) -> Known
     requires model { IsWellFormed model.now }
     requires found { All (IsAssignment model.now) found.now }
-    ensures { result ≡ known_of model.now.goal found.now closed bound }
+    ensures { result ≡ known_after model.now.goal found.now closed bound }
 {
     match model.goal {
         Goal::Satisfy => Known::NoObjective,

@@ -6,7 +6,7 @@ ghost use Rattle.fzn_meaning.specs.Solutions.{IsAssignment};
 ghost use Rattle.fzn_meaning.specs.WellFormed.{IsWellFormed};
 ghost use Rattle.fzn_printer.specs.Answer.{answer_text};
 ghost use Rattle.fzn_streams.specs.Output.{Puts, IsDue};
-ghost use Rattle.fzn_bound.specs.Line.{best_text, bound_text, line_of, name_of, side_of};
+ghost use Rattle.fzn_bound.specs.Line.{best_text, bound_text, bound_line, objective_name, side_of};
 
 use crate::known::Known;
 use fzn_list::Items;
@@ -28,7 +28,7 @@ pub fn put_known_answer<W: TrackedWrite>(
 ) -> Result<(), WriteFailed>
     requires model { IsWellFormed model.now }
     requires found { All (IsAssignment model.now) found.now }
-    ensures text { Puts (W.contents out.old) (W.contents out.new) result (answer_text model.now found.now closed show_all ++ line_of model.now known.now) }
+    ensures text { Puts (W.contents out.old) (W.contents out.new) result (answer_text model.now found.now closed show_all ++ bound_line model.now known.now) }
     ensures due { IsDue W.stream W.has_failed out.old out.new result }
 {
     put_answer(out, model, found, closed, show_all)?;
@@ -38,7 +38,7 @@ pub fn put_known_answer<W: TrackedWrite>(
 /// The line, and a flush.
 fn put_line<W: TrackedWrite>(out: &mut W, model: &Model, known: &Known) -> Result<(), WriteFailed>
     requires { IsWellFormed model.now }
-    ensures text { Puts (W.contents out.old) (W.contents out.new) result (line_of model.now known.now) }
+    ensures text { Puts (W.contents out.old) (W.contents out.new) result (bound_line model.now known.now) }
     ensures due { IsDue W.stream W.has_failed out.old out.new result }
 {
     put_known(out, model, known)?;
@@ -47,7 +47,7 @@ fn put_line<W: TrackedWrite>(out: &mut W, model: &Model, known: &Known) -> Resul
 
 fn put_known<W: TrackedWrite>(out: &mut W, model: &Model, known: &Known) -> Result<(), WriteFailed>
     requires { IsWellFormed model.now }
-    ensures text { Puts (W.contents out.old) (W.contents out.new) result (line_of model.now known.now) }
+    ensures text { Puts (W.contents out.old) (W.contents out.new) result (bound_line model.now known.now) }
     ensures due { IsDue W.stream W.has_failed out.old out.new result }
 {
     match known {
@@ -67,7 +67,7 @@ fn put_open<W: TrackedWrite>(
     bound: &i64,
 ) -> Result<(), WriteFailed>
     requires { IsWellFormed model.now }
-    ensures text { Puts (W.contents out.old) (W.contents out.new) result (best_text (name_of model.now) best.now ++ bound_text model.now.goal bound.now) }
+    ensures text { Puts (W.contents out.old) (W.contents out.new) result (best_text (objective_name model.now) best.now ++ bound_text model.now.goal bound.now) }
     ensures due { IsDue W.stream W.has_failed out.old out.new result }
 {
     put_best(out, name_of(model), best)?;
@@ -77,7 +77,7 @@ fn put_open<W: TrackedWrite>(
 #[tactic(auto, using(fzn_streams::proofs::CallerLemmas::puts))]
 fn put_closed<W: TrackedWrite>(out: &mut W, model: &Model, best: &i64) -> Result<(), WriteFailed>
     requires { IsWellFormed model.now }
-    ensures text { Puts (W.contents out.old) (W.contents out.new) result (best_text (name_of model.now) best.now ++ (codes "the best" ++ 10 ∷ [])) }
+    ensures text { Puts (W.contents out.old) (W.contents out.new) result (best_text (objective_name model.now) best.now ++ (codes "the best" ++ 10 ∷ [])) }
     ensures due { IsDue W.stream W.has_failed out.old out.new result }
 {
     put_best(out, name_of(model), best)?;
@@ -126,7 +126,7 @@ fn side_of(goal: Goal) -> &'static [u8]
 /// The name of the objective, as the file spells it. A satisfaction has none.
 fn name_of(model: &Model) -> &[u8]
     requires { IsWellFormed model.now }
-    ensures { result.now ≡ name_of model.now }
+    ensures { result.now ≡ objective_name model.now }
 {
     match model.goal {
         Goal::Satisfy => b"",

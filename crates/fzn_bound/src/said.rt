@@ -1,8 +1,8 @@
 // What a step says of the objective.
 ghost use Rattle.std.specs.Prelude.{◌≡◌};
 ghost use Rattle.fzn_meaning.specs.WellFormed.{IsWellFormed};
-ghost use Rattle.fzn_bound.specs.Known.{clause_of};
-ghost use Rattle.fzn_bound.specs.Said.{bound_after, has_side, is_objective, said_in, said_of, stronger, IsEnd, IsGreatest, IsLeast};
+ghost use Rattle.fzn_bound.specs.Known.{clause_given};
+ghost use Rattle.fzn_bound.specs.Said.{bound_after, has_side, is_objective, said_in, said_of, stronger, IsBestDeclared, IsGreatestMember, IsLeastMember};
 
 use fzn_cert::Step;
 use fzn_domain::{Domain, Lit, Op, VarId};
@@ -11,7 +11,7 @@ use fzn_meaning::{Goal, Model};
 /// The best value of the objective's declared set. None where that is empty, and none of a satisfaction.
 pub fn declared_bound(model: &Model) -> Option<i64>
     requires { IsWellFormed model.now }
-    ensures { IsEnd model.now.goal model.now.vars result }
+    ensures { IsBestDeclared model.now.goal model.now.vars result }
 {
     match model.goal {
         Goal::Satisfy => None,
@@ -21,7 +21,7 @@ pub fn declared_bound(model: &Model) -> Option<i64>
 }
 
 fn least(domain: &Domain) -> Option<i64>
-    ensures { IsLeast domain.now result }
+    ensures { IsLeastMember domain.now result }
 {
     if domain.is_empty() {
         None
@@ -31,7 +31,7 @@ fn least(domain: &Domain) -> Option<i64>
 }
 
 fn greatest(domain: &Domain) -> Option<i64>
-    ensures { IsGreatest domain.now result }
+    ensures { IsGreatestMember domain.now result }
 {
     if domain.is_empty() {
         None
@@ -52,7 +52,7 @@ pub fn bound_after(goal: Goal, bound: Option<i64>, step: &Step) -> Option<i64>
 
 /// The bound that the step's clause gives the objective, if it gives one.
 fn said_by(goal: Goal, step: &Step) -> Option<i64>
-    ensures { result ≡ said_in goal (clause_of step.now) }
+    ensures { result ≡ said_in goal (clause_given step.now) }
 {
     match step {
         Step::Infer { clause, .. } => said_in(goal, clause.as_slice()),

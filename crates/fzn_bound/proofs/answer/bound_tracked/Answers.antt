@@ -4,7 +4,7 @@ use Rattle.fzn_checker.specs.FileFaults.{fault_from}
 use Rattle.fzn_checker.proofs.CallerLemmas.{error-is}
 use Rattle.fzn_printer.specs.Answer.{answer_text}
 use Rattle.fzn_bound.specs.Bounded.{IsBoundFault}
-use Rattle.fzn_bound.specs.Line.{line_of}
+use Rattle.fzn_bound.specs.Line.{bound_line}
 use Rattle.fzn_bound.proofs.WalkLemmas.{bounds-seen, certificate-fault, model-fault}
 use Rattle.fzn_bound.proofs.answer.bound_tracked.Goals as goal
 
@@ -28,7 +28,7 @@ pub returns-in-Ok-clause-ok : goal.returns-in-Ok-clause-ok
 returns-in-Ok-clause-ok g c =
     let model = c.in_ok-model.model in
     let walked = c.in_ok-walked.walked in (
-      answer_text model c.solutions-found.result.now walked.closed c.args.show_all ++ line_of model c.known_of-known.result,
+      answer_text model c.solutions-found.result.now walked.closed c.args.show_all ++ bound_line model c.known_of-known.result,
       bounds-seen (g.R.Read.remaining c.args.file.now) (progress g.C.Read.remaining c.args.cert.now).left model c.in_ok-model.ensures.right c.args.show_all walked c.solutions-found.result.now c.known_of-known.result
           c.in_ok-model.ensures.well_formed c.in_ok-walked.ensures.ok c.solutions-found.ensures c.known_of-known.ensures,
       c.in-Ok.ensures.text,
@@ -39,7 +39,7 @@ returns-clause-err g c =
     let model = c.in_ok-model.model in
     let walked = c.in_ok-walked.walked in (
       c.known_of-known.result,
-      answer_text model c.solutions-found.result.now walked.closed c.args.show_all ++ line_of model c.known_of-known.result,
+      answer_text model c.solutions-found.result.now walked.closed c.args.show_all ++ bound_line model c.known_of-known.result,
       bounds-seen (g.R.Read.remaining c.args.file.now) (progress g.C.Read.remaining c.args.cert.now).left model c.in_ok-model.ensures.right c.args.show_all walked c.solutions-found.result.now c.known_of-known.result
           c.in_ok-model.ensures.well_formed c.in_ok-walked.ensures.ok c.solutions-found.ensures c.known_of-known.ensures,
       c.in-Err.ensures.text,
