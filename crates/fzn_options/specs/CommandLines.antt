@@ -38,8 +38,8 @@ abbrev pub version_rule : Rule
 version_rule = record (new_rule (codes "version")) { long = Some (codes "version"); action = Some Version }
 
 -- a command of these arguments that is given the words after the program's name, and adds no flag of its own
-abbrev pub line_of : Text → List Rule → App
-line_of name rules =
+abbrev pub command_line : Text → List Rule → App
+command_line name rules =
     let new = new_shape name in
     record {
       top = record new { rules = rules; no_binary_name = true; disable_help_flag = true; disable_version_flag = true; has_version = true };
@@ -49,10 +49,10 @@ line_of name rules =
 -- -a, -n K, -f, -r SEED, --nodes N, --learn CLAUSE, --cert FILE, --hints FILE, --progress, MODEL, --help, --version
 unfoldable pub solve_line : App
 solve_line =
-    line_of (codes "fznsolve") (all_rule ∷ letter_option (codes "limit") 110 ∷ letter_flag (codes "free") 102 ∷ letter_option (codes "seed") 114
+    command_line (codes "fznsolve") (all_rule ∷ letter_option (codes "limit") 110 ∷ letter_flag (codes "free") 102 ∷ letter_option (codes "seed") 114
     ∷ named_option (codes "nodes") ∷ named_option (codes "learn") ∷ named_option (codes "cert") ∷ named_option (codes "hints") ∷ named_flag (codes "progress") ∷ path (codes "model") ∷ help_rule ∷ version_rule ∷ [])
 
 -- -a, --to2, --trim NEW, --core, --bound, --items, and two paths, --help, --version
 unfoldable pub check_line : App
 check_line =
-    line_of (codes "fzncheck") (all_rule ∷ named_flag (codes "to2") ∷ named_option (codes "trim") ∷ named_flag (codes "core") ∷ named_flag (codes "bound") ∷ named_flag (codes "items") ∷ path (codes "model") ∷ optional_path (codes "cert") ∷ help_rule ∷ version_rule ∷ [])
+    command_line (codes "fzncheck") (all_rule ∷ named_flag (codes "to2") ∷ named_option (codes "trim") ∷ named_flag (codes "core") ∷ named_flag (codes "bound") ∷ named_flag (codes "items") ∷ path (codes "model") ∷ optional_path (codes "cert") ∷ help_rule ∷ version_rule ∷ [])

@@ -8,21 +8,21 @@ use Rattle.fzn_options.specs.declared.check.CheckOptions.TheVariants.{Check, ToV
 use Rattle.fzn_strategy.specs.declared.learn.Learn.{Learn}
 use Rattle.fzn_strategy.specs.declared.learn.Learn.TheVariants.{First}
 use Rattle.fzn_options.specs.declared.solve.Options.{Options}
-use Rattle.fzn_options.specs.Words.{number_in, learning_of}
+use Rattle.fzn_options.specs.Words.{number_between, learning_of}
 
 -- a flag is set where it was given
-abbrev pub is_set : Option Text → Bool
-is_set said = option_map_or (λ text. bytes_eq text (codes "true")) said false
+abbrev pub is_flag_set : Option Text → Bool
+is_flag_set said = option_map_or (λ text. bytes_eq text (codes "true")) said false
 
 -- no number where none was given; else the one that the word spells, which is one of these
 abbrev pub SaysNumber : ℕ → ℕ → Option Text → Option ℕ → Type 0
 SaysNumber least most None number = number ≡ None
-SaysNumber least most (Some word) number = (k : ℕ) × (number ≡ Some k) × (number_in least most word ≡ Some k)
+SaysNumber least most (Some word) number = (k : ℕ) × (number ≡ Some k) × (number_between least most word ≡ Some k)
 
 -- the same, with a number for where none was given
 abbrev pub SaysNumberOr : ℕ → ℕ → ℕ → Option Text → ℕ → Type 0
 SaysNumberOr default least most None number = number ≡ default
-SaysNumberOr default least most (Some word) number = number_in least most word ≡ Some number
+SaysNumberOr default least most (Some word) number = number_between least most word ≡ Some number
 
 -- that of the first unique point where none was given
 abbrev pub SaysLearning : Option Text → Learn → Type 0
@@ -31,15 +31,15 @@ SaysLearning (Some word) learning = learning_of word ≡ Some learning
 
 -- Each option is what the command line says of it, or its default.
 pub record AreSaid (rows : List Row) (options : Options) : Type 0 where
-  pub all : options.all ≡ is_set (first_of (codes "all") rows)
+  pub all : options.all ≡ is_flag_set (first_of (codes "all") rows)
   pub limit : SaysNumber 1 (10 ^ 9) (first_of (codes "limit") rows) options.limit
-  pub free : options.free ≡ is_set (first_of (codes "free") rows)
+  pub free : options.free ≡ is_flag_set (first_of (codes "free") rows)
   pub seed : SaysNumber 0 (2 ^ 64 - 1) (first_of (codes "seed") rows) options.seed
   pub nodes : SaysNumberOr (10 ^ 7) 0 (10 ^ 12) (first_of (codes "nodes") rows) options.nodes
   pub learn : SaysLearning (first_of (codes "learn") rows) options.learn
   pub restart_after : options.restart_after ≡ 100
   pub keep : options.keep ≡ 2000
-  pub progress : options.progress ≡ is_set (first_of (codes "progress") rows)
+  pub progress : options.progress ≡ is_flag_set (first_of (codes "progress") rows)
   pub model : first_of (codes "model") rows ≡ Some (string_bytes options.model)
   pub cert : first_of (codes "cert") rows ≡ option_map string_bytes options.cert
   pub hints : first_of (codes "hints") rows ≡ option_map string_bytes options.hints
@@ -55,21 +55,21 @@ pub record AreFit (options : Options) : Type 0 where
 
 -- what the words say of each form
 abbrev pub AsksFor : List Row → Bool → Option Text → Bool → Bool → Bool → Type 0
-AsksFor rows to2 trim core bound items = (is_set (first_of (codes "to2") rows) ≡ to2) × (first_of (codes "trim") rows ≡ trim) × (is_set (first_of (codes "core") rows) ≡ core)
-    × (is_set (first_of (codes "bound") rows) ≡ bound) × (is_set (first_of (codes "items") rows) ≡ items)
+AsksFor rows to2 trim core bound items = (is_flag_set (first_of (codes "to2") rows) ≡ to2) × (first_of (codes "trim") rows ≡ trim) × (is_flag_set (first_of (codes "core") rows) ≡ core)
+    × (is_flag_set (first_of (codes "bound") rows) ≡ bound) × (is_flag_set (first_of (codes "items") rows) ≡ items)
 
 -- the two paths that stand by themselves
 abbrev pub Names : List Row → Text → Option Text → Type 0
 Names rows model cert = (first_of (codes "model") rows ≡ Some model) × (first_of (codes "cert") rows ≡ cert)
 
 -- the form is the one that the words ask for, and its paths are those that they say
-abbrev pub IsSaid : List Row → CheckOptions → Type 0
-IsSaid rows (Check all model cert) = AsksFor rows false None false false false × (all ≡ is_set (first_of (codes "all") rows)) × Names rows (string_bytes model) (Some (string_bytes cert))
-IsSaid rows (ToVersion2 old new) = AsksFor rows true None false false false × Names rows (string_bytes old) (Some (string_bytes new))
-IsSaid rows (Trim model cert new) = AsksFor rows false (Some (string_bytes new)) false false false × Names rows (string_bytes model) (Some (string_bytes cert))
-IsSaid rows (Core model cert) = AsksFor rows false None true false false × Names rows (string_bytes model) (Some (string_bytes cert))
-IsSaid rows (Bound all model cert) = AsksFor rows false None false true false × (all ≡ is_set (first_of (codes "all") rows)) × Names rows (string_bytes model) (Some (string_bytes cert))
-IsSaid rows (Items model) = AsksFor rows false None false false true × Names rows (string_bytes model) None
+abbrev pub IsCheckSaid : List Row → CheckOptions → Type 0
+IsCheckSaid rows (Check all model cert) = AsksFor rows false None false false false × (all ≡ is_flag_set (first_of (codes "all") rows)) × Names rows (string_bytes model) (Some (string_bytes cert))
+IsCheckSaid rows (ToVersion2 old new) = AsksFor rows true None false false false × Names rows (string_bytes old) (Some (string_bytes new))
+IsCheckSaid rows (Trim model cert new) = AsksFor rows false (Some (string_bytes new)) false false false × Names rows (string_bytes model) (Some (string_bytes cert))
+IsCheckSaid rows (Core model cert) = AsksFor rows false None true false false × Names rows (string_bytes model) (Some (string_bytes cert))
+IsCheckSaid rows (Bound all model cert) = AsksFor rows false None false true false × (all ≡ is_flag_set (first_of (codes "all") rows)) × Names rows (string_bytes model) (Some (string_bytes cert))
+IsCheckSaid rows (Items model) = AsksFor rows false None false false true × Names rows (string_bytes model) None
 
 -- no path is named twice
 abbrev pub AreOtherPaths : CheckOptions → Type 0

@@ -11,14 +11,14 @@ use Rattle.fzn_strategy.specs.declared.learn.Learn.{Learn}
 use Rattle.fzn_strategy.specs.declared.learn.Learn.TheVariants.{Plain, First}
 
 -- the exit status of a fault
-abbrev pub status_of : OptionsFault → ℕ
-status_of CommandLine = stop_status stops.CommandLine
-status_of (Help text) = 0
-status_of Memory = stop_status stops.Memory
+abbrev pub options_status : OptionsFault → ℕ
+options_status CommandLine = stop_status stops.CommandLine
+options_status (Help text) = 0
+options_status Memory = stop_status stops.Memory
 
 -- the number that a word of digits spells, where it is one of these
-abbrev pub number_in : ℕ → ℕ → List ℕ → Option ℕ
-number_in least most word =
+abbrev pub number_between : ℕ → ℕ → List ℕ → Option ℕ
+number_between least most word =
     if nat_le 1 (length word) && list_all is_ascii_digit word && nat_le least (digits_value 10 word) && nat_le (digits_value 10 word) most
     then Some (digits_value 10 word) else None
 

@@ -2,7 +2,7 @@
 ghost use Rattle.std.specs.Prelude.{◌≡◌, ◌≢◌, true, false, IfOk, IfSome, None, Some, codes, map, option_map, string_bytes};
 ghost use Rattle.clap.specs.Words.{app_of, first_of, found_of, matches_of, rows_of};
 ghost use Rattle.fzn_options.specs.CommandLines.{check_line};
-ghost use Rattle.fzn_options.specs.Said.{AreOtherPaths, IsSaid, is_set};
+ghost use Rattle.fzn_options.specs.Said.{AreOtherPaths, IsCheckSaid, is_flag_set};
 
 use crate::fault::{OptionsFault, fault_of};
 use crate::parts;
@@ -98,7 +98,7 @@ pub enum CheckOptions {
 /// `--to2`, `--trim`, `--core`, `--bound` and `--items`, name one path twice, or a certificate where `--items` asks for none, `Help` where they ask for
 /// help or the version, and `Memory` where memory runs out.
 pub fn check_options_of<S: AsStr>(alloc: Global, words: &[S]) -> Result<CheckOptions, OptionsFault>
-    ensures said { IfOk result (IsSaid (matches_of check_line (map S.text words.now))) }
+    ensures said { IfOk result (IsCheckSaid (matches_of check_line (map S.text words.now))) }
     ensures paths { IfOk result AreOtherPaths }
 {
     let command = command(alloc)?;
@@ -126,7 +126,7 @@ fn command<'a>(alloc: Global) -> Result<Command<'a>, AllocError>
 }
 
 fn options_in(alloc: Global, matches: &ArgMatches<'_>) -> Result<CheckOptions, OptionsFault>
-    ensures said { IfOk result (IsSaid (rows_of (found_of matches.now))) }
+    ensures said { IfOk result (IsCheckSaid (rows_of (found_of matches.now))) }
     ensures paths { IfOk result AreOtherPaths }
 {
     let first = path(alloc, matches, "model")?;
@@ -163,9 +163,9 @@ fn options_in(alloc: Global, matches: &ArgMatches<'_>) -> Result<CheckOptions, O
 
 /// The items of a file are asked for, and nothing else may be.
 fn items_options(matches: &ArgMatches<'_>, model: String) -> Result<CheckOptions, OptionsFault>
-    requires items { is_set (first_of (codes "items") (rows_of (found_of matches.now))) ≡ true }
+    requires items { is_flag_set (first_of (codes "items") (rows_of (found_of matches.now))) ≡ true }
     requires model { first_of (codes "model") (rows_of (found_of matches.now)) ≡ Some (string_bytes model) }
-    ensures said { IfOk result (IsSaid (rows_of (found_of matches.now))) }
+    ensures said { IfOk result (IsCheckSaid (rows_of (found_of matches.now))) }
     ensures paths { IfOk result AreOtherPaths }
 {
     if is_set(matches, "to2") || is_set(matches, "core") || is_set(matches, "bound") {
@@ -183,12 +183,12 @@ fn bound_options(
     model: String,
     cert: String,
 ) -> Result<CheckOptions, OptionsFault>
-    requires items { is_set (first_of (codes "items") (rows_of (found_of matches.now))) ≡ false }
-    requires bound { is_set (first_of (codes "bound") (rows_of (found_of matches.now))) ≡ true }
+    requires items { is_flag_set (first_of (codes "items") (rows_of (found_of matches.now))) ≡ false }
+    requires bound { is_flag_set (first_of (codes "bound") (rows_of (found_of matches.now))) ≡ true }
     requires model { first_of (codes "model") (rows_of (found_of matches.now)) ≡ Some (string_bytes model) }
     requires cert { first_of (codes "cert") (rows_of (found_of matches.now)) ≡ Some (string_bytes cert) }
     requires paths { string_bytes cert ≢ string_bytes model }
-    ensures said { IfOk result (IsSaid (rows_of (found_of matches.now))) }
+    ensures said { IfOk result (IsCheckSaid (rows_of (found_of matches.now))) }
     ensures paths { IfOk result AreOtherPaths }
 {
     if is_set(matches, "to2") || is_set(matches, "core") {
@@ -210,14 +210,14 @@ fn core_options(
     model: String,
     cert: String,
 ) -> Result<CheckOptions, OptionsFault>
-    requires items { is_set (first_of (codes "items") (rows_of (found_of matches.now))) ≡ false }
-    requires bound { is_set (first_of (codes "bound") (rows_of (found_of matches.now))) ≡ false }
-    requires core { is_set (first_of (codes "core") (rows_of (found_of matches.now))) ≡ true }
+    requires items { is_flag_set (first_of (codes "items") (rows_of (found_of matches.now))) ≡ false }
+    requires bound { is_flag_set (first_of (codes "bound") (rows_of (found_of matches.now))) ≡ false }
+    requires core { is_flag_set (first_of (codes "core") (rows_of (found_of matches.now))) ≡ true }
     requires trim { first_of (codes "trim") (rows_of (found_of matches.now)) ≡ None }
     requires model { first_of (codes "model") (rows_of (found_of matches.now)) ≡ Some (string_bytes model) }
     requires cert { first_of (codes "cert") (rows_of (found_of matches.now)) ≡ Some (string_bytes cert) }
     requires paths { string_bytes cert ≢ string_bytes model }
-    ensures said { IfOk result (IsSaid (rows_of (found_of matches.now))) }
+    ensures said { IfOk result (IsCheckSaid (rows_of (found_of matches.now))) }
     ensures paths { IfOk result AreOtherPaths }
 {
     if is_set(matches, "to2") {

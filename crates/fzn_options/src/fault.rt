@@ -3,7 +3,7 @@ ghost use Rattle.std.specs.Prelude.{◌≡◌, ◌≢◌};
 ghost use Rattle.std.specs.IoError.{error_kind};
 ghost use Rattle.std.specs.declared.io.ErrorKind.TheVariants.{OutOfMemory};
 ghost use Rattle.clap.specs.Values.{kind_of};
-ghost use Rattle.fzn_options.specs.Words.{status_of};
+ghost use Rattle.fzn_options.specs.Words.{options_status};
 ghost use Rattle.fzn_options.specs.declared.fault.OptionsFault.TheVariants.{CommandLine, Memory};
 
 use clap::Error as ClapError;
@@ -30,7 +30,7 @@ pub enum OptionsFault {
 impl OptionsFault {
     /// The status that the program ends with: 3 for a wrong command line, 0 for help or the version, 5 for want of memory.
     pub fn status(&self) -> u8
-        ensures { result ≡ status_of self.now }
+        ensures { result ≡ options_status self.now }
     {
         match self {
             OptionsFault::CommandLine => Stop::CommandLine.status(),

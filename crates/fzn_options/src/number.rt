@@ -3,11 +3,11 @@ ghost use Rattle.std.specs.Prelude.{◌≡◌, ◌<◌, ◌≤◌, ◌^◌, true
 ghost use Rattle.std.specs.List.{list_all};
 ghost use Rattle.std.specs.Char.{is_ascii_digit};
 ghost use Rattle.std.specs.Str.Parse.{digits_value};
-ghost use Rattle.fzn_options.specs.Words.{number_in};
+ghost use Rattle.fzn_options.specs.Words.{number_between};
 
 /// The number that a word of digits spells, where it lies between these two.
 pub fn number_in(word: &str, least: u64, most: u64) -> Option<u64>
-    ensures { result ≡ number_in least most word.now }
+    ensures { result ≡ number_between least most word.now }
 {
     if !(is_some(word) && has_only_digits(word)) {
         return None;

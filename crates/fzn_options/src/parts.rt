@@ -1,14 +1,14 @@
 // What both command lines have.
 ghost use Rattle.std.specs.Prelude.{◌≡◌, [], ◌∷◌, IfOk, false};
 ghost use Rattle.clap.specs.Words.{app_of, rule_of, with_rule};
-ghost use Rattle.fzn_options.specs.CommandLines.{all_rule, letter_flag, letter_option, named_flag, named_option, path, optional_path, line_of, help_rule, version_rule};
+ghost use Rattle.fzn_options.specs.CommandLines.{all_rule, letter_flag, letter_option, named_flag, named_option, path, optional_path, command_line, help_rule, version_rule};
 
 use clap::{Arg, ArgAction, Command};
 use std::alloc::{AllocError, Global};
 
 /// A command that is given the words after the program's name.
 pub fn bare<'a>(alloc: Global, name: &'a str, about: &'a str, after: &'a str) -> Command<'a>
-    ensures { app_of result ≡ line_of name.entry.now [] }
+    ensures { app_of result ≡ command_line name.entry.now [] }
 {
     Command::new(alloc, name)
         .about(about)

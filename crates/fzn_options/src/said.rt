@@ -1,7 +1,7 @@
 // What the words say of each option.
 ghost use Rattle.std.specs.Prelude.{◌≡◌, IfOk, option_map, string_bytes, Some};
 ghost use Rattle.clap.specs.Words.{first_of, found_of, rows_of};
-ghost use Rattle.fzn_options.specs.Said.{is_set, SaysNumber};
+ghost use Rattle.fzn_options.specs.Said.{is_flag_set, SaysNumber};
 
 use crate::fault::OptionsFault;
 use crate::number::number_in;
@@ -17,7 +17,7 @@ pub fn said<'a>(matches: &ArgMatches<'a>, id: &str) -> Option<&'a str>
 
 /// Whether the flag was given.
 pub fn is_set(matches: &ArgMatches<'_>, id: &str) -> bool
-    ensures { result ≡ is_set (first_of id.now (rows_of (found_of matches.now))) }
+    ensures { result ≡ is_flag_set (first_of id.now (rows_of (found_of matches.now))) }
 {
     match said(matches, id) {
         Some(text) => text == "true",

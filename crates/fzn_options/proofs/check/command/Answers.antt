@@ -1,13 +1,13 @@
 -- Each argument in turn.
 use Rattle.std.proofs.Common.{rules, ◌≡◌, [], ap₂, ◌∙◌, codes}
 use Rattle.clap.specs.Words.{app_of, rule_of, with_rule}
-use Rattle.fzn_options.specs.CommandLines.{all_rule, check_line, help_rule, line_of, named_flag, named_option, optional_path, path, version_rule}
+use Rattle.fzn_options.specs.CommandLines.{all_rule, check_line, help_rule, command_line, named_flag, named_option, optional_path, path, version_rule}
 use Rattle.fzn_options.proofs.check.command.Goals as goal
 
 pub returns : goal.returns
 unfolding check_line
 returns c =
-    let bare : app_of c.bare-command.result ≡ line_of (codes "fzncheck") [] = search rules in
+    let bare : app_of c.bare-command.result ≡ command_line (codes "fzncheck") [] = search rules in
     let is_all : rule_of c.all.result ≡ all_rule = search rules in
     let is_to2 : rule_of c.named_flag.result ≡ named_flag (codes "to2") = search rules in
     let is_trim : rule_of c.named_option.result ≡ named_option (codes "trim") = search rules in

@@ -1,13 +1,13 @@
 -- Each argument in turn.
 use Rattle.std.proofs.Common.{rules, ◌≡◌, [], ap₂, ◌∙◌, codes}
 use Rattle.clap.specs.Words.{app_of, rule_of, with_rule}
-use Rattle.fzn_options.specs.CommandLines.{all_rule, help_rule, letter_flag, letter_option, line_of, named_flag, named_option, path, solve_line, version_rule}
+use Rattle.fzn_options.specs.CommandLines.{all_rule, help_rule, letter_flag, letter_option, command_line, named_flag, named_option, path, solve_line, version_rule}
 use Rattle.fzn_options.proofs.solve.command.Goals as goal
 
 pub returns : goal.returns
 unfolding solve_line
 returns c =
-    let bare : app_of c.bare-command.result ≡ line_of (codes "fznsolve") [] = search rules in
+    let bare : app_of c.bare-command.result ≡ command_line (codes "fznsolve") [] = search rules in
     let is_all : rule_of c.all.result ≡ all_rule = search rules in
     let is_limit : rule_of c.letter_option.result ≡ letter_option (codes "limit") 110 = search rules in
     let is_free : rule_of c.letter_flag.result ≡ letter_flag (codes "free") 102 = search rules in
