@@ -5,5 +5,5 @@ use Rattle.fzn_cert.specs.declared.step.Version.TheVariants.{Two}
 use Rattle.fzn_cert.specs.Reading.{step_of}
 
 -- some line is the `s` line of these values, as certificates spell it
-abbrev pub AreSpelled : List ℤ → Type 0
-AreSpelled values = (line : List ℕ) × (step_of Two line ≡ Some (Solution values))
+abbrev pub HaveSolutionLine : List ℤ → Type 0
+HaveSolutionLine values = (line : List ℕ) × (step_of Two line ≡ Some (Solution values))

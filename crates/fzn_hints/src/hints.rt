@@ -1,6 +1,6 @@
 // The solutions in the lines of a reader.
 ghost use Rattle.std.specs.Prelude.{◌≤◌, IfOk, IfSome};
-ghost use Rattle.fzn_hints.specs.Spelled.{AreSpelled};
+ghost use Rattle.fzn_hints.specs.Spelled.{HaveSolutionLine};
 
 use fzn_cert::{LINE_LIMIT, Step, Version};
 use fzn_cert_reader::read_line;
@@ -50,7 +50,7 @@ impl<R: Read> Hints<R> {
     /// 16,777,216 bytes were read: a later call goes on from there. Lines of other kinds are passed over; those that begin with `s` and are
     /// misspelled are counted, and so are those of more than 4,194,304 bytes. It answers `Err` where memory runs out.
     pub fn next(&mut self, alloc: Global) -> Result<Option<Items<i64>>, Memory>
-        ensures { IfOk result (λ found. IfSome found AreSpelled) }
+        ensures { IfOk result (λ found. IfSome found HaveSolutionLine) }
     {
         'bytes: for _ in 0..MOST {
             match self.next_byte() {
@@ -107,7 +107,7 @@ impl<R: Read> Hints<R> {
 
     /// The line is whole: its values, if it is an `s` line. The next one begins.
     fn end_line(&mut self, alloc: Global) -> Result<Option<Items<i64>>, Memory>
-        ensures { IfOk result (λ found. IfSome found AreSpelled) }
+        ensures { IfOk result (λ found. IfSome found HaveSolutionLine) }
     {
         let found = self.solution(alloc)?;
         if found.is_none() && (self.is_long || self.line.first() == Some(&b's')) {
@@ -120,7 +120,7 @@ impl<R: Read> Hints<R> {
 
     /// The values of the line, if it is an `s` line.
     fn solution(&self, alloc: Global) -> Result<Option<Items<i64>>, Memory>
-        ensures { IfOk result (λ found. IfSome found AreSpelled) }
+        ensures { IfOk result (λ found. IfSome found HaveSolutionLine) }
     {
         if self.is_long {
             return Ok(None);
