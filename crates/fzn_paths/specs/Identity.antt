@@ -9,6 +9,6 @@ is_same file None = false
 is_same file (Some other) = nat_eq file.device other.device && nat_eq file.number other.number
 
 -- it is a regular file, and one of these
-abbrev pub is_among : Option FileId → List (Option FileId) → Bool
-is_among None files = false
-is_among (Some file) files = list_any (is_same file) files
+abbrev pub is_one_of : Option FileId → List (Option FileId) → Bool
+is_one_of None files = false
+is_one_of (Some file) files = list_any (is_same file) files

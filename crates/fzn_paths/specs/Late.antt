@@ -7,14 +7,14 @@ abbrev pub target_of : {W T : Type 0} → LateWriter W T → T
 target_of writer = writer.target
 
 -- the writer, once it was given
-abbrev pub out_of : {W T : Type 0} → LateWriter W T → Option W
-out_of writer = writer.out
+abbrev pub given_writer : {W T : Type 0} → LateWriter W T → Option W
+given_writer writer = writer.out
 
 -- the bytes of the writer that was given, else those that the target says it will hold
-abbrev pub known_in : {W T : Type 0} → (T → Option (List ℕ)) → (W → Option (List ℕ)) → T → Option W → Option (List ℕ)
-known_in held contents target None = held target
-known_in held contents target (Some out) = contents out
+abbrev pub known_below : {W T : Type 0} → (T → Option (List ℕ)) → (W → Option (List ℕ)) → T → Option W → Option (List ℕ)
+known_below held contents target None = held target
+known_below held contents target (Some out) = contents out
 
 -- the bytes that stand, where they are known
-abbrev pub known_of : {W T : Type 0} → (T → Option (List ℕ)) → (W → Option (List ℕ)) → LateWriter W T → Option (List ℕ)
-known_of held contents writer = known_in held contents (target_of writer) (out_of writer)
+abbrev pub known_bytes : {W T : Type 0} → (T → Option (List ℕ)) → (W → Option (List ℕ)) → LateWriter W T → Option (List ℕ)
+known_bytes held contents writer = known_below held contents (target_of writer) (given_writer writer)

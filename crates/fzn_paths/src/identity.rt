@@ -1,6 +1,6 @@
 // Which paths lead to one file.
 ghost use Rattle.std.specs.Prelude.{◌≡◌, Some};
-ghost use Rattle.fzn_paths.specs.Identity.{is_among};
+ghost use Rattle.fzn_paths.specs.Identity.{is_one_of};
 
 use std::fs;
 use std::fs::{Files, Metadata, OpenFile};
@@ -38,7 +38,7 @@ fn regular(metadata: &Metadata) -> Option<FileId> {
 
 /// Whether it is a regular file, and one of these.
 pub fn is_among(file: Option<FileId>, files: &[Option<FileId>]) -> bool
-    ensures { result ≡ is_among file files.now }
+    ensures { result ≡ is_one_of file files.now }
 {
     file.is_some() && files.contains(&file)
 }

@@ -24,21 +24,21 @@ pub struct LateWriter<W: Write + Drop, T: Target<W>> {
 }
 
 impl<W: Write + Drop, T: Target<W>> LateWriter<W, T> {
-    ghost use Rattle.fzn_paths.specs.Late.{target_of, out_of, known_of};
+    ghost use Rattle.fzn_paths.specs.Late.{target_of, given_writer, known_bytes};
 
     /// Nothing was given yet.
     pub fn new(target: T) -> LateWriter<W, T>
         ensures target { target_of result ≡ target }
-        ensures out { out_of result ≡ None }
+        ensures out { given_writer result ≡ None }
     {
         LateWriter { target, out: None }
     }
 
     /// Asks the target for the writer, if it has not given it yet.
     pub fn open(&mut self) -> io::Result<()>
-        ensures ok { OnOk result (IsSome (out_of self.new)) }
-        ensures kept { Keeps (known_of T.held W.contents self.old) (known_of T.held W.contents self.new) }
-        ensures once { IfSome (out_of self.old) (λ _. IsOk result × (self.new ≡ self.old)) }
+        ensures ok { OnOk result (IsSome (given_writer self.new)) }
+        ensures kept { Keeps (known_bytes T.held W.contents self.old) (known_bytes T.held W.contents self.new) }
+        ensures once { IfSome (given_writer self.old) (λ _. IsOk result × (self.new ≡ self.old)) }
     {
         if self.out.is_none() {
             self.out = Some(self.target.open()?);
@@ -48,9 +48,9 @@ impl<W: Write + Drop, T: Target<W>> LateWriter<W, T> {
 }
 
 impl<W: Write + Drop, T: Target<W>> Write for LateWriter<W, T> {
-    ghost use Rattle.fzn_paths.specs.Late.{known_of};
+    ghost use Rattle.fzn_paths.specs.Late.{known_bytes};
 
-    ghost contents = { λ writer. known_of T.held W.contents writer };
+    ghost contents = { λ writer. known_bytes T.held W.contents writer };
 
     fn write(&mut self, bytes: &[u8]) -> io::Result<usize> {
         self.open()?;
