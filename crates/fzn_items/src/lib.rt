@@ -7,7 +7,6 @@
 //! `specs/Items.antt` of `fzn_sources`.
 #![tactic(auto)]
 
-pub use counts::Counts;
 pub use listing::{items, items_tracked};
 
 mod counts;

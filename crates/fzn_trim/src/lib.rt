@@ -14,7 +14,7 @@
 #![tactic(auto)]
 
 pub use listing::{Listed, core, core_tracked};
-pub use trimming::{Trimmed, trim, trim_tracked};
+pub use trimming::{trim, trim_tracked};
 
 mod cited;
 mod kept;
