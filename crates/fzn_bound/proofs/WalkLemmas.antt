@@ -22,7 +22,7 @@ use Rattle.fzn_checker.specs.declared.fault.CheckFault.{CheckFault}
 use Rattle.fzn_checker.specs.declared.fault.CheckFault.TheVariants.{File, Refused, NotVersionOne, Memory, Read, WriteOutput, WriteCert}
 use Rattle.fzn_checker.specs.declared.hold.Taken.{Taken}
 use Rattle.fzn_checker.specs.Answered.{States, Shows}
-use Rattle.fzn_checker.specs.Checked.{IsFaultWhere, HasCounts, IsMidway, Standing, Accepts}
+use Rattle.fzn_checker.specs.Checked.{IsFaultWhere, HasCounts, IsMidway, ComesTo, Accepts}
 use Rattle.fzn_checker.specs.FileFaults.{fault_from}
 use Rattle.fzn_checker.specs.Held.{past_in, HasTaken, IsCertificate}
 use Rattle.fzn_checker.proofs.CallerLemmas.{AreSpelled, spelled-fresh, spelled-more, certificate-read, certificate-accepted, found-refuted}
@@ -60,7 +60,7 @@ midway-start model now taken fresh has_taken = record {
   fresh = λ _. (has_taken.past, fresh.2);
 }
 
-pub standing-start : (model : Model) (now : Progress) (past : Past) (outcome : Outcome) → now.header ≡ None → Standing model past now outcome → VerdictOn model now.left outcome
+pub standing-start : (model : Model) (now : Progress) (past : Past) (outcome : Outcome) → now.header ≡ None → ComesTo model past now outcome → VerdictOn model now.left outcome
 standing-start model now past outcome none standing =
     subst (λ (o : Option Header). MatchOption o (VerdictOn model now.left outcome) (λ header. VerdictFrom model header.version past now.steps now.left outcome)) none standing
 

@@ -19,7 +19,7 @@ use Rattle.fzn_cert.specs.Verdict.{Outcome, accepted, refused, BeginsWith, Verdi
 use Rattle.fzn_cert.proofs.VerdictLaws.{verdict-ends}
 use Rattle.fzn_checker.specs.declared.fault.CheckFault.{CheckFault}
 use Rattle.fzn_checker.specs.declared.fault.CheckFault.TheVariants.{File, Refused, NotVersionOne, Memory, Read, WriteOutput, WriteCert}
-use Rattle.fzn_checker.specs.Checked.{IsFaultWhere, HasCounts, Standing, IsMidway, Accepts}
+use Rattle.fzn_checker.specs.Checked.{IsFaultWhere, HasCounts, ComesTo, IsMidway, Accepts}
 use Rattle.fzn_checker.specs.Faults.{fault_of_kind, fault_after}
 use Rattle.fzn_checker.proofs.StandingLaws.{Consumes-split, standing-from, other-counts, none_is}
 
@@ -70,20 +70,20 @@ line-fault model version past count left faults.Read closing f trailed = tt
 line-fault model version past count left _ closing f trailed = absurd f
 
 -- the reader finds a fault
-pub finds-fault : (model : Model) (past : Past) (old new : Progress) (fault : CertFault) → IsMidway model past old → (IsSome old.header → new.header ≡ old.header) → IfSome new.header (HasCounts model) → Finds old new fault → IsFaultWhere (Standing model past old) (fault_after fault new.closing past.refuted)
+pub finds-fault : (model : Model) (past : Past) (old new : Progress) (fault : CertFault) → IsMidway model past old → (IsSome old.header → new.header ≡ old.header) → IfSome new.header (HasCounts model) → Finds old new fault → IsFaultWhere (ComesTo model past old) (fault_after fault new.closing past.refuted)
 finds-fault model past old new fault midway same counts finds = by_header new.header refl counts finds.is_next
   where
     none_before : (before : Option Header) → old.header ≡ before → new.header ≡ None → old.header ≡ None
     none_before None is none = is
     none_before (Some h) is none = absurd (none_is h (sym none ∙ same (subst IsSome (sym is) refl) ∙ is))
 
-    by_header : (header : Option Header) → new.header ≡ header → IfSome header (HasCounts model) → IsNextFault old header new.closing fault → IsFaultWhere (Standing model past old) (fault_after fault new.closing past.refuted)
+    by_header : (header : Option Header) → new.header ≡ header → IfSome header (HasCounts model) → IsNextFault old header new.closing fault → IsFaultWhere (ComesTo model past old) (fault_after fault new.closing past.refuted)
     by_header None is fits f =
-        fault-weaker (VerdictOn model old.left) (Standing model past old) (fault_after fault new.closing past.refuted)
+        fault-weaker (VerdictOn model old.left) (ComesTo model past old) (fault_after fault new.closing past.refuted)
         (λ outcome v. subst (λ o. MatchOption o (VerdictOn model old.left outcome) (λ (k : Header). VerdictFrom model k.version past old.steps old.left outcome)) (sym (none_before old.header refl is)) v)
         (header-fault model old.left fault.kind fault.line new.closing past.refuted f)
     by_header (Some header) is fits (line, (rest, taken, (f, trailed))) =
-        fault-weaker (VerdictFrom model header.version past old.steps rest) (Standing model past old) (fault_after fault new.closing past.refuted)
+        fault-weaker (VerdictFrom model header.version past old.steps rest) (ComesTo model past old) (fault_after fault new.closing past.refuted)
         (λ outcome v. standing-from model past old.left old.header new.header old.steps header outcome is fits same midway.fresh
         (rest, subst (λ o. Consumes old.left rest (lines_read old.header o)) (sym is) taken, v))
         (subst (λ n. IsFaultWhere (VerdictFrom model header.version past old.steps rest) (fault_of_kind fault.kind n new.closing past.refuted)) (sym line)
@@ -100,10 +100,10 @@ lines_taken old new (Err fault) header told gives ends finds =
     let next : IsNextFault old (Some header) new.closing fault = subst (λ o. IsNextFault old o new.closing fault) told finds.is_next in
     (next.1.0, subst (λ o. Consumes old.left next.1.0 (lines_read old.header o)) (sym told) next.1.1, tt)
 
-pub counts-refused : (model : Model) (past : Past) (old new : Progress) (next : Result (Option Step) CertFault) → IsMidway model past old → (IsSome old.header → new.header ≡ old.header) → IfSome new.header IsHeader → (IfSome new.header (HasCounts model) → ⊥) → IfOk next (λ found. IfSome found (Gives old new)) → IfOk next (λ found. IfNone found (Ends old new)) → IfErr next (Finds old new) → Standing model past old (refused 2 refusals.Counts)
+pub counts-refused : (model : Model) (past : Past) (old new : Progress) (next : Result (Option Step) CertFault) → IsMidway model past old → (IsSome old.header → new.header ≡ old.header) → IfSome new.header IsHeader → (IfSome new.header (HasCounts model) → ⊥) → IfOk next (λ found. IfSome found (Gives old new)) → IfOk next (λ found. IfNone found (Ends old new)) → IfErr next (Finds old new) → ComesTo model past old (refused 2 refusals.Counts)
 counts-refused model past old new next midway same sized other gives ends finds = by_header new.header refl
   where
-    by_header : (header : Option Header) → new.header ≡ header → Standing model past old (refused 2 refusals.Counts)
+    by_header : (header : Option Header) → new.header ≡ header → ComesTo model past old (refused 2 refusals.Counts)
     by_header None is = absurd (other (subst (λ o. IfSome o (HasCounts model)) (sym is) tt))
     by_header (Some header) is =
         other-counts model past old.left old.header new.header old.steps header is (subst (λ o. IfSome o IsHeader) is sized)
@@ -113,7 +113,7 @@ counts-refused model past old new next midway same sized other gives ends finds 
 -- ---- the whole certificate
 
 -- what the ending says
-pub found-accepted : (model : Model) (left : Option (List ℕ)) (past : Past) (old new : Progress) (closed : Bool) → ((outcome : Outcome) → Standing model past old outcome → VerdictOn model left outcome) → Accepts model past old new → closed ≡ unwrap_or new.closing false → VerdictOn model left (accepted past.solutions closed)
+pub found-accepted : (model : Model) (left : Option (List ℕ)) (past : Past) (old new : Progress) (closed : Bool) → ((outcome : Outcome) → ComesTo model past old outcome → VerdictOn model left outcome) → Accepts model past old new → closed ≡ unwrap_or new.closing false → VerdictOn model left (accepted past.solutions closed)
 found-accepted model left past old new closed goes_on (said, is, may_say, standing) closed_is =
     subst (λ b. VerdictOn model left (accepted past.solutions b)) (sym (closed_is ∙ ap (λ o. unwrap_or o false) is)) (goes_on (accepted past.solutions said) standing)
 
@@ -122,5 +122,5 @@ pub found-refuted : (model : Model) (past : Past) (old new : Progress) (closed :
 found-refuted model past old new closed (said, is, may_say, standing) closed_is is_closed = may_say (sym (closed_is ∙ ap (λ o. unwrap_or o false) is) ∙ is_closed)
 
 -- a fault found on the way
-pub fault-found : (model : Model) (left : Option (List ℕ)) (past : Past) (now : Progress) (fault : CheckFault) → ((outcome : Outcome) → Standing model past now outcome → VerdictOn model left outcome) → IsFaultWhere (Standing model past now) fault → IsFaultWhere (VerdictOn model left) fault
-fault-found model left past now fault goes_on h = fault-weaker (Standing model past now) (VerdictOn model left) fault goes_on h
+pub fault-found : (model : Model) (left : Option (List ℕ)) (past : Past) (now : Progress) (fault : CheckFault) → ((outcome : Outcome) → ComesTo model past now outcome → VerdictOn model left outcome) → IsFaultWhere (ComesTo model past now) fault → IsFaultWhere (VerdictOn model left) fault
+fault-found model left past now fault goes_on h = fault-weaker (ComesTo model past now) (VerdictOn model left) fault goes_on h

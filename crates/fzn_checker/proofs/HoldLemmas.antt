@@ -19,7 +19,7 @@ use Rattle.fzn_checker.specs.declared.hold.Held.{Held}
 use Rattle.fzn_checker.specs.declared.hold.Taken.{Taken}
 use Rattle.fzn_checker.specs.Checked.{HasCounts, Accepts}
 use Rattle.fzn_checker.specs.Given.{AreGiven}
-use Rattle.fzn_checker.specs.Held.{MayTake, HasTaken, certificate_of, IsCertificate, IsHeld}
+use Rattle.fzn_checker.specs.Held.{MayTake, HasTaken, certificate_of, IsCertificate, HoldsCertificate}
 use Rattle.fzn_checker.proofs.FaultLaws.{found-refuted}
 use Rattle.fzn_checker.proofs.RewriteLemmas.{all_more}
 use Rattle.fzn_checker.proofs.StandingLaws.{header_is}
@@ -116,7 +116,7 @@ certificate-read model bytes old new steps read spelled ends counts same = recor
 
 pub held-end : (model : Model) (bytes : Option (List ℕ)) (steps : List Step) (taken : Taken) (old new : Progress) (held : Held) → HasTaken model steps taken → HasRead bytes old steps → AreSpelled old steps
     → Accepts model taken.history old new → Ends old new → IfSome new.header (HasCounts model) → (IsSome old.header → new.header ≡ old.header)
-    → held.steps ≡ steps → held.solutions.items ≡ taken.history.solutions → held.closed ≡ unwrap_or new.closing false → IsHeld model bytes held
+    → held.steps ≡ steps → held.solutions.items ≡ taken.history.solutions → held.closed ≡ unwrap_or new.closing false → HoldsCertificate model bytes held
 held-end model bytes steps taken old new held has_taken read spelled accepts ends counts same held_steps solutions closed =
     let fits : HasCounts model ends.header = subst (λ (o : Option Header). IfSome o (HasCounts model)) ends.told counts in
     let said : ends.closed ≡ held.closed = sym (closed ∙ ap (λ (o : Option Bool). unwrap_or o false) ends.closing) in

@@ -19,12 +19,12 @@ use Rattle.fzn_cert.specs.Verdict.{lines_of, AllHaveLines, BeginsWith, line_afte
 use Rattle.fzn_checker.specs.declared.fault.CheckFault.{CheckFault}
 use Rattle.fzn_checker.specs.declared.fault.CheckFault.TheVariants.{File, Refused, NotVersionOne, Memory, Read, WriteOutput, WriteCert}
 use Rattle.fzn_checker.specs.Faults.{fault_of_kind}
-use Rattle.fzn_checker.specs.Rewritten.{first_line, second_line, IsRewritten, IsCountsFault, IsLineFault, IsFaulty, first, second, later, Begins, nothing, some_of, IsRewriteFault, IsFirstFault, CopiesCounts, CopiesStep, CopiesEnd, IsCopyFault, IsCountsCopyFault, IsLineCopyFault}
+use Rattle.fzn_checker.specs.Rewritten.{first_line, second_line, IsRewritten, IsCountsFault, IsStepLineFault, IsFaulty, first, second, later, IsRewriteBegun, nothing, some_of, IsRewriteFault, IsFirstLineFault, CopiesCounts, CopiesStep, CopiesEnd, IsCopyFault, IsCountsCopyFault, IsLineCopyFault}
 use Rattle.fzn_checker.proofs.VersionLemmas.{same_verdict}
 
 -- ---- the faults of one line
 
-pub first-fault : (left : Option (List ℕ)) (kind : FaultKind) → IsHeaderFaultOf IsVersionText left kind → IsFirstFault left (fault_of_kind kind 1 None true)
+pub first-fault : (left : Option (List ℕ)) (kind : FaultKind) → IsHeaderFaultOf IsVersionText left kind → IsFirstLineFault left (fault_of_kind kind 1 None true)
 first-fault left faults.Header f = (refl, f)
 first-fault left faults.Truncated f = (refl, f)
 first-fault left faults.LineTooLong f = (refl, f)
@@ -122,7 +122,7 @@ rewritten old left next before now after count so_far (closed, (more, copied), a
 -- ---- what stands after a fault
 
 -- what was put on the writer for the bytes that were taken is a beginning of what stands for all of them
-pub begins-front : (old left before after : Option (List ℕ)) (text : List ℕ) → Consumes old left (first_line One ++ text) → AppendsFront before after (first_line Two ++ text) → Begins old before after
+pub begins-front : (old left before after : Option (List ℕ)) (text : List ℕ) → Consumes old left (first_line One ++ text) → AppendsFront before after (first_line Two ++ text) → IsRewriteBegun old before after
 begins-front None left before after text taken front = some_of (None, tt, tt)
 begins-front (Some bytes) None before after text taken front = absurd taken
 begins-front (Some bytes) (Some rest) before after text taken front =
@@ -141,10 +141,10 @@ whole-front a b x h = subst (AppendsFront a b) (append-nil x) (front-then a b b 
     nil (Some p) = sym (append-nil p)
 
 module _ (old left before now after : Option (List ℕ)) (text : List ℕ) (taken : Consumes old left (first_line One ++ text)) (written : Appends before now (first_line Two ++ text)) where
-  begins-kept : Keeps now after → Begins old before after
+  begins-kept : Keeps now after → IsRewriteBegun old before after
   begins-kept kept = begins-front old left before after text taken (whole-front before after (first_line Two ++ text) (Appends-kept before now after (first_line Two ++ text) written kept))
 
-  begins-more : (more : List ℕ) → After left more (λ _. Unit {0}) → AppendsFront now after more → Begins old before after
+  begins-more : (more : List ℕ) → After left more (λ _. Unit {0}) → AppendsFront now after more → IsRewriteBegun old before after
   begins-more more (rest, consumed, _) front =
       begins-front old rest before after (text ++ more)
       (subst (Consumes old rest) (append_assoc (first_line One) text more) (Consumes-trans old left rest (first_line One ++ text) more taken consumed))
@@ -161,7 +161,7 @@ module _ (old left before now after : Option (List ℕ)) (text : List ℕ) (take
   copy-fault IsWrong (File fault) faulty f = absurd f
 
 -- in the first line
-pub first-rewrite_fault : (old before : Option (List ℕ)) (fault : CheckFault) → IsFirstFault old fault → IsRewriteFault old before before fault
+pub first-rewrite_fault : (old before : Option (List ℕ)) (fault : CheckFault) → IsFirstLineFault old fault → IsRewriteFault old before before fault
 first-rewrite_fault old before (Refused line refusal) (at, f) = (first at f, nothing (Keeps-refl before))
 first-rewrite_fault old before NotVersionOne f = (f, Keeps-refl before)
 first-rewrite_fault old before Memory f = nothing (Keeps-refl before)
@@ -180,10 +180,10 @@ second-rewrite_fault old left before now after fault taken written f =
 pub later-rewrite_fault : (old left before now after : Option (List ℕ)) (count : ℕ) (fault : CheckFault) → IsCopied old left before now count → IsLineCopyFault count left now after fault → IsRewriteFault old before after fault
 later-rewrite_fault old left before now after count fault so_far f =
     let text = second_line so_far.variables so_far.constraints ++ lines_of so_far.steps in
-    copy-fault old left before now after text so_far.taken so_far.written (λ line refusal. (line ≡ line_after count refusal) × IsLineFault count left refusal) fault
+    copy-fault old left before now after text so_far.taken so_far.written (λ line refusal. (line ≡ line_after count refusal) × IsStepLineFault count left refusal) fault
     (λ line refusal wrong. later so_far.variables so_far.constraints so_far.steps so_far.sized.0 so_far.sized.1 so_far.spelled
     (subst (λ (n : ℕ). line ≡ line_after n refusal) so_far.counted wrong.0)
-    (left, so_far.taken, subst (λ (n : ℕ). IsLineFault n left refusal) so_far.counted wrong.1)) f
+    (left, so_far.taken, subst (λ (n : ℕ). IsStepLineFault n left refusal) so_far.counted wrong.1)) f
 
 -- ---- a line that could not be written
 
@@ -221,7 +221,7 @@ rewritten-kept old left next before now after final count steps so_far end kept 
     subst (λ (n : ℕ). IsRewritten old before final n) (sym same)
     (rewritten old left next before now final count so_far (end.0, (end.1.0, Appends-kept now after final (end_line end.0) end.1.1 kept), end.2))
 
-pub end-begins : (old left next before now after final : Option (List ℕ)) (count : ℕ) → IsCopied old left before now count → CopiesEnd left next now after → Keeps after final → Begins old before final
+pub end-begins : (old left next before now after final : Option (List ℕ)) (count : ℕ) → IsCopied old left before now count → CopiesEnd left next now after → Keeps after final → IsRewriteBegun old before final
 end-begins old left next before now after final count so_far end kept =
     begins-more old left before now final (second_line so_far.variables so_far.constraints ++ lines_of so_far.steps) so_far.taken so_far.written (end_line end.0) (next, end.1.0, tt)
     (whole-front now final (end_line end.0) (Appends-kept now after final (end_line end.0) end.1.1 kept))

@@ -22,8 +22,8 @@ use Rattle.fzn_cert_reader.specs.Reader.{Progress, lines_read, Gives, Ends}
 use Rattle.fzn_cert.specs.Verdict.{Outcome, accepted, refused, lines_of, MayEnd, EndsIn, VerdictFrom, header_of, VerdictOn}
 use Rattle.fzn_cert.proofs.VerdictLaws.{verdict-ends, verdict-step}
 use Rattle.fzn_sets.specs.Link.{IsBound}
-use Rattle.fzn_checker.specs.Judged.{HasBounds}
-use Rattle.fzn_checker.specs.Checked.{HasCounts, Standing, IsMidway, Offers, Accepts}
+use Rattle.fzn_checker.specs.Judged.{HasLitsInRange}
+use Rattle.fzn_checker.specs.Checked.{HasCounts, ComesTo, IsMidway, Offers, Accepts}
 use Rattle.fzn_checker.specs.Faults.{may_end}
 
 -- ---- bytes
@@ -86,7 +86,7 @@ in_bounds : (clause : List Lit) → AllByRecursion IsLiteral clause → AllByRec
 in_bounds [] h = tt
 in_bounds (lit ∷ rest) h = (h.0.1, in_bounds rest h.1)
 
-pub bounds-spelled : (version : Version) (step : Step) → IsSpelled version step → HasBounds step
+pub bounds-spelled : (version : Version) (step : Step) → IsSpelled version step → HasLitsInRange step
 bounds-spelled version (Infer c rule clause) h = All-from_recursion IsBound clause (in_bounds clause h.2)
 bounds-spelled version (Resolve clause ids) h = All-from_recursion IsBound clause (in_bounds clause h.0)
 bounds-spelled version (Solution values) h = tt
@@ -109,7 +109,7 @@ refused-step model version past count left next (Solution values) _ line taken f
 refused-step model version past count left next (Delete ids) refusals.NoSuchClause line taken f = (refl, (Delete ids, line, (next, taken, tt), f))
 refused-step model version past count left next (Delete ids) _ line taken f = absurd f
 
-standing-told : (model : Model) (past : Past) (now : Progress) (header : Header) (steps : ℕ) (outcome : Outcome) → now.header ≡ Some header → now.steps ≡ steps → Standing model past now outcome → VerdictFrom model header.version past steps now.left outcome
+standing-told : (model : Model) (past : Past) (now : Progress) (header : Header) (steps : ℕ) (outcome : Outcome) → now.header ≡ Some header → now.steps ≡ steps → ComesTo model past now outcome → VerdictFrom model header.version past steps now.left outcome
 standing-told model past now header steps outcome told counted h =
     subst (λ n. VerdictFrom model header.version past n now.left outcome) counted
     (subst (λ o. MatchOption o (VerdictOn model now.left outcome) (λ (k : Header). VerdictFrom model k.version past now.steps now.left outcome)) told h)
@@ -168,7 +168,7 @@ may_not : (closed is_refuted : Bool) → may_end (Some closed) is_refuted ≡ fa
 may_not true is_refuted h = (refl, h)
 may_not false is_refuted h = absurd (true≢false h)
 
-pub ends-not_closed : (model : Model) (past : Past) (old new : Progress) → IsMidway model past old → (IsSome old.header → new.header ≡ old.header) → IfSome new.header (HasCounts model) → Ends old new → may_end new.closing past.refuted ≡ false → Standing model past old (refused (old.steps + 3) refusals.NotClosed)
+pub ends-not_closed : (model : Model) (past : Past) (old new : Progress) → IsMidway model past old → (IsSome old.header → new.header ≡ old.header) → IfSome new.header (HasCounts model) → Ends old new → may_end new.closing past.refuted ≡ false → ComesTo model past old (refused (old.steps + 3) refusals.NotClosed)
 ends-not_closed model past old new midway same counts ends may_not_be =
     let header = ends.header in
     let fits : HasCounts model header = subst (λ o. IfSome o (HasCounts model)) ends.told counts in

@@ -12,7 +12,7 @@ use Rattle.fzn_cert_reader.specs.Reader.{Progress, IsReading, IsFresh}
 use Rattle.fzn_cert.specs.Verdict.{Outcome, accepted, refused, MayEnd, VerdictOn, VerdictFrom}
 use Rattle.fzn_checker.specs.declared.fault.CheckFault.{CheckFault}
 use Rattle.fzn_checker.specs.declared.fault.CheckFault.TheVariants.{Refused, Memory, Read}
-use Rattle.fzn_checker.specs.Judged.{HasBounds}
+use Rattle.fzn_checker.specs.Judged.{HasLitsInRange}
 
 -- A refusal is such an outcome. Want of memory and a failed read may come at any time.
 abbrev pub IsFaultWhere : (Outcome → Type 0) → CheckFault → Type 0
@@ -34,8 +34,8 @@ abbrev pub HasCounts : Model → Header → Type 0
 HasCounts model header = (header.variables ≡ length model.vars) × (header.constraints ≡ length model.constraints) × IsHeader header
 
 -- what the lines that are still to be read come to
-abbrev pub Standing : Model → Past → Progress → Outcome → Type 0
-Standing model past now outcome =
+abbrev pub ComesTo : Model → Past → Progress → Outcome → Type 0
+ComesTo model past now outcome =
     MatchOption now.header (VerdictOn model now.left outcome) (λ header. VerdictFrom model header.version past now.steps now.left outcome)
 
 -- between two lines: nothing was read, or the first two lines and the lines of steps
@@ -46,13 +46,13 @@ pub record IsMidway (model : Model) (past : Past) (now : Progress) : Type 0 wher
 
 -- the next line is that of a step: what comes after it decides where it is accepted
 pub record Offers (model : Model) (past : Past) (old new : Progress) (step : Step) : Type 0 where
-  pub bounds : HasBounds step
+  pub bounds : HasLitsInRange step
   pub counted : new.steps ≡ old.steps + 1
   pub below : old.steps < LAST_STEP
   pub midway : IsMidway model (after model past step) new
-  pub goes_on : IsAccepted model past step → (outcome : Outcome) → Standing model (after model past step) new outcome → Standing model past old outcome
-  pub refuses : (refusal : Refusal) → HasFault model past step refusal → Standing model past old (refused (old.steps + 3) refusal)
+  pub goes_on : IsAccepted model past step → (outcome : Outcome) → ComesTo model (after model past step) new outcome → ComesTo model past old outcome
+  pub refuses : (refusal : Refusal) → HasFault model past step refusal → ComesTo model past old (refused (old.steps + 3) refusal)
 
 -- the next line is an ending that is right, and nothing follows it
 abbrev pub Accepts : Model → Past → Progress → Progress → Type 0
-Accepts model past old new = (closed : Bool) × (new.closing ≡ Some closed) × MayEnd past closed × Standing model past old (accepted past.solutions closed)
+Accepts model past old new = (closed : Bool) × (new.closing ≡ Some closed) × MayEnd past closed × ComesTo model past old (accepted past.solutions closed)

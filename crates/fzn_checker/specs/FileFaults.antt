@@ -13,11 +13,11 @@ fault_from reading.Memory = Memory
 fault_from reading.Read = Read
 
 -- the exit status of a program that answers the fault
-abbrev pub status_of : CheckFault → ℕ
-status_of (Refused line refusal) = 1
-status_of NotVersionOne = 1
-status_of (File fault) = 2
-status_of Memory = stop_status stops.Memory
-status_of Read = stop_status stops.Read
-status_of WriteOutput = stop_status stops.WriteOutput
-status_of WriteCert = stop_status stops.WriteCert
+abbrev pub check_status : CheckFault → ℕ
+check_status (Refused line refusal) = 1
+check_status NotVersionOne = 1
+check_status (File fault) = 2
+check_status Memory = stop_status stops.Memory
+check_status Read = stop_status stops.Read
+check_status WriteOutput = stop_status stops.WriteOutput
+check_status WriteCert = stop_status stops.WriteCert

@@ -10,7 +10,7 @@ use Rattle.fzn_cert.specs.Verdict.{lines_of, AllHaveLines, MayEnd, header_of}
 use Rattle.fzn_checker.specs.declared.hold.Held.{Held}
 use Rattle.fzn_checker.specs.declared.hold.Taken.{Taken}
 use Rattle.fzn_checker.specs.Given.{AreGiven}
-use Rattle.fzn_checker.specs.Judged.{IsReady}
+use Rattle.fzn_checker.specs.Judged.{IsJudgedOn}
 
 -- what the steps leave for later ones
 abbrev pub past_in : Taken → Past
@@ -18,7 +18,7 @@ past_in taken = taken.history
 
 -- the next step can be judged
 pub record MayTake (model : Model) (taken : Taken) : Type 0 where
-  pub ready : IsReady model taken.history taken.sets taken.has_empty
+  pub ready : IsJudgedOn model taken.history taken.sets taken.has_empty
   pub given : AreGiven model taken.history.solutions taken.given
 
 -- these steps are accepted one after the other, and the next one can be judged
@@ -44,7 +44,7 @@ pub record IsCertificate (model : Model) (version : Version) (left : Option (Lis
   pub text : IfSome left (λ bytes. bytes ≡ certificate_of model version steps closed)
 
 -- these are the steps of what is left, and they are accepted
-pub record IsHeld (model : Model) (left : Option (List ℕ)) (held : Held) : Type 0 where
+pub record HoldsCertificate (model : Model) (left : Option (List ℕ)) (held : Held) : Type 0 where
   pub version : Version
   pub certificate : IsCertificate model version left held.steps held.closed
   pub stands : Stands model held

@@ -15,18 +15,18 @@ use Rattle.fzn_cert.specs.Past.{Past}
 use Rattle.fzn_cert.specs.Sound.{IsSound}
 
 -- What a step is judged on: a model, what sound steps left, the declared sets, and whether one of them is empty.
-pub record IsReady (model : Model) (past : Past) (sets : Narrowed) (has_empty : Bool) : Type 0 where
+pub record IsJudgedOn (model : Model) (past : Past) (sets : Narrowed) (has_empty : Bool) : Type 0 where
   pub well_formed : IsWellFormed model
   pub sound : IsSound model past
   pub fresh : sets ≡ start (declared_sets model.vars)
   pub empty : has_empty ≡ is_some_empty (declared_sets model.vars)
 
 -- the numbers of the step's literals are in their range
-abbrev pub HasBounds : Step → Type 0
-HasBounds (Infer c rule clause) = All IsBound clause
-HasBounds (Resolve clause ids) = All IsBound clause
-HasBounds (Solution values) = Unit {0}
-HasBounds (Delete ids) = Unit {0}
+abbrev pub HasLitsInRange : Step → Type 0
+HasLitsInRange (Infer c rule clause) = All IsBound clause
+HasLitsInRange (Resolve clause ids) = All IsBound clause
+HasLitsInRange (Solution values) = Unit {0}
+HasLitsInRange (Delete ids) = Unit {0}
 
 -- what is wrong with a chain of this outcome
 abbrev pub chain_fault : ChainOutcome → Option Refusal

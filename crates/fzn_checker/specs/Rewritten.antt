@@ -52,12 +52,12 @@ IsCountsFault left LineTooLong = IsHeaderFaultOf IsCountsText left faults.LineTo
 IsCountsFault left _ = ⊥
 
 -- what is wrong with the line after so many steps of version 1
-abbrev pub IsLineFault : ℕ → Option (List ℕ) → Refusal → Type 0
-IsLineFault count left Spelling = IsFaultOf One count left faults.Spelling
-IsLineFault count left Truncated = IsFaultOf One count left faults.Truncated
-IsLineFault count left LineTooLong = IsFaultOf One count left faults.LineTooLong
-IsLineFault count left Trailing = IsFaultOf One count left faults.Trailing
-IsLineFault count left _ = ⊥
+abbrev pub IsStepLineFault : ℕ → Option (List ℕ) → Refusal → Type 0
+IsStepLineFault count left Spelling = IsFaultOf One count left faults.Spelling
+IsStepLineFault count left Truncated = IsFaultOf One count left faults.Truncated
+IsStepLineFault count left LineTooLong = IsFaultOf One count left faults.LineTooLong
+IsStepLineFault count left Trailing = IsFaultOf One count left faults.Trailing
+IsStepLineFault count left _ = ⊥
 
 -- the first faulty line, and what is wrong with it
 pub data IsFaulty (old : Option (List ℕ)) (line : ℕ) (refusal : Refusal) : Type 0 where
@@ -66,19 +66,19 @@ pub data IsFaulty (old : Option (List ℕ)) (line : ℕ) (refusal : Refusal) : T
   second : line ≡ 2 → After old (first_line One) (λ left. IsCountsFault left refusal) → IsFaulty old line refusal
   -- after the first two lines and those of these steps
   later : (variables constraints : ℕ) (steps : List Step) → IsSized variables → IsSized constraints → AllHaveLines One 0 steps → line ≡ line_after (length steps) refusal
-      → After old (first_line One ++ (second_line variables constraints ++ lines_of steps)) (λ left. IsLineFault (length steps) left refusal) → IsFaulty old line refusal
+      → After old (first_line One ++ (second_line variables constraints ++ lines_of steps)) (λ left. IsStepLineFault (length steps) left refusal) → IsFaulty old line refusal
 
 -- nothing was written, or a beginning of the bytes that stand for those of the old certificate
-pub data Begins (old before after : Option (List ℕ)) : Type 0 where
-  nothing : Keeps before after → Begins old before after
-  some_of : After old (first_line One) (λ left. IfSome left (λ rest. AppendsFront before after (first_line Two ++ rest))) → Begins old before after
+pub data IsRewriteBegun (old before after : Option (List ℕ)) : Type 0 where
+  nothing : Keeps before after → IsRewriteBegun old before after
+  some_of : After old (first_line One) (λ left. IfSome left (λ rest. AppendsFront before after (first_line Two ++ rest))) → IsRewriteBegun old before after
 
 abbrev pub IsRewriteFault : Option (List ℕ) → Option (List ℕ) → Option (List ℕ) → CheckFault → Type 0
-IsRewriteFault old before after (Refused line refusal) = IsFaulty old line refusal × Begins old before after
+IsRewriteFault old before after (Refused line refusal) = IsFaulty old line refusal × IsRewriteBegun old before after
 IsRewriteFault old before after NotVersionOne = BeginsWith old (first_line Two) × Keeps before after
-IsRewriteFault old before after Memory = Begins old before after
-IsRewriteFault old before after Read = Begins old before after
-IsRewriteFault old before after WriteCert = Begins old before after
+IsRewriteFault old before after Memory = IsRewriteBegun old before after
+IsRewriteFault old before after Read = IsRewriteBegun old before after
+IsRewriteFault old before after WriteCert = IsRewriteBegun old before after
 IsRewriteFault old before after WriteOutput = ⊥
 IsRewriteFault old before after (File fault) = ⊥
 
@@ -90,12 +90,12 @@ pub record IsRewriteDue (old new : Bool) (fault : CheckFault) : Type 0 where
 
 -- ---- line by line
 
-abbrev pub IsFirstFault : Option (List ℕ) → CheckFault → Type 0
-IsFirstFault left (Refused line refusal) = (line ≡ 1) × IsFirstRefused left refusal
-IsFirstFault left NotVersionOne = BeginsWith left (first_line Two)
-IsFirstFault left Memory = Unit {0}
-IsFirstFault left Read = Unit {0}
-IsFirstFault left _ = ⊥
+abbrev pub IsFirstLineFault : Option (List ℕ) → CheckFault → Type 0
+IsFirstLineFault left (Refused line refusal) = (line ≡ 1) × IsFirstRefused left refusal
+IsFirstLineFault left NotVersionOne = BeginsWith left (first_line Two)
+IsFirstLineFault left Memory = Unit {0}
+IsFirstLineFault left Read = Unit {0}
+IsFirstLineFault left _ = ⊥
 
 -- this text was taken from a reader, and put on a writer
 abbrev pub Copies : List ℕ → Option (List ℕ) → Option (List ℕ) → Option (List ℕ) → Option (List ℕ) → Type 0
@@ -123,4 +123,4 @@ abbrev pub IsCountsCopyFault : Option (List ℕ) → Option (List ℕ) → Optio
 IsCountsCopyFault left before after fault = IsCopyFault (λ line refusal. (line ≡ 2) × IsCountsFault left refusal) left before after fault
 
 abbrev pub IsLineCopyFault : ℕ → Option (List ℕ) → Option (List ℕ) → Option (List ℕ) → CheckFault → Type 0
-IsLineCopyFault count left before after fault = IsCopyFault (λ line refusal. (line ≡ line_after count refusal) × IsLineFault count left refusal) left before after fault
+IsLineCopyFault count left before after fault = IsCopyFault (λ line refusal. (line ≡ line_after count refusal) × IsStepLineFault count left refusal) left before after fault

@@ -1,7 +1,7 @@
 // Why there is no verdict.
 ghost use Rattle.std.specs.Prelude.{◌≡◌};
 ghost use Rattle.fzn_checker.specs.declared.fault.CheckFault.TheVariants.{Memory};
-ghost use Rattle.fzn_checker.specs.FileFaults.{fault_from, status_of};
+ghost use Rattle.fzn_checker.specs.FileFaults.{fault_from, check_status};
 
 use fzn_cert::Refusal;
 use fzn_fault::Stop;
@@ -40,7 +40,7 @@ impl CheckFault {
     /// The exit status of a program that answers it: 1 where a certificate is refused, 2 for a fault of the file, 4 for a failed read or
     /// write, 5 for want of memory.
     pub fn status(self) -> u8
-        ensures { result ≡ status_of self }
+        ensures { result ≡ check_status self }
     {
         match self {
             CheckFault::Refused { .. } | CheckFault::NotVersionOne => 1,

@@ -7,8 +7,8 @@ ghost use Rattle.fzn_cert.specs.Spelling.{IsSpelled};
 ghost use Rattle.fzn_cert.specs.Accepted.{IsJudged, after};
 ghost use Rattle.fzn_cert.specs.Verdict.{VerdictOn};
 ghost use Rattle.fzn_cert_reader.specs.Reader.{progress, input_of, Gives, Ends};
-ghost use Rattle.fzn_checker.specs.Checked.{IsUnread, IsFaultWhere, IsReadDue, HasCounts, Standing, IsMidway, Offers, Accepts};
-ghost use Rattle.fzn_checker.specs.Held.{past_in, MayTake, HasTaken, IsHeld};
+ghost use Rattle.fzn_checker.specs.Checked.{IsUnread, IsFaultWhere, IsReadDue, HasCounts, ComesTo, IsMidway, Offers, Accepts};
+ghost use Rattle.fzn_checker.specs.Held.{past_in, MayTake, HasTaken, HoldsCertificate};
 
 use crate::certificate::first_sets;
 use crate::fault::CheckFault;
@@ -81,7 +81,7 @@ impl Taken {
         ensures ends { IfOk result (λ found. IfNone found (Ends (progress C.remaining cert.old) (progress C.remaining cert.new))) }
         ensures counts { OnOk result (IfSome (progress C.remaining cert.new).header (HasCounts model.now)) }
         ensures same_header { IsSome (progress C.remaining cert.old).header → (progress C.remaining cert.new).header ≡ (progress C.remaining cert.old).header }
-        ensures err { IfErr result (IsFaultWhere (Standing model.now (past_in self.now) (progress C.remaining cert.old))) }
+        ensures err { IfErr result (IsFaultWhere (ComesTo model.now (past_in self.now) (progress C.remaining cert.old))) }
         ensures due { IfErr result (IsReadDue (C.has_failed (input_of cert.new))) }
     {
         next_step(alloc, model, &self.history, line, cert)
@@ -142,7 +142,7 @@ pub fn hold_certificate<C: TrackedRead + Drop>(
 ) -> Result<Held, CheckFault>
     requires model { IsWellFormed model.now }
     requires unread { IsUnread (progress C.remaining cert.old) }
-    ensures ok { IfOk result (IsHeld model.now (progress C.remaining cert.old).left) }
+    ensures ok { IfOk result (HoldsCertificate model.now (progress C.remaining cert.old).left) }
     ensures err { IfErr result (IsFaultWhere (VerdictOn model.now (progress C.remaining cert.old).left)) }
     ensures due { IfErr result (IsReadDue (C.has_failed (input_of cert.new))) }
 {

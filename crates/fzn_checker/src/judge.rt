@@ -12,7 +12,7 @@ ghost use Rattle.fzn_cert.specs.Accepted.{IsJudged};
 ghost use Rattle.fzn_cert.specs.Sound.{IsSound};
 ghost use Rattle.fzn_checker.specs.Given.{AreGiven};
 ghost use Rattle.fzn_sets.specs.Link.{IsBound};
-ghost use Rattle.fzn_checker.specs.Judged.{IsReady, HasBounds};
+ghost use Rattle.fzn_checker.specs.Judged.{IsJudgedOn, HasLitsInRange};
 
 use crate::chain::{are_held, follow};
 use crate::given::Given;
@@ -36,9 +36,9 @@ pub fn fault_of(
     has_empty: bool,
     step: &Step,
 ) -> Result<Option<Refusal>, Memory>
-    requires ready { IsReady model.now history.now sets.old has_empty }
+    requires ready { IsJudgedOn model.now history.now sets.old has_empty }
     requires given { AreGiven model.now history.now.solutions given.now }
-    requires bounds { HasBounds step.now }
+    requires bounds { HasLitsInRange step.now }
     ensures judged { IfOk result (IsJudged model.now history.now step.now) }
     ensures same { sets.new ≡ sets.old }
 {
@@ -57,9 +57,9 @@ fn judge_on(
     has_empty: bool,
     step: &Step,
 ) -> Result<Option<Refusal>, Memory>
-    requires ready { IsReady model.now history.now sets.old has_empty }
+    requires ready { IsJudgedOn model.now history.now sets.old has_empty }
     requires given { AreGiven model.now history.now.solutions given.now }
-    requires bounds { HasBounds step.now }
+    requires bounds { HasLitsInRange step.now }
     ensures judged { IfOk result (IsJudged model.now history.now step.now) }
     ensures declared { sets.new.declared ≡ sets.old.declared }
 {

@@ -2,7 +2,7 @@
 ghost use Rattle.std.specs.Prelude.{◌≡◌, ◌↔◌, ◌+◌, ◌≤◌, IfOk, IfErr, IfSome, IfNone, OnOk, IsSome, IsTrue};
 ghost use Rattle.fzn_cert_reader.specs.Reader.{progress, input_of, Gives, Ends};
 ghost use Rattle.fzn_cert.specs.Spelling.{IsHeader};
-ghost use Rattle.fzn_checker.specs.Checked.{IsFaultWhere, HasCounts, Standing, IsMidway, Offers, Accepts, IsReadDue};
+ghost use Rattle.fzn_checker.specs.Checked.{IsFaultWhere, HasCounts, ComesTo, IsMidway, Offers, Accepts, IsReadDue};
 ghost use Rattle.fzn_checker.specs.Faults.{may_end, fault_after};
 
 use crate::fault::CheckFault;
@@ -30,7 +30,7 @@ pub fn next_step<R: TrackedRead + Drop>(
     ensures ends { IfOk result (λ found. IfNone found (Ends (progress R.remaining reader.old) (progress R.remaining reader.new))) }
     ensures counts { OnOk result (IfSome (progress R.remaining reader.new).header (HasCounts model.now)) }
     ensures same_header { IsSome (progress R.remaining reader.old).header → (progress R.remaining reader.new).header ≡ (progress R.remaining reader.old).header }
-    ensures err { IfErr result (IsFaultWhere (Standing model.now history.now (progress R.remaining reader.old))) }
+    ensures err { IfErr result (IsFaultWhere (ComesTo model.now history.now (progress R.remaining reader.old))) }
     ensures due { IfErr result (IsReadDue (R.has_failed (input_of reader.new))) }
 {
     let next = reader.next(alloc);

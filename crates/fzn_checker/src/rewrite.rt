@@ -8,7 +8,7 @@ ghost use Rattle.fzn_cert.specs.declared.step.Version.TheVariants.{One};
 ghost use Rattle.fzn_checker.specs.Faults.{fault_of_kind};
 ghost use Rattle.fzn_checker.specs.Checked.{IsReadDue};
 ghost use Rattle.fzn_checker.specs.declared.fault.CheckFault.TheVariants.{WriteCert};
-ghost use Rattle.fzn_checker.specs.Rewritten.{first_line, IsRewritten, IsRewriteFault, IsRewriteDue, IsFirstFault, CopiesCounts, CopiesStep, CopiesEnd, IsCountsCopyFault, IsLineCopyFault};
+ghost use Rattle.fzn_checker.specs.Rewritten.{first_line, IsRewritten, IsRewriteFault, IsRewriteDue, IsFirstLineFault, CopiesCounts, CopiesStep, CopiesEnd, IsCountsCopyFault, IsLineCopyFault};
 
 use crate::fault::CheckFault;
 use crate::next::fault_after;
@@ -60,7 +60,7 @@ pub fn to2_tracked<C: TrackedRead + Drop, W: TrackedWrite>(
 /// Reads the first line, which has to say version 1.
 fn take_version<R: TrackedRead + Drop>(lines: &mut StepLines<R>) -> Result<(), CheckFault>
     ensures ok { OnOk result (Consumes (left_in R.remaining lines.old.bytes) (left_in R.remaining lines.new.bytes) (first_line One)) }
-    ensures err { IfErr result (IsFirstFault (left_in R.remaining lines.old.bytes)) }
+    ensures err { IfErr result (IsFirstLineFault (left_in R.remaining lines.old.bytes)) }
     ensures due { IfErr result (IsReadDue (R.has_failed (input_of lines.new.bytes))) }
     ensures same { lines.new.steps ≡ lines.old.steps }
 {

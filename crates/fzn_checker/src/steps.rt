@@ -4,7 +4,7 @@ ghost use Rattle.fzn_meaning.specs.WellFormed.{IsWellFormed};
 ghost use Rattle.fzn_cert.specs.Accepted.{IsAccepted, IsJudged, after};
 ghost use Rattle.fzn_cert.specs.Sound.{IsSound};
 ghost use Rattle.fzn_checker.specs.Given.{AreGiven};
-ghost use Rattle.fzn_checker.specs.Judged.{IsReady, HasBounds};
+ghost use Rattle.fzn_checker.specs.Judged.{IsJudgedOn, HasLitsInRange};
 
 use crate::given::Given;
 use crate::history::History;
@@ -27,9 +27,9 @@ pub fn take_step(
     has_empty: bool,
     step: Step,
 ) -> Result<Option<Refusal>, Memory>
-    requires ready { IsReady model.now history.old sets.old has_empty }
+    requires ready { IsJudgedOn model.now history.old sets.old has_empty }
     requires given { AreGiven model.now history.old.solutions given.old }
-    requires bounds { HasBounds step }
+    requires bounds { HasLitsInRange step }
     ensures judged { IfOk result (IsJudged model.now history.old step) }
     ensures after { IfOk result (λ fault. fault ≡ None → history.new ≡ after model.now history.old step) }
     ensures sound { IfOk result (λ fault. fault ≡ None → IsSound model.now history.new) }

@@ -17,7 +17,7 @@ use Rattle.fzn_checker.specs.declared.hold.Held.{Held}
 use Rattle.fzn_checker.specs.Answered.{States}
 use Rattle.fzn_checker.specs.Checked.{IsFaultWhere}
 use Rattle.fzn_checker.specs.FileFaults.{fault_from}
-use Rattle.fzn_checker.specs.Held.{IsHeld}
+use Rattle.fzn_checker.specs.Held.{HoldsCertificate}
 use Rattle.fzn_checker.proofs.CallerLemmas.{certificate-accepted}
 use Rattle.fzn_sources.specs.Items.{AreSources}
 use Rattle.fzn_trim.specs.declared.listing.Listed.{Listed}
@@ -33,7 +33,7 @@ Appends-nothing (Some bytes) = sym (append-nil bytes)
 -- ---- the answer
 
 module _ (file cert : Option (List ℕ)) (model : Model) (states : States file model) where
-  pub lists-of : (bytes : List ℕ) (sources : List Span) (held : Held) (numbers : List ℕ) (answer : Listed) → IsWellFormed model → IfSome file (λ all. all ≡ bytes) → AreSources bytes model.constraints sources → IsHeld model cert held
+  pub lists-of : (bytes : List ℕ) (sources : List Span) (held : Held) (numbers : List ℕ) (answer : Listed) → IsWellFormed model → IfSome file (λ all. all ≡ bytes) → AreSources bytes model.constraints sources → HoldsCertificate model cert held
       → IsCore model held.solutions.items held.closed numbers → answer.closed ≡ held.closed → answer.listed ≡ length numbers → answer.constraints ≡ length model.constraints
       → Lists file cert (core_text bytes sources numbers answer.closed) answer
   lists-of bytes sources held numbers answer wf whole stated is_held core closed listed constraints = record {
@@ -59,7 +59,7 @@ module _ (file cert : Option (List ℕ)) (model : Model) (states : States file m
 
   -- the same by what was seen of each list
   pub lists-seen : (bytes seen : List ℕ) (sources seen_sources : List Span) (held : Held) (numbers seen_numbers : List ℕ) (answer : Listed) → seen ≡ bytes → seen_sources ≡ sources → seen_numbers ≡ numbers
-      → IsWellFormed model → IfSome file (λ all. all ≡ bytes) → AreSources bytes model.constraints sources → IsHeld model cert held
+      → IsWellFormed model → IfSome file (λ all. all ≡ bytes) → AreSources bytes model.constraints sources → HoldsCertificate model cert held
       → IsCore model held.solutions.items held.closed numbers → answer.closed ≡ held.closed → answer.listed ≡ length numbers → answer.constraints ≡ length model.constraints
       → Lists file cert (core_text seen seen_sources seen_numbers answer.closed) answer
   lists-seen bytes seen sources seen_sources held numbers seen_numbers answer bytes_are sources_are numbers_are wf whole stated is_held core closed listed constraints =

@@ -18,7 +18,7 @@ use Rattle.fzn_checker.specs.declared.hold.Held.{Held}
 use Rattle.fzn_checker.specs.Answered.{States}
 use Rattle.fzn_checker.specs.Checked.{IsFaultWhere}
 use Rattle.fzn_checker.specs.FileFaults.{fault_from}
-use Rattle.fzn_checker.specs.Held.{certificate_of, IsCertificate, IsHeld}
+use Rattle.fzn_checker.specs.Held.{certificate_of, IsCertificate, HoldsCertificate}
 use Rattle.fzn_checker.proofs.CallerLemmas.{certificate-accepted}
 use Rattle.fzn_trim.specs.declared.trimming.Trimmed.{Trimmed}
 use Rattle.fzn_trim.specs.Kept.{IsTrimOf}
@@ -27,7 +27,7 @@ use Rattle.fzn_trim.specs.Written.{IsWriteFault}
 
 module _ (file cert : Option (List ℕ)) (model : Model) (states : States file model) where
   -- the certificate of the steps that are left
-  pub trims-of : (held : Held) (kept : List Step) (trimmed : Trimmed) → IsWellFormed model → IsHeld model cert held → IsTrimOf model held kept → trimmed.steps ≡ length held.steps → trimmed.kept ≡ length kept
+  pub trims-of : (held : Held) (kept : List Step) (trimmed : Trimmed) → IsWellFormed model → HoldsCertificate model cert held → IsTrimOf model held kept → trimmed.steps ≡ length held.steps → trimmed.kept ≡ length kept
       → Trims file cert (certificate_of model Two kept held.closed) trimmed
   trims-of held kept trimmed wf is_held trim steps count =
       let bytes = certificate_of model Two kept held.closed in

@@ -5,7 +5,7 @@ use Rattle.fzn_cert.specs.Accepted.{IsAccepted, IsJudged}
 use Rattle.fzn_cert.specs.Past.{Past}
 use Rattle.fzn_cert.specs.Verdict.{refused, VerdictOn}
 use Rattle.fzn_cert_reader.specs.Reader.{progress, Gives, Ends}
-use Rattle.fzn_checker.specs.Checked.{Standing, IsMidway, Offers, Accepts}
+use Rattle.fzn_checker.specs.Checked.{ComesTo, IsMidway, Offers, Accepts}
 use Rattle.fzn_checker.specs.Held.{past_in}
 use Rattle.fzn_checker.proofs.CallerLemmas.{fault-found, spelled-two}
 use Rattle.fzn_bound.proofs.WalkLemmas.{IsOnWay, midway-start, standing-start, way-start, way-more, way-end}
@@ -69,7 +69,7 @@ loop-taken-preserved g c =
     record {
       midway = subst (λ (p : Past). IsMidway model p new) (sym after) offers.midway;
       line = omega (arith, line, counted);
-      goes_on = λ outcome standing. c.loop-taken.invariant.goes_on outcome (offers.goes_on accepted outcome (subst (λ (p : Past). Standing model p new outcome) after standing));
+      goes_on = λ outcome standing. c.loop-taken.invariant.goes_on outcome (offers.goes_on accepted outcome (subst (λ (p : Past). ComesTo model p new outcome) after standing));
       ready = c.in_ok-refusal.ensures.ready none;
       way = subst (IsOnWay model bytes new c.take.new.self) (sym c.bound_after-next_bound.ensures)
           (way-more model bytes old new c.loop-taken.taken c.take.new.self c.loop-taken.bound step c.loop-taken.invariant.way gives c.next_step.ensures.same_header (c.in_ok-refusal.ensures.taken none));

@@ -6,14 +6,14 @@ use Rattle.fzn_cert_reader.specs.Reader.{progress}
 use Rattle.fzn_cert.specs.Sound.{IsSound}
 use Rattle.fzn_cert.specs.Verdict.{Outcome, VerdictOn}
 use Rattle.fzn_checker.specs.Given.{AreGiven}
-use Rattle.fzn_checker.specs.Checked.{Standing, IsMidway}
+use Rattle.fzn_checker.specs.Checked.{ComesTo, IsMidway}
 use Rattle.fzn_checker.proofs.certificate.check_certificate.Given as goal
 
 abbrev pub invariant-loop-given : goal.invariant-loop-given
 invariant-loop-given g l = record {
   midway : IsMidway l.model l.history (progress g.C.Read.remaining l.cert);
   line : l.line ≡ (progress g.C.Read.remaining l.cert).steps + 3;
-  goes_on : (outcome : Outcome) → Standing l.model l.history (progress g.C.Read.remaining l.cert) outcome → VerdictOn l.model (progress g.C.Read.remaining l.fn.cert).left outcome;
+  goes_on : (outcome : Outcome) → ComesTo l.model l.history (progress g.C.Read.remaining l.cert) outcome → VerdictOn l.model (progress g.C.Read.remaining l.fn.cert).left outcome;
   sound : IsSound l.model l.history;
   given : AreGiven l.model l.history.solutions l.given;
   sets : l.sets ≡ start (declared_sets l.model.vars);

@@ -7,7 +7,7 @@ use Rattle.fzn_cert.specs.Past.{Past}
 use Rattle.fzn_cert.specs.Verdict.{refused, VerdictOn}
 use Rattle.fzn_cert_reader.specs.Reader.{progress, Gives, Ends, HasRead}
 use Rattle.fzn_cert_reader.proofs.CallerLemmas.{HasRead-step}
-use Rattle.fzn_checker.specs.Checked.{Standing, IsMidway, Offers, Accepts}
+use Rattle.fzn_checker.specs.Checked.{ComesTo, IsMidway, Offers, Accepts}
 use Rattle.fzn_checker.specs.Held.{HasTaken}
 use Rattle.fzn_checker.proofs.FaultLaws.{fault-found}
 use Rattle.fzn_checker.proofs.HoldLemmas.{AreSpelled, spelled-two, spelled-more, held-end}
@@ -66,7 +66,7 @@ loop-steps-preserved g c =
     record {
       midway = subst (λ (p : Past). IsMidway model p new) (sym after) offers.midway;
       line = omega (arith, line, counted);
-      goes_on = λ outcome standing. c.loop-steps.invariant.goes_on outcome (offers.goes_on accepted outcome (subst (λ (p : Past). Standing model p new outcome) after standing));
+      goes_on = λ outcome standing. c.loop-steps.invariant.goes_on outcome (offers.goes_on accepted outcome (subst (λ (p : Past). ComesTo model p new outcome) after standing));
       taken = subst (λ (all : List Step). HasTaken model all c.take.new.self) (sym more) (c.in_ok-refusal.ensures.taken none steps c.loop-steps.invariant.taken);
       read = subst (λ (all : List Step). HasRead bytes new all) (sym more) (HasRead-step bytes old new steps step c.loop-steps.invariant.read gives c.next_step.ensures.same_header);
       spelled = subst (λ (all : List Step). AreSpelled new all) (sym more) (spelled-more bytes old new steps step c.loop-steps.invariant.read c.loop-steps.invariant.spelled gives c.next_step.ensures.same_header);

@@ -2,7 +2,7 @@ use Rattle.std.proofs.Common.{◌≡◌, ◌+◌, ◌-◌}
 use Rattle.fzn_cert.specs.declared.limits.TheConstants.{LAST_STEP}
 use Rattle.fzn_cert.specs.Verdict.{Outcome, VerdictOn}
 use Rattle.fzn_cert_reader.specs.Reader.{progress, HasRead}
-use Rattle.fzn_checker.specs.Checked.{Standing, IsMidway}
+use Rattle.fzn_checker.specs.Checked.{ComesTo, IsMidway}
 use Rattle.fzn_checker.specs.Held.{HasTaken}
 use Rattle.fzn_checker.proofs.HoldLemmas.{AreSpelled}
 use Rattle.fzn_checker.proofs.hold.hold_certificate.Given as goal
@@ -11,7 +11,7 @@ abbrev pub invariant-loop-steps : goal.invariant-loop-steps
 invariant-loop-steps g l = record {
   midway : IsMidway l.model l.taken.history (progress g.C.Read.remaining l.cert);
   line : l.line ≡ (progress g.C.Read.remaining l.cert).steps + 3;
-  goes_on : (outcome : Outcome) → Standing l.model l.taken.history (progress g.C.Read.remaining l.cert) outcome → VerdictOn l.model (progress g.C.Read.remaining l.fn.cert).left outcome;
+  goes_on : (outcome : Outcome) → ComesTo l.model l.taken.history (progress g.C.Read.remaining l.cert) outcome → VerdictOn l.model (progress g.C.Read.remaining l.fn.cert).left outcome;
   taken : HasTaken l.model l.steps l.taken;
   read : HasRead (progress g.C.Read.remaining l.fn.cert).left (progress g.C.Read.remaining l.cert) l.steps;
   spelled : AreSpelled (progress g.C.Read.remaining l.cert) l.steps;

@@ -4,7 +4,7 @@ use Rattle.std.proofs.lemmas.Bool.{false≢true}
 use Rattle.fzn_cert.specs.declared.refusal.Refusal.TheVariants.{NotClosed}
 use Rattle.fzn_cert_reader.specs.Reader.{progress, Gives, Ends}
 use Rattle.fzn_cert.specs.Verdict.{refused}
-use Rattle.fzn_checker.specs.Checked.{IsFaultWhere, Standing}
+use Rattle.fzn_checker.specs.Checked.{IsFaultWhere, ComesTo}
 use Rattle.fzn_checker.specs.Faults.{may_end, fault_after}
 use Rattle.fzn_checker.proofs.FaultLaws.{counts-refused, finds-fault}
 use Rattle.fzn_checker.proofs.StandingLaws.{gives-offers, ends-accepted, ends-not_closed}
@@ -19,7 +19,7 @@ returns-then-not-has_counts-clause-err g c =
 pub returns-in-Err-clause-err : goal.returns-in-Err-clause-err
 returns-in-Err-clause-err g c =
     let old = progress g.R.Read.remaining c.args.reader.now in
-    subst (IsFaultWhere (Standing c.args.model.now c.args.history.now old))
+    subst (IsFaultWhere (ComesTo c.args.model.now c.args.history.now old))
     (sym (c.fault_after.ensures ∙ ap₂ (λ o b. fault_after c.in-Err.fault o b) c.closed.ensures c.is_refuted.ensures))
     (finds-fault c.args.model.now c.args.history.now old (progress g.R.Read.remaining c.next-next.new.self) c.in-Err.fault c.requires.midway c.next-next.ensures.same
     (c.if-not-has_counts.ensures.value.0 refl) (c.in-Err.ensures.err c.requires.midway.reading))
@@ -40,7 +40,7 @@ returns-then-may_end-clause-end g c =
 pub returns-else-may_end-clause-err : goal.returns-else-may_end-clause-err
 returns-else-may_end-clause-err g c =
     let old = progress g.R.Read.remaining c.args.reader.now in
-    subst (λ n. Standing c.args.model.now c.args.history.now old (refused n NotClosed)) (sym c.requires.line)
+    subst (λ n. ComesTo c.args.model.now c.args.history.now old (refused n NotClosed)) (sym c.requires.line)
     (ends-not_closed c.args.model.now c.args.history.now old (progress g.R.Read.remaining c.next-next.new.self) c.requires.midway
     c.next-next.ensures.same (c.if-not-has_counts.ensures.value.0 refl)
     (subst (λ o. IfNone o (Ends (progress g.R.Read.remaining c.args.reader.now) (progress g.R.Read.remaining c.next-next.new.self))) c.in-Ok-None.field-0-is (c.in-Ok-None.ensures.end c.requires.midway.reading))
