@@ -20,7 +20,7 @@ use Rattle.fzn_typing.specs.Typed.{IsTyped}
 use Rattle.fzn_mending.specs.declared.places.ConstantGoal.{ConstantGoal}
 use Rattle.fzn_items.specs.declared.counts.Counts.{Counts}
 use Rattle.fzn_mending.specs.declared.places.Place.{Place}
-use Rattle.fzn_sources.specs.Items.{items_of}
+use Rattle.fzn_sources.specs.Items.{item_spans}
 use Rattle.fzn_items.specs.Listed.{IsFaultOrMemory, IsList, IsListing, IsListingFault, Itemizes}
 use Rattle.fzn_mending.specs.Mending.{mended, places, constant}
 use Rattle.fzn_sources.proofs.FrontLemmas.{known_tokens}
@@ -39,7 +39,7 @@ few-stated tree model typed wf within =
 
 -- of a file without faults
 pub own-listing : (bytes : List ℕ) (tokens : List Token) (tree : Tree) (items : List Span) (model : Model) (text : List ℕ) (counts : Counts) → Lexes bytes (Ok tokens) → IsTree tokens tree → IsTyped tree (Ok model)
-    → items ≡ items_of tokens → IsList bytes tree items model [] None text counts → IsListing bytes text counts
+    → items ≡ item_spans tokens → IsList bytes tree items model [] None text counts → IsListing bytes text counts
 own-listing bytes tokens tree items model text counts lexed parsed typed items_are list = record {
   tokens = tokens;
   lexed = lexed;
@@ -61,7 +61,7 @@ has_faults (x ∷ more) fault is = λ e. cc
 -- of a file mended
 pub mended-listing : (bytes : List ℕ) (tokens told : List Token) (own tree : Tree) (items : List Span) (types : List Place) (goal : Option ConstantGoal) (model : Model) (text : List ℕ) (counts : Counts) (fault : Fault)
     → Lexes bytes (Ok tokens) → IsTree tokens own → first (faults_of own) ≡ Some fault → told ≡ mended own.params tokens → IsTree told tree → types ≡ places own.params tokens → goal ≡ constant own.params tokens
-    → IsTyped tree (Ok model) → items ≡ items_of tokens → IsList bytes tree items model types goal text counts → IsListing bytes text counts
+    → IsTyped tree (Ok model) → items ≡ item_spans tokens → IsList bytes tree items model types goal text counts → IsListing bytes text counts
 mended-listing bytes tokens told own tree items types goal model text counts fault lexed parsed faulty told_are again types_are goal_is typed items_are list = record {
   tokens = tokens;
   lexed = lexed;

@@ -18,7 +18,7 @@ use Rattle.fzn_typing.specs.Typed.{IsTyped}
 use Rattle.fzn_mending.specs.declared.places.ConstantGoal.{ConstantGoal}
 use Rattle.fzn_items.specs.declared.counts.Counts.{Counts}
 use Rattle.fzn_mending.specs.declared.places.Place.{Place}
-use Rattle.fzn_sources.specs.Items.{items_of, parameter_items, declaration_items, constraint_items, goal_items}
+use Rattle.fzn_sources.specs.Items.{item_spans, parameter_items, declaration_items, constraint_items, goal_items}
 use Rattle.fzn_items.specs.Declarations.{parameter_lines, declaration_lines}
 use Rattle.fzn_items.specs.Statements.{con_lines, written_lines}
 use Rattle.fzn_mending.specs.Mending.{mended, places, constant}
@@ -87,7 +87,7 @@ pub record IsListing (bytes text : List ℕ) (counts : Counts) : Type 0 where
   pub mending : IsOwnOrMended tokens stated tree types goal
   pub model : Model
   pub typed : IsTyped tree (Ok model)
-  pub list : IsList bytes tree (items_of tokens) model types goal text counts
+  pub list : IsList bytes tree (item_spans tokens) model types goal text counts
 
 -- this fault, unless memory ran out
 abbrev pub IsFaultOrMemory : Fault → Halt Fault → Type 0

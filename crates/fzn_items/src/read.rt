@@ -10,7 +10,7 @@ ghost use Rattle.fzn_reading.specs.Reads.{Answers};
 ghost use Rattle.fzn_typing.specs.Faults.{faults_of, tree_names};
 ghost use Rattle.fzn_typing.specs.Limits.{IsWithinLimits};
 ghost use Rattle.fzn_typing.specs.Typed.{IsTyped};
-ghost use Rattle.fzn_sources.specs.Items.{items_of};
+ghost use Rattle.fzn_sources.specs.Items.{item_spans};
 ghost use Rattle.fzn_items.specs.Listed.{IsFaultOrMemory, IsListing, IsListingFault, Itemizes};
 
 use crate::list::{Listing, listing_of};
@@ -71,7 +71,7 @@ fn own_in(
 ) -> Result<Listing, AllocError>
     requires lexed { Lexes bytes.now (Ok tokens.now) }
     requires parsed { IsTree tokens.now tree.now }
-    requires items { items.now ≡ items_of tokens.now }
+    requires items { items.now ≡ item_spans tokens.now }
     requires names { known named.now.names ≡ tree_names tree.now }
     requires within { IsWithinLimits tree.now }
     requires typed { IsTyped tree.now (Ok named.now.model) }
@@ -94,7 +94,7 @@ fn mended_in(
     requires lexed { Lexes bytes.now (Ok tokens.now) }
     requires ends { EndsInEnd tokens.now }
     requires parsed { IsTree tokens.now stated.now }
-    requires items { items.now ≡ items_of tokens.now }
+    requires items { items.now ≡ item_spans tokens.now }
     requires faulty { first (faults_of stated.now) ≡ Some fault }
     ensures ok { IfOk result (λ listing. IsListing bytes.now listing.text.items listing.counts) }
     ensures err { IfErr result (IsFaultOrMemory fault) }

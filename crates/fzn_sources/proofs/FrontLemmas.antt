@@ -9,7 +9,7 @@ use Rattle.fzn_lexer.specs.Tokens.{Lexes, max_file}
 use Rattle.fzn_meaning.specs.declared.model.Model.{Model}
 use Rattle.fzn_reading.specs.Reads.{Reads, IsEnoughOf}
 use Rattle.fzn_sources.specs.declared.located.Stated.{Stated}
-use Rattle.fzn_sources.specs.Files.{model_in}
+use Rattle.fzn_sources.specs.Files.{model_stated}
 
 -- it has no tokens
 no_tokens : (bytes : List ℕ) (tokens : List Token) → max_file < length bytes → Lexes bytes (Ok tokens) → ⊥
@@ -57,6 +57,6 @@ known_whole None bytes seen model same enough r = tt
 known_whole (Some whole) bytes seen model same enough r = model-whole whole bytes model enough (subst (λ z. Reads z (Ok model)) same r)
 
 -- where memory ran out nothing is said
-pub memory-reads : (bytes : List ℕ) (result : Result Stated (Halt Fault)) → IsErrAnd result (λ e. e ≡ errors.Memory) → Reads bytes (model_in result)
+pub memory-reads : (bytes : List ℕ) (result : Result Stated (Halt Fault)) → IsErrAnd result (λ e. e ≡ errors.Memory) → Reads bytes (model_stated result)
 memory-reads bytes (Ok file) h = absurd h
 memory-reads bytes (Err e) h = subst (λ x. Reads bytes (Err x)) (sym h) tt

@@ -12,18 +12,18 @@ use Rattle.fzn_tree.specs.declared.tree.Var.{Var}
 use Rattle.fzn_tree.specs.declared.tree.Var.TheVariants as vars
 use Rattle.fzn_tree.specs.Grammar as G
 use Rattle.fzn_tree.specs.Piece.{Piece, AreSpelled, sign, each, each_by, one_more, marked}
-use Rattle.fzn_sources.specs.Items.{opened, items_from, items_of}
+use Rattle.fzn_sources.specs.Items.{begun_or, items_from, item_spans}
 
 -- ---- one token more
 
 module _ (front all : List Span) (begun : Option Span) (token : Token) (later : List Token) (so_far : front ++ items_from begun (token ∷ later) ≡ all) where
   -- it ends an item
-  pub items-ended : (item : Span) → is_symbol s.Semicolon token.kind ≡ true → item ≡ record (opened begun token.span) { end = token.span.end } → (front ++ item ∷ []) ++ items_from None later ≡ all
+  pub items-ended : (item : Span) → is_symbol s.Semicolon token.kind ≡ true → item ≡ record (begun_or begun token.span) { end = token.span.end } → (front ++ item ∷ []) ++ items_from None later ≡ all
   items-ended item test is =
       append_assoc front (item ∷ []) (items_from None later) ∙ rw is (rw test at so_far)
 
   -- or an item goes on
-  pub items-open : (item : Span) → is_symbol s.Semicolon token.kind ≡ false → item ≡ opened begun token.span → front ++ items_from (Some item) later ≡ all
+  pub items-open : (item : Span) → is_symbol s.Semicolon token.kind ≡ false → item ≡ begun_or begun token.span → front ++ items_from (Some item) later ≡ all
   items-open item test is = rw is (rw test at so_far)
 
 -- ---- how many items there are
@@ -39,7 +39,7 @@ ends_in (p ∷ ps) = count (is_symbol s.Semicolon p.kind) (ends_in ps)
 
 counted : (begun : Option Span) (t : Token) (ts : List Token) (n : ℕ) (b : Bool) → is_symbol s.Semicolon t.kind ≡ b → ((x : Option Span) → n ≡ length (items_from x ts)) → count b n ≡ length (items_from begun (t ∷ ts))
 counted begun t ts n true is h = rw is (ap suc (h None))
-counted begun t ts n false is h = rw is (h (Some (opened begun t.span)))
+counted begun t ts n false is h = rw is (h (Some (begun_or begun t.span)))
 
 -- as many items as `;`
 pub items-as_ends : (begun : Option Span) (tokens : List Token) (ps : List Piece) → AreSpelled tokens ps → ends_in ps ≡ length (items_from begun tokens)
@@ -96,7 +96,7 @@ unfolding ends_in
 con-ends n c = ends-marked (nat_lt n G.most) (G.con c) (ends-behind (G.listed (λ n. G.arg) s.CloseParen c.args) _ (ends-behind (G.anns c.anns) (sign s.Semicolon) closing))
 
 -- an item for each part of the tree
-pub items-enough : (tokens : List Token) (tree : Tree) → AreSpelled tokens (G.tree tree) → length tree.predicates + (length tree.params + (length tree.vars + length tree.cons)) ≤ length (items_of tokens)
+pub items-enough : (tokens : List Token) (tree : Tree) → AreSpelled tokens (G.tree tree) → length tree.predicates + (length tree.params + (length tree.vars + length tree.cons)) ≤ length (item_spans tokens)
 items-enough tokens tree spelled =
     let predicates = each (λ n. G.predicate) 0 tree.predicates in
     let params = each (λ n. G.param) 0 tree.params in

@@ -13,7 +13,7 @@ use Rattle.fzn_parser.specs.Parse.{IsTree}
 use Rattle.fzn_tree.specs.declared.tree.Tree.{Tree}
 use Rattle.fzn_typing.specs.Faults.{tree_names}
 use Rattle.fzn_typing.specs.Models.{stated, written, numbered}
-use Rattle.fzn_sources.specs.Items.{items_of, stated_by, declaration_items, constraint_items, sourced, item_in, constraint_in, AreSources}
+use Rattle.fzn_sources.specs.Items.{item_spans, stated_by, declaration_items, constraint_items, sourced, item_in, constraint_in, AreSources}
 use Rattle.fzn_sources.proofs.ItemLemmas.{items-enough}
 
 -- ---- the items
@@ -96,7 +96,7 @@ sourced-constraints tree items enough =
     (constraints-all (stated (tree_names tree)) tree.cons (constraint_items tree items) (omega (arith, declared, length-drop (length tree.vars) (declaration_items tree items))))
     (constraints-all (written (tree_names tree)) tree.vars (declaration_items tree items) (omega (arith, declared)))
 
-pub sources-are : (bytes : List ℕ) (tokens : List Token) (tree : Tree) (items sources : List Span) (constraints : List Constraint) → Lexes bytes (Ok tokens) → IsTree tokens tree → items ≡ items_of tokens
+pub sources-are : (bytes : List ℕ) (tokens : List Token) (tree : Tree) (items sources : List Span) (constraints : List Constraint) → Lexes bytes (Ok tokens) → IsTree tokens tree → items ≡ item_spans tokens
     → sources ≡ map item_in (sourced tree items) → constraints ≡ numbered tree → AreSources bytes constraints sources
 sources-are bytes tokens tree items sources constraints lexed parsed items_are sources_are constraints_are = record {
   tokens = tokens;
@@ -104,5 +104,5 @@ sources-are bytes tokens tree items sources constraints lexed parsed items_are s
   tree = tree;
   parsed = parsed;
   items = sources_are ∙ ap (λ (all : List Span). map item_in (sourced tree all)) items_are;
-  states = constraints_are ∙ sym (sourced-constraints tree (items_of tokens) (items-enough tokens tree parsed.spelled));
+  states = constraints_are ∙ sym (sourced-constraints tree (item_spans tokens) (items-enough tokens tree parsed.spelled));
 }

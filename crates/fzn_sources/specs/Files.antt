@@ -7,10 +7,10 @@ use Rattle.fzn_reading.specs.declared.fault.ModelFault.{ModelFault}
 use Rattle.fzn_sources.specs.declared.located.Located.{Located}
 use Rattle.fzn_sources.specs.declared.located.Stated.{Stated}
 
-abbrev pub model_in : Result Stated (Halt Fault) → Result Model (Halt Fault)
-model_in (Ok file) = Ok file.model
-model_in (Err error) = Err error
+abbrev pub model_stated : Result Stated (Halt Fault) → Result Model (Halt Fault)
+model_stated (Ok file) = Ok file.model
+model_stated (Err error) = Err error
 
-abbrev pub model_told : Result Located ModelFault → Result Model ModelFault
-model_told (Ok file) = Ok file.model
-model_told (Err fault) = Err fault
+abbrev pub model_located : Result Located ModelFault → Result Model ModelFault
+model_located (Ok file) = Ok file.model
+model_located (Err fault) = Err fault

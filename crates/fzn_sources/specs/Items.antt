@@ -17,19 +17,19 @@ use Rattle.std.specs.Prelude.{ℕ}
 -- ---- items
 
 -- the item that has begun, or else one that begins here
-abbrev pub opened : Option Span → Span → Span
-opened (Some item) span = item
-opened None span = span
+abbrev pub begun_or : Option Span → Span → Span
+begun_or (Some item) span = item
+begun_or None span = span
 
 -- the items of these tokens, where one may have begun before: each goes from its first token to its `;`
 abbrev pub items_from : Option Span → List Token → List Span
 items_from begun [] = []
 items_from begun (token ∷ later) =
-    if is_symbol Semicolon token.kind then record (opened begun token.span) { end = token.span.end } ∷ items_from None later
-    else items_from (Some (opened begun token.span)) later
+    if is_symbol Semicolon token.kind then record (begun_or begun token.span) { end = token.span.end } ∷ items_from None later
+    else items_from (Some (begun_or begun token.span)) later
 
-abbrev pub items_of : List Token → List Span
-items_of tokens = items_from None tokens
+abbrev pub item_spans : List Token → List Span
+item_spans tokens = items_from None tokens
 
 -- ---- constraints
 
@@ -70,8 +70,8 @@ pub record AreSources (bytes : List ℕ) (constraints : List Constraint) (source
   pub lexed : Lexes bytes (Ok tokens)
   pub tree : Tree
   pub parsed : IsTree tokens tree
-  pub items : sources ≡ map item_in (sourced tree (items_of tokens))
-  pub states : constraints ≡ map constraint_in (sourced tree (items_of tokens))
+  pub items : sources ≡ map item_in (sourced tree (item_spans tokens))
+  pub states : constraints ≡ map constraint_in (sourced tree (item_spans tokens))
 
 -- the registry has the constraint's name
 abbrev pub IsNamed : Con → Type 0

@@ -1,14 +1,14 @@
 // The items of a file.
 ghost use Rattle.std.specs.Prelude.{◌≡◌, IfOk};
 ghost use Rattle.fzn_lexer.specs.Kept.{token_of};
-ghost use Rattle.fzn_sources.specs.Items.{items_of, opened};
+ghost use Rattle.fzn_sources.specs.Items.{item_spans, begun_or};
 
 use fzn_lexer::{Kept, Parts, Positions, Span, Symbol, TokenList};
 use std::alloc::{AllocError, Global};
 
 /// The items of the tokens in order, each from its first token to its `;`. It answers `Err` where memory runs out.
 pub fn items_of(alloc: Global, tokens: &TokenList<'_>) -> Result<Vec<Span>, AllocError>
-    ensures { IfOk result (λ items. items.items ≡ items_of tokens.now) }
+    ensures { IfOk result (λ items. items.items ≡ item_spans tokens.now) }
 {
     let Parts { mut file, mut kept } = tokens.parts();
     let mut items = Vec::new(alloc);
@@ -31,7 +31,7 @@ pub fn items_of(alloc: Global, tokens: &TokenList<'_>) -> Result<Vec<Span>, Allo
 
 /// The item that has begun, or else the one that begins with the token.
 fn opened(begun: Option<Span>, file: &mut Positions<'_>, token: &Kept) -> Span
-    ensures value { result ≡ opened begun (token_of file.old token.now).span }
+    ensures value { result ≡ begun_or begun (token_of file.old token.now).span }
     ensures same { file.new ≡ file.old }
 {
     match begun {

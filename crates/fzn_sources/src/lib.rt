@@ -6,7 +6,7 @@
 #![tactic(auto)]
 
 pub use item::items_of;
-pub use located::{Located, read_located};
+pub use located::read_located;
 pub use source::{behind, count_of, sources_of};
 
 mod item;

@@ -4,7 +4,7 @@ ghost use Rattle.fzn_meaning.specs.WellFormed.{IsWellFormed};
 ghost use Rattle.fzn_reading.specs.declared.fault.ModelFault.TheVariants.{Read as Failed};
 ghost use Rattle.fzn_reading.specs.Reads.{Answers, Reads};
 ghost use Rattle.fzn_sources.specs.Items.{AreSources};
-ghost use Rattle.fzn_sources.specs.Files.{model_in, model_told};
+ghost use Rattle.fzn_sources.specs.Files.{model_stated, model_located};
 
 use crate::item::items_of;
 use crate::source::sources_of;
@@ -19,7 +19,9 @@ use std::alloc::Global;
 /// A file's model, and the items that state its constraints.
 #[derive(Drop)]
 pub struct Stated {
+    /// The model that the file states, which is well formed.
     pub model: Model,
+    /// For each constraint of the model, in order, the item that states it.
     pub sources: Vec<Span>,
 }
 
@@ -37,7 +39,7 @@ pub struct Located {
 /// The file that the reader has left, with its model as `read_model` of `fzn_reading` reads it. It answers `File` with the first fault of the
 /// file, `Memory` where memory runs out, and `Read` only after a read that failed. After an error the reader stands anywhere.
 pub fn read_located<R: TrackedRead>(alloc: Global, input: &mut R) -> Result<Located, ModelFault>
-    ensures right { IfSome (R.remaining input.old) (λ bytes. Answers bytes (model_told result)) }
+    ensures right { IfSome (R.remaining input.old) (λ bytes. Answers bytes (model_located result)) }
     ensures bytes { IfOk result (λ file. IfSome (R.remaining input.old) (λ bytes. bytes ≡ file.bytes.items)) }
     ensures sources { IfOk result (λ file. AreSources file.bytes.items file.model.constraints file.sources.items) }
     ensures well_formed { IfOk result (λ file. IsWellFormed file.model) }
@@ -57,7 +59,7 @@ pub fn read_located<R: TrackedRead>(alloc: Global, input: &mut R) -> Result<Loca
 
 /// The model of these bytes, or their first fault.
 fn stated_in(alloc: Global, bytes: &[u8]) -> Result<Stated, Halt<Fault>>
-    ensures right { Reads bytes.now (model_in result) }
+    ensures right { Reads bytes.now (model_stated result) }
     ensures sources { IfOk result (λ file. AreSources bytes.now file.model.constraints file.sources.items) }
     ensures well_formed { IfOk result (λ file. IsWellFormed file.model) }
 {

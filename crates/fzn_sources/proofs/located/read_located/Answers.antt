@@ -1,7 +1,7 @@
 use Rattle.std.proofs.Common.{Ok, Err, List, ℕ, subst}
 use Rattle.fzn_lexer.specs.declared.halt.Halt.TheVariants as errors
 use Rattle.fzn_reading.specs.Reads.{Reads}
-use Rattle.fzn_sources.specs.Files.{model_in}
+use Rattle.fzn_sources.specs.Files.{model_stated}
 use Rattle.fzn_sources.specs.Items.{AreSources}
 use Rattle.fzn_sources.proofs.FrontLemmas.{known_reads, known_whole}
 use Rattle.fzn_sources.proofs.located.read_located.Goals as goal
@@ -22,5 +22,5 @@ returns-in-Ok-clause-sources g c =
 -- the fault of what was read is that of the file
 pub returns-clause-right : goal.returns-clause-right
 returns-clause-right g c =
-    let read = subst (λ r. Reads c.as_slice.result.now (model_in (Err r))) c.in-Err-Fault.field-0-is c.in-Err-Fault.ensures.right in
+    let read = subst (λ r. Reads c.as_slice.result.now (model_stated (Err r))) c.in-Err-Fault.field-0-is c.in-Err-Fault.ensures.right in
     known_reads (g.R.Read.remaining c.args.input.now) c.in_ok-bytes.bytes.items c.as_slice.result.now (Err (errors.Fault c.in-Err-Fault.fault)) c.as_slice.ensures.value c.in_ok-bytes.ensures.bytes read
