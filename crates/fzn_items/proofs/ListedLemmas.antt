@@ -22,7 +22,7 @@ use Rattle.fzn_items.specs.declared.counts.Counts.{Counts}
 use Rattle.fzn_mending.specs.declared.places.Place.{Place}
 use Rattle.fzn_sources.specs.Items.{item_spans}
 use Rattle.fzn_items.specs.Listed.{IsFaultOrMemory, IsList, IsListing, IsListingFault, Itemizes}
-use Rattle.fzn_mending.specs.Mending.{mended, places, constant}
+use Rattle.fzn_mending.specs.Mending.{mended, mended_places, constant}
 use Rattle.fzn_sources.proofs.FrontLemmas.{known_tokens}
 
 -- ---- how many constraints
@@ -60,7 +60,7 @@ has_faults (x ∷ more) fault is = λ e. cc
 
 -- of a file mended
 pub mended-listing : (bytes : List ℕ) (tokens told : List Token) (own tree : Tree) (items : List Span) (types : List Place) (goal : Option ConstantGoal) (model : Model) (text : List ℕ) (counts : Counts) (fault : Fault)
-    → Lexes bytes (Ok tokens) → IsTree tokens own → first (faults_of own) ≡ Some fault → told ≡ mended own.params tokens → IsTree told tree → types ≡ places own.params tokens → goal ≡ constant own.params tokens
+    → Lexes bytes (Ok tokens) → IsTree tokens own → first (faults_of own) ≡ Some fault → told ≡ mended own.params tokens → IsTree told tree → types ≡ mended_places own.params tokens → goal ≡ constant own.params tokens
     → IsTyped tree (Ok model) → items ≡ item_spans tokens → IsList bytes tree items model types goal text counts → IsListing bytes text counts
 mended-listing bytes tokens told own tree items types goal model text counts fault lexed parsed faulty told_are again types_are goal_is typed items_are list = record {
   tokens = tokens;

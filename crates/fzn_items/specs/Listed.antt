@@ -21,7 +21,7 @@ use Rattle.fzn_mending.specs.declared.places.Place.{Place}
 use Rattle.fzn_sources.specs.Items.{item_spans, parameter_items, declaration_items, constraint_items, goal_items}
 use Rattle.fzn_items.specs.Declarations.{parameter_lines, declaration_lines}
 use Rattle.fzn_items.specs.Statements.{con_lines, written_lines}
-use Rattle.fzn_mending.specs.Mending.{mended, places, constant}
+use Rattle.fzn_mending.specs.Mending.{mended, mended_places, constant}
 use Rattle.fzn_items.specs.Ending.{search_line, goal_line, place_line, constant_line, counts_line}
 
 -- ---- the text
@@ -73,7 +73,7 @@ pub record IsList (bytes : List ℕ) (tree : Tree) (items : List Span) (model : 
 abbrev pub IsOwnOrMended : List Token → Tree → Tree → List Place → Option ConstantGoal → Type 0
 IsOwnOrMended tokens stated tree types goal =
     ((faults_of stated ≡ []) × (tree ≡ stated) × (types ≡ []) × (goal ≡ None))
-    ⊎ ((faults_of stated ≢ []) × IsTree (mended stated.params tokens) tree × (types ≡ places stated.params tokens) × (goal ≡ constant stated.params tokens))
+    ⊎ ((faults_of stated ≢ []) × IsTree (mended stated.params tokens) tree × (types ≡ mended_places stated.params tokens) × (goal ≡ constant stated.params tokens))
 
 -- The bytes state a model, or would do so mended, and the text lists it.
 pub record IsListing (bytes text : List ℕ) (counts : Counts) : Type 0 where

@@ -2,6 +2,7 @@
 use Rattle.std.specs.Prelude.{Bool, ◌&&◌, List, [], ◌∷◌, Option, Some, None, bytes_eq, codes, if◌then◌else◌}
 use Rattle.std.specs.List.{list_any}
 use Rattle.fzn_domain.specs.declared.literal.VarId.{VarId}
+use Rattle.fzn_mending.specs.Mending.{or_else}
 use Rattle.fzn_names.specs.Annotations.{has_no_args}
 use Rattle.fzn_names.specs.Values.{NameList, meaning_of}
 use Rattle.fzn_names.specs.declared.names.Declared.{Declared}
@@ -38,11 +39,7 @@ sole_variable names _ = None
 abbrev pub defined_in : NameList → Ann → Option VarId
 defined_in names ann = if bytes_eq (out-Ann ann).name.text (codes "defines_var") then sole_variable names (out-Ann ann).args else None
 
-abbrev pub else_by : Option VarId → Option VarId → Option VarId
-else_by (Some var) other = Some var
-else_by None other = other
-
 -- the first variable that the annotations say to be defined
 abbrev pub defined_by : NameList → List Ann → Option VarId
 defined_by names [] = None
-defined_by names (ann ∷ more) = else_by (defined_in names ann) (defined_by names more)
+defined_by names (ann ∷ more) = or_else (defined_in names ann) (defined_by names more)

@@ -43,25 +43,25 @@ put_at token kind = record { kind = kind; span = token.span }
 
 -- ---- the constants of goals
 
-abbrev pub number_in : ParamValue → Option ℤ
-number_in (v.Literal (l.Int number)) = Some number.value
-number_in _ = None
+abbrev pub literal_number : ParamValue → Option ℤ
+literal_number (v.Literal (l.Int number)) = Some number.value
+literal_number _ = None
 
 -- the number that the first parameter of this name is given
 abbrev pub number_named : List Param → List ℕ → Option ℤ
 number_named [] text = None
-number_named (param ∷ params) text = if bytes_eq text param.name.text then number_in param.value else number_named params text
+number_named (param ∷ params) text = if bytes_eq text param.name.text then literal_number param.value else number_named params text
 
 -- a number, or the name of one
-abbrev pub number_of : List Param → Kind → Option ℤ
-number_of params (k.Int number) = Some number
-number_of params (k.Name text) = number_named params text
-number_of params _ = None
+abbrev pub number_meant : List Param → Kind → Option ℤ
+number_meant params (k.Int number) = Some number
+number_meant params (k.Name text) = number_named params text
+number_meant params _ = None
 
 -- the number that stands first
 abbrev pub first_number : List Param → List Token → Option ℤ
 first_number params [] = None
-first_number params (token ∷ later) = number_of params token.kind
+first_number params (token ∷ later) = number_meant params token.kind
 
 -- ---- what was seen of the item that has begun
 
@@ -111,20 +111,20 @@ after_solve number token =
     else if is_sign s.Maximize token then after_goal false number
     else Solve
 
-abbrev pub after : Option ℤ → Seen → Token → Seen
-after number Nothing token = begun token
-after number Var token = after_var token
-after number (Index is_empty) token = after_index is_empty token
-after number Element token = after_of token
-after number (Sets part) token = after_set part token
-after number (Mended change part) token = after_type change part token
-after number Solve token = after_solve number token
-after number (Goal is_least value) token = Other
-after number Other token = Other
+abbrev pub seen_after : Option ℤ → Seen → Token → Seen
+seen_after number Nothing token = begun token
+seen_after number Var token = after_var token
+seen_after number (Index is_empty) token = after_index is_empty token
+seen_after number Element token = after_of token
+seen_after number (Sets part) token = after_set part token
+seen_after number (Mended change part) token = after_type change part token
+seen_after number Solve token = after_solve number token
+seen_after number (Goal is_least value) token = Other
+seen_after number Other token = Other
 
 -- behind a `;` an item begins
 abbrev pub next : Option ℤ → Seen → Token → Seen
-next number seen token = if is_sign s.Semicolon token then Nothing else after number seen token
+next number seen token = if is_sign s.Semicolon token then Nothing else seen_after number seen token
 
 -- ---- what stands in the place of a token
 
@@ -184,29 +184,30 @@ named_by change part name _ = []
 abbrev pub named_at : Change → Part → Token → List Place
 named_at change part token = named_by change part (part_of token) token.kind
 
-abbrev pub place_at : Seen → Token → List Place
-place_at (Mended change part) token = named_at change part token
-place_at seen token = []
+abbrev pub mended_at : Seen → Token → List Place
+mended_at (Mended change part) token = named_at change part token
+mended_at seen token = []
 
 abbrev pub places_from : List Param → Seen → List Token → List Place
 places_from params seen [] = []
-places_from params seen (token ∷ later) = place_at seen token ++ places_from params (next (first_number params later) seen token) later
+places_from params seen (token ∷ later) = mended_at seen token ++ places_from params (next (first_number params later) seen token) later
 
 -- the types, in the order of the file
-abbrev pub places : List Param → List Token → List Place
-places params tokens = places_from params Nothing tokens
+abbrev pub mended_places : List Param → List Token → List Place
+mended_places params tokens = places_from params Nothing tokens
 
 abbrev pub constant_at : Seen → Token → Option ConstantGoal
 constant_at (Goal is_least value) token = Some (record { is_least = is_least; value = value; at = part_of token })
 constant_at seen token = None
 
-abbrev pub else_by : Option ConstantGoal → Option ConstantGoal → Option ConstantGoal
-else_by None other = other
-else_by (Some constant) other = Some constant
+-- the first of the two that there is
+abbrev pub or_else : {A : Type 0} → Option A → Option A → Option A
+or_else None other = other
+or_else (Some value) other = Some value
 
 abbrev pub constant_from : List Param → Seen → List Token → Option ConstantGoal
 constant_from params seen [] = None
-constant_from params seen (token ∷ later) = else_by (constant_at seen token) (constant_from params (next (first_number params later) seen token) later)
+constant_from params seen (token ∷ later) = or_else (constant_at seen token) (constant_from params (next (first_number params later) seen token) later)
 
 -- the goal, where it is a constant
 abbrev pub constant : List Param → List Token → Option ConstantGoal

@@ -1,7 +1,7 @@
 // A file mended: its tokens, where some are put in the place of others.
 ghost use Rattle.std.specs.Prelude.{◌≡◌, ◌++◌, List, ℕ, OnOk, IfOk};
 ghost use Rattle.fzn_lexer.specs.Kept.{kind_in, token_of, tokens_of};
-ghost use Rattle.fzn_mending.specs.Mending.{is_sign, is_zero, kept_part, put_at, number_in, number_named, number_of, first_number, begun, after_var, after_index, after_of, after_set, after_type, after_goal, after_solve, after, next, bounds_at, instead_after_var, instead_after_of, end_alone, instead_after_set, satisfied_at, instead_after_solve, instead, mended, named_at, place_at, places, constant_at, constant};
+ghost use Rattle.fzn_mending.specs.Mending.{is_sign, is_zero, kept_part, put_at, literal_number, number_named, number_meant, first_number, begun, after_var, after_index, after_of, after_set, after_type, after_goal, after_solve, seen_after, next, bounds_at, instead_after_var, instead_after_of, end_alone, instead_after_set, satisfied_at, instead_after_solve, instead, mended, named_at, mended_at, mended_places, constant_at, constant};
 
 use crate::places::{Change, ConstantGoal, Part, Place};
 use fzn_lexer::{Kept, MAX_FILE, Parts, Symbol, TokenForm, TokenList};
@@ -74,7 +74,7 @@ fn put_at(token: &Kept, form: TokenForm) -> Kept
 // ---- the constants of goals
 
 fn number_in(value: &ParamValue) -> Option<i64>
-    ensures { result ≡ number_in value.now }
+    ensures { result ≡ literal_number value.now }
 {
     match value {
         ParamValue::Literal(Literal::Int(number)) => Some(number.value),
@@ -95,7 +95,7 @@ fn number_named(mut params: &[Param], text: &[u8]) -> Option<i64>
 }
 
 fn number_of(params: &[Param], form: TokenForm, text: &[u8]) -> Option<i64>
-    ensures { result ≡ number_of params.now (kind_in form text.now) }
+    ensures { result ≡ number_meant params.now (kind_in form text.now) }
 {
     match form {
         TokenForm::Int(number) => Some(i64::from(number)),
@@ -212,7 +212,7 @@ fn after_solve(number: Option<i64>, token: &Kept) -> Seen
 }
 
 fn after(number: Option<i64>, seen: Seen, token: &Kept) -> Seen
-    ensures { (bytes : List ℕ) → result ≡ after number seen (token_of bytes token.now) }
+    ensures { (bytes : List ℕ) → result ≡ seen_after number seen (token_of bytes token.now) }
 {
     match seen {
         Seen::Nothing => begun(token),
@@ -385,7 +385,7 @@ fn push_named(
 }
 
 fn push_place(places: &mut Items<Place>, seen: Seen, token: &Kept) -> Result<(), AllocError>
-    ensures { (bytes : List ℕ) → OnOk result (places.new ≡ places.old ++ place_at seen (token_of bytes token.now)) }
+    ensures { (bytes : List ℕ) → OnOk result (places.new ≡ places.old ++ mended_at seen (token_of bytes token.now)) }
 {
     match seen {
         Seen::Mended(change, at) => push_named(places, change, at, token),
@@ -399,7 +399,7 @@ fn places_of(
     params: &[Param],
     mut tokens: &[Kept],
 ) -> Result<Items<Place>, AllocError>
-    ensures { IfOk result (λ found. found ≡ places params.now (tokens_of bytes.now tokens.now)) }
+    ensures { IfOk result (λ found. found ≡ mended_places params.now (tokens_of bytes.now tokens.now)) }
 {
     let mut found = Items::new(alloc);
     let mut seen = Seen::Nothing;
@@ -466,7 +466,7 @@ pub fn mended_types(
     tokens: &TokenList<'_>,
     params: &[Param],
 ) -> Result<Items<Place>, AllocError>
-    ensures { IfOk result (λ found. found ≡ places params.now tokens.now) }
+    ensures { IfOk result (λ found. found ≡ mended_places params.now tokens.now) }
 {
     let Parts { file, kept } = tokens.parts();
     places_of(alloc, file.bytes(), params, kept)

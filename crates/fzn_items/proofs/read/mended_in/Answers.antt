@@ -4,7 +4,7 @@ use Rattle.fzn_lexer.specs.declared.token.Token.{Token}
 use Rattle.fzn_lexer.specs.Lexemes.{IsSmall}
 use Rattle.fzn_lexer.specs.Tokens.{EndsInEnd}
 use Rattle.fzn_tree.specs.declared.tree.Param.{Param}
-use Rattle.fzn_mending.specs.Mending.{mended, places, constant}
+use Rattle.fzn_mending.specs.Mending.{mended, mended_places, constant}
 use Rattle.fzn_items.proofs.ListedLemmas.{memory-told, mended-listing}
 use Rattle.fzn_mending.proofs.MendLemmas.{ends-mended, small-mended}
 use Rattle.fzn_items.proofs.read.mended_in.Goals as goal
@@ -30,7 +30,7 @@ returns-clause-ok c =
     mended-listing c.args.bytes.now tokens c.in_ok-told.told c.args.stated.now c.in_ok-tree.tree c.args.items.now c.as_slice-listed.result.now c.constant_goal-goal.result c.in_ok-named.named.model
     c.in_ok-listing.listing.text.items c.in_ok-listing.listing.counts c.args.fault c.requires.lexed c.requires.parsed c.requires.faulty
     (c.in_ok-told.ensures ∙ ap (λ (ps : List Param). mended ps tokens) c.as_slice-params.ensures) c.in_ok-tree.ensures.ok
-    (c.as_slice-listed.ensures ∙ (c.in_ok-types.ensures ∙ ap (λ (ps : List Param). places ps tokens) c.as_slice-params.ensures))
+    (c.as_slice-listed.ensures ∙ (c.in_ok-types.ensures ∙ ap (λ (ps : List Param). mended_places ps tokens) c.as_slice-params.ensures))
     (c.constant_goal-goal.ensures ∙ ap (λ (ps : List Param). constant ps tokens) c.as_slice-params.ensures)
     c.in_ok-named.ensures.typed c.requires.items c.in_ok-listing.ensures
 
