@@ -16,7 +16,7 @@ use Rattle.fzn_cert.specs.Past.{Past, start}
 use Rattle.fzn_cert.specs.Accepted.{past_of}
 use Rattle.fzn_cert.specs.Verdict.{Outcome, accepted, MayEnd, VerdictFrom, VerdictOn}
 use Rattle.fzn_cert.proofs.SoundLaws.{proper-sound, exhausted-sound}
-use Rattle.fzn_cert_reader.specs.Reader.{Progress, IsFresh, Gives, Ends, HasRead}
+use Rattle.fzn_cert_reader.specs.Reader.{Progress, IsAtStart, GivesStep, Ends, HasRead}
 use Rattle.fzn_cert_reader.proofs.CallerLemmas.{HasRead-fresh, HasRead-step}
 use Rattle.fzn_checker.specs.declared.fault.CheckFault.{CheckFault}
 use Rattle.fzn_checker.specs.declared.fault.CheckFault.TheVariants.{File, Refused, NotVersionOne, Memory, Read, WriteOutput, WriteCert}
@@ -43,7 +43,7 @@ pub record IsOnWay (model : Model) (bytes : Option (List ℕ)) (now : Progress) 
   pub spelled : AreSpelled now steps
   pub by : IsBoundBy model steps bound
 
-pub way-start : (model : Model) (now : Progress) (taken : Taken) (bound : Option ℤ) → IsFresh now.left now → HasTaken model [] taken → IsBestDeclared model.goal model.vars bound → IsOnWay model now.left now taken bound
+pub way-start : (model : Model) (now : Progress) (taken : Taken) (bound : Option ℤ) → IsAtStart now.left now → HasTaken model [] taken → IsBestDeclared model.goal model.vars bound → IsOnWay model now.left now taken bound
 way-start model now taken bound fresh has_taken end = record {
   steps = [];
   has_taken = has_taken;
@@ -53,7 +53,7 @@ way-start model now taken bound fresh has_taken end = record {
 }
 
 -- before anything was read
-pub midway-start : (model : Model) (now : Progress) (taken : Taken) → IsFresh now.left now → HasTaken model [] taken → IsMidway model (past_in taken) now
+pub midway-start : (model : Model) (now : Progress) (taken : Taken) → IsAtStart now.left now → HasTaken model [] taken → IsMidway model (past_in taken) now
 midway-start model now taken fresh has_taken = record {
   reading = (fresh.3, fresh.4);
   counts = subst (λ (o : Option Header). IfSome o (HasCounts model)) (sym fresh.1) tt;
@@ -68,7 +68,7 @@ fold-more : {A B : Type 0} (f : B → A → B) (b : B) (xs : List A) (x : A) →
 fold-more f b [] x = refl
 fold-more f b (y ∷ ys) x = fold-more f (f b y) ys x
 
-pub way-more : (model : Model) (bytes : Option (List ℕ)) (old new : Progress) (taken next : Taken) (bound : Option ℤ) (step : Step) → IsOnWay model bytes old taken bound → Gives old new step → (IsSome old.header → new.header ≡ old.header)
+pub way-more : (model : Model) (bytes : Option (List ℕ)) (old new : Progress) (taken next : Taken) (bound : Option ℤ) (step : Step) → IsOnWay model bytes old taken bound → GivesStep old new step → (IsSome old.header → new.header ≡ old.header)
     → ((steps : List Step) → HasTaken model steps taken → HasTaken model (steps ++ step ∷ []) next) → IsOnWay model bytes new next (bound_after model.goal bound step)
 way-more model bytes old new taken next bound step way gives same takes = record {
   steps = way.steps ++ step ∷ [];

@@ -1,6 +1,6 @@
 // A file and its certificate checked from their bytes, and the answer printed with what is known of the objective.
 ghost use Rattle.std.specs.Prelude.{◌≡◌, false, IfOk, IfErr};
-ghost use Rattle.fzn_cert_reader.specs.Reader.{progress, input_of};
+ghost use Rattle.fzn_cert_reader.specs.Reader.{progress, reader_below};
 ghost use Rattle.fzn_checker.specs.Answered.{IsCheckDue};
 ghost use Rattle.fzn_checker.specs.Checked.{IsUnread};
 ghost use Rattle.fzn_bound.specs.Bounded.{IsBoundTold, IsBoundFault};
@@ -51,10 +51,10 @@ pub fn bound_tracked<R: TrackedRead, C: TrackedRead + Drop, W: TrackedWrite>(
     out: &mut W,
 ) -> Result<Known, CheckFault>
     requires unread { IsUnread (progress C.remaining cert.old) }
-    requires fresh { (R.has_failed file.old ≡ false) × (C.has_failed (input_of cert.old) ≡ false) × (W.has_failed out.old ≡ false) }
+    requires fresh { (R.has_failed file.old ≡ false) × (C.has_failed (reader_below cert.old) ≡ false) × (W.has_failed out.old ≡ false) }
     ensures ok { IfOk result (IsBoundTold (R.remaining file.old) (progress C.remaining cert.old).left show_all (W.contents out.old) (W.contents out.new)) }
     ensures err { IfErr result (IsBoundFault (R.remaining file.old) (progress C.remaining cert.old).left show_all (W.contents out.old) (W.contents out.new)) }
-    ensures due { IfErr result (IsCheckDue (R.has_failed file.new) (C.has_failed (input_of cert.new)) (W.has_failed out.new)) }
+    ensures due { IfErr result (IsCheckDue (R.has_failed file.new) (C.has_failed (reader_below cert.new)) (W.has_failed out.new)) }
     ensures same_stream { W.stream out.new ≡ W.stream out.old }
 {
     let model = read_model(alloc, file)?;

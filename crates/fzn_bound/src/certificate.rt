@@ -4,7 +4,7 @@ ghost use Rattle.std.specs.List.{All};
 ghost use Rattle.fzn_meaning.specs.Solutions.{IsSolution};
 ghost use Rattle.fzn_meaning.specs.WellFormed.{IsWellFormed};
 ghost use Rattle.fzn_cert.specs.Verdict.{VerdictOn};
-ghost use Rattle.fzn_cert_reader.specs.Reader.{progress, input_of};
+ghost use Rattle.fzn_cert_reader.specs.Reader.{progress, reader_below};
 ghost use Rattle.fzn_checker.specs.Checked.{IsUnread, IsFaultWhere, IsReadDue};
 ghost use Rattle.fzn_checker.specs.Held.{past_in};
 ghost use Rattle.fzn_bound.specs.Bounded.{IsWalked};
@@ -39,7 +39,7 @@ pub fn walk_certificate<C: TrackedRead + Drop>(
     ensures ok { IfOk result (IsWalked model.now (progress C.remaining cert.old).left) }
     ensures found { IfOk result (λ walked. All (IsSolution model.now) (past_in walked.taken).solutions) }
     ensures err { IfErr result (IsFaultWhere (VerdictOn model.now (progress C.remaining cert.old).left)) }
-    ensures due { IfErr result (IsReadDue (C.has_failed (input_of cert.new))) }
+    ensures due { IfErr result (IsReadDue (C.has_failed (reader_below cert.new))) }
 {
     let mut taken = Taken::new(alloc, model)?;
     let mut bound = declared_bound(model);

@@ -11,7 +11,7 @@ use Rattle.fzn_cert.specs.declared.step.Step.{Step}
 use Rattle.fzn_cert.specs.Spelling.{step_line, end_line, header_lines}
 use Rattle.fzn_cert.specs.Stream.{IsFaultOf, After, line_of}
 use Rattle.fzn_cert.proofs.CallerLemmas.{some_is}
-use Rattle.fzn_cert_reader.specs.Reader.{Progress, IsFresh, IsNextFault, Gives, Ends, Finds, HasRead, lines_read, text_of, certificate_text}
+use Rattle.fzn_cert_reader.specs.Reader.{Progress, IsAtStart, IsNextFault, GivesStep, Ends, FindsFault, HasRead, lines_read, text_of, certificate_text}
 use Rattle.fzn_cert_reader.proofs.ReadLaws.{Consumes-then, Consumes_nothing}
 pub use Rattle.fzn_cert_reader.proofs.StepLaws.{IdsRise-from_test}
 
@@ -37,7 +37,7 @@ one_more (Some h) header steps step is =
     ∙ ap (λ (t : List ℕ). header_lines h ++ (flat_map step_line steps ++ t)) (sym (append-nil (step_line step)))
     ∙ ap (λ (t : List ℕ). header_lines h ++ t) (sym (flat_map-append step_line steps (step ∷ [])))
 
-pub HasRead-fresh : (bytes : Option (List ℕ)) (now : Progress) → IsFresh bytes now → HasRead bytes now []
+pub HasRead-fresh : (bytes : Option (List ℕ)) (now : Progress) → IsAtStart bytes now → HasRead bytes now []
 HasRead-fresh bytes now fresh = record {
   taken = rw (fresh.0, fresh.1) (Consumes_nothing bytes);
   counted = fresh.2;
@@ -45,7 +45,7 @@ HasRead-fresh bytes now fresh = record {
 }
 
 -- one step more
-pub HasRead-step : (bytes : Option (List ℕ)) (old new : Progress) (steps : List Step) (step : Step) → HasRead bytes old steps → Gives old new step → (IsSome old.header → new.header ≡ old.header)
+pub HasRead-step : (bytes : Option (List ℕ)) (old new : Progress) (steps : List Step) (step : Step) → HasRead bytes old steps → GivesStep old new step → (IsSome old.header → new.header ≡ old.header)
     → HasRead bytes new (steps ++ step ∷ [])
 HasRead-step bytes old new steps step so_far gives same = record {
   taken = subst (λ (t : List ℕ). Consumes bytes new.left t)
@@ -70,7 +70,7 @@ HasRead-end text old new steps so_far ends same =
     whole (Some rest) taken at_end = taken ∙ ap (λ (t : List ℕ). certificate_text ends.header steps ends.closed ++ t) at_end ∙ append-nil (certificate_text ends.header steps ends.closed)
 
 -- a fault behind the first two lines stands after these steps
-pub HasRead-fault : (bytes : Option (List ℕ)) (old new : Progress) (steps : List Step) (fault : CertFault) (header : Header) → HasRead bytes old steps → Finds old new fault → new.header ≡ Some header → (IsSome old.header → new.header ≡ old.header)
+pub HasRead-fault : (bytes : Option (List ℕ)) (old new : Progress) (steps : List Step) (fault : CertFault) (header : Header) → HasRead bytes old steps → FindsFault old new fault → new.header ≡ Some header → (IsSome old.header → new.header ≡ old.header)
     → (fault.line ≡ line_of fault.kind (length steps)) × After bytes (text_of (Some header) steps) (λ rest. IsFaultOf header.version (length steps) rest fault.kind)
 HasRead-fault bytes old new steps fault header so_far finds is same =
     let next = subst (λ (h : Option Header). IsNextFault old h new.closing fault) is finds.is_next in

@@ -11,7 +11,7 @@ use Rattle.fzn_cert.specs.Spelling.{step_text, step_line, IsSpelled}
 use Rattle.fzn_cert.specs.Reading.{step_of}
 use Rattle.fzn_cert.specs.Verdict.{lines_of}
 use Rattle.fzn_cert.proofs.CallerLemmas.{text_again}
-use Rattle.fzn_cert_reader.specs.Script.{lines_from, steps_in, ends_from, IsScript}
+use Rattle.fzn_cert_reader.specs.Script.{lines_from, steps_spelled, ends_from, IsScript}
 
 -- ---- one line
 
@@ -69,8 +69,8 @@ length-ends : (start : ℕ) (steps : List Step) → length (ends_from start step
 length-ends start [] = refl
 length-ends start (step ∷ steps) = ap (λ (n : ℕ). suc n) (length-ends (start + length (step_line step)) steps)
 
-pub steps-read : (text ends : List ℕ) (steps : List Step) → IsScript text ends steps → steps_in text ends ≡ steps
-unfolding steps_in
+pub steps-read : (text ends : List ℕ) (steps : List Step) → IsScript text ends steps → steps_spelled text ends ≡ steps
+unfolding steps_spelled
 steps-read text ends steps script =
     rw script.places (read-behind text [] 0 steps script.spelled script.lines refl)
 
@@ -112,15 +112,15 @@ script-more text ends steps step script spelled =
     }
 
 -- what it spells stays a script's
-pub script-of_itself : (text ends : List ℕ) (steps : List Step) → IsScript text ends steps → IsScript text ends (steps_in text ends)
+pub script-of_itself : (text ends : List ℕ) (steps : List Step) → IsScript text ends steps → IsScript text ends (steps_spelled text ends)
 script-of_itself text ends steps script = subst (IsScript text ends) (sym (steps-read text ends steps script)) script
 
-pub script-then : (text ends text_now ends_now : List ℕ) (step : Step) → IsScript text ends (steps_in text ends) → IsSpelled Two step → text_now ≡ text ++ step_line step → ends_now ≡ ends ++ length text_now ∷ []
-    → IsScript text_now ends_now (steps_in text ends ++ step ∷ [])
+pub script-then : (text ends text_now ends_now : List ℕ) (step : Step) → IsScript text ends (steps_spelled text ends) → IsSpelled Two step → text_now ≡ text ++ step_line step → ends_now ≡ ends ++ length text_now ∷ []
+    → IsScript text_now ends_now (steps_spelled text ends ++ step ∷ [])
 script-then text ends text_now ends_now step script spelled text_is ends_are =
-    let more = script-more text ends (steps_in text ends) step script spelled in
-    subst (λ (places : List ℕ). IsScript text_now places (steps_in text ends ++ step ∷ [])) (sym ends_are)
-    (subst (λ (t : List ℕ). IsScript t (ends ++ length t ∷ []) (steps_in text ends ++ step ∷ [])) (sym text_is) more)
+    let more = script-more text ends (steps_spelled text ends) step script spelled in
+    subst (λ (places : List ℕ). IsScript text_now places (steps_spelled text ends ++ step ∷ [])) (sym ends_are)
+    (subst (λ (t : List ℕ). IsScript t (ends ++ length t ∷ []) (steps_spelled text ends ++ step ∷ [])) (sym text_is) more)
 
 -- ---- what stands at a place
 
@@ -136,7 +136,7 @@ spelled-each [] i d h lt = absurd (omega (arith, lt))
 spelled-each (step ∷ steps) zero d h lt = h.0
 spelled-each (step ∷ steps) (suc i) d h lt = spelled-each steps i d h.1 (omega (arith, lt))
 
-module _ (text ends : List ℕ) (steps : List Step) (script : IsScript text ends (steps_in text ends)) (view : steps_in text ends ≡ steps) where
+module _ (text ends : List ℕ) (steps : List Step) (script : IsScript text ends (steps_spelled text ends)) (view : steps_spelled text ends ≡ steps) where
   script-viewed : IsScript text ends steps
   script-viewed = subst (IsScript text ends) view script
 

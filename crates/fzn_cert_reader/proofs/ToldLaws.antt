@@ -10,7 +10,7 @@ use Rattle.fzn_cert.specs.declared.step.Version.TheVariants.{One, Two}
 use Rattle.fzn_cert.specs.Spelling.{version_text, counts_text, header_lines, end_line, IsSized, IsHeader}
 use Rattle.fzn_cert.specs.Stream.{IsVersionText, IsCountsText}
 use Rattle.fzn_cert.proofs.LineLaws.{IsInside, is_inside, inside_word, plain_decimal, same_lines}
-use Rattle.fzn_cert_reader.specs.Told.{BeginsWith, TakesPart, TakesNone, TakesNoHeader, TakesEnd}
+use Rattle.fzn_cert_reader.specs.Told.{HasFront, TakesPart, TakesNone, TakesNoHeader, TakesEnd}
 use Rattle.fzn_cert_reader.proofs.ReadLaws.{Consumes-then}
 
 -- a part of a line, and another byte
@@ -23,12 +23,12 @@ on_err (Ok x) p = tt
 on_err (Err e) p = p
 
 -- a line begins with no other line
-line_begins : (line text : List ℕ) → IsInside line → IsInside text → BeginsWith (line ++ 10 ∷ []) (text ++ 10 ∷ []) → line ≡ text
+line_begins : (line text : List ℕ) → IsInside line → IsInside text → HasFront (line ++ 10 ∷ []) (text ++ 10 ∷ []) → line ≡ text
 line_begins line text h k begins = (same_lines line text [] begins.0 h k (begins.1 ∙ append_assoc text (10 ∷ []) begins.0)).0
 
 -- ---- the last line
 
-other_end : (line : List ℕ) → IsInside line → ((closed : Bool) → line ++ 10 ∷ [] ≡ end_line closed → ⊥) → (closed : Bool) → BeginsWith (line ++ 10 ∷ []) (end_line closed) → ⊥
+other_end : (line : List ℕ) → IsInside line → ((closed : Bool) → line ++ 10 ∷ [] ≡ end_line closed → ⊥) → (closed : Bool) → HasFront (line ++ 10 ∷ []) (end_line closed) → ⊥
 other_end line inside none true begins = none true (ap (λ (t : List ℕ). t ++ 10 ∷ []) (line_begins line (codes "e closed") inside refl begins))
 other_end line inside none false begins = none false (ap (λ (t : List ℕ). t ++ 10 ∷ []) (line_begins line (codes "e open") inside refl begins))
 
@@ -99,7 +99,7 @@ behind_first version header x more e =
 pub no_header_first : (a b : Option (List ℕ)) → TakesNone IsVersionText a b → TakesNoHeader a b
 no_header_first a b takes = (takes.0, takes.1, none)
   where
-    none : (header : Header) → IsHeader header → BeginsWith takes.0 (header_lines header) → ⊥
+    none : (header : Header) → IsHeader header → HasFront takes.0 (header_lines header) → ⊥
     none header sized begins =
         takes.2 (version_text header.version) (header.version, refl) ((counts_text header.variables header.constraints ++ 10 ∷ []) ++ begins.0, begins.1 ∙ header_split header begins.0)
 
@@ -107,6 +107,6 @@ pub no_header_second : (a b c : Option (List ℕ)) (version : Version) → Consu
 no_header_second a b c version first takes =
     ((version_text version ++ 10 ∷ []) ++ takes.0, Consumes-then a b c (version_text version ++ 10 ∷ []) takes.0 first takes.1, none)
   where
-    none : (header : Header) → IsHeader header → BeginsWith ((version_text version ++ 10 ∷ []) ++ takes.0) (header_lines header) → ⊥
+    none : (header : Header) → IsHeader header → HasFront ((version_text version ++ 10 ∷ []) ++ takes.0) (header_lines header) → ⊥
     none header sized begins =
         takes.2 (counts_text header.variables header.constraints) (header.variables, header.constraints, sized.0, sized.1, refl) (begins.0, behind_first version header takes.0 begins.0 begins.1)

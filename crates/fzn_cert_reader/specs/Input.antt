@@ -11,5 +11,5 @@ abbrev pub left_in : {R : Type 0} → (R → Option (List ℕ)) → Bytes R → 
 left_in remaining bytes = left_of bytes.chunk bytes.start bytes.end (remaining bytes.input)
 
 -- the reader below
-abbrev pub input_of : {R : Type 0} → Bytes R → R
-input_of bytes = bytes.input
+abbrev pub reader_in : {R : Type 0} → Bytes R → R
+reader_in bytes = bytes.input

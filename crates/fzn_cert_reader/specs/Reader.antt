@@ -35,16 +35,16 @@ progress remaining reader = record {
 }
 
 -- the reader below
-abbrev pub input_of : {R : Type 0} → StepReader R → R
-input_of reader = reader.lines.bytes.input
+abbrev pub reader_below : {R : Type 0} → StepReader R → R
+reader_below reader = reader.lines.bytes.input
 
 -- before anything was read
-abbrev pub IsFresh : Option (List ℕ) → Progress → Type 0
-IsFresh left now = (now.left ≡ left) × (now.header ≡ None) × (now.steps ≡ 0) × (now.closing ≡ None) × (now.fault_line ≡ None)
+abbrev pub IsAtStart : Option (List ℕ) → Progress → Type 0
+IsAtStart left now = (now.left ≡ left) × (now.header ≡ None) × (now.steps ≡ 0) × (now.closing ≡ None) × (now.fault_line ≡ None)
 
 -- there was no fault, and the last line is still to be read
-abbrev pub IsReading : Progress → Type 0
-IsReading now = (now.closing ≡ None) × (now.fault_line ≡ None)
+abbrev pub MayGoOn : Progress → Type 0
+MayGoOn now = (now.closing ≡ None) × (now.fault_line ≡ None)
 
 -- the last line was read, and nothing follows it
 abbrev pub HasEnded : Progress → Type 0
@@ -56,13 +56,13 @@ lines_read None (Some header) = header_lines header
 lines_read _ _ = []
 
 -- the call took the line of the step that it gives
-pub record Gives (old new : Progress) (step : Step) : Type 0 where
+pub record GivesStep (old new : Progress) (step : Step) : Type 0 where
   pub header : Header
   pub told : new.header ≡ Some header
   pub has_line : HasLine header.version old.steps step
   pub taken : Consumes old.left new.left (lines_read old.header new.header ++ step_line step)
   pub counted : new.steps ≡ old.steps + 1
-  pub goes_on : IsReading new
+  pub goes_on : MayGoOn new
 
 -- the call took the last line, and nothing follows it
 pub record Ends (old new : Progress) : Type 0 where
@@ -84,7 +84,7 @@ IsNextFault old (Some header) closing fault =
     × After old.left (lines_read old.header (Some header)) (λ rest. IsFaultOf header.version old.steps rest fault.kind × (fault.kind ≡ Trailing → IsTrailedBy rest closing))
 
 -- the call found this fault
-pub record Finds (old new : Progress) (fault : CertFault) : Type 0 where
+pub record FindsFault (old new : Progress) (fault : CertFault) : Type 0 where
   pub is_next : IsNextFault old new.header new.closing fault
   pub same_steps : new.steps ≡ old.steps
   pub line : new.fault_line ≡ Some fault.line

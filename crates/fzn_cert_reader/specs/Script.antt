@@ -13,8 +13,8 @@ lines_from text start [] = []
 lines_from text start (end ∷ ends) = slice_range text start (end - 1) ∷ lines_from text end ends
 
 -- the steps that version 2 spells so
-unfoldable pub steps_in : List ℕ → List ℕ → List Step
-steps_in text ends = filter_map (λ line. step_of Two line) (lines_from text 0 ends)
+unfoldable pub steps_spelled : List ℕ → List ℕ → List Step
+steps_spelled text ends = filter_map (λ line. step_of Two line) (lines_from text 0 ends)
 
 -- where the lines of these steps end, the first beginning at this place
 abbrev pub ends_from : ℕ → List Step → List ℕ

@@ -10,19 +10,23 @@ const CHUNK_LEN: usize = 4_096;
 /// The bytes of a reader, one by one.
 #[derive(Drop)]
 pub struct Bytes<R> {
+    /// The reader below.
     pub input: R,
+    /// What the last read gave, from 0 up to `end`.
     pub chunk: [u8; 4_096],
+    /// The place in the chunk of the next byte, counted from 0; at most `end`.
     pub start: usize,
+    /// The place behind the last byte of the chunk, at most 4,096.
     pub end: usize,
     ghost in_order: { start ≤ end },
     ghost in_chunk: { end ≤ 4096 },
 }
 
 impl<R: TrackedRead + Drop> Bytes<R> {
-    ghost use Rattle.fzn_cert_reader.specs.Input.{input_of, left_in};
+    ghost use Rattle.fzn_cert_reader.specs.Input.{reader_in, left_in};
 
     pub fn new(input: R) -> Bytes<R>
-        ensures input { input_of result ≡ input }
+        ensures input { reader_in result ≡ input }
         ensures empty { result.start ≡ result.end }
     {
         Bytes {
@@ -38,7 +42,7 @@ impl<R: TrackedRead + Drop> Bytes<R> {
         ensures taken { IfOk result (λ byte. Consumes (left_in R.remaining self.old) (left_in R.remaining self.new) (option_to_list byte)) }
         ensures end { IfOk result (λ byte. IfNone byte (IsAtEnd (left_in R.remaining self.new))) }
         ensures err { OnErr result (Keeps (left_in R.remaining self.old) (left_in R.remaining self.new)) }
-        ensures due { OnErr result (R.has_failed (input_of self.new) ≡ true) }
+        ensures due { OnErr result (R.has_failed (reader_in self.new) ≡ true) }
     {
         if self.start == self.end {
             self.refill()?;
@@ -63,7 +67,7 @@ impl<R: TrackedRead + Drop> Bytes<R> {
         requires { self.old.start ≡ self.old.end }
         ensures kept { Keeps (left_in R.remaining self.old) (left_in R.remaining self.new) }
         ensures end { OnOk result (self.new.start ≡ self.new.end → IsAtEnd (left_in R.remaining self.new)) }
-        ensures due { OnErr result (R.has_failed (input_of self.new) ≡ true) }
+        ensures due { OnErr result (R.has_failed (reader_in self.new) ≡ true) }
     {
         let count = self.input.read_some(&mut self.chunk)?;
         self.start = 0;

@@ -3,7 +3,7 @@ ghost use Rattle.std.specs.Prelude.{◌≡◌, ◌≤◌, ◌+◌, ◌++◌, ◌
 ghost use Rattle.std.specs.Io.KnownBytes.{Consumes};
 ghost use Rattle.fzn_cert.specs.declared.fault.FaultKind.TheVariants.{Memory, Read};
 ghost use Rattle.fzn_cert.specs.Stream.{HasNoLineFeed};
-ghost use Rattle.fzn_cert_reader.specs.Input.{input_of, left_in};
+ghost use Rattle.fzn_cert_reader.specs.Input.{reader_in, left_in};
 ghost use Rattle.fzn_cert_reader.specs.Lines.{bytes_taken, EndsLine};
 ghost use Rattle.fzn_cert_reader.specs.Told.{TakesPart};
 
@@ -32,7 +32,7 @@ pub fn next_line<R: TrackedRead + Drop>(
     ensures part { OnErr result (TakesPart (left_in R.remaining bytes.old) (left_in R.remaining bytes.new)) }
     ensures fault { IfErr result (λ fault. (fault ≡ Memory) ⊎ (fault ≡ Read)) }
     ensures end { IfOk result (λ end. EndsLine end (left_in R.remaining bytes.new) line.new.items) }
-    ensures due { IfErr result (λ fault. fault ≡ Read → R.has_failed (input_of bytes.new) ≡ true) }
+    ensures due { IfErr result (λ fault. fault ≡ Read → R.has_failed (reader_in bytes.new) ≡ true) }
 {
     line.clear();
     for _ in 0..LINE_LIMIT + 1 {

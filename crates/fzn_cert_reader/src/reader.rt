@@ -2,7 +2,7 @@
 ghost use Rattle.std.specs.Prelude.{◌≡◌, ◌≤◌, ◌+◌, ◌++◌, ◌∷◌, [], Bool, true, Some, None, IfOk, IfErr, IfSome, IfNone, OnOk, OnErr};
 ghost use Rattle.std.specs.Io.KnownBytes.{Consumes, IsAtEnd};
 ghost use Rattle.fzn_cert.specs.Spelling.{step_text, step_line, end_line, version_text, counts_text, HasLine, IsSized};
-ghost use Rattle.fzn_cert_reader.specs.Input.{input_of, left_in};
+ghost use Rattle.fzn_cert_reader.specs.Input.{reader_in, left_in};
 ghost use Rattle.fzn_cert_reader.specs.Told.{TakesNone, TakesEnd};
 ghost use Rattle.fzn_cert.specs.declared.fault.FaultKind.TheVariants.{Read, Trailing};
 ghost use Rattle.fzn_cert.specs.Stream.{IsFaultOf, IsTrailedBy, IsHeaderFaultOf, IsVersionText, IsCountsText};
@@ -33,7 +33,7 @@ pub struct StepLines<R> {
 impl<R: TrackedRead + Drop> StepLines<R> {
     /// Reads nothing.
     pub fn new(alloc: Global, input: R) -> StepLines<R>
-        ensures input { input_of result.bytes ≡ input }
+        ensures input { reader_in result.bytes ≡ input }
         ensures fresh { left_in R.remaining result.bytes ≡ R.remaining input }
         ensures none { (result.steps ≡ 0) × (result.closed ≡ None) }
     {
@@ -66,7 +66,7 @@ impl<R: TrackedRead + Drop> StepLines<R> {
         ensures err { IfErr result (IsFaultOf version self.old.steps (left_in R.remaining self.old.bytes)) }
         ensures same_steps { OnErr result (self.new.steps ≡ self.old.steps) }
         ensures trailed { IfErr result (λ kind. kind ≡ Trailing → IsTrailedBy (left_in R.remaining self.old.bytes) self.new.closed) }
-        ensures due { IfErr result (λ kind. kind ≡ Read → R.has_failed (input_of self.new.bytes) ≡ true) }
+        ensures due { IfErr result (λ kind. kind ≡ Read → R.has_failed (reader_in self.new.bytes) ≡ true) }
         ensures told { self.old.closed ≡ None → TakesEnd (left_in R.remaining self.old.bytes) (left_in R.remaining self.new.bytes) self.new.closed }
         ensures held { IfOk result (λ found. IfSome found (λ step. self.new.line.items ≡ step_text step)) }
         ensures held_end { IfOk result (λ found. IfNone found (IfSome self.new.closed (λ closed. self.new.line.items ++ 10 ∷ [] ≡ end_line closed))) }
@@ -100,7 +100,7 @@ impl<R: TrackedRead + Drop> StepLines<R> {
         ensures ok { IfOk result (λ version. Consumes (left_in R.remaining self.old.bytes) (left_in R.remaining self.new.bytes) (version_text version ++ 10 ∷ [])) }
         ensures err { IfErr result (IsHeaderFaultOf IsVersionText (left_in R.remaining self.old.bytes)) }
         ensures untold { OnErr result (TakesNone IsVersionText (left_in R.remaining self.old.bytes) (left_in R.remaining self.new.bytes)) }
-        ensures due { IfErr result (λ kind. kind ≡ Read → R.has_failed (input_of self.new.bytes) ≡ true) }
+        ensures due { IfErr result (λ kind. kind ≡ Read → R.has_failed (reader_in self.new.bytes) ≡ true) }
         ensures same { (self.new.steps ≡ self.old.steps) × (self.new.closed ≡ self.old.closed) }
     {
         match next_line(&mut self.bytes, &mut self.line)? {
@@ -121,7 +121,7 @@ impl<R: TrackedRead + Drop> StepLines<R> {
         ensures held { IfOk result (λ counts. self.new.line.items ≡ counts_text counts.0 counts.1) }
         ensures err { IfErr result (IsHeaderFaultOf IsCountsText (left_in R.remaining self.old.bytes)) }
         ensures untold { OnErr result (TakesNone IsCountsText (left_in R.remaining self.old.bytes) (left_in R.remaining self.new.bytes)) }
-        ensures due { IfErr result (λ kind. kind ≡ Read → R.has_failed (input_of self.new.bytes) ≡ true) }
+        ensures due { IfErr result (λ kind. kind ≡ Read → R.has_failed (reader_in self.new.bytes) ≡ true) }
         ensures same { (self.new.steps ≡ self.old.steps) × (self.new.closed ≡ self.old.closed) }
     {
         match next_line(&mut self.bytes, &mut self.line)? {

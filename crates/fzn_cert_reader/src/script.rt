@@ -25,13 +25,13 @@ pub struct Script {
 impl Model for Script {
     ghost use Rattle.std.specs.Prelude.{List};
     ghost use Rattle.fzn_cert.specs.declared.step.Step.{Step};
-    ghost use Rattle.fzn_cert_reader.specs.Script.{steps_in, IsScript};
+    ghost use Rattle.fzn_cert_reader.specs.Script.{steps_spelled, IsScript};
 
     ghost Value = { List Step };
 
-    ghost view = { λ it. steps_in it.text.items it.ends.items };
+    ghost view = { λ it. steps_spelled it.text.items it.ends.items };
 
-    ghost invariant = { λ it. IsScript it.text.items it.ends.items (steps_in it.text.items it.ends.items) };
+    ghost invariant = { λ it. IsScript it.text.items it.ends.items (steps_spelled it.text.items it.ends.items) };
 }
 
 impl Script {

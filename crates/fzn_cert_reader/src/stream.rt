@@ -22,12 +22,12 @@ pub struct StepReader<R> {
 }
 
 impl<R: TrackedRead + Drop> StepReader<R> {
-    ghost use Rattle.fzn_cert_reader.specs.Reader.{input_of, progress, lines_read, IsFresh, IsReading, HasEnded, Gives, Ends, IsNextFault, Finds, Tells};
+    ghost use Rattle.fzn_cert_reader.specs.Reader.{reader_below, progress, lines_read, IsAtStart, MayGoOn, HasEnded, GivesStep, Ends, IsNextFault, FindsFault, Tells};
 
     /// Reads nothing.
     pub fn new(alloc: Global, input: R) -> StepReader<R>
-        ensures input { input_of result ≡ input }
-        ensures fresh { IsFresh (R.remaining input) (progress R.remaining result) }
+        ensures input { reader_below result ≡ input }
+        ensures fresh { IsAtStart (R.remaining input) (progress R.remaining result) }
     {
         StepReader {
             lines: StepLines::new(alloc, input),
@@ -64,13 +64,13 @@ impl<R: TrackedRead + Drop> StepReader<R> {
     /// `Trailing` at a byte after the last line, and `Failed` after a fault. `Read` is answered only after a read that failed. After a fault
     /// `header`, `counts` and `closed` still tell of the lines that were read, and of no others.
     pub fn next(&mut self, alloc: Global) -> Result<Option<Step>, CertFault>
-        ensures step { IfOk result (λ found. IfSome found (Gives (progress R.remaining self.old) (progress R.remaining self.new))) }
-        ensures end { IsReading (progress R.remaining self.old) → IfOk result (λ found. IfNone found (Ends (progress R.remaining self.old) (progress R.remaining self.new))) }
-        ensures err { IsReading (progress R.remaining self.old) → IfErr result (Finds (progress R.remaining self.old) (progress R.remaining self.new)) }
-        ensures told { IsReading (progress R.remaining self.old) → Tells (progress R.remaining self.old) (progress R.remaining self.new) }
+        ensures step { IfOk result (λ found. IfSome found (GivesStep (progress R.remaining self.old) (progress R.remaining self.new))) }
+        ensures end { MayGoOn (progress R.remaining self.old) → IfOk result (λ found. IfNone found (Ends (progress R.remaining self.old) (progress R.remaining self.new))) }
+        ensures err { MayGoOn (progress R.remaining self.old) → IfErr result (FindsFault (progress R.remaining self.old) (progress R.remaining self.new)) }
+        ensures told { MayGoOn (progress R.remaining self.old) → Tells (progress R.remaining self.old) (progress R.remaining self.new) }
         ensures ended { HasEnded (progress R.remaining self.old) → (result ≡ Ok None) × (self.new ≡ self.old) }
         ensures failed { IfSome (progress R.remaining self.old).fault_line (λ line. (result ≡ Err (record { kind = FaultKind.Failed; line = line })) × (self.new ≡ self.old)) }
-        ensures due { IfErr result (λ fault. fault.kind ≡ FaultKind.Read → R.has_failed (input_of self.new) ≡ true) }
+        ensures due { IfErr result (λ fault. fault.kind ≡ FaultKind.Read → R.has_failed (reader_below self.new) ≡ true) }
         ensures same { IsSome (progress R.remaining self.old).header → (progress R.remaining self.new).header ≡ (progress R.remaining self.old).header }
     {
         if let Some(line) = self.fault_line {
@@ -93,14 +93,14 @@ impl<R: TrackedRead + Drop> StepReader<R> {
 
     // The next step, after the first two lines, which are read where they weren't.
     fn read(&mut self, alloc: Global) -> Result<Option<Step>, CertFault>
-        requires { IsReading (progress R.remaining self.old) }
-        ensures step { IfOk result (λ found. IfSome found (Gives (progress R.remaining self.old) (progress R.remaining self.new))) }
+        requires { MayGoOn (progress R.remaining self.old) }
+        ensures step { IfOk result (λ found. IfSome found (GivesStep (progress R.remaining self.old) (progress R.remaining self.new))) }
         ensures end { IfOk result (λ found. IfNone found (Ends (progress R.remaining self.old) (progress R.remaining self.new))) }
         ensures err { IfErr result (IsNextFault (progress R.remaining self.old) self.new.header self.new.lines.closed) }
         ensures told { Tells (progress R.remaining self.old) (progress R.remaining self.new) }
         ensures same { (self.new.fault_line ≡ self.old.fault_line) × (IsSome self.old.header → self.new.header ≡ self.old.header) }
         ensures same_steps { OnErr result (self.new.lines.steps ≡ self.old.lines.steps) }
-        ensures due { IfErr result (λ fault. fault.kind ≡ FaultKind.Read → R.has_failed (input_of self.new) ≡ true) }
+        ensures due { IfErr result (λ fault. fault.kind ≡ FaultKind.Read → R.has_failed (reader_below self.new) ≡ true) }
     {
         let header = self.read_header()?;
         match self.lines.next_step(alloc, header.version) {
@@ -121,7 +121,7 @@ impl<R: TrackedRead + Drop> StepReader<R> {
         ensures untold { OnErr result (TakesNoHeader (left_in R.remaining self.old.lines.bytes) (left_in R.remaining self.new.lines.bytes)) }
         ensures same { (self.new.lines.steps ≡ self.old.lines.steps) × (self.new.lines.closed ≡ self.old.lines.closed) × (self.new.fault_line ≡ self.old.fault_line) }
         ensures same_header { IsSome self.old.header → self.new.header ≡ self.old.header }
-        ensures due { IfErr result (λ fault. fault.kind ≡ FaultKind.Read → R.has_failed (input_of self.new) ≡ true) }
+        ensures due { IfErr result (λ fault. fault.kind ≡ FaultKind.Read → R.has_failed (reader_below self.new) ≡ true) }
     {
         if let Some(header) = self.header {
             return Ok(header);

@@ -14,7 +14,7 @@ use Rattle.fzn_cert.specs.declared.step.Version.{Version}
 use Rattle.fzn_cert.specs.Spelling.{step_line, end_line, IsHeader}
 use Rattle.fzn_cert.specs.Stream.{After, IsFaultOf, IsHeaderFault, IsTrailedBy, line_of}
 use Rattle.fzn_cert.specs.Past.{Past}
-use Rattle.fzn_cert_reader.specs.Reader.{Progress, lines_read, Gives, Ends, IsNextFault, Finds}
+use Rattle.fzn_cert_reader.specs.Reader.{Progress, lines_read, GivesStep, Ends, IsNextFault, FindsFault}
 use Rattle.fzn_cert.specs.Verdict.{Outcome, accepted, refused, BeginsWith, VerdictFrom, VerdictOn}
 use Rattle.fzn_cert.proofs.VerdictLaws.{verdict-ends}
 use Rattle.fzn_checker.specs.declared.fault.CheckFault.{CheckFault}
@@ -70,7 +70,7 @@ line-fault model version past count left faults.Read closing f trailed = tt
 line-fault model version past count left _ closing f trailed = absurd f
 
 -- the reader finds a fault
-pub finds-fault : (model : Model) (past : Past) (old new : Progress) (fault : CertFault) → IsMidway model past old → (IsSome old.header → new.header ≡ old.header) → IfSome new.header (HasCounts model) → Finds old new fault → IsFaultWhere (ComesTo model past old) (fault_after fault new.closing past.refuted)
+pub finds-fault : (model : Model) (past : Past) (old new : Progress) (fault : CertFault) → IsMidway model past old → (IsSome old.header → new.header ≡ old.header) → IfSome new.header (HasCounts model) → FindsFault old new fault → IsFaultWhere (ComesTo model past old) (fault_after fault new.closing past.refuted)
 finds-fault model past old new fault midway same counts finds = by_header new.header refl counts finds.is_next
   where
     none_before : (before : Option Header) → old.header ≡ before → new.header ≡ None → old.header ≡ None
@@ -91,7 +91,7 @@ finds-fault model past old new fault midway same counts finds = by_header new.he
 
 -- ---- other counts, whatever comes after the second line
 
-lines_taken : (old new : Progress) (next : Result (Option Step) CertFault) (header : Header) → new.header ≡ Some header → IfOk next (λ found. IfSome found (Gives old new)) → IfOk next (λ found. IfNone found (Ends old new)) → IfErr next (Finds old new) → After old.left (lines_read old.header new.header) (λ _. Unit {0})
+lines_taken : (old new : Progress) (next : Result (Option Step) CertFault) (header : Header) → new.header ≡ Some header → IfOk next (λ found. IfSome found (GivesStep old new)) → IfOk next (λ found. IfNone found (Ends old new)) → IfErr next (FindsFault old new) → After old.left (lines_read old.header new.header) (λ _. Unit {0})
 lines_taken old new (Ok (Some step)) header told gives ends finds =
     let split = Consumes-split old.left new.left (lines_read old.header new.header) (step_line step) gives.taken in (split.0, split.1, tt)
 lines_taken old new (Ok None) header told gives ends finds =
@@ -100,7 +100,7 @@ lines_taken old new (Err fault) header told gives ends finds =
     let next : IsNextFault old (Some header) new.closing fault = subst (λ o. IsNextFault old o new.closing fault) told finds.is_next in
     (next.1.0, subst (λ o. Consumes old.left next.1.0 (lines_read old.header o)) (sym told) next.1.1, tt)
 
-pub counts-refused : (model : Model) (past : Past) (old new : Progress) (next : Result (Option Step) CertFault) → IsMidway model past old → (IsSome old.header → new.header ≡ old.header) → IfSome new.header IsHeader → (IfSome new.header (HasCounts model) → ⊥) → IfOk next (λ found. IfSome found (Gives old new)) → IfOk next (λ found. IfNone found (Ends old new)) → IfErr next (Finds old new) → ComesTo model past old (refused 2 refusals.Counts)
+pub counts-refused : (model : Model) (past : Past) (old new : Progress) (next : Result (Option Step) CertFault) → IsMidway model past old → (IsSome old.header → new.header ≡ old.header) → IfSome new.header IsHeader → (IfSome new.header (HasCounts model) → ⊥) → IfOk next (λ found. IfSome found (GivesStep old new)) → IfOk next (λ found. IfNone found (Ends old new)) → IfErr next (FindsFault old new) → ComesTo model past old (refused 2 refusals.Counts)
 counts-refused model past old new next midway same sized other gives ends finds = by_header new.header refl
   where
     by_header : (header : Option Header) → new.header ≡ header → ComesTo model past old (refused 2 refusals.Counts)

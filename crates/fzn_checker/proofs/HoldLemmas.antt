@@ -13,7 +13,7 @@ use Rattle.fzn_cert.specs.Accepted.{IsAccepted, AllAcceptedAfter, AllAccepted, a
 use Rattle.fzn_cert.specs.Verdict.{accepted, lines_of, AllHaveLines, MayEnd, VerdictOn}
 use Rattle.fzn_cert.proofs.CallerLemmas.{some_is}
 use Rattle.fzn_cert.proofs.SoundLaws.{sound-after}
-use Rattle.fzn_cert_reader.specs.Reader.{Progress, IsFresh, Gives, Ends, HasRead, certificate_text}
+use Rattle.fzn_cert_reader.specs.Reader.{Progress, IsAtStart, GivesStep, Ends, HasRead, certificate_text}
 use Rattle.fzn_cert_reader.proofs.CallerLemmas.{HasRead-end}
 use Rattle.fzn_checker.specs.declared.hold.Held.{Held}
 use Rattle.fzn_checker.specs.declared.hold.Taken.{Taken}
@@ -72,7 +72,7 @@ lines-two version count (step ∷ steps) h = ((spelled-two version step h.0.0, h
 abbrev pub AreSpelled : Progress → List Step → Type 0
 AreSpelled now steps = IfSome now.header (λ header. AllHaveLines header.version 0 steps)
 
-pub spelled-fresh : (left : Option (List ℕ)) (now : Progress) → IsFresh left now → AreSpelled now []
+pub spelled-fresh : (left : Option (List ℕ)) (now : Progress) → IsAtStart left now → AreSpelled now []
 spelled-fresh left now fresh = subst (λ (o : Option Header). IfSome o (λ header. AllHaveLines header.version 0 [])) (sym fresh.1) tt
 
 -- in the version of the first two lines, where this call read them or not
@@ -85,7 +85,7 @@ spelled-at bytes old now header steps read spelled told same = by_header old.hea
         let same_header : before ≡ header = some_is before header (sym is ∙ sym (same (subst IsSome (sym is) refl)) ∙ told) in
         subst (λ (h : Header). AllHaveLines h.version 0 steps) same_header (subst (λ (o : Option Header). IfSome o (λ h. AllHaveLines h.version 0 steps)) is spelled)
 
-pub spelled-more : (bytes : Option (List ℕ)) (old new : Progress) (steps : List Step) (step : Step) → HasRead bytes old steps → AreSpelled old steps → Gives old new step → (IsSome old.header → new.header ≡ old.header) → AreSpelled new (steps ++ step ∷ [])
+pub spelled-more : (bytes : Option (List ℕ)) (old new : Progress) (steps : List Step) (step : Step) → HasRead bytes old steps → AreSpelled old steps → GivesStep old new step → (IsSome old.header → new.header ≡ old.header) → AreSpelled new (steps ++ step ∷ [])
 spelled-more bytes old new steps step read spelled gives same =
     let count : old.steps ≡ 0 + length steps = omega (arith, read.counted) in
     subst (λ (o : Option Header). IfSome o (λ header. AllHaveLines header.version 0 (steps ++ step ∷ []))) (sym gives.told)

@@ -18,7 +18,7 @@ use Rattle.fzn_cert.specs.Spelling.{step_line, end_line, version_text, counts_te
 use Rattle.fzn_cert.specs.Stream.{After}
 use Rattle.fzn_cert.specs.Past.{Past, start}
 use Rattle.fzn_cert.specs.Accepted.{HasFault, after}
-use Rattle.fzn_cert_reader.specs.Reader.{Progress, lines_read, Gives, Ends}
+use Rattle.fzn_cert_reader.specs.Reader.{Progress, lines_read, GivesStep, Ends}
 use Rattle.fzn_cert.specs.Verdict.{Outcome, accepted, refused, lines_of, MayEnd, EndsIn, VerdictFrom, header_of, VerdictOn}
 use Rattle.fzn_cert.proofs.VerdictLaws.{verdict-ends, verdict-step}
 use Rattle.fzn_sets.specs.Link.{IsBound}
@@ -115,7 +115,7 @@ standing-told model past now header steps outcome told counted h =
     (subst (λ o. MatchOption o (VerdictOn model now.left outcome) (λ (k : Header). VerdictFrom model k.version past now.steps now.left outcome)) told h)
 
 -- the reader gives a step
-pub gives-offers : (model : Model) (past : Past) (old new : Progress) (step : Step) → IsMidway model past old → (IsSome old.header → new.header ≡ old.header) → IfSome new.header (HasCounts model) → Gives old new step → Offers model past old new step
+pub gives-offers : (model : Model) (past : Past) (old new : Progress) (step : Step) → IsMidway model past old → (IsSome old.header → new.header ≡ old.header) → IfSome new.header (HasCounts model) → GivesStep old new step → Offers model past old new step
 gives-offers model past old new step midway same counts gives =
     let header = gives.header in
     let fits : HasCounts model header = subst (λ o. IfSome o (HasCounts model)) gives.told counts in

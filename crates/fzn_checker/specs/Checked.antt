@@ -8,7 +8,7 @@ use Rattle.fzn_cert.specs.declared.step.Step.{Step}
 use Rattle.fzn_cert.specs.Spelling.{IsHeader}
 use Rattle.fzn_cert.specs.Past.{Past, start}
 use Rattle.fzn_cert.specs.Accepted.{IsAccepted, HasFault, after}
-use Rattle.fzn_cert_reader.specs.Reader.{Progress, IsReading, IsFresh}
+use Rattle.fzn_cert_reader.specs.Reader.{Progress, MayGoOn, IsAtStart}
 use Rattle.fzn_cert.specs.Verdict.{Outcome, accepted, refused, MayEnd, VerdictOn, VerdictFrom}
 use Rattle.fzn_checker.specs.declared.fault.CheckFault.{CheckFault}
 use Rattle.fzn_checker.specs.declared.fault.CheckFault.TheVariants.{Refused, Memory, Read}
@@ -27,7 +27,7 @@ IsReadDue has_failed fault = fault ≡ Read → has_failed ≡ true
 
 -- no line was read, and there was no fault
 abbrev pub IsUnread : Progress → Type 0
-IsUnread now = IsFresh now.left now
+IsUnread now = IsAtStart now.left now
 
 -- the first two lines tell the model's counts, in at most 18 digits
 abbrev pub HasCounts : Model → Header → Type 0
@@ -40,7 +40,7 @@ ComesTo model past now outcome =
 
 -- between two lines: nothing was read, or the first two lines and the lines of steps
 pub record IsMidway (model : Model) (past : Past) (now : Progress) : Type 0 where
-  pub reading : IsReading now
+  pub reading : MayGoOn now
   pub counts : IfSome now.header (HasCounts model)
   pub fresh : now.header ≡ None → (past ≡ start) × (now.steps ≡ 0)
 

@@ -4,7 +4,7 @@ ghost use Rattle.fzn_meaning.specs.Solutions.{declared_sets, IsProper, IsExhaust
 ghost use Rattle.fzn_meaning.specs.WellFormed.{IsWellFormed};
 ghost use Rattle.fzn_sets.specs.Sets.{start};
 ghost use Rattle.fzn_cert.specs.Verdict.{accepted, VerdictOn};
-ghost use Rattle.fzn_cert_reader.specs.Reader.{progress, input_of};
+ghost use Rattle.fzn_cert_reader.specs.Reader.{progress, reader_below};
 ghost use Rattle.fzn_checker.specs.Checked.{IsUnread, IsFaultWhere, IsReadDue};
 
 use crate::fault::CheckFault;
@@ -62,7 +62,7 @@ pub fn check_certificate<C: TrackedRead + Drop>(
     requires unread { IsUnread (progress C.remaining cert.old) }
     ensures ok { IfOk result (λ answer. VerdictOn model.now (progress C.remaining cert.old).left (accepted answer.solutions.items answer.closed)) }
     ensures err { IfErr result (IsFaultWhere (VerdictOn model.now (progress C.remaining cert.old).left)) }
-    ensures due { IfErr result (IsReadDue (C.has_failed (input_of cert.new))) }
+    ensures due { IfErr result (IsReadDue (C.has_failed (reader_below cert.new))) }
     ensures proper { IfOk result (λ answer. IsProper model.now answer.solutions.items) }
     ensures exhausted { IfOk result (λ answer. answer.closed ≡ true → IsExhausted model.now answer.solutions.items) }
 {

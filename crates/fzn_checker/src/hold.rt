@@ -6,7 +6,7 @@ ghost use Rattle.fzn_cert.specs.declared.step.Version.TheVariants.{Two};
 ghost use Rattle.fzn_cert.specs.Spelling.{IsSpelled};
 ghost use Rattle.fzn_cert.specs.Accepted.{IsJudged, after};
 ghost use Rattle.fzn_cert.specs.Verdict.{VerdictOn};
-ghost use Rattle.fzn_cert_reader.specs.Reader.{progress, input_of, Gives, Ends};
+ghost use Rattle.fzn_cert_reader.specs.Reader.{progress, reader_below, GivesStep, Ends};
 ghost use Rattle.fzn_checker.specs.Checked.{IsUnread, IsFaultWhere, IsReadDue, HasCounts, ComesTo, IsMidway, Offers, Accepts};
 ghost use Rattle.fzn_checker.specs.Held.{past_in, MayTake, HasTaken, HoldsCertificate};
 
@@ -77,12 +77,12 @@ impl Taken {
         ensures step { IfOk result (λ found. IfSome found (Offers model.now (past_in self.now) (progress C.remaining cert.old) (progress C.remaining cert.new))) }
         ensures end { IfOk result (λ found. IfNone found (Accepts model.now (past_in self.now) (progress C.remaining cert.old) (progress C.remaining cert.new))) }
         // What the reader took for it.
-        ensures gives { IfOk result (λ found. IfSome found (Gives (progress C.remaining cert.old) (progress C.remaining cert.new))) }
+        ensures gives { IfOk result (λ found. IfSome found (GivesStep (progress C.remaining cert.old) (progress C.remaining cert.new))) }
         ensures ends { IfOk result (λ found. IfNone found (Ends (progress C.remaining cert.old) (progress C.remaining cert.new))) }
         ensures counts { OnOk result (IfSome (progress C.remaining cert.new).header (HasCounts model.now)) }
         ensures same_header { IsSome (progress C.remaining cert.old).header → (progress C.remaining cert.new).header ≡ (progress C.remaining cert.old).header }
         ensures err { IfErr result (IsFaultWhere (ComesTo model.now (past_in self.now) (progress C.remaining cert.old))) }
-        ensures due { IfErr result (IsReadDue (C.has_failed (input_of cert.new))) }
+        ensures due { IfErr result (IsReadDue (C.has_failed (reader_below cert.new))) }
     {
         next_step(alloc, model, &self.history, line, cert)
     }
@@ -144,7 +144,7 @@ pub fn hold_certificate<C: TrackedRead + Drop>(
     requires unread { IsUnread (progress C.remaining cert.old) }
     ensures ok { IfOk result (HoldsCertificate model.now (progress C.remaining cert.old).left) }
     ensures err { IfErr result (IsFaultWhere (VerdictOn model.now (progress C.remaining cert.old).left)) }
-    ensures due { IfErr result (IsReadDue (C.has_failed (input_of cert.new))) }
+    ensures due { IfErr result (IsReadDue (C.has_failed (reader_below cert.new))) }
 {
     let mut taken = Taken::new(alloc, model)?;
     let mut steps = Script::new(alloc);

@@ -1,6 +1,6 @@
 // The next line of a certificate.
 ghost use Rattle.std.specs.Prelude.{◌≡◌, ◌↔◌, ◌+◌, ◌≤◌, IfOk, IfErr, IfSome, IfNone, OnOk, IsSome, IsTrue};
-ghost use Rattle.fzn_cert_reader.specs.Reader.{progress, input_of, Gives, Ends};
+ghost use Rattle.fzn_cert_reader.specs.Reader.{progress, reader_below, GivesStep, Ends};
 ghost use Rattle.fzn_cert.specs.Spelling.{IsHeader};
 ghost use Rattle.fzn_checker.specs.Checked.{IsFaultWhere, HasCounts, ComesTo, IsMidway, Offers, Accepts, IsReadDue};
 ghost use Rattle.fzn_checker.specs.Faults.{may_end, fault_after};
@@ -26,12 +26,12 @@ pub fn next_step<R: TrackedRead + Drop>(
     ensures step { IfOk result (λ found. IfSome found (Offers model.now history.now (progress R.remaining reader.old) (progress R.remaining reader.new))) }
     ensures end { IfOk result (λ found. IfNone found (Accepts model.now history.now (progress R.remaining reader.old) (progress R.remaining reader.new))) }
     // What the reader took for it.
-    ensures gives { IfOk result (λ found. IfSome found (Gives (progress R.remaining reader.old) (progress R.remaining reader.new))) }
+    ensures gives { IfOk result (λ found. IfSome found (GivesStep (progress R.remaining reader.old) (progress R.remaining reader.new))) }
     ensures ends { IfOk result (λ found. IfNone found (Ends (progress R.remaining reader.old) (progress R.remaining reader.new))) }
     ensures counts { OnOk result (IfSome (progress R.remaining reader.new).header (HasCounts model.now)) }
     ensures same_header { IsSome (progress R.remaining reader.old).header → (progress R.remaining reader.new).header ≡ (progress R.remaining reader.old).header }
     ensures err { IfErr result (IsFaultWhere (ComesTo model.now history.now (progress R.remaining reader.old))) }
-    ensures due { IfErr result (IsReadDue (R.has_failed (input_of reader.new))) }
+    ensures due { IfErr result (IsReadDue (R.has_failed (reader_below reader.new))) }
 {
     let next = reader.next(alloc);
     if !has_counts(model, reader) {

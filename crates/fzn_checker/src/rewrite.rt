@@ -3,7 +3,7 @@ ghost use Rattle.std.specs.Prelude.{◌≡◌, ◌≤◌, ◌+◌, ◌++◌, ◌
 ghost use Rattle.std.specs.Bool.{OnTrue, OnFalse};
 ghost use Rattle.std.specs.Io.KnownBytes.{Consumes, Appends};
 ghost use Rattle.fzn_streams.specs.Output.{AppendsFront, IsDue};
-ghost use Rattle.fzn_cert_reader.specs.Input.{left_in, input_of};
+ghost use Rattle.fzn_cert_reader.specs.Input.{left_in, reader_in};
 ghost use Rattle.fzn_cert.specs.declared.step.Version.TheVariants.{One};
 ghost use Rattle.fzn_checker.specs.Faults.{fault_of_kind};
 ghost use Rattle.fzn_checker.specs.Checked.{IsReadDue};
@@ -41,10 +41,10 @@ pub fn to2_tracked<C: TrackedRead + Drop, W: TrackedWrite>(
     new: &mut W,
 ) -> Result<u64, CheckFault>
     requires unread { lines.old.steps ≡ 0 }
-    requires fresh { (C.has_failed (input_of lines.old.bytes) ≡ false) × (W.has_failed new.old ≡ false) }
+    requires fresh { (C.has_failed (reader_in lines.old.bytes) ≡ false) × (W.has_failed new.old ≡ false) }
     ensures ok { IfOk result (IsRewritten (left_in C.remaining lines.old.bytes) (W.contents new.old) (W.contents new.new)) }
     ensures err { IfErr result (IsRewriteFault (left_in C.remaining lines.old.bytes) (W.contents new.old) (W.contents new.new)) }
-    ensures due { IfErr result (IsRewriteDue (C.has_failed (input_of lines.new.bytes)) (W.has_failed new.new)) }
+    ensures due { IfErr result (IsRewriteDue (C.has_failed (reader_in lines.new.bytes)) (W.has_failed new.new)) }
     ensures same_stream { W.stream new.new ≡ W.stream new.old }
 {
     take_version(lines)?;
@@ -61,7 +61,7 @@ pub fn to2_tracked<C: TrackedRead + Drop, W: TrackedWrite>(
 fn take_version<R: TrackedRead + Drop>(lines: &mut StepLines<R>) -> Result<(), CheckFault>
     ensures ok { OnOk result (Consumes (left_in R.remaining lines.old.bytes) (left_in R.remaining lines.new.bytes) (first_line One)) }
     ensures err { IfErr result (IsFirstLineFault (left_in R.remaining lines.old.bytes)) }
-    ensures due { IfErr result (IsReadDue (R.has_failed (input_of lines.new.bytes))) }
+    ensures due { IfErr result (IsReadDue (R.has_failed (reader_in lines.new.bytes))) }
     ensures same { lines.new.steps ≡ lines.old.steps }
 {
     match lines.read_version() {
@@ -78,7 +78,7 @@ fn copy_counts<R: TrackedRead + Drop, W: TrackedWrite>(
 ) -> Result<(), CheckFault>
     ensures ok { OnOk result (CopiesCounts (left_in R.remaining lines.old.bytes) (left_in R.remaining lines.new.bytes) (W.contents new.old) (W.contents new.new)) }
     ensures err { IfErr result (IsCountsCopyFault (left_in R.remaining lines.old.bytes) (W.contents new.old) (W.contents new.new)) }
-    ensures due { IfErr result (IsRewriteDue (R.has_failed (input_of lines.new.bytes)) (W.has_failed new.new)) }
+    ensures due { IfErr result (IsRewriteDue (R.has_failed (reader_in lines.new.bytes)) (W.has_failed new.new)) }
     ensures same_stream { W.stream new.new ≡ W.stream new.old }
     ensures same { lines.new.steps ≡ lines.old.steps }
 {
@@ -99,7 +99,7 @@ fn copy_line<R: TrackedRead + Drop, W: TrackedWrite>(
     ensures end { IfOk result (λ more. OnFalse more (CopiesEnd (left_in R.remaining lines.old.bytes) (left_in R.remaining lines.new.bytes) (W.contents new.old) (W.contents new.new))) }
     ensures same { IfOk result (λ more. OnFalse more (lines.new.steps ≡ lines.old.steps)) }
     ensures err { IfErr result (IsLineCopyFault lines.old.steps (left_in R.remaining lines.old.bytes) (W.contents new.old) (W.contents new.new)) }
-    ensures due { IfErr result (IsRewriteDue (R.has_failed (input_of lines.new.bytes)) (W.has_failed new.new)) }
+    ensures due { IfErr result (IsRewriteDue (R.has_failed (reader_in lines.new.bytes)) (W.has_failed new.new)) }
     ensures same_stream { W.stream new.new ≡ W.stream new.old }
 {
     match lines.next_step(alloc, Version::One) {

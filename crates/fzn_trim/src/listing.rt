@@ -1,6 +1,6 @@
 // A certificate checked from its bytes, and the core of its answer printed.
 ghost use Rattle.std.specs.Prelude.{◌≡◌, false, IfOk, IfErr};
-ghost use Rattle.fzn_cert_reader.specs.Reader.{progress, input_of};
+ghost use Rattle.fzn_cert_reader.specs.Reader.{progress, reader_below};
 ghost use Rattle.fzn_checker.specs.Answered.{IsCheckDue};
 ghost use Rattle.fzn_checker.specs.Checked.{IsUnread};
 ghost use Rattle.fzn_trim.specs.Listing.{IsCoreListed, IsListFault};
@@ -59,10 +59,10 @@ pub fn core_tracked<R: TrackedRead, C: TrackedRead + Drop, W: TrackedWrite>(
     out: &mut W,
 ) -> Result<Listed, CheckFault>
     requires unread { IsUnread (progress C.remaining cert.old) }
-    requires fresh { (R.has_failed file.old ≡ false) × (C.has_failed (input_of cert.old) ≡ false) × (W.has_failed out.old ≡ false) }
+    requires fresh { (R.has_failed file.old ≡ false) × (C.has_failed (reader_below cert.old) ≡ false) × (W.has_failed out.old ≡ false) }
     ensures ok { IfOk result (IsCoreListed (R.remaining file.old) (progress C.remaining cert.old).left (W.contents out.old) (W.contents out.new)) }
     ensures err { IfErr result (IsListFault (R.remaining file.old) (progress C.remaining cert.old).left (W.contents out.old) (W.contents out.new)) }
-    ensures due { IfErr result (IsCheckDue (R.has_failed file.new) (C.has_failed (input_of cert.new)) (W.has_failed out.new)) }
+    ensures due { IfErr result (IsCheckDue (R.has_failed file.new) (C.has_failed (reader_below cert.new)) (W.has_failed out.new)) }
     ensures same_stream { W.stream out.new ≡ W.stream out.old }
 {
     let located = read_located(alloc, file)?;

@@ -1,6 +1,6 @@
 // A certificate checked from its bytes, and a trimmed one written.
 ghost use Rattle.std.specs.Prelude.{◌≡◌, false, IfOk, IfErr};
-ghost use Rattle.fzn_cert_reader.specs.Reader.{progress, input_of};
+ghost use Rattle.fzn_cert_reader.specs.Reader.{progress, reader_below};
 ghost use Rattle.fzn_checker.specs.Checked.{IsUnread};
 ghost use Rattle.fzn_trim.specs.Trimmed.{IsTrimmed, IsTrimFault, IsTrimDue};
 
@@ -54,10 +54,10 @@ pub fn trim_tracked<R: TrackedRead, C: TrackedRead + Drop, W: TrackedWrite>(
     new: &mut W,
 ) -> Result<Trimmed, CheckFault>
     requires unread { IsUnread (progress C.remaining cert.old) }
-    requires fresh { (R.has_failed file.old ≡ false) × (C.has_failed (input_of cert.old) ≡ false) × (W.has_failed new.old ≡ false) }
+    requires fresh { (R.has_failed file.old ≡ false) × (C.has_failed (reader_below cert.old) ≡ false) × (W.has_failed new.old ≡ false) }
     ensures ok { IfOk result (IsTrimmed (R.remaining file.old) (progress C.remaining cert.old).left (W.contents new.old) (W.contents new.new)) }
     ensures err { IfErr result (IsTrimFault (R.remaining file.old) (progress C.remaining cert.old).left (W.contents new.old) (W.contents new.new)) }
-    ensures due { IfErr result (IsTrimDue (R.has_failed file.new) (C.has_failed (input_of cert.new)) (W.has_failed new.new)) }
+    ensures due { IfErr result (IsTrimDue (R.has_failed file.new) (C.has_failed (reader_below cert.new)) (W.has_failed new.new)) }
     ensures same_stream { W.stream new.new ≡ W.stream new.old }
 {
     let model = read_model(alloc, file)?;

@@ -4,7 +4,7 @@ use Rattle.std.proofs.lemmas.Result.{err_from_is_err_and}
 use Rattle.fzn_cert.specs.Accepted.{IsAccepted, IsJudged}
 use Rattle.fzn_cert.specs.Past.{Past}
 use Rattle.fzn_cert.specs.Verdict.{refused, VerdictOn}
-use Rattle.fzn_cert_reader.specs.Reader.{progress, Gives, Ends}
+use Rattle.fzn_cert_reader.specs.Reader.{progress, GivesStep, Ends}
 use Rattle.fzn_checker.specs.Checked.{ComesTo, IsMidway, Offers, Accepts}
 use Rattle.fzn_checker.specs.Held.{past_in}
 use Rattle.fzn_checker.proofs.CallerLemmas.{fault-found, spelled-two}
@@ -34,7 +34,7 @@ pub take-requires-clause-spelled : goal.take-requires-clause-spelled
 take-requires-clause-spelled g c =
     let old = progress g.C.Read.remaining c.loop-taken.cert in
     let new = progress g.C.Read.remaining c.next_step.new.cert in
-    let gives : Gives old new c.in-Some.step = subst (λ o. IfSome o (Gives old new)) c.in-Some.is c.in_ok-step.ensures.gives in
+    let gives : GivesStep old new c.in-Some.step = subst (λ o. IfSome o (GivesStep old new)) c.in-Some.is c.in_ok-step.ensures.gives in
     spelled-two gives.header.version c.in-Some.step gives.has_line.0
 
 pub loop-taken-init : goal.loop-taken-init
@@ -61,7 +61,7 @@ loop-taken-preserved g c =
     let step = c.in-Some.step in
     let none = c.in_default-2.is in
     let offers : Offers model past old new step = subst (λ o. IfSome o (Offers model past old new)) c.in-Some.is c.in_ok-step.ensures.step in
-    let gives : Gives old new step = subst (λ o. IfSome o (Gives old new)) c.in-Some.is c.in_ok-step.ensures.gives in
+    let gives : GivesStep old new step = subst (λ o. IfSome o (GivesStep old new)) c.in-Some.is c.in_ok-step.ensures.gives in
     let accepted : IsAccepted model past step = subst (IsJudged model past step) none c.in_ok-refusal.ensures.judged in
     let after = c.in_ok-refusal.ensures.after none in
     let line : c.loop-taken.line ≡ old.steps + 3 = c.loop-taken.invariant.line in

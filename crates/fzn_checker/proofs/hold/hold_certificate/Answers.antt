@@ -5,7 +5,7 @@ use Rattle.fzn_cert.specs.declared.step.Step.{Step}
 use Rattle.fzn_cert.specs.Accepted.{IsAccepted, IsJudged}
 use Rattle.fzn_cert.specs.Past.{Past}
 use Rattle.fzn_cert.specs.Verdict.{refused, VerdictOn}
-use Rattle.fzn_cert_reader.specs.Reader.{progress, Gives, Ends, HasRead}
+use Rattle.fzn_cert_reader.specs.Reader.{progress, GivesStep, Ends, HasRead}
 use Rattle.fzn_cert_reader.proofs.CallerLemmas.{HasRead-step}
 use Rattle.fzn_checker.specs.Checked.{ComesTo, IsMidway, Offers, Accepts}
 use Rattle.fzn_checker.specs.Held.{HasTaken}
@@ -36,14 +36,14 @@ pub push-requires : goal.push-requires
 push-requires g c =
     let old = progress g.C.Read.remaining c.loop-steps.cert in
     let new = progress g.C.Read.remaining c.next_step.new.reader in
-    let gives : Gives old new c.in-Some.step = subst (λ o. IfSome o (Gives old new)) c.in-Some.is c.in_ok-step.ensures.gives in
+    let gives : GivesStep old new c.in-Some.step = subst (λ o. IfSome o (GivesStep old new)) c.in-Some.is c.in_ok-step.ensures.gives in
     spelled-two gives.header.version c.in-Some.step gives.has_line.0
 
 pub take-requires-clause-spelled : goal.take-requires-clause-spelled
 take-requires-clause-spelled g c =
     let old = progress g.C.Read.remaining c.loop-steps.cert in
     let new = progress g.C.Read.remaining c.next_step.new.reader in
-    let gives : Gives old new c.in-Some.step = subst (λ o. IfSome o (Gives old new)) c.in-Some.is c.in_ok-step.ensures.gives in
+    let gives : GivesStep old new c.in-Some.step = subst (λ o. IfSome o (GivesStep old new)) c.in-Some.is c.in_ok-step.ensures.gives in
     spelled-two gives.header.version c.in-Some.step gives.has_line.0
 
 pub loop-steps-preserved : goal.loop-steps-preserved
@@ -57,7 +57,7 @@ loop-steps-preserved g c =
     let steps = c.loop-steps.steps in
     let none = c.in_default-2.is in
     let offers : Offers model past old new step = subst (λ o. IfSome o (Offers model past old new)) c.in-Some.is c.in_ok-step.ensures.step in
-    let gives : Gives old new step = subst (λ o. IfSome o (Gives old new)) c.in-Some.is c.in_ok-step.ensures.gives in
+    let gives : GivesStep old new step = subst (λ o. IfSome o (GivesStep old new)) c.in-Some.is c.in_ok-step.ensures.gives in
     let accepted : IsAccepted model past step = subst (IsJudged model past step) none c.in_ok-refusal.ensures.judged in
     let after = c.in_ok-refusal.ensures.after none in
     let more = c.in_ok-push.ensures.ok in

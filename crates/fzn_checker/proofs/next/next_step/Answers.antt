@@ -2,7 +2,7 @@ use Rattle.std.proofs.Common.{ap₂, sym, subst, ◌∙◌, refl, IfSome}
 use Rattle.std.specs.Prelude.{IfNone}
 use Rattle.std.proofs.lemmas.Bool.{false≢true}
 use Rattle.fzn_cert.specs.declared.refusal.Refusal.TheVariants.{NotClosed}
-use Rattle.fzn_cert_reader.specs.Reader.{progress, Gives, Ends}
+use Rattle.fzn_cert_reader.specs.Reader.{progress, GivesStep, Ends}
 use Rattle.fzn_cert.specs.Verdict.{refused}
 use Rattle.fzn_checker.specs.Checked.{IsFaultWhere, ComesTo}
 use Rattle.fzn_checker.specs.Faults.{may_end, fault_after}
@@ -28,7 +28,7 @@ pub returns-in-Ok-Some-clause-step : goal.returns-in-Ok-Some-clause-step
 returns-in-Ok-Some-clause-step g c =
     gives-offers c.args.model.now c.args.history.now (progress g.R.Read.remaining c.args.reader.now) (progress g.R.Read.remaining c.next-next.new.self) c.in-Ok-Some.step c.requires.midway
     c.next-next.ensures.same (c.if-not-has_counts.ensures.value.0 refl)
-    (subst (λ o. IfSome o (Gives (progress g.R.Read.remaining c.args.reader.now) (progress g.R.Read.remaining c.next-next.new.self))) c.in-Ok-Some.field-0-is c.in-Ok-Some.ensures.step)
+    (subst (λ o. IfSome o (GivesStep (progress g.R.Read.remaining c.args.reader.now) (progress g.R.Read.remaining c.next-next.new.self))) c.in-Ok-Some.field-0-is c.in-Ok-Some.ensures.step)
 
 pub returns-then-may_end-clause-end : goal.returns-then-may_end-clause-end
 returns-then-may_end-clause-end g c =

@@ -1,13 +1,13 @@
 use Rattle.std.proofs.Common.{◌≡◌, List, ℕ, [], ◌∷◌, ◌++◌, ap, ◌∙◌}
 use Rattle.fzn_cert.specs.Spelling.{step_text, step_line}
 use Rattle.fzn_cert.specs.declared.step.Step.{Step}
-use Rattle.fzn_cert_reader.specs.Script.{steps_in, IsScript}
+use Rattle.fzn_cert_reader.specs.Script.{steps_spelled, IsScript}
 use Rattle.fzn_cert_reader.proofs.ScriptLaws.{steps-read, script-then, script-of_itself}
 use Rattle.fzn_cert_reader.proofs.script.Script.push.Goals as goal
 use Rattle.fzn_cert_reader.proofs.script.Script.push.Goals.{In-Ok}
 
 -- the line stands behind the others, and so does the place where it ends
-one-more : (c : In-Ok) → IsScript c.extend_from_slice.new.self.items c.push.new.self.items (steps_in c.self.inside.text.items c.self.inside.ends.items ++ c.args.step.now ∷ [])
+one-more : (c : In-Ok) → IsScript c.extend_from_slice.new.self.items c.push.new.self.items (steps_spelled c.self.inside.text.items c.self.inside.ends.items ++ c.args.step.now ∷ [])
 one-more c =
     let text = c.self.inside.text.items in
     let ends = c.self.inside.ends.items in
