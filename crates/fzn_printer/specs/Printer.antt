@@ -4,16 +4,16 @@ use Rattle.std.specs.Borrow.{GName}
 use Rattle.fzn_printer.specs.declared.printer.Printer.{Printer}
 
 -- what the writer below holds
-abbrev pub contents_of : {W : Type 0} → (W → Option (List ℕ)) → Printer W → Option (List ℕ)
-contents_of contents printer = contents printer.out.now
+abbrev pub out_contents : {W : Type 0} → (W → Option (List ℕ)) → Printer W → Option (List ℕ)
+out_contents contents printer = contents printer.out.now
 
 -- which stream the writer below is
-abbrev pub stream_of : {W S : Type 0} → (W → S) → Printer W → S
-stream_of stream printer = stream printer.out.now
+abbrev pub out_stream : {W S : Type 0} → (W → S) → Printer W → S
+out_stream stream printer = stream printer.out.now
 
 -- whether a call on the writer below failed
-abbrev pub has_failed_in : {W : Type 0} → (W → Bool) → Printer W → Bool
-has_failed_in has_failed printer = has_failed printer.out.now
+abbrev pub out_failed : {W : Type 0} → (W → Bool) → Printer W → Bool
+out_failed has_failed printer = has_failed printer.out.now
 
 -- by this name a caller knows the writer below
 abbrev pub out_name : {W : Type 0} → Printer W → GName

@@ -5,7 +5,7 @@ ghost use Rattle.fzn_streams.specs.Output.{AppendsFront};
 ghost use Rattle.fzn_meaning.specs.Solutions.{IsAssignment};
 ghost use Rattle.fzn_printer.specs.Showable.{CanBeShown};
 ghost use Rattle.fzn_printer.specs.Shown.{shown, ending_text, is_closed};
-ghost use Rattle.fzn_printer.specs.Printer.{contents_of, stream_of, has_failed_in, out_name, is_open, has_printed};
+ghost use Rattle.fzn_printer.specs.Printer.{out_contents, out_stream, out_failed, out_name, is_open, has_printed};
 
 use crate::item::put_solution;
 use fzn_fault::Stop;
@@ -60,8 +60,8 @@ pub struct Printer<'w, W: TrackedWrite> {
 impl<'w, W: TrackedWrite> Printer<'w, W> {
     /// Over this writer, with nothing printed.
     pub fn new(out: &'w mut W) -> Printer<'w, W>
-        ensures same { contents_of W.contents result ≡ W.contents out.old }
-        ensures same_stream { stream_of W.stream result ≡ W.stream out.old }
+        ensures same { out_contents W.contents result ≡ W.contents out.old }
+        ensures same_stream { out_stream W.stream result ≡ W.stream out.old }
         ensures same_writer { out_name result ≡ out.entry.ghost_name }
         ensures fresh { (is_open result ≡ true) × (has_printed result ≡ false) }
     {
@@ -77,16 +77,16 @@ impl<'w, W: TrackedWrite> Printer<'w, W> {
     pub fn solution(&mut self, model: &Model, values: &[i64]) -> Result<(), PrintFault>
         requires model { CanBeShown model.now }
         requires assignment { IsAssignment model.now values.now }
-        ensures written { OnOk result (Appends (contents_of W.contents self.old) (contents_of W.contents self.new) (shown model.now values.now)) }
+        ensures written { OnOk result (Appends (out_contents W.contents self.old) (out_contents W.contents self.new) (shown model.now values.now)) }
         ensures ok { OnOk result ((is_open self.new ≡ true) × (has_printed self.new ≡ true)) }
 
         // After a failed write a beginning of the text stands, and any later call answers `Failed`.
-        ensures front { OnErr result (AppendsFront (contents_of W.contents self.old) (contents_of W.contents self.new) (shown model.now values.now)) }
+        ensures front { OnErr result (AppendsFront (out_contents W.contents self.old) (out_contents W.contents self.new) (shown model.now values.now)) }
         ensures err { OnErr result (is_open self.new ≡ false) }
-        ensures same_stream { stream_of W.stream self.new ≡ stream_of W.stream self.old }
+        ensures same_stream { out_stream W.stream self.new ≡ out_stream W.stream self.old }
         ensures same_writer { out_name self.new ≡ out_name self.old }
-        ensures due { is_open self.old ≡ true → OnErr result (has_failed_in W.has_failed self.new ≡ true) }
-        ensures failed { is_open self.old ≡ false → (result ≡ Err PrintFault.Failed) × Keeps (contents_of W.contents self.old) (contents_of W.contents self.new) }
+        ensures due { is_open self.old ≡ true → OnErr result (out_failed W.has_failed self.new ≡ true) }
+        ensures failed { is_open self.old ≡ false → (result ≡ Err PrintFault.Failed) × Keeps (out_contents W.contents self.old) (out_contents W.contents self.new) }
         ensures failed_only { is_open self.old ≡ true → result ≢ Err PrintFault.Failed }
     {
         if !self.open {
@@ -103,12 +103,12 @@ impl<'w, W: TrackedWrite> Printer<'w, W> {
 
     /// Flushes the writer below. It answers `Write` only where the flush failed, and `Failed` after a fault or `close`.
     pub fn flush(&mut self) -> Result<(), PrintFault>
-        ensures kept { Keeps (contents_of W.contents self.old) (contents_of W.contents self.new) }
+        ensures kept { Keeps (out_contents W.contents self.old) (out_contents W.contents self.new) }
         ensures ok { OnOk result ((is_open self.new ≡ true) × (has_printed self.new ≡ has_printed self.old)) }
         ensures err { OnErr result (is_open self.new ≡ false) }
-        ensures same_stream { stream_of W.stream self.new ≡ stream_of W.stream self.old }
+        ensures same_stream { out_stream W.stream self.new ≡ out_stream W.stream self.old }
         ensures same_writer { out_name self.new ≡ out_name self.old }
-        ensures due { is_open self.old ≡ true → OnErr result (has_failed_in W.has_failed self.new ≡ true) }
+        ensures due { is_open self.old ≡ true → OnErr result (out_failed W.has_failed self.new ≡ true) }
         ensures failed { is_open self.old ≡ false → result ≡ Err PrintFault.Failed }
         ensures failed_only { is_open self.old ≡ true → result ≢ Err PrintFault.Failed }
     {
@@ -125,13 +125,13 @@ impl<'w, W: TrackedWrite> Printer<'w, W> {
     /// Prints the line that ends the answer, if it has one, and flushes the writer below. It answers `Write` only where a write or the
     /// flush failed, and `Failed` after a fault or an earlier `close`. Any later call answers `Failed`.
     pub fn close(&mut self, ending: Ending) -> Result<(), PrintFault>
-        ensures written { OnOk result (Appends (contents_of W.contents self.old) (contents_of W.contents self.new) (ending_text (is_closed ending) (has_printed self.old))) }
-        ensures front { OnErr result (AppendsFront (contents_of W.contents self.old) (contents_of W.contents self.new) (ending_text (is_closed ending) (has_printed self.old))) }
+        ensures written { OnOk result (Appends (out_contents W.contents self.old) (out_contents W.contents self.new) (ending_text (is_closed ending) (has_printed self.old))) }
+        ensures front { OnErr result (AppendsFront (out_contents W.contents self.old) (out_contents W.contents self.new) (ending_text (is_closed ending) (has_printed self.old))) }
         ensures shut { is_open self.new ≡ false }
-        ensures same_stream { stream_of W.stream self.new ≡ stream_of W.stream self.old }
+        ensures same_stream { out_stream W.stream self.new ≡ out_stream W.stream self.old }
         ensures same_writer { out_name self.new ≡ out_name self.old }
-        ensures due { is_open self.old ≡ true → OnErr result (has_failed_in W.has_failed self.new ≡ true) }
-        ensures failed { is_open self.old ≡ false → (result ≡ Err PrintFault.Failed) × Keeps (contents_of W.contents self.old) (contents_of W.contents self.new) }
+        ensures due { is_open self.old ≡ true → OnErr result (out_failed W.has_failed self.new ≡ true) }
+        ensures failed { is_open self.old ≡ false → (result ≡ Err PrintFault.Failed) × Keeps (out_contents W.contents self.old) (out_contents W.contents self.new) }
         ensures failed_only { is_open self.old ≡ true → result ≢ Err PrintFault.Failed }
     {
         if !self.open {

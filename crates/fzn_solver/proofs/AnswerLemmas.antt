@@ -21,7 +21,7 @@ use Rattle.fzn_state.specs.Volume.{volume}
 use Rattle.fzn_engine.specs.Outcome.{HasRoom, IsReached, EndsTruly as EndsTrulyThere, IsOutcome}
 use Rattle.fzn_printer.specs.declared.printer.Ending.{Ending}
 use Rattle.fzn_printer.specs.declared.printer.Ending.TheVariants.{Complete, Unsatisfiable, NodeLimit, SolutionLimit}
-use Rattle.fzn_printer.specs.Printer.{contents_of as out_contents}
+use Rattle.fzn_printer.specs.Printer.{out_contents}
 use Rattle.fzn_printer.specs.Answer.{answer_text}
 use Rattle.fzn_printer.specs.Shown.{ending_text, is_closed}
 use Rattle.fzn_solver.specs.declared.writers.Writers.{Writers}

@@ -10,7 +10,7 @@ use Rattle.fzn_cert.specs.Spelling.{HasRoom}
 use Rattle.fzn_cert.specs.Writer.{IsLineFault, IsStepFault, step_count, has_failed_in as cert_failed}
 use Rattle.fzn_state.specs.declared.fault.Fault.{Fault}
 use Rattle.fzn_state.specs.declared.fault.Fault.TheVariants as engine
-use Rattle.fzn_printer.specs.Printer.{is_open, has_failed_in as out_failed}
+use Rattle.fzn_printer.specs.Printer.{is_open, out_failed}
 use Rattle.fzn_solver.specs.declared.writers.Writers.{Writers}
 use Rattle.fzn_solver.specs.Causes.{IsTooLong, HasCause, IsCause, IsLineCause, AreOpen}
 use Rattle.fzn_reading.specs.declared.fault.ModelFault.{ModelFault}

@@ -18,7 +18,7 @@ use Rattle.fzn_printer.specs.declared.printer.PrintFault.{PrintFault}
 use Rattle.fzn_printer.specs.declared.printer.PrintFault.TheVariants.{Failed as NoMore}
 use Rattle.fzn_cert.specs.Spelling.{end_line}
 use Rattle.fzn_cert.specs.Writer.{contents_of as cert_contents, stage_of, Leaves}
-use Rattle.fzn_printer.specs.Printer.{contents_of as out_contents, is_open, has_printed}
+use Rattle.fzn_printer.specs.Printer.{out_contents, is_open, has_printed}
 use Rattle.fzn_printer.specs.Shown.{shown, ending_text}
 use Rattle.fzn_solver.specs.declared.writers.Writers.{Writers}
 use Rattle.fzn_solver.specs.Standing.{found_by, early, late, begun_certificate, shown_all, IsOutInStep}

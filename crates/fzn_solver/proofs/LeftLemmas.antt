@@ -19,7 +19,7 @@ use Rattle.fzn_engine.specs.declared.limits.Limits.{Limits}
 use Rattle.fzn_engine.specs.Outcome.{IsOutcome}
 use Rattle.fzn_printer.specs.declared.printer.Ending.{Ending}
 use Rattle.fzn_printer.specs.declared.printer.Printer.{Printer}
-use Rattle.fzn_printer.specs.Printer.{contents_of as out_contents, is_open, has_printed}
+use Rattle.fzn_printer.specs.Printer.{out_contents, is_open, has_printed}
 use Rattle.fzn_printer.specs.Shown.{ending_text, is_closed}
 use Rattle.fzn_solver.specs.declared.writers.Writers.{Writers}
 use Rattle.fzn_solver.specs.FaultsFrom.{fault_of_model, fault_of_engine}

@@ -21,7 +21,7 @@ use Rattle.fzn_cert.specs.Spelling.{step_line, header_text, header_lines, IsSpel
 use Rattle.fzn_cert.specs.Verdict.{header_of}
 use Rattle.fzn_cert.specs.Writer.{contents_of as cert_contents, out_name as cert_name, stage_of, step_count, version_of}
 use Rattle.fzn_printer.specs.declared.printer.Printer.{Printer}
-use Rattle.fzn_printer.specs.Printer.{contents_of as out_contents, out_name, is_open, has_printed}
+use Rattle.fzn_printer.specs.Printer.{out_contents, out_name, is_open, has_printed}
 use Rattle.fzn_printer.specs.Shown.{shown}
 use Rattle.fzn_solver.specs.Standing.{found_by, early, shown_all, IsCertInStep, IsOutInStep}
 use Rattle.fzn_solver.specs.declared.ghost_list.GhostList.{GhostList}

@@ -9,7 +9,7 @@ use Rattle.fzn_cert.specs.Spelling.{HasRoom}
 use Rattle.fzn_cert.specs.Writer.{stage_of, stream_of as cert_stream, has_failed_in as cert_failed}
 use Rattle.fzn_state.specs.declared.fault.Fault.{Fault}
 use Rattle.fzn_state.specs.declared.fault.Fault.TheVariants as engine
-use Rattle.fzn_printer.specs.Printer.{is_open, stream_of as out_stream, has_failed_in as out_failed}
+use Rattle.fzn_printer.specs.Printer.{is_open, out_stream, out_failed}
 use Rattle.fzn_solver.specs.declared.fault.RunFault.{RunFault}
 use Rattle.fzn_solver.specs.declared.fault.RunFault.TheVariants.{WriteOutput, WriteCert, StepTooLong}
 use Rattle.fzn_solver.specs.declared.writers.Writers.{Writers}

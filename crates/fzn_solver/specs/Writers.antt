@@ -16,7 +16,7 @@ use Rattle.fzn_cert.specs.Writer.{contents_of as cert_contents, out_name as cert
 use Rattle.fzn_state.specs.declared.fault.Fault.{Fault}
 use Rattle.fzn_state.specs.declared.fault.Fault.TheVariants.{WriteOutput}
 use Rattle.fzn_printer.specs.declared.printer.Printer.{Printer}
-use Rattle.fzn_printer.specs.Printer.{contents_of as out_contents, out_name, is_open, has_printed}
+use Rattle.fzn_printer.specs.Printer.{out_contents, out_name, is_open, has_printed}
 use Rattle.fzn_printer.specs.Shown.{shown, ending_text}
 use Rattle.fzn_solver.specs.declared.writers.Writers.{Writers}
 use Rattle.fzn_solver.specs.Standing.{certificate, shown_all, early, late, found_by, IsStanding, IsCertInStep, IsOutInStep}

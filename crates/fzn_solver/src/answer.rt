@@ -2,7 +2,7 @@
 ghost use Rattle.std.specs.Prelude.{◌≡◌, false, IfOk, IfErr};
 ghost use Rattle.fzn_meaning.specs.WellFormed.{IsWellFormed};
 ghost use Rattle.fzn_cert.specs.Writer.{contents_of as cert_contents, out_name as cert_name, has_failed_in as cert_failed};
-ghost use Rattle.fzn_printer.specs.Printer.{contents_of as out_contents, out_name, has_failed_in as out_failed};
+ghost use Rattle.fzn_printer.specs.Printer.{out_contents, out_name, out_failed};
 ghost use Rattle.fzn_propagators.specs.Propagators.{StandFor};
 ghost use Rattle.fzn_solver.specs.Answer.{wanted, IsAnswer};
 ghost use Rattle.fzn_solver.specs.Causes.{HasCause, AreSameStreams, AreStreamsAsAtFirst};

@@ -10,7 +10,7 @@ ghost use Rattle.fzn_cert.specs.declared.writer.Stage.TheVariants.{Open, Shut};
 ghost use Rattle.std.specs.Io.KnownBytes.{Keeps};
 ghost use Rattle.std.specs.Borrow.{GName};
 ghost use Rattle.fzn_cert.specs.declared.step.Version.TheVariants.{Two};
-ghost use Rattle.fzn_printer.specs.Printer.{contents_of as out_contents, out_name, stream_of as out_stream, has_failed_in as out_failed, is_open};
+ghost use Rattle.fzn_printer.specs.Printer.{out_contents, out_name, out_stream, out_failed, is_open};
 ghost use Rattle.std.specs.Option.{option_to_list};
 ghost use Rattle.fzn_state.specs.declared.fault.Fault.TheVariants.{Memory as OutOfMemory, WriteOutput, WriteCert};
 ghost use Rattle.fzn_printer.specs.Shown.{is_closed};

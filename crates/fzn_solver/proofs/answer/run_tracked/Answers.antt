@@ -1,6 +1,6 @@
 -- The fault of the file, or what the search left.
 use Rattle.std.proofs.Common.{rules}
-use Rattle.fzn_printer.specs.Printer.{contents_of as out_contents}
+use Rattle.fzn_printer.specs.Printer.{out_contents}
 use Rattle.fzn_solver.specs.FaultsFrom.{fault_of_model}
 use Rattle.fzn_solver.specs.Run.{IsRunFault, IsDue}
 use Rattle.fzn_solver.specs.declared.fault.RunFault.TheVariants.{Memory}

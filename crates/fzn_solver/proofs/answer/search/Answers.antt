@@ -3,7 +3,7 @@ use Rattle.std.proofs.Common.{ℕ, Option, refl, sym, subst, ◌∙◌, inl}
 use Rattle.fzn_cert.specs.Writer.{contents_of as cert_contents, has_failed_in as cert_failed}
 use Rattle.fzn_engine.specs.declared.limits.Limits.{Limits}
 use Rattle.fzn_engine.specs.Outcome.{HasRoom}
-use Rattle.fzn_printer.specs.Printer.{contents_of as out_contents, has_failed_in as out_failed}
+use Rattle.fzn_printer.specs.Printer.{out_contents, out_failed}
 use Rattle.fzn_printer.specs.Shown.{is_closed}
 use Rattle.fzn_solver.specs.Causes.{HasCause, IsCause}
 use Rattle.fzn_solver.specs.FaultsFrom.{fault_of_engine}

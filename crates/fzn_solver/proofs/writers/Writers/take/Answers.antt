@@ -1,6 +1,6 @@
 -- The line of a step that is no solution.
 use Rattle.std.proofs.Common.{ap}
-use Rattle.fzn_printer.specs.Printer.{stream_of as out_stream}
+use Rattle.fzn_printer.specs.Printer.{out_stream}
 use Rattle.fzn_solver.proofs.CauseLemmas.{line-taken}
 use Rattle.fzn_solver.proofs.WritersLemmas.{line-step}
 use Rattle.fzn_solver.proofs.writers.Writers.take.Goals as goal
