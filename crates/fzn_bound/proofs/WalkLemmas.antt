@@ -9,7 +9,7 @@ use Rattle.fzn_meaning.specs.Solutions.{IsProper, IsExhausted}
 use Rattle.fzn_printer.specs.Answer.{answer_text}
 use Rattle.fzn_reading.specs.declared.fault.ModelFault.{ModelFault}
 use Rattle.fzn_reading.specs.declared.fault.ModelFault.TheVariants as reading
-use Rattle.fzn_reading.specs.Reads.{Answers}
+use Rattle.fzn_reading.specs.Reads.{Answers, States}
 use Rattle.fzn_cert.specs.declared.header.Header.{Header}
 use Rattle.fzn_cert.specs.declared.step.Step.{Step}
 use Rattle.fzn_cert.specs.Past.{Past, start}
@@ -21,7 +21,7 @@ use Rattle.fzn_cert_reader.proofs.CallerLemmas.{HasRead-fresh, HasRead-step}
 use Rattle.fzn_checker.specs.declared.fault.CheckFault.{CheckFault}
 use Rattle.fzn_checker.specs.declared.fault.CheckFault.TheVariants.{File, Refused, NotVersionOne, Memory, Read, WriteOutput, WriteCert}
 use Rattle.fzn_checker.specs.declared.hold.Taken.{Taken}
-use Rattle.fzn_checker.specs.Answered.{States, Shows}
+use Rattle.fzn_checker.specs.Answered.{Shows}
 use Rattle.fzn_checker.specs.Checked.{IsFaultWhere, HasCounts, IsMidway, ComesTo, Accepts}
 use Rattle.fzn_checker.specs.FileFaults.{fault_from}
 use Rattle.fzn_checker.specs.Held.{past_in, HasTaken, IsCertificate}

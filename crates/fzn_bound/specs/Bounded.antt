@@ -6,13 +6,13 @@ use Rattle.fzn_streams.specs.Output.{AppendsFront}
 use Rattle.fzn_lexer.specs.declared.halt.Halt.TheVariants as errors
 use Rattle.fzn_meaning.specs.declared.model.Model.{Model}
 use Rattle.fzn_printer.specs.Answer.{answer_text}
-use Rattle.fzn_reading.specs.Reads.{Reads}
+use Rattle.fzn_reading.specs.Reads.{Reads, States}
 use Rattle.fzn_cert.specs.declared.step.Step.{Step}
 use Rattle.fzn_cert.specs.declared.step.Version.{Version}
 use Rattle.fzn_cert.specs.Verdict.{MayEnd, VerdictOn, refused}
 use Rattle.fzn_checker.specs.declared.fault.CheckFault.{CheckFault}
 use Rattle.fzn_checker.specs.declared.fault.CheckFault.TheVariants.{File, Refused, NotVersionOne, Memory, Read, WriteOutput, WriteCert}
-use Rattle.fzn_checker.specs.Answered.{States, Shows}
+use Rattle.fzn_checker.specs.Answered.{Shows}
 use Rattle.fzn_checker.specs.Held.{past_in, HasTaken, IsCertificate}
 use Rattle.fzn_bound.specs.declared.certificate.Walked.{Walked}
 use Rattle.fzn_bound.specs.declared.known.Known.{Known}

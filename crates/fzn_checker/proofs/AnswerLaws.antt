@@ -3,10 +3,11 @@ use Rattle.std.proofs.Common.{◌≡◌, ℕ, Bool, List, Option, Some, None, Re
 use Rattle.std.specs.Result.{IsErrAnd}
 use Rattle.std.specs.Io.KnownBytes.{Keeps}
 use Rattle.fzn_meaning.specs.declared.model.Model.{Model}
+use Rattle.fzn_reading.specs.Reads.{States}
 use Rattle.fzn_cert.specs.Verdict.{VerdictOn}
 use Rattle.fzn_checker.specs.declared.fault.CheckFault.{CheckFault}
 use Rattle.fzn_checker.specs.declared.fault.CheckFault.TheVariants.{File, Refused, NotVersionOne, Memory, Read, WriteOutput, WriteCert}
-use Rattle.fzn_checker.specs.Answered.{States, IsCheckFault}
+use Rattle.fzn_checker.specs.Answered.{IsCheckFault}
 use Rattle.fzn_checker.specs.Checked.{IsFaultWhere}
 
 keeps-same : (known : Option (List ℕ)) → Keeps known known

@@ -1,20 +1,16 @@
 -- What checking the bytes of a file and those of a certificate answers.
-use Rattle.std.specs.Prelude.{◌≡◌, ◌⊎◌, ℕ, Bool, true, ℤ, List, length, Option, IfSome, Ok, Err}
+use Rattle.std.specs.Prelude.{◌≡◌, ◌⊎◌, ℕ, Bool, true, ℤ, List, length, Option, IfSome, Err}
 use Rattle.std.specs.Io.KnownBytes.{Appends, Keeps}
 use Rattle.fzn_streams.specs.Output.{AppendsFront}
 use Rattle.fzn_lexer.specs.declared.halt.Halt.TheVariants as errors
 use Rattle.fzn_meaning.specs.declared.model.Model.{Model}
 use Rattle.fzn_meaning.specs.Solutions.{IsProper, IsExhausted}
 use Rattle.fzn_printer.specs.Answer.{answer_text}
-use Rattle.fzn_reading.specs.Reads.{Reads}
+use Rattle.fzn_reading.specs.Reads.{Reads, States}
 use Rattle.fzn_cert.specs.Verdict.{VerdictOn, accepted, refused}
 use Rattle.fzn_checker.specs.declared.certificate.Verdict.{Verdict}
 use Rattle.fzn_checker.specs.declared.fault.CheckFault.{CheckFault}
 use Rattle.fzn_checker.specs.declared.fault.CheckFault.TheVariants.{File, Refused, NotVersionOne, Memory, Read, WriteOutput, WriteCert}
-
--- a file's bytes, where the reader tells them, state this model
-abbrev pub States : Option (List ℕ) → Model → Type 0
-States file model = IfSome file (λ bytes. Reads bytes (Ok model))
 
 -- The file states this model, the certificate is accepted for it with this answer, and the answer is true: the solutions
 -- are a proper list, and an exhausted one where it is closed.

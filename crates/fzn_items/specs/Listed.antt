@@ -9,7 +9,7 @@ use Rattle.fzn_lexer.specs.declared.token.Token.{Token}
 use Rattle.fzn_lexer.specs.Tokens.{Lexes}
 use Rattle.fzn_meaning.specs.declared.model.Model.{Model}
 use Rattle.fzn_parser.specs.Parse.{IsTree}
-use Rattle.fzn_reading.specs.Over.{IsOver}
+use Rattle.fzn_reading.specs.Over.{IsAnnotationOver}
 use Rattle.fzn_reading.specs.Reads.{Reads}
 use Rattle.fzn_strategy.specs.declared.annotation.Annotation.{Annotation}
 use Rattle.fzn_tree.specs.declared.tree.Tree.{Tree}
@@ -65,7 +65,7 @@ items_text bytes tree items model annotations types goal =
 -- the text lists the model of this tree, with some search annotations over its variables
 pub record IsList (bytes : List ℕ) (tree : Tree) (items : List Span) (model : Model) (types : List Place) (goal : Option ConstantGoal) (text : List ℕ) (counts : Counts) : Type 0 where
   pub annotations : List Annotation
-  pub over : All (IsOver (length model.vars)) annotations
+  pub over : All (IsAnnotationOver (length model.vars)) annotations
   pub is : text ≡ items_text bytes tree items model annotations types goal
   pub counted : counts ≡ listed_counts tree model types goal
 

@@ -4,7 +4,7 @@ ghost use Rattle.std.specs.List.{All, flat_map};
 ghost use Rattle.fzn_meaning.specs.WellFormed.{IsWellFormed};
 ghost use Rattle.fzn_names.specs.Known.{known};
 ghost use Rattle.fzn_names.specs.Limits.{IsVarWithin};
-ghost use Rattle.fzn_reading.specs.Over.{IsOver};
+ghost use Rattle.fzn_reading.specs.Over.{IsAnnotationOver};
 ghost use Rattle.fzn_typing.specs.Faults.{tree_names};
 ghost use Rattle.fzn_typing.specs.Limits.{IsWithinLimits};
 ghost use Rattle.fzn_typing.specs.Models.{written};

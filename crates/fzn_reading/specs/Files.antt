@@ -7,9 +7,9 @@ use Rattle.fzn_reading.specs.declared.fault.ModelFault.{ModelFault}
 use Rattle.fzn_reading.specs.declared.annotated.Annotated.{Annotated}
 use Rattle.fzn_reading.specs.declared.file.File.{File}
 
-abbrev pub model_in : Result File (Halt Fault) → Result Model (Halt Fault)
-model_in (Ok file) = Ok file.model
-model_in (Err error) = Err error
+abbrev pub file_model : Result File (Halt Fault) → Result Model (Halt Fault)
+file_model (Ok file) = Ok file.model
+file_model (Err error) = Err error
 
 abbrev pub model_told : Result File ModelFault → Result Model ModelFault
 model_told (Ok file) = Ok file.model

@@ -3,22 +3,22 @@ use Rattle.std.specs.Prelude.{ℕ}
 use Rattle.fzn_lexer.specs.declared.fault.FaultKind.{FaultKind}
 use Rattle.fzn_lexer.specs.declared.fault.FaultKind.TheVariants.{BadByte, BadToken, Syntax, TooDeep, Float, SetRefused, UnboundedInt, LiteralRange, DuplicateName, UnknownName, UnknownConstraint, Arity, «Type» as WrongType, Length, Argument, TooMany, OutputAnnotation, FileTooLong}
 
-abbrev pub number_of : FaultKind → ℕ
-number_of BadByte = 1
-number_of BadToken = 2
-number_of Syntax = 3
-number_of TooDeep = 4
-number_of Float = 5
-number_of SetRefused = 6
-number_of UnboundedInt = 7
-number_of LiteralRange = 8
-number_of DuplicateName = 9
-number_of UnknownName = 10
-number_of UnknownConstraint = 11
-number_of Arity = 12
-number_of WrongType = 13
-number_of Length = 14
-number_of Argument = 15
-number_of TooMany = 16
-number_of OutputAnnotation = 17
-number_of FileTooLong = 18
+abbrev pub fault_number : FaultKind → ℕ
+fault_number BadByte = 1
+fault_number BadToken = 2
+fault_number Syntax = 3
+fault_number TooDeep = 4
+fault_number Float = 5
+fault_number SetRefused = 6
+fault_number UnboundedInt = 7
+fault_number LiteralRange = 8
+fault_number DuplicateName = 9
+fault_number UnknownName = 10
+fault_number UnknownConstraint = 11
+fault_number Arity = 12
+fault_number WrongType = 13
+fault_number Length = 14
+fault_number Argument = 15
+fault_number TooMany = 16
+fault_number OutputAnnotation = 17
+fault_number FileTooLong = 18

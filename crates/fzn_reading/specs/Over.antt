@@ -5,5 +5,5 @@ use Rattle.fzn_domain.specs.Narrow.{IsVariable}
 use Rattle.fzn_strategy.specs.declared.annotation.Annotation.{Annotation}
 
 -- each is one of this many
-abbrev pub IsOver : ℕ → Annotation → Type 0
-IsOver count annotation = All (IsVariable count) annotation.vars
+abbrev pub IsAnnotationOver : ℕ → Annotation → Type 0
+IsAnnotationOver count annotation = All (IsVariable count) annotation.vars

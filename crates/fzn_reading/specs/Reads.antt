@@ -1,5 +1,5 @@
 -- From the bytes of a file to its model.
-use Rattle.std.specs.Prelude.{◌≡◌, ◌<◌, ℕ, List, ◌++◌, length, ◌⊎◌, Result, Ok, Err}
+use Rattle.std.specs.Prelude.{◌≡◌, ◌<◌, ℕ, List, ◌++◌, length, ◌⊎◌, Option, IfSome, Result, Ok, Err}
 use Rattle.fzn_lexer.specs.declared.fault.Fault.{Fault}
 use Rattle.fzn_lexer.specs.declared.halt.Halt.{Halt}
 use Rattle.fzn_lexer.specs.declared.halt.Halt.TheVariants as errors
@@ -26,6 +26,10 @@ Reads bytes (Err (errors.Fault fault)) =
     Lexes bytes (Err (errors.Fault fault))
     ⊎ (((tokens : List Token) × Lexes bytes (Ok tokens) × Parses tokens (Err (errors.Fault fault)))
     ⊎ ((tree : Tree) × HasTree bytes tree × IsTyped tree (Err (errors.Fault fault))))
+
+-- a file's bytes, where the reader tells them, state this model
+abbrev pub States : Option (List ℕ) → Model → Type 0
+States file model = IfSome file (λ bytes. Reads bytes (Ok model))
 
 -- what a reader of these bytes answers, unless a read fails
 abbrev pub Answers : List ℕ → Result Model ModelFault → Type 0

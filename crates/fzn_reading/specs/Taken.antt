@@ -2,17 +2,17 @@
 use Rattle.std.specs.Prelude.{◌≡◌, ℕ, length}
 use Rattle.std.specs.List.{All}
 use Rattle.fzn_reading.specs.declared.taken.Taken.{Taken}
-use Rattle.fzn_reading.specs.Over.{IsOver}
+use Rattle.fzn_reading.specs.Over.{IsAnnotationOver}
 
 -- how many variables there are
-abbrev pub count_of : Taken → ℕ
-count_of taken = length taken.is_named.items
+abbrev pub variable_count : Taken → ℕ
+variable_count taken = length taken.is_named.items
 
 -- they are over these variables, if they were
 abbrev pub StaysOver : Taken → Taken → Type 0
-StaysOver old new = All (IsOver (count_of old)) old.annotations.items → All (IsOver (count_of old)) new.annotations.items
+StaysOver old new = All (IsAnnotationOver (variable_count old)) old.annotations.items → All (IsAnnotationOver (variable_count old)) new.annotations.items
 
 -- there are as many variables, and the same annotations
-pub record IsSame (old new : Taken) : Type 0 where
-  pub count : count_of new ≡ count_of old
+pub record KeepsAnnotations (old new : Taken) : Type 0 where
+  pub count : variable_count new ≡ variable_count old
   pub annotations : new.annotations.items ≡ old.annotations.items

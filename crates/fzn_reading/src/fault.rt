@@ -1,7 +1,7 @@
 //! Why no model was read.
 
 ghost use Rattle.std.specs.Prelude.{◌≡◌};
-ghost use Rattle.fzn_reading.specs.Numbers.{number_of as number};
+ghost use Rattle.fzn_reading.specs.Numbers.{fault_number as number};
 
 use fzn_fault::Stop;
 use fzn_lexer::{Fault, FaultKind};

@@ -2,7 +2,7 @@
 
 ghost use Rattle.std.specs.Prelude.{◌≡◌, true, IfOk, IfErr, IfSome};
 ghost use Rattle.fzn_meaning.specs.WellFormed.{IsWellFormed};
-ghost use Rattle.fzn_reading.specs.Files.{model_in, model_told};
+ghost use Rattle.fzn_reading.specs.Files.{file_model, model_told};
 ghost use Rattle.fzn_reading.specs.declared.fault.ModelFault.TheVariants.{Read as Failed};
 ghost use Rattle.fzn_reading.specs.Reads.{Answers, Reads};
 
@@ -20,14 +20,17 @@ use std::alloc::Global;
 /// The tree of a file, its model, and what its names stand for.
 #[derive(Drop)]
 pub struct File {
+    /// What stands in the file.
     pub tree: Tree,
+    /// What it asks, which is well formed.
     pub model: Model,
+    /// What each declared name stands for.
     pub names: Names,
 }
 
 /// What these bytes say, or their first fault.
 fn file_of(alloc: Global, bytes: &[u8]) -> Result<File, Halt<Fault>>
-    ensures right { Reads bytes.now (model_in result) }
+    ensures right { Reads bytes.now (file_model result) }
     ensures well_formed { IfOk result (λ file. IsWellFormed file.model) }
 {
     let tree = {

@@ -15,7 +15,7 @@ mod model;
 mod taken;
 mod written;
 
-pub use annotated::{Annotated, read_annotated};
+pub use annotated::read_annotated;
 pub use fault::ModelFault;
 pub use input::read_bytes;
 pub use law::{one_model, small_tokens, small_within_limits, within_limits};

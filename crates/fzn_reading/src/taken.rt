@@ -2,8 +2,8 @@
 ghost use Rattle.std.specs.Prelude.{◌≡◌, IfOk, OnOk};
 ghost use Rattle.std.specs.List.{All};
 ghost use Rattle.fzn_domain.specs.Narrow.{IsVariable};
-ghost use Rattle.fzn_reading.specs.Over.{IsOver};
-ghost use Rattle.fzn_reading.specs.Taken.{count_of, StaysOver, IsSame};
+ghost use Rattle.fzn_reading.specs.Over.{IsAnnotationOver};
+ghost use Rattle.fzn_reading.specs.Taken.{variable_count, StaysOver, KeepsAnnotations};
 
 use crate::written::{Search, Written, name_alone, written_in};
 use fzn_domain::VarId;
@@ -26,7 +26,7 @@ pub fn annotations_of(
     count: usize,
     anns: &[Ann],
 ) -> Result<Vec<Annotation>, AllocError>
-    ensures { IfOk result (λ annotations. All (IsOver count) annotations.items) }
+    ensures { IfOk result (λ annotations. All (IsAnnotationOver count) annotations.items) }
 {
     let mut taken = Taken {
         is_named: vec![in alloc; false; count]?,
@@ -57,7 +57,7 @@ impl Taken {
         levels: u32,
     ) -> Result<(), AllocError>
         ensures over { OnOk result (StaysOver self.old self.new) }
-        ensures count { count_of self.new ≡ count_of self.old }
+        ensures count { variable_count self.new ≡ variable_count self.old }
     {
         match written_in(ann) {
             Written::Search(search) => self.take_search(alloc, names, &search),
@@ -80,7 +80,7 @@ impl Taken {
         search: &Search<'_>,
     ) -> Result<(), AllocError>
         ensures over { OnOk result (StaysOver self.old self.new) }
-        ensures count { count_of self.new ≡ count_of self.old }
+        ensures count { variable_count self.new ≡ variable_count self.old }
     {
         let vars = self.vars_of(alloc, names, search.vars)?;
         if vars.len() == 0 {
@@ -101,8 +101,8 @@ impl Taken {
         names: &Names,
         arg: &AnnArg<Ann>,
     ) -> Result<Items<VarId>, AllocError>
-        ensures vars { IfOk result (All (IsVariable (count_of self.old))) }
-        ensures same { IsSame self.old self.new }
+        ensures vars { IfOk result (All (IsVariable (variable_count self.old))) }
+        ensures same { KeepsAnnotations self.old self.new }
     {
         match arg {
             AnnArg::List(terms) => self.vars_in(alloc, names, terms.as_slice()),
@@ -119,8 +119,8 @@ impl Taken {
         names: &Names,
         terms: &[AnnTerm<Ann>],
     ) -> Result<Items<VarId>, AllocError>
-        ensures vars { IfOk result (All (IsVariable (count_of self.old))) }
-        ensures same { IsSame self.old self.new }
+        ensures vars { IfOk result (All (IsVariable (variable_count self.old))) }
+        ensures same { KeepsAnnotations self.old self.new }
     {
         let mut vars = Items::new(alloc);
         if !are_entries(names, terms) {
@@ -140,8 +140,8 @@ impl Taken {
         names: &Names,
         name: &Text,
     ) -> Result<Items<VarId>, AllocError>
-        ensures vars { IfOk result (All (IsVariable (count_of self.old))) }
-        ensures same { IsSame self.old self.new }
+        ensures vars { IfOk result (All (IsVariable (variable_count self.old))) }
+        ensures same { KeepsAnnotations self.old self.new }
     {
         let mut vars = Items::new(alloc);
         let Some(Declared::Array(_, terms)) = names.meaning(name) else {
@@ -160,7 +160,7 @@ impl Taken {
 
     /// Takes the name of an array, and answers whether it is named here first.
     fn take_name(&mut self, alloc: Global, name: &Text) -> Result<bool, AllocError>
-        ensures { IsSame self.old self.new }
+        ensures { KeepsAnnotations self.old self.new }
     {
         if self.arrays.get(name.as_slice()).is_some() {
             return Ok(false);
@@ -172,8 +172,8 @@ impl Taken {
 
     /// The variable with those before it, where it is named here first.
     fn take_var(&mut self, vars: &mut Items<VarId>, var: VarId) -> Result<(), AllocError>
-        ensures vars { OnOk result (All (IsVariable (count_of self.old)) vars.old → All (IsVariable (count_of self.old)) vars.new) }
-        ensures same { IsSame self.old self.new }
+        ensures vars { OnOk result (All (IsVariable (variable_count self.old)) vars.old → All (IsVariable (variable_count self.old)) vars.new) }
+        ensures same { KeepsAnnotations self.old self.new }
     {
         if var.0 == 0 || self.is_named.len() < var.0 || self.is_named[var.0 - 1] {
             return Ok(());

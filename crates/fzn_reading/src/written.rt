@@ -6,8 +6,11 @@ use fzn_tree::{Ann, AnnArg, AnnTerm};
 /// `int_search` or `bool_search`, with the variables as they are written.
 #[derive(Clone, Copy)]
 pub struct Search<'a> {
+    /// The first argument, which is an array of variables or the name of one.
     pub vars: &'a AnnArg<Ann>,
+    /// Which variable is decided next.
     pub var_choice: VarChoice,
+    /// Which of its values are tried first.
     pub value_choice: ValueChoice,
 }
 

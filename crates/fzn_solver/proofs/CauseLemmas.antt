@@ -1,6 +1,7 @@
 -- What each fault of a run comes of.
 use Rattle.std.proofs.Common.{◌≡◌, ℕ, Bool, true, List, [], ◌∷◌, ◌++◌, length, Option, Some, None, IfSome, refl, sym, ap, subst, ◌∙◌, Result, Ok, Err, IfErr, OnOk, OnErr, unwrap_or}
 use Rattle.fzn_meaning.specs.declared.model.Model.{Model}
+use Rattle.fzn_reading.specs.Reads.{States}
 use Rattle.fzn_cert.specs.declared.write_fault.WriteFault.{WriteFault}
 use Rattle.fzn_cert.specs.declared.write_fault.WriteFault.TheVariants as faults
 use Rattle.fzn_cert.specs.declared.step.Step.{Step}
@@ -17,7 +18,7 @@ use Rattle.fzn_reading.specs.declared.fault.ModelFault.{ModelFault}
 use Rattle.fzn_reading.specs.declared.fault.ModelFault.TheVariants as reading
 use Rattle.fzn_solver.specs.FaultsFrom.{fault_of_certificate, fault_of_engine, fault_of_model}
 use Rattle.fzn_solver.specs.Left.{HasLines, IsLater, IsLeft}
-use Rattle.fzn_solver.specs.Run.{States, IsDue}
+use Rattle.fzn_solver.specs.Run.{IsDue}
 use Rattle.fzn_solver.specs.declared.fault.RunFault.{RunFault}
 use Rattle.fzn_solver.specs.declared.fault.RunFault.TheVariants as run
 use Rattle.fzn_solver.specs.Writers.{taken, IsKept, IsLineTaken, IsLineRefused}

@@ -26,10 +26,10 @@ use Rattle.fzn_solver.specs.FaultsFrom.{fault_of_model, fault_of_engine}
 use Rattle.fzn_solver.specs.Standing.{found_by, is_alone, early, late, begun_certificate, certificate, shown_all, IsStanding}
 use Rattle.fzn_reading.specs.declared.fault.ModelFault.{ModelFault}
 use Rattle.fzn_reading.specs.declared.fault.ModelFault.TheVariants as reading
-use Rattle.fzn_reading.specs.Reads.{Answers}
+use Rattle.fzn_reading.specs.Reads.{Answers, States}
 use Rattle.fzn_solver.specs.declared.fault.RunFault.{RunFault}
 use Rattle.fzn_solver.specs.declared.fault.RunFault.TheVariants as run
-use Rattle.fzn_solver.specs.Run.{States, IsRunFault}
+use Rattle.fzn_solver.specs.Run.{IsRunFault}
 use Rattle.fzn_solver.specs.Left.{HasLines, IsStopped, IsLater, IsLeft}
 use Rattle.fzn_solver.specs.Writers.{taken, at_first, origin, IsFresh, IsKept, IsUnbegun, IsUnclosed}
 use Rattle.fzn_solver.proofs.StandingLemmas.{standing-refused}

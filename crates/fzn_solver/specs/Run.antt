@@ -1,20 +1,16 @@
 -- What a run leaves, from the bytes of a file.
-use Rattle.std.specs.Prelude.{◌≡◌, ◌⊎◌, ℕ, Bool, true, List, Option, IfSome, Ok, Err}
+use Rattle.std.specs.Prelude.{◌≡◌, ◌⊎◌, ℕ, Bool, true, List, Option, IfSome, Err}
 use Rattle.std.specs.Io.KnownBytes.{Keeps}
 use Rattle.fzn_engine.specs.declared.report.Report.{Report}
 use Rattle.fzn_lexer.specs.declared.halt.Halt.TheVariants as errors
 use Rattle.fzn_meaning.specs.declared.model.Model.{Model}
-use Rattle.fzn_reading.specs.Reads.{Reads}
+use Rattle.fzn_reading.specs.Reads.{Reads, States}
 use Rattle.fzn_solver.specs.declared.fault.RunFault.{RunFault}
 use Rattle.fzn_solver.specs.declared.fault.RunFault.TheVariants.{File, Memory, Read}
 use Rattle.fzn_solver.specs.Answer.{IsAnswer}
 use Rattle.fzn_solver.specs.Causes.{HasCause}
 use Rattle.fzn_solver.specs.Left.{IsLeft}
 use Rattle.fzn_options.specs.declared.solve.Options.{Options}
-
--- a file's bytes, where the reader tells them, state this model
-abbrev pub States : Option (List ℕ) → Model → Type 0
-States file model = IfSome file (λ bytes. Reads bytes (Ok model))
 
 -- the file states a model, and its answer and certificate stand
 pub record IsRun (file : Option (List ℕ)) (options : Options) (out_old out_new cert_old cert_new : Option (List ℕ)) (report : Report) : Type 0 where

@@ -7,7 +7,7 @@ use Rattle.fzn_meaning.specs.Solutions.{IsProper, IsExhausted}
 use Rattle.fzn_meaning.specs.WellFormed.{IsWellFormed}
 use Rattle.fzn_reading.specs.declared.fault.ModelFault.{ModelFault}
 use Rattle.fzn_reading.specs.declared.fault.ModelFault.TheVariants as reading
-use Rattle.fzn_reading.specs.Reads.{Answers}
+use Rattle.fzn_reading.specs.Reads.{Answers, States}
 use Rattle.fzn_cert.specs.declared.step.Step.{Step}
 use Rattle.fzn_cert.specs.declared.step.Version.TheVariants.{Two}
 use Rattle.fzn_cert.specs.Verdict.{accepted, VerdictOn}
@@ -15,7 +15,6 @@ use Rattle.fzn_cert.proofs.SoundLaws.{accepted-proper, closed-exhausted}
 use Rattle.fzn_checker.specs.declared.fault.CheckFault.{CheckFault}
 use Rattle.fzn_checker.specs.declared.fault.CheckFault.TheVariants.{File, Refused, NotVersionOne, Memory, Read, WriteOutput, WriteCert}
 use Rattle.fzn_checker.specs.declared.hold.Held.{Held}
-use Rattle.fzn_checker.specs.Answered.{States}
 use Rattle.fzn_checker.specs.Checked.{IsFaultWhere}
 use Rattle.fzn_checker.specs.FileFaults.{fault_from}
 use Rattle.fzn_checker.specs.Held.{certificate_of, IsCertificate, HoldsCertificate}

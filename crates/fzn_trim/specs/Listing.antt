@@ -8,11 +8,11 @@ use Rattle.fzn_lexer.specs.declared.halt.Halt.TheVariants as errors
 use Rattle.fzn_lexer.specs.declared.token.Position.{Position}
 use Rattle.fzn_lexer.specs.declared.token.Span.{Span}
 use Rattle.fzn_meaning.specs.declared.model.Model.{Model}
-use Rattle.fzn_reading.specs.Reads.{Reads}
+use Rattle.fzn_reading.specs.Reads.{Reads, States}
 use Rattle.fzn_cert.specs.Verdict.{VerdictOn, refused}
 use Rattle.fzn_checker.specs.declared.fault.CheckFault.{CheckFault}
 use Rattle.fzn_checker.specs.declared.fault.CheckFault.TheVariants.{File, Refused, NotVersionOne, Memory, Read, WriteOutput, WriteCert}
-use Rattle.fzn_checker.specs.Answered.{States, Shows}
+use Rattle.fzn_checker.specs.Answered.{Shows}
 use Rattle.fzn_sources.specs.Items.{AreSources}
 use Rattle.fzn_trim.specs.declared.listing.Listed.{Listed}
 use Rattle.fzn_trim.specs.Core.{IsCore}

@@ -4,14 +4,14 @@ use Rattle.std.specs.Io.KnownBytes.{Appends, Keeps}
 use Rattle.fzn_streams.specs.Output.{AppendsFront}
 use Rattle.fzn_lexer.specs.declared.halt.Halt.TheVariants as errors
 use Rattle.fzn_meaning.specs.declared.model.Model.{Model}
-use Rattle.fzn_reading.specs.Reads.{Reads}
+use Rattle.fzn_reading.specs.Reads.{Reads, States}
 use Rattle.fzn_cert.specs.declared.step.Step.{Step}
 use Rattle.fzn_cert.specs.declared.step.Version.{Version}
 use Rattle.fzn_cert.specs.declared.step.Version.TheVariants.{Two}
 use Rattle.fzn_cert.specs.Verdict.{Verdict, VerdictOn, accepted, refused}
 use Rattle.fzn_checker.specs.declared.fault.CheckFault.{CheckFault}
 use Rattle.fzn_checker.specs.declared.fault.CheckFault.TheVariants.{File, Refused, NotVersionOne, Memory, Read, WriteOutput, WriteCert}
-use Rattle.fzn_checker.specs.Answered.{States, Shows}
+use Rattle.fzn_checker.specs.Answered.{Shows}
 use Rattle.fzn_checker.specs.Held.{IsCertificate}
 use Rattle.fzn_trim.specs.declared.trimming.Trimmed.{Trimmed}
 
