@@ -14,7 +14,7 @@ use Rattle.fzn_parser.specs.Parse.{IsTree}
 use Rattle.fzn_reading.specs.Reads.{IsEnoughOf, Reads}
 use Rattle.fzn_tree.specs.declared.tree.Tree.{Tree}
 use Rattle.fzn_typing.specs.Faults.{faults_of, tree_names}
-use Rattle.fzn_typing.specs.Limits.{IsWithinLimits}
+use Rattle.fzn_typing.specs.Limits.{IsTreeWithin}
 use Rattle.fzn_typing.specs.Models.{stated, written}
 use Rattle.fzn_typing.specs.Typed.{IsTyped}
 use Rattle.fzn_mending.specs.declared.places.ConstantGoal.{ConstantGoal}
@@ -28,7 +28,7 @@ use Rattle.fzn_sources.proofs.FrontLemmas.{known_tokens}
 -- ---- how many constraints
 
 -- few enough to be numbered
-pub few-stated : (tree : Tree) (model : Model) → IsTyped tree (Ok model) → IsWellFormed model → IsWithinLimits tree → 1 + length tree.cons + length (flat_map (written (tree_names tree)) tree.vars) ≤ 2 ^ 32
+pub few-stated : (tree : Tree) (model : Model) → IsTyped tree (Ok model) → IsWellFormed model → IsTreeWithin tree → 1 + length tree.cons + length (flat_map (written (tree_names tree)) tree.vars) ≤ 2 ^ 32
 few-stated tree model typed wf within =
     let items = flat_map (stated (tree_names tree)) tree.cons in
     let declared = flat_map (written (tree_names tree)) tree.vars in

@@ -6,7 +6,7 @@ ghost use Rattle.fzn_names.specs.Known.{known};
 ghost use Rattle.fzn_names.specs.Limits.{IsVarWithin};
 ghost use Rattle.fzn_reading.specs.Over.{IsAnnotationOver};
 ghost use Rattle.fzn_typing.specs.Faults.{tree_names};
-ghost use Rattle.fzn_typing.specs.Limits.{IsWithinLimits};
+ghost use Rattle.fzn_typing.specs.Limits.{IsTreeWithin};
 ghost use Rattle.fzn_typing.specs.Models.{written};
 ghost use Rattle.fzn_typing.specs.Typed.{IsTyped};
 ghost use Rattle.fzn_sources.specs.Items.{goal_items};
@@ -151,7 +151,7 @@ pub fn listing_of(
     constant: Option<ConstantGoal>,
 ) -> Result<Listing, AllocError>
     requires names { known named.now.names ≡ tree_names tree.now }
-    requires within { IsWithinLimits tree.now }
+    requires within { IsTreeWithin tree.now }
     requires typed { IsTyped tree.now (Ok named.now.model) }
     requires well_formed { IsWellFormed named.now.model }
     ensures { IfOk result (λ listing. IsList bytes.now tree.now items.now named.now.model places.now constant listing.text.items listing.counts) }

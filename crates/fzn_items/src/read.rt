@@ -8,7 +8,7 @@ ghost use Rattle.fzn_parser.specs.Parse.{IsTree};
 ghost use Rattle.fzn_reading.specs.declared.fault.ModelFault.TheVariants.{Read as Failed};
 ghost use Rattle.fzn_reading.specs.Reads.{Answers};
 ghost use Rattle.fzn_typing.specs.Faults.{faults_of, tree_names};
-ghost use Rattle.fzn_typing.specs.Limits.{IsWithinLimits};
+ghost use Rattle.fzn_typing.specs.Limits.{IsTreeWithin};
 ghost use Rattle.fzn_typing.specs.Typed.{IsTyped};
 ghost use Rattle.fzn_sources.specs.Items.{item_spans};
 ghost use Rattle.fzn_items.specs.Listed.{IsFaultOrMemory, IsListing, IsListingFault, Itemizes};
@@ -73,7 +73,7 @@ fn own_in(
     requires parsed { IsTree tokens.now tree.now }
     requires items { items.now ≡ item_spans tokens.now }
     requires names { known named.now.names ≡ tree_names tree.now }
-    requires within { IsWithinLimits tree.now }
+    requires within { IsTreeWithin tree.now }
     requires typed { IsTyped tree.now (Ok named.now.model) }
     requires well_formed { IsWellFormed named.now.model }
     ensures { IfOk result (λ listing. IsListing bytes.now listing.text.items listing.counts) }
@@ -127,7 +127,7 @@ fn tree_or(alloc: Global, tokens: &TokenList<'_>, fault: Fault) -> Result<Tree, 
 
 /// The model of the tree with its names, or else this fault.
 fn named_or(alloc: Global, tree: &Tree, fault: Fault) -> Result<Named, Halt<Fault>>
-    requires { IsWithinLimits tree.now }
+    requires { IsTreeWithin tree.now }
     ensures typed { IfOk result (λ named. IsTyped tree.now (Ok named.model)) }
     ensures names { IfOk result (λ named. known named.names ≡ tree_names tree.now) }
     ensures well_formed { IfOk result (λ named. IsWellFormed named.model) }

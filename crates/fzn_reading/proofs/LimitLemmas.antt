@@ -34,7 +34,7 @@ use Rattle.fzn_parser.specs.Parse.{IsTree}
 use Rattle.fzn_parser.specs.Piece.{Piece, AreSpelled, AreWithin, sign, each, each_by, one_more, marked}
 use Rattle.fzn_names.specs.Limits.{IsRangeWithin, IsLiteralWithin, AreValuesWithin, IsBaseWithin, IsBasicWithin, IsValueWithin, AreEntriesWithin, IsParamValueWithin, IsParamWithin, IsVarWithin}
 use Rattle.fzn_names.specs.Variables.{vars_of}
-use Rattle.fzn_typing.specs.Limits.{IsArgWithin, IsConWithin, IsWithinLimits}
+use Rattle.fzn_typing.specs.Limits.{IsArgWithin, IsConWithin, IsTreeWithin}
 
 -- ---- pieces
 
@@ -205,7 +205,7 @@ con_within : (con : Con) → AreFine (G.con con) → IsConWithin con
 con_within con f = listed_all IsArgWithin (λ n. G.arg) s.CloseParen (λ n arg g. arg_within arg g) con.args (fine_split (G.listed (λ n. G.arg) s.CloseParen con.args) _ f.1.1.1).0
 
 -- the tree of tokens whose numbers are small
-pub small_within : (tokens : List Token) (tree : Tree) → All (λ (t : Token). IsSmall t.kind) tokens → IsTree tokens tree → IsWithinLimits tree
+pub small_within : (tokens : List Token) (tree : Tree) → All (λ (t : Token). IsSmall t.kind) tokens → IsTree tokens tree → IsTreeWithin tree
 small_within tokens tree small parsed =
     let fine = fine_small tokens (G.tree tree) small parsed.spelled parsed.within in
     let items = (fine_split (G.items tree) (sign s.End) fine).0 in
@@ -237,5 +237,5 @@ lexed_small bytes tokens lexed =
     subst (λ (z : List Token). All (λ (t : Token). IsSmall t.kind) z) (sym lexed.parts) (stand_small bytes 0 lexed.upto lexed.front lexed.last lexed.stand (subst IsSmall (sym lexed.is_end.kind) tt))
 
 -- the tree of the tokens of a file
-pub tree_within : (bytes : List ℕ) (tokens : List Token) (tree : Tree) → Lexes bytes (Ok tokens) → IsTree tokens tree → IsWithinLimits tree
+pub tree_within : (bytes : List ℕ) (tokens : List Token) (tree : Tree) → Lexes bytes (Ok tokens) → IsTree tokens tree → IsTreeWithin tree
 tree_within bytes tokens tree lexed parsed = small_within tokens tree (lexed_small bytes tokens lexed) parsed

@@ -10,7 +10,7 @@ ghost use Rattle.fzn_lexer.specs.Tokens.{Lexes};
 ghost use Rattle.fzn_meaning.specs.declared.model.Model.{Model};
 ghost use Rattle.fzn_tree.specs.declared.tree.Tree.{Tree};
 ghost use Rattle.fzn_parser.specs.Parse.{IsTree};
-ghost use Rattle.fzn_typing.specs.Limits.{IsWithinLimits};
+ghost use Rattle.fzn_typing.specs.Limits.{IsTreeWithin};
 ghost use Rattle.fzn_reading.specs.Reads.{Reads};
 
 /// The bytes of a file have one model or one fault: two answers for them are the same, unless memory ran out.
@@ -22,7 +22,7 @@ pub fn one_model()
 /// What the tokens of a file spell keeps the limits that looking at types requires.
 pub fn within_limits()
     ensures { (bytes : List ℕ) (tokens : List Token) (tree : Tree) → Lexes bytes (Ok tokens) → IsTree tokens tree
-        → IsWithinLimits tree }
+        → IsTreeWithin tree }
 {}
 
 /// Each number among the tokens of a file is small.
@@ -32,5 +32,5 @@ pub fn small_tokens()
 
 /// What tokens spell whose numbers are small keeps the limits that looking at types requires.
 pub fn small_within_limits()
-    ensures { (tokens : List Token) (tree : Tree) → All (λ (token : Token). IsSmall token.kind) tokens → IsTree tokens tree → IsWithinLimits tree }
+    ensures { (tokens : List Token) (tree : Tree) → All (λ (token : Token). IsSmall token.kind) tokens → IsTree tokens tree → IsTreeWithin tree }
 {}

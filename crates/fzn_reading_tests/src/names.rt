@@ -1,7 +1,7 @@
 // The names of a file, what is printed of its solutions, and its model, each from the tree.
 ghost use Rattle.std.specs.Prelude.{IfOk, IsTrue};
 ghost use Rattle.fzn_meaning.specs.WellFormed.{IsOutputItem};
-ghost use Rattle.fzn_typing.specs.Limits.{IsWithinLimits};
+ghost use Rattle.fzn_typing.specs.Limits.{IsTreeWithin};
 
 use fzn_domain::VarId;
 use fzn_lexer::{Fault, Halt, tokens};
@@ -19,7 +19,7 @@ const FILE: &str =
     "int: k = -4; var 2..5: x = k; var bool: c :: output_var; array [1..2] of var int: q = [x, k]; constraint bool_not(c, c); solve minimize x;";
 
 pub(crate) fn tree_of(alloc: Global, file: &str) -> Result<Tree, Fail>
-    ensures { IfOk result IsWithinLimits }
+    ensures { IfOk result IsTreeWithin }
 {
     within_limits();
     let list = tokens(alloc, file.as_bytes())?;
@@ -69,7 +69,7 @@ fn is_printed(item: &OutputItem) -> bool
 }
 
 fn are_shown(alloc: Global, names: &Names, tree: &Tree) -> Result<bool, AllocError>
-    requires { IsWithinLimits tree.now }
+    requires { IsTreeWithin tree.now }
 {
     let items = shown_of(alloc, names, tree.vars.as_slice())?;
     are_outputs(alloc, items.as_slice())
@@ -87,7 +87,7 @@ fn are_outputs(alloc: Global, shown: &[OutputItem]) -> Result<bool, AllocError> 
 
 /// Whether the variables are x from 2 to 5 and c.
 fn are_vars(alloc: Global, tree: &Tree) -> Result<bool, AllocError>
-    requires { IsWithinLimits tree.now }
+    requires { IsTreeWithin tree.now }
 {
     let found = vars_of(alloc, tree.vars.as_slice())?;
     let [x, c] = found.as_slice() else {
@@ -104,7 +104,7 @@ fn are_vars(alloc: Global, tree: &Tree) -> Result<bool, AllocError>
 }
 
 fn are_declared(alloc: Global, tree: &Tree) -> Result<bool, Halt<Fault>>
-    requires { IsWithinLimits tree.now }
+    requires { IsTreeWithin tree.now }
 {
     let names = names_of(alloc, tree.params.as_slice(), tree.vars.as_slice(), 1)?;
     Ok(are_names(&names, tree) && are_shown(alloc, &names, tree)?)
@@ -112,7 +112,7 @@ fn are_declared(alloc: Global, tree: &Tree) -> Result<bool, Halt<Fault>>
 
 /// Whether the model has the variables, the constraints of the items and of the value, and the goal.
 fn is_model(alloc: Global, tree: &Tree) -> Result<bool, Halt<Fault>>
-    requires { IsWithinLimits tree.now }
+    requires { IsTreeWithin tree.now }
 {
     let model = type_check(alloc, tree)?.model;
     Ok(

@@ -21,7 +21,7 @@ use Rattle.fzn_tree.specs.declared.tree.Arg.{Arg}
 use Rattle.fzn_tree.specs.declared.tree.Arg.TheVariants as args
 use Rattle.fzn_registry.specs.declared.signature.Argument.{Argument}
 use Rattle.fzn_registry.specs.declared.signature.Argument.TheVariants.{Boolean, BooleanList}
-use Rattle.fzn_typing.specs.Arguments.{wrong_values, wrong_arguments, term_given, terms_given, set_given}
+use Rattle.fzn_typing.specs.Arguments.{wrong_parts, wrong_arguments, term_given, terms_given, set_given}
 use Rattle.fzn_typing.specs.Limits.{IsArgWithin}
 
 -- ---- numbers
@@ -62,15 +62,15 @@ given-within [] i within = tt
 given-within (arg ∷ all) zero within = All-head IsArgWithin arg all within
 given-within (arg ∷ all) (suc i) within = given-within all i (All-tail IsArgWithin arg all within)
 
-pub right_at : (names : NameList) (wanted : List Argument) (all : List Arg) (i : ℕ) (w : Argument) (arg : Arg) → wrong_arguments names wanted all ≡ [] → slice_get wanted i ≡ Some w → slice_get all i ≡ Some arg → wrong_values names w arg ≡ []
+pub right_at : (names : NameList) (wanted : List Argument) (all : List Arg) (i : ℕ) (w : Argument) (arg : Arg) → wrong_arguments names wanted all ≡ [] → slice_get wanted i ≡ Some w → slice_get all i ≡ Some arg → wrong_parts names w arg ≡ []
 right_at names [] all i w arg e there here = absurd cc
 right_at names (x ∷ wanted) [] i w arg e there here = absurd cc
 right_at names (x ∷ wanted) (y ∷ all) zero w arg e there here =
     let same : x ≡ w = cc in
     let given : y ≡ arg = cc in
-    rw (← same, ← given) (left_empty (wrong_values names x y) (wrong_arguments names wanted all) e)
+    rw (← same, ← given) (left_empty (wrong_parts names x y) (wrong_arguments names wanted all) e)
 right_at names (x ∷ wanted) (y ∷ all) (suc i) w arg e there here =
-    right_at names wanted all i w arg (right_empty (wrong_values names x y) (wrong_arguments names wanted all) e) there here
+    right_at names wanted all i w arg (right_empty (wrong_parts names x y) (wrong_arguments names wanted all) e) there here
 
 module _ (sets : List IntSet) (names : NameList) (known : AreMeanings sets names) where
   array-within : (o : Option Declared) → ((value : Declared) → o ≡ Some value → IsMeaning sets value) → AreTerms (length sets) (terms_in o)
@@ -100,11 +100,11 @@ module _ (sets : List IntSet) (names : NameList) (known : AreMeanings sets names
   set-within (Some (args.Basic b)) within = set-limited (value_of names b) (λ value e. value-meaning sets names known b value within e)
   set-within (Some (args.Array array)) within = none_limited
 
-  pub boolean-given : (arg : Arg) → IsArgWithin arg → wrong_values names Boolean arg ≡ [] → IsBoolean sets (term_given names (Some arg))
+  pub boolean-given : (arg : Arg) → IsArgWithin arg → wrong_parts names Boolean arg ≡ [] → IsBoolean sets (term_given names (Some arg))
   boolean-given (args.Basic b) within e = boolean_term sets names known b within (when_not (is_wanted Boolean (value_of names b)) (position_of b) e)
   boolean-given (args.Array array) within e = absurd cc
 
-  pub booleans-given : (arg : Arg) → IsArgWithin arg → wrong_values names BooleanList arg ≡ [] → All (IsBoolean sets) (terms_given names (Some arg))
+  pub booleans-given : (arg : Arg) → IsArgWithin arg → wrong_parts names BooleanList arg ≡ [] → All (IsBoolean sets) (terms_given names (Some arg))
   booleans-given (args.Basic b) within e =
       array-boolean (value_of names b) (λ value f. value-meaning sets names known b value within f) (when_not (is_wanted BooleanList (value_of names b)) (position_of b) e)
   booleans-given (args.Array array) within e = boolean_terms sets names known array.entries within.0 e

@@ -29,7 +29,7 @@ use Rattle.fzn_registry.specs.declared.name.Name.TheVariants as n
 use Rattle.fzn_registry.specs.declared.signature.Argument.{Argument}
 use Rattle.fzn_registry.specs.declared.signature.Argument.TheVariants.{Boolean, BooleanList}
 use Rattle.fzn_registry.specs.Registry.{row, arguments_of, lengths_of, non_negative_of}
-use Rattle.fzn_typing.specs.Arguments.{wrong_arguments, term_given, terms_given, set_at, number_at, numbers_at, length_at, has_lengths, has_negative}
+use Rattle.fzn_typing.specs.Arguments.{wrong_arguments, term_given, terms_given, set_at, number_given, numbers_at, length_at, has_lengths, has_negative}
 use Rattle.fzn_typing.specs.Constraints.{term, list, sum, by, constraint_for}
 use Rattle.fzn_typing.specs.Limits.{IsArgWithin}
 use Rattle.fzn_typing.proofs.ArgumentLemmas.{amount, number-within, numbers-within, weighted-within, weighted-length, IsGivenWithin, given-within, right_at, term-within, list-within, set-within, boolean-given, booleans-given}
@@ -47,8 +47,8 @@ module _ (sets : List IntSet) (names : NameList) (known : AreMeanings sets names
   s : (i : ℕ) → IsLimited (set_at names given i)
   s i = set-within sets names known (slice_get given i) (given-within given i within)
 
-  number : (i : ℕ) → unsigned_abs (number_at names given i) ≤ 1000000000
-  number i = amount (number_at names given i) (number-within (length sets) (term names given i) (t i))
+  number : (i : ℕ) → unsigned_abs (number_given names given i) ≤ 1000000000
+  number i = amount (number_given names given i) (number-within (length sets) (term names given i) (t i))
 
   products : IsSum (length sets) (sum names given)
   products =
@@ -94,11 +94,11 @@ module _ (sets : List IntSet) (names : NameList) (known : AreMeanings sets names
   unfolding IsWellFormed booleans_of
   compared_by relation h = ((t 0, t 1, t 2), one (term names given 2) h)
 
-  summed : (comparison : Comparison) → Made (Linear (sum names given) comparison (number_at names given 2) None)
+  summed : (comparison : Comparison) → Made (Linear (sum names given) comparison (number_given names given 2) None)
   unfolding IsWellFormed booleans_of
   summed comparison = ((products, number 2, tt), none)
 
-  summed_by : (comparison : Comparison) → IsBoolean sets (term names given 3) → Made (Linear (sum names given) comparison (number_at names given 2) (by names given 3))
+  summed_by : (comparison : Comparison) → IsBoolean sets (term names given 3) → Made (Linear (sum names given) comparison (number_given names given 2) (by names given 3))
   unfolding IsWellFormed booleans_of
   summed_by comparison h = ((products, number 2, t 3), one (term names given 3) h)
 

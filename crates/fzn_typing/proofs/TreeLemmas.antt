@@ -28,7 +28,7 @@ use Rattle.fzn_tree.specs.declared.tree.Param.{Param}
 use Rattle.fzn_tree.specs.declared.tree.Tree.{Tree}
 use Rattle.fzn_tree.specs.declared.tree.Var.{Var}
 use Rattle.fzn_typing.specs.Faults.{constraint_faults, goal_faults, tree_names, faults_of}
-use Rattle.fzn_typing.specs.Limits.{IsWithinLimits}
+use Rattle.fzn_typing.specs.Limits.{IsTreeWithin}
 use Rattle.fzn_typing.specs.Models.{IsModelOf, stated, written, numbered, goal_of}
 use Rattle.fzn_typing.specs.Typed.{IsTyped, model_in}
 use Rattle.fzn_typing.specs.declared.tree.Named.{Named}
@@ -77,17 +77,17 @@ module _ (tree : Tree) where
   no_fault none right aimed = rw (none, right, aimed) refl
 
   -- the names of a tree without faults in its declarations
-  pub tree-meanings : IsWithinLimits tree → in_names ≡ [] → AreMeanings (declared_sets (vars_of tree.vars)) (tree_names tree)
+  pub tree-meanings : IsTreeWithin tree → in_names ≡ [] → AreMeanings (declared_sets (vars_of tree.vars)) (tree_names tree)
   tree-meanings within none = names-meanings tree.params tree.vars (length tree.cons) within.declarations none
 
-  pub tree_shown : IsWithinLimits tree → in_names ≡ [] → All (IsOutputItem (length (vars_of tree.vars))) (shown_from (tree_names tree) 1 tree.vars)
+  pub tree_shown : IsTreeWithin tree → in_names ≡ [] → All (IsOutputItem (length (vars_of tree.vars))) (shown_from (tree_names tree) 1 tree.vars)
   tree_shown within none =
       let sets = declared_sets (vars_of tree.vars) in
       let many = length-declared_sets tree.vars in
       subst (λ n. All (IsOutputItem n) (shown_from (tree_names tree) 1 tree.vars)) many
       (shown-within sets (tree_names tree) (tree-meanings within none) tree.vars 1 within.declarations.vars (omega arith) (omega (arith, many)))
 
-  tree_few : IsWithinLimits tree → in_names ≡ [] → length (numbered tree) ≤ longest
+  tree_few : IsTreeWithin tree → in_names ≡ [] → length (numbered tree) ≤ longest
   tree_few within none =
       let items = length-stated (tree_names tree) tree.cons in
       let all = few_written (tree_names tree) tree.vars (param_names tree.params) 1 (length tree.cons) within.few_cons
@@ -97,7 +97,7 @@ module _ (tree : Tree) where
   abbrev IsGoodHere : Constraint → Type 0
   IsGoodHere made = IsWellFormedConstraint (length (declared_sets (vars_of tree.vars))) made × HasBooleanSets (declared_sets (vars_of tree.vars)) made
 
-  tree_good : IsWithinLimits tree → in_names ≡ [] → in_cons ≡ [] → All IsGoodHere (numbered tree)
+  tree_good : IsTreeWithin tree → in_names ≡ [] → in_cons ≡ [] → All IsGoodHere (numbered tree)
   tree_good within none right =
       let sets = declared_sets (vars_of tree.vars) in
       let known = tree-meanings within none in
@@ -105,7 +105,7 @@ module _ (tree : Tree) where
       (all_stated sets (tree_names tree) known tree.cons within.cons right)
       (all_written sets (tree_names tree) known tree.vars within.declarations.vars)
 
-  pub model_formed : (model : Model) → IsWithinLimits tree → in_names ≡ [] → in_cons ≡ [] → IsModelOf tree model → All (IsVariable (length model.vars)) model.outputs
+  pub model_formed : (model : Model) → IsTreeWithin tree → in_names ≡ [] → in_cons ≡ [] → IsModelOf tree model → All (IsVariable (length model.vars)) model.outputs
       → IsWellFormed model
   model_formed model within none right is inside =
       let sets = declared_sets (vars_of tree.vars) in
@@ -142,7 +142,7 @@ module _ (tree : Tree) (params : List Param) (declared : List Var) (count : ℕ)
     pub none_in_names : in_names tree ≡ []
     none_in_names = sym names_moved ∙ faultless
 
-    pub shown_inside : IsWithinLimits tree → (n : ℕ) (shown : List OutputItem) → n ≡ length (vars_of declared) → shown ≡ shown_from names 1 declared → All (IsOutputItem n) shown
+    pub shown_inside : IsTreeWithin tree → (n : ℕ) (shown : List OutputItem) → n ≡ length (vars_of declared) → shown ≡ shown_from names 1 declared → All (IsOutputItem n) shown
     shown_inside within n shown n_is shown_is = rw (n_is, shown_is, vars_are, names_right) (tree_shown tree within none_in_names)
 
     cons_moved : flat_map (constraint_faults names) cons ≡ in_cons tree

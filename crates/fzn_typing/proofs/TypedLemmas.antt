@@ -17,7 +17,7 @@ use Rattle.fzn_tree.specs.declared.tree.Arg.TheVariants as args
 use Rattle.fzn_tree.specs.declared.tree.Array.{Array}
 use Rattle.fzn_tree.specs.declared.tree.Basic.{Basic}
 use Rattle.fzn_tree.specs.declared.tree.Con.{Con}
-use Rattle.fzn_typing.specs.Arguments.{set_entries, unknown_names, entry_of, wrong_entries, wrong_values, wrong_arguments, has_types}
+use Rattle.fzn_typing.specs.Arguments.{set_entries, unknown_names, entry_of, wrong_entries, wrong_parts, wrong_arguments, has_types}
 use Rattle.fzn_typing.specs.Faults.{value_faults, constraint_faults}
 
 declared : (wanted : Argument) (o : Option Declared) → is_wanted wanted o ≡ true → is_none o ≡ false
@@ -48,7 +48,7 @@ module _ (names : NameList) where
   array_right wanted None array is right = absurd cc
   array_right wanted (Some entry) array is right = entries_right wanted entry array.entries is right
 
-  argument_right : (wanted : Argument) (arg : Arg) → wrong_values names wanted arg ≡ [] → (set_entries names arg ≡ []) × (unknown_names names arg ≡ [])
+  argument_right : (wanted : Argument) (arg : Arg) → wrong_parts names wanted arg ≡ [] → (set_entries names arg ≡ []) × (unknown_names names arg ≡ [])
   argument_right wanted (args.Basic b) right = (refl, rw (declared wanted (value_of names b) (when_not (is_wanted wanted (value_of names b)) (position_of b) right)) refl)
   argument_right wanted (args.Array array) right = array_right wanted (entry_of wanted) array refl right
 
@@ -57,8 +57,8 @@ module _ (names : NameList) where
   arguments_right wanted [] count right = (refl, refl)
   arguments_right [] (arg ∷ all) count right = absurd (omega (arith, count))
   arguments_right (w ∷ wanted) (arg ∷ all) count right =
-      let here = argument_right w arg (left_empty (wrong_values names w arg) (wrong_arguments names wanted all) right) in
-      let more = arguments_right wanted all (omega (arith, count)) (right_empty (wrong_values names w arg) (wrong_arguments names wanted all) right) in
+      let here = argument_right w arg (left_empty (wrong_parts names w arg) (wrong_arguments names wanted all) right) in
+      let more = arguments_right wanted all (omega (arith, count)) (right_empty (wrong_parts names w arg) (wrong_arguments names wanted all) right) in
       (rw (here.0, more.0) refl, rw (here.1, more.1) refl)
 
   none : {A : Type 0} (o : Option A) → is_none o ≡ true → o ≡ None

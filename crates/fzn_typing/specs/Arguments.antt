@@ -43,12 +43,12 @@ abbrev pub wrong_entries : NameList → Option Argument → Array → List Posit
 wrong_entries names None array = array.position ∷ []
 wrong_entries names (Some wanted) array = flat_map (wrong_in names wanted) array.entries
 
-abbrev pub wrong_values : NameList → Argument → Arg → List Position
-wrong_values names wanted (args.Basic basic) = wrong_in names wanted basic
-wrong_values names wanted (args.Array array) = wrong_entries names (entry_of wanted) array
+abbrev pub wrong_parts : NameList → Argument → Arg → List Position
+wrong_parts names wanted (args.Basic basic) = wrong_in names wanted basic
+wrong_parts names wanted (args.Array array) = wrong_entries names (entry_of wanted) array
 
 abbrev pub wrong_arguments : NameList → List Argument → List Arg → List Position
-wrong_arguments names (wanted ∷ more) (arg ∷ others) = wrong_values names wanted arg ++ wrong_arguments names more others
+wrong_arguments names (wanted ∷ more) (arg ∷ others) = wrong_parts names wanted arg ++ wrong_arguments names more others
 wrong_arguments names _ _ = []
 
 -- as many arguments as are wanted, and none of another type
@@ -71,8 +71,8 @@ set_given names (Some (args.Basic basic)) = set_in (value_of names basic)
 set_given names _ = no_values
 
 -- the argument at this place
-abbrev pub term_at : NameList → List Arg → ℕ → Term
-term_at names all i = term_given names (slice_get all i)
+abbrev pub argument_term : NameList → List Arg → ℕ → Term
+argument_term names all i = term_given names (slice_get all i)
 
 abbrev pub terms_at : NameList → List Arg → ℕ → List Term
 terms_at names all i = terms_given names (slice_get all i)
@@ -80,8 +80,8 @@ terms_at names all i = terms_given names (slice_get all i)
 abbrev pub set_at : NameList → List Arg → ℕ → IntSet
 set_at names all i = set_given names (slice_get all i)
 
-abbrev pub number_at : NameList → List Arg → ℕ → ℤ
-number_at names all i = number_in (term_at names all i)
+abbrev pub number_given : NameList → List Arg → ℕ → ℤ
+number_given names all i = number_in (argument_term names all i)
 
 abbrev pub numbers_at : NameList → List Arg → ℕ → List ℤ
 numbers_at names all i = numbers_in (terms_at names all i)
@@ -100,4 +100,4 @@ has_lengths names (Tasks a b c) all = nat_eq (length_at names all a) (length_at 
 
 -- a constant below 0 is at this place, alone or among entries
 abbrev pub has_negative : NameList → List Arg → ℕ → Bool
-has_negative names all i = is_negative (term_at names all i) || list_any is_negative (terms_at names all i)
+has_negative names all i = is_negative (argument_term names all i) || list_any is_negative (terms_at names all i)

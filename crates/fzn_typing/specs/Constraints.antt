@@ -14,11 +14,11 @@ use Rattle.fzn_tree.specs.declared.tree.Arg.{Arg}
 use Rattle.fzn_registry.specs.declared.name.Name.{Name}
 use Rattle.fzn_registry.specs.declared.name.Name.TheVariants as n
 use Rattle.fzn_meaning.specs.Term.{weighted}
-use Rattle.fzn_typing.specs.Arguments.{term_at, terms_at, set_at, number_at, numbers_at}
+use Rattle.fzn_typing.specs.Arguments.{argument_term, terms_at, set_at, number_given, numbers_at}
 
 module _ (names : NameList) (given : List Arg) where
   abbrev pub term : ℕ → Term
-  term i = term_at names given i
+  term i = argument_term names given i
 
   abbrev pub list : ℕ → List Term
   list i = terms_at names given i
@@ -36,9 +36,9 @@ module _ (names : NameList) (given : List Arg) where
   constraint_for n.IntNe = Compare r.NotEqual (term 0) (term 1) None
   constraint_for n.IntLe = Compare r.AtMost (term 0) (term 1) None
   constraint_for n.IntLt = Compare r.Below (term 0) (term 1) None
-  constraint_for n.IntLinEq = Linear sum c.Equal (number_at names given 2) None
-  constraint_for n.IntLinLe = Linear sum c.AtMost (number_at names given 2) None
-  constraint_for n.IntLinNe = Linear sum c.NotEqual (number_at names given 2) None
+  constraint_for n.IntLinEq = Linear sum c.Equal (number_given names given 2) None
+  constraint_for n.IntLinLe = Linear sum c.AtMost (number_given names given 2) None
+  constraint_for n.IntLinNe = Linear sum c.NotEqual (number_given names given 2) None
   constraint_for n.IntPlus = Arithmetic Plus (term 0) (term 1) (term 2)
   constraint_for n.IntTimes = Arithmetic Times (term 0) (term 1) (term 2)
   constraint_for n.IntDiv = Arithmetic Quotient (term 0) (term 1) (term 2)
@@ -66,7 +66,7 @@ module _ (names : NameList) (given : List Arg) where
   constraint_for n.BoolClause = BoolClause (list 0) (list 1)
   constraint_for n.Bool2Int = BoolToInt (term 0) (term 1)
   constraint_for n.BoolLinEq = BoolLinEq sum (term 2)
-  constraint_for n.BoolLinLe = Linear sum c.AtMost (number_at names given 2) None
+  constraint_for n.BoolLinLe = Linear sum c.AtMost (number_given names given 2) None
   constraint_for n.FznAllDifferentInt = AllDifferent (list 0)
   constraint_for n.FznTableInt = Table (list 0) (numbers_at names given 1)
   constraint_for n.FznCumulative = Cumulative (list 0) (list 1) (list 2) (term 3)
@@ -76,9 +76,9 @@ module _ (names : NameList) (given : List Arg) where
   constraint_for n.IntNeReif = Compare r.NotEqual (term 0) (term 1) (by 2)
   constraint_for n.IntLeReif = Compare r.AtMost (term 0) (term 1) (by 2)
   constraint_for n.IntLtReif = Compare r.Below (term 0) (term 1) (by 2)
-  constraint_for n.IntLinEqReif = Linear sum c.Equal (number_at names given 2) (by 3)
-  constraint_for n.IntLinLeReif = Linear sum c.AtMost (number_at names given 2) (by 3)
-  constraint_for n.IntLinNeReif = Linear sum c.NotEqual (number_at names given 2) (by 3)
+  constraint_for n.IntLinEqReif = Linear sum c.Equal (number_given names given 2) (by 3)
+  constraint_for n.IntLinLeReif = Linear sum c.AtMost (number_given names given 2) (by 3)
+  constraint_for n.IntLinNeReif = Linear sum c.NotEqual (number_given names given 2) (by 3)
   constraint_for n.SetInReif = SetIn (term 0) (set_at names given 1) (by 2)
   constraint_for n.BoolEqReif = Compare r.Equal (term 0) (term 1) (by 2)
   constraint_for n.BoolLeReif = Compare r.AtMost (term 0) (term 1) (by 2)

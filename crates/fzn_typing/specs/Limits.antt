@@ -15,7 +15,7 @@ IsArgWithin (args.Array array) = AreEntriesWithin array.entries
 abbrev pub IsConWithin : Con → Type 0
 IsConWithin con = All IsArgWithin con.args
 
-pub record IsWithinLimits (tree : Tree) : Type 0 where
+pub record IsTreeWithin (tree : Tree) : Type 0 where
   pub declarations : AreDeclarationsWithin tree.params tree.vars
   pub cons : All IsConWithin tree.cons
   pub few_cons : length tree.cons ≤ longest

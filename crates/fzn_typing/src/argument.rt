@@ -2,7 +2,7 @@
 ghost use Rattle.std.specs.Prelude.{◌≡◌, flat_map};
 ghost use Rattle.fzn_names.specs.Known.{known};
 ghost use Rattle.fzn_names.specs.Positions.{first};
-ghost use Rattle.fzn_typing.specs.Arguments.{set_entries, unknown_names, entry_of, wrong_entries, wrong_values, wrong_arguments};
+ghost use Rattle.fzn_typing.specs.Arguments.{set_entries, unknown_names, entry_of, wrong_entries, wrong_parts, wrong_arguments};
 
 use fzn_lexer::Position;
 use fzn_names::{Names, first_set_in, first_unknown_in, first_wrong_in, unknown_in, wrong_in};
@@ -77,7 +77,7 @@ fn wrong_entry(names: &Names, wanted: Option<Argument>, array: &Array) -> Option
 }
 
 fn wrong_value(names: &Names, wanted: Argument, arg: &Arg) -> Option<Position>
-    ensures { result ≡ first (wrong_values (known names.now) wanted arg.now) }
+    ensures { result ≡ first (wrong_parts (known names.now) wanted arg.now) }
 {
     match arg {
         Arg::Basic(basic) => wrong_in(names, wanted, basic),

@@ -2,7 +2,7 @@
 ghost use Rattle.std.specs.Prelude.{◌≡◌, Some, IfOk};
 ghost use Rattle.std.specs.List.{All, list_any};
 ghost use Rattle.fzn_names.specs.Known.{known};
-ghost use Rattle.fzn_typing.specs.Arguments.{term_at, terms_at, set_at, number_at, numbers_at, length_at, has_lengths, has_negative};
+ghost use Rattle.fzn_typing.specs.Arguments.{argument_term, terms_at, set_at, number_given, numbers_at, length_at, has_lengths, has_negative};
 ghost use Rattle.fzn_typing.specs.Limits.{IsArgWithin};
 ghost use Rattle.fzn_meaning.specs.Term.{weighted};
 ghost use Rattle.fzn_names.specs.Values.{terms_of};
@@ -20,7 +20,7 @@ use std::alloc::{AllocError, Global};
 
 /// The term that is the argument at this place.
 pub fn term_at(names: &Names, args: &[Arg], i: usize) -> Term
-    ensures { result ≡ term_at (known names.now) args.now i }
+    ensures { result ≡ argument_term (known names.now) args.now i }
 {
     match args.get(i) {
         Some(Arg::Basic(basic)) => term_of(names, basic),
@@ -62,7 +62,7 @@ pub fn set_at(alloc: Global, names: &Names, args: &[Arg], i: usize) -> Result<Do
 
 /// The number that is the argument at this place.
 pub fn number_at(names: &Names, args: &[Arg], i: usize) -> i64
-    ensures { result ≡ number_at (known names.now) args.now i }
+    ensures { result ≡ number_given (known names.now) args.now i }
 {
     term_at(names, args, i).number()
 }

@@ -3,7 +3,7 @@ ghost use Rattle.std.specs.Prelude.{◌≡◌, ◌∷◌, [], IfOk};
 ghost use Rattle.std.specs.List.{All};
 ghost use Rattle.fzn_meaning.specs.declared.constraint.Constraint.TheVariants.{Compare, Linear, BoolLinEq, Arithmetic, Extremum, Element, SetIn, Gated, Table, Cumulative};
 ghost use Rattle.fzn_names.specs.Known.{known};
-ghost use Rattle.fzn_typing.specs.Arguments.{term_at, terms_at, set_at, number_at, numbers_at};
+ghost use Rattle.fzn_typing.specs.Arguments.{argument_term, terms_at, set_at, number_given, numbers_at};
 ghost use Rattle.fzn_typing.specs.Constraints.{sum, constraint_for};
 ghost use Rattle.fzn_typing.specs.Limits.{IsArgWithin};
 
@@ -16,7 +16,7 @@ use fzn_tree::Arg;
 use std::alloc::{AllocError, Global};
 
 fn compare(names: &Names, args: &[Arg], relation: Relation, switch: Option<Term>) -> Constraint
-    ensures { result ≡ Compare relation (term_at (known names.now) args.now 0) (term_at (known names.now) args.now 1) switch }
+    ensures { result ≡ Compare relation (argument_term (known names.now) args.now 0) (argument_term (known names.now) args.now 1) switch }
 {
     Constraint::Compare {
         relation,
@@ -33,7 +33,7 @@ fn linear(
     comparison: Comparison,
     switch: Option<Term>,
 ) -> Result<Constraint, AllocError>
-    ensures { IfOk result (λ found. found ≡ Linear (sum (known names.now) args.now) comparison (number_at (known names.now) args.now 2) switch) }
+    ensures { IfOk result (λ found. found ≡ Linear (sum (known names.now) args.now) comparison (number_given (known names.now) args.now 2) switch) }
 {
     Ok(Constraint::Linear {
         sum: sum_of(alloc, names, args)?,
@@ -44,7 +44,7 @@ fn linear(
 }
 
 fn compute(names: &Names, args: &[Arg], operation: Operation) -> Constraint
-    ensures { result ≡ Arithmetic operation (term_at (known names.now) args.now 0) (term_at (known names.now) args.now 1) (term_at (known names.now) args.now 2) }
+    ensures { result ≡ Arithmetic operation (argument_term (known names.now) args.now 0) (argument_term (known names.now) args.now 1) (argument_term (known names.now) args.now 2) }
 {
     Constraint::Arithmetic {
         operation,
@@ -56,7 +56,7 @@ fn compute(names: &Names, args: &[Arg], operation: Operation) -> Constraint
 
 /// The first two arguments as a list.
 fn pair(alloc: Global, names: &Names, args: &[Arg]) -> Result<Shared<Term>, AllocError>
-    ensures { IfOk result (λ found. found ≡ term_at (known names.now) args.now 0 ∷ term_at (known names.now) args.now 1 ∷ []) }
+    ensures { IfOk result (λ found. found ≡ argument_term (known names.now) args.now 0 ∷ argument_term (known names.now) args.now 1 ∷ []) }
 {
     let mut terms = Items::new(alloc);
     terms.push(term_at(names, args, 0))?;
@@ -70,7 +70,7 @@ fn extremum_of_two(
     args: &[Arg],
     extreme: Extreme,
 ) -> Result<Constraint, AllocError>
-    ensures { IfOk result (λ found. found ≡ Extremum extreme (term_at (known names.now) args.now 0 ∷ term_at (known names.now) args.now 1 ∷ []) (term_at (known names.now) args.now 2)) }
+    ensures { IfOk result (λ found. found ≡ Extremum extreme (argument_term (known names.now) args.now 0 ∷ argument_term (known names.now) args.now 1 ∷ []) (argument_term (known names.now) args.now 2)) }
 {
     Ok(Constraint::Extremum {
         extreme,
@@ -85,7 +85,7 @@ fn extremum(
     args: &[Arg],
     extreme: Extreme,
 ) -> Result<Constraint, AllocError>
-    ensures { IfOk result (λ found. found ≡ Extremum extreme (terms_at (known names.now) args.now 1) (term_at (known names.now) args.now 0)) }
+    ensures { IfOk result (λ found. found ≡ Extremum extreme (terms_at (known names.now) args.now 1) (argument_term (known names.now) args.now 0)) }
 {
     Ok(Constraint::Extremum {
         extreme,
@@ -95,7 +95,7 @@ fn extremum(
 }
 
 fn element(alloc: Global, names: &Names, args: &[Arg]) -> Result<Constraint, AllocError>
-    ensures { IfOk result (λ found. found ≡ Element (term_at (known names.now) args.now 0) (terms_at (known names.now) args.now 1) (term_at (known names.now) args.now 2)) }
+    ensures { IfOk result (λ found. found ≡ Element (argument_term (known names.now) args.now 0) (terms_at (known names.now) args.now 1) (argument_term (known names.now) args.now 2)) }
 {
     Ok(Constraint::Element {
         index: term_at(names, args, 0),
@@ -111,7 +111,7 @@ fn member(
     switch: Option<Term>,
 ) -> Result<Constraint, AllocError>
     requires { All IsArgWithin args.now }
-    ensures { IfOk result (λ found. found ≡ SetIn (term_at (known names.now) args.now 0) (set_at (known names.now) args.now 1) switch) }
+    ensures { IfOk result (λ found. found ≡ SetIn (argument_term (known names.now) args.now 0) (set_at (known names.now) args.now 1) switch) }
 {
     Ok(Constraint::SetIn {
         term: term_at(names, args, 0),
@@ -126,7 +126,7 @@ fn gate_of_two(
     args: &[Arg],
     gate: Gate,
 ) -> Result<Constraint, AllocError>
-    ensures { IfOk result (λ found. found ≡ Gated gate (term_at (known names.now) args.now 0 ∷ term_at (known names.now) args.now 1 ∷ []) (term_at (known names.now) args.now 2)) }
+    ensures { IfOk result (λ found. found ≡ Gated gate (argument_term (known names.now) args.now 0 ∷ argument_term (known names.now) args.now 1 ∷ []) (argument_term (known names.now) args.now 2)) }
 {
     Ok(Constraint::Gated {
         gate,
@@ -136,7 +136,7 @@ fn gate_of_two(
 }
 
 fn gate(alloc: Global, names: &Names, args: &[Arg], gate: Gate) -> Result<Constraint, AllocError>
-    ensures { IfOk result (λ found. found ≡ Gated gate (terms_at (known names.now) args.now 0) (term_at (known names.now) args.now 1)) }
+    ensures { IfOk result (λ found. found ≡ Gated gate (terms_at (known names.now) args.now 0) (argument_term (known names.now) args.now 1)) }
 {
     Ok(Constraint::Gated {
         gate,
@@ -146,7 +146,7 @@ fn gate(alloc: Global, names: &Names, args: &[Arg], gate: Gate) -> Result<Constr
 }
 
 fn cumulative(alloc: Global, names: &Names, args: &[Arg]) -> Result<Constraint, AllocError>
-    ensures { IfOk result (λ found. found ≡ Cumulative (terms_at (known names.now) args.now 0) (terms_at (known names.now) args.now 1) (terms_at (known names.now) args.now 2) (term_at (known names.now) args.now 3)) }
+    ensures { IfOk result (λ found. found ≡ Cumulative (terms_at (known names.now) args.now 0) (terms_at (known names.now) args.now 1) (terms_at (known names.now) args.now 2) (argument_term (known names.now) args.now 3)) }
 {
     Ok(Constraint::Cumulative {
         starts: terms_at(alloc, names, args, 0)?,

@@ -3,7 +3,7 @@ ghost use Rattle.std.specs.Prelude.{◌≡◌, IfOk};
 ghost use Rattle.fzn_meaning.specs.WellFormed.{IsWellFormed};
 ghost use Rattle.fzn_names.specs.Known.{known};
 ghost use Rattle.fzn_typing.specs.Faults.{tree_names};
-ghost use Rattle.fzn_typing.specs.Limits.{IsWithinLimits};
+ghost use Rattle.fzn_typing.specs.Limits.{IsTreeWithin};
 ghost use Rattle.fzn_typing.specs.Typed.{IsTyped, model_in};
 
 use crate::constraint::constraints_of;
@@ -27,7 +27,7 @@ pub struct Named {
 /// The model of the tree with its names, or its first fault: that of a declaration first, as `DuplicateName` or `OutputAnnotation`, then
 /// that of a constraint, as `UnknownConstraint` or `Arity`, and then that of the goal. It answers `Halt::Memory` where memory runs out.
 pub fn type_check(alloc: Global, tree: &Tree) -> Result<Named, Halt<Fault>>
-    requires { IsWithinLimits tree.now }
+    requires { IsTreeWithin tree.now }
     ensures right { IsTyped tree.now (model_in result) }
     ensures names { IfOk result (λ named. known named.names ≡ tree_names tree.now) }
     ensures well_formed { IfOk result (λ named. IsWellFormed named.model) }
