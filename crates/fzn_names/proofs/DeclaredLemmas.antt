@@ -14,15 +14,15 @@ use Rattle.fzn_meaning.specs.Meaning.{IsBoolean}
 use Rattle.fzn_meaning.specs.Solutions.{declared_sets}
 use Rattle.fzn_meaning.specs.Term.{IsTerm}
 use Rattle.fzn_names.specs.Annotations.{is_marked, is_array_mark, is_bad_array_mark, mark_faults}
-use Rattle.fzn_names.specs.Outputs.{single_item, array_item, items_of, shown_from}
+use Rattle.fzn_names.specs.Outputs.{single_item, array_item, output_items, shown_from}
 use Rattle.fzn_meaning.specs.declared.model.OutputItem.{OutputItem}
 use Rattle.fzn_meaning.specs.WellFormed.{IsOutputItem}
 use Rattle.fzn_domain.specs.declared.literal.VarId.{VarId}
 use Rattle.fzn_lexer.specs.declared.token.Position.{Position}
 use Rattle.fzn_tree.specs.declared.tree.Ann.{Ann}
 use Rattle.fzn_names.specs.Declarations.{declared_var, vars_faults, names_from, names_of, declaration_faults}
-use Rattle.fzn_names.specs.Faults.{set_types, wanted_of, added_by_entries, added_by, passes, array_faults, var_faults}
-use Rattle.fzn_names.specs.Params.{set_elements, set_values, wanted_by, wrong_values, wrong_lengths, param_faults, kind_by, param_value, declared_param, params_faults, param_names}
+use Rattle.fzn_names.specs.Faults.{set_types, wanted_of, added_by_entries, added_by, passes_limit, array_faults, var_faults}
+use Rattle.fzn_names.specs.Params.{set_elements, set_values, wanted_by, wrong_values, wrong_lengths, param_faults, kind_by, declared_value, declared_param, params_faults, param_names}
 use Rattle.fzn_tree.specs.declared.tree.ArrayVar.{ArrayVar}
 use Rattle.fzn_tree.specs.declared.tree.Base.{Base}
 use Rattle.fzn_tree.specs.declared.tree.Base.TheVariants as bases
@@ -40,11 +40,11 @@ use Rattle.fzn_registry.specs.declared.signature.Argument.TheVariants.{BooleanCo
 use Rattle.fzn_names.specs.Types.{repeated, fits, sets_in, unknown_in, wrong_literals, wrong_in}
 use Rattle.fzn_names.specs.Limits.{IsLiteralWithin, IsBasicWithin, IsParamValueWithin, IsParamWithin, IsVarWithin, AreDeclarationsWithin}
 use Rattle.fzn_names.specs.Positions.{when, at, position_of_literal}
-use Rattle.fzn_names.specs.Values.{NameList, literal_value, value_term, terms_of}
-use Rattle.fzn_names.specs.Variables.{kind_of, values_of, vars_of}
+use Rattle.fzn_names.specs.Values.{NameList, literal_value, value_term, entry_terms}
+use Rattle.fzn_names.specs.Variables.{kind_of, base_values, vars_of}
 use Rattle.fzn_names.specs.declared.names.Declared.{Declared}
 use Rattle.fzn_names.specs.declared.names.Declared.TheVariants as d
-use Rattle.fzn_names.proofs.CallerLemmas.{left_empty, right_empty, at-empty, bit_in_range, none_limited, IsMeaning, AreMeanings, constants_meaning, array_meaning, literal_meaning, when_not, terms_of-within, boolean_terms}
+use Rattle.fzn_names.proofs.CallerLemmas.{left_empty, right_empty, at-empty, bit_in_range, none_limited, IsMeaning, AreMeanings, constants_meaning, array_meaning, literal_meaning, when_not, entry_terms-within, boolean_terms}
 
 -- ---- parameters
 
@@ -78,12 +78,12 @@ constants_boolean sets (Some size) (p.Bool at) position entries e kind = literal
 constants_boolean sets (Some size) (p.Int at) position entries e kind = absurd cc
 constants_boolean sets (Some size) (p.Set at) position entries e kind = absurd cc
 
-written_meaning : (sets : List IntSet) (size : Option Size) (base : ParamBase) (value : ParamValue) → IsParamValueWithin value → wrong_values size (wanted_by base) value ≡ [] → IsMeaning sets (param_value base value)
+written_meaning : (sets : List IntSet) (size : Option Size) (base : ParamBase) (value : ParamValue) → IsParamValueWithin value → wrong_values size (wanted_by base) value ≡ [] → IsMeaning sets (declared_value base value)
 written_meaning sets size base (v.Literal literal) within e = literal_meaning sets literal within
 written_meaning sets size base (v.Array position entries) within e =
     constants_meaning sets (kind_by base) (map literal_term entries) (literals-within sets entries within.0) (rw length-map within.1) (constants_boolean sets size base position entries e)
 
-param_meaning : (sets : List IntSet) (earlier : NameList) (param : Param) → IsParamWithin param → param_faults earlier param ≡ [] → IsMeaning sets (param_value param.base param.value)
+param_meaning : (sets : List IntSet) (earlier : NameList) (param : Param) → IsParamWithin param → param_faults earlier param ≡ [] → IsMeaning sets (declared_value param.base param.value)
 unfolding param_faults
 param_meaning sets earlier param within none =
     let sets_are = at SetRefused (set_elements param.size param.base ++ set_values param.value) in
@@ -122,16 +122,16 @@ variable_meaning sets k.Boolean var within set = record {
   booleans = λ e. cc;
 }
 
-boolean_values : (base : Base) → kind_of base ≡ k.Boolean → values_of base ≡ range (pos 0) (pos 1)
+boolean_values : (base : Base) → kind_of base ≡ k.Boolean → base_values base ≡ range (pos 0) (pos 1)
 boolean_values bases.Bool e = refl
 boolean_values (bases.Int position) e = absurd cc
 boolean_values (bases.Values values) e = absurd cc
 boolean_values (bases.Set position values) e = absurd cc
 
-single_meaning : (base : Base) (before after sets : List IntSet) → sets ≡ before ++ values_of base ∷ after → IsMeaning sets (d.Variable (kind_of base) (record { 0 = length before + 1 }))
+single_meaning : (base : Base) (before after sets : List IntSet) → sets ≡ before ++ base_values base ∷ after → IsMeaning sets (d.Variable (kind_of base) (record { 0 = length before + 1 }))
 single_meaning base before after sets e =
-    variable_meaning sets (kind_of base) (record { 0 = length before + 1 }) (omega arith, count-seam before after (values_of base) sets e)
-    (λ kind. set_of-seam before after (values_of base) sets e ∙ boolean_values base kind)
+    variable_meaning sets (kind_of base) (record { 0 = length before + 1 }) (omega arith, count-seam before after (base_values base) sets e)
+    (λ kind. set_of-seam before after (base_values base) sets e ∙ boolean_values base kind)
 
 wrong_entries : (earlier : NameList) (before : ℕ) (var : ArrayVar) → array_faults earlier before var ≡ [] → flat_map (wrong_in earlier (wanted_of (kind_of var.base))) var.array.entries ≡ []
 unfolding array_faults
@@ -141,16 +141,16 @@ wrong_entries earlier before var none =
     let unknown = at UnknownName (flat_map (unknown_in earlier) var.array.entries) in
     let wrong = at WrongType (flat_map (wrong_in earlier (wanted_of (kind_of var.base))) var.array.entries) in
     let lengths = at Length (when (not (nat_eq (length var.array.entries) var.size.count)) var.array.position) in
-    let many = at TooMany (when (passes before (added_by_entries var.base var.array.entries)) var.name.position) in
+    let many = at TooMany (when (passes_limit before (added_by_entries var.base var.array.entries)) var.name.position) in
     let marks = at OutputAnnotation (mark_faults (is_bad_array_mark (length var.array.entries)) var.anns) in
     let upto = refused ++ names ++ unknown in
     at-empty WrongType (flat_map (wrong_in earlier (wanted_of (kind_of var.base))) var.array.entries)
     (right_empty upto wrong (left_empty (upto ++ wrong) lengths (left_empty (upto ++ wrong ++ lengths) many (left_empty (upto ++ wrong ++ lengths ++ many) marks none))))
 
 entries_meaning : (sets : List IntSet) (earlier : NameList) (before : ℕ) (var : ArrayVar) → AreMeanings sets earlier → IsVarWithin (vars.Array var) → array_faults earlier before var ≡ []
-    → IsMeaning sets (d.Array (kind_of var.base) (terms_of earlier var.array.entries))
+    → IsMeaning sets (d.Array (kind_of var.base) (entry_terms earlier var.array.entries))
 entries_meaning sets earlier before var known within none =
-    array_meaning sets (kind_of var.base) (terms_of earlier var.array.entries) (terms_of-within sets earlier known var.array.entries within.1.0) (rw length-map within.1.1)
+    array_meaning sets (kind_of var.base) (entry_terms earlier var.array.entries) (entry_terms-within sets earlier known var.array.entries within.1.0) (rw length-map within.1.1)
     (λ kind. boolean_terms sets earlier known var.array.entries within.1.0
     (subst (λ kind. flat_map (wrong_in earlier (wanted_of kind)) var.array.entries ≡ []) kind (wrong_entries earlier before var none)))
 
@@ -164,16 +164,16 @@ names_from-meanings [] earlier number stated before sets known within none n e =
 names_from-meanings (vars.Single var ∷ more) earlier number stated before sets known within none n e =
     let here : IsMeaning sets (d.Variable (kind_of var.base) (record { 0 = number })) = rw n (single_meaning var.base before (declared_sets (vars_of more)) sets e) in
     let rest = right_empty (var_faults earlier stated (vars.Single var)) (vars_faults (earlier ++ declared_var earlier number (vars.Single var) ∷ []) (number + 1) (stated + added_by (vars.Single var)) more) none in
-    let longer : number + 1 ≡ length (before ++ values_of var.base ∷ []) + 1 = rw (length-append, n) (omega arith) in
-    names_from-meanings more (earlier ++ declared_var earlier number (vars.Single var) ∷ []) (number + 1) (stated + added_by (vars.Single var)) (before ++ values_of var.base ∷ []) sets
+    let longer : number + 1 ≡ length (before ++ base_values var.base ∷ []) + 1 = rw (length-append, n) (omega arith) in
+    names_from-meanings more (earlier ++ declared_var earlier number (vars.Single var) ∷ []) (number + 1) (stated + added_by (vars.Single var)) (before ++ base_values var.base ∷ []) sets
     (All-more sets earlier var.name.text (d.Variable (kind_of var.base) (record { 0 = number })) known here) (All-tail IsVarWithin (vars.Single var) more within) rest longer
-    (e ∙ sym (append_assoc before (values_of var.base ∷ []) (declared_sets (vars_of more))))
+    (e ∙ sym (append_assoc before (base_values var.base ∷ []) (declared_sets (vars_of more))))
 names_from-meanings (vars.Array var ∷ more) earlier number stated before sets known within none n e =
     let here = entries_meaning sets earlier stated var known (All-head IsVarWithin (vars.Array var) more within)
     (left_empty (array_faults earlier stated var) (vars_faults (earlier ++ declared_var earlier number (vars.Array var) ∷ []) number (stated + added_by (vars.Array var)) more) none) in
     let rest = right_empty (array_faults earlier stated var) (vars_faults (earlier ++ declared_var earlier number (vars.Array var) ∷ []) number (stated + added_by (vars.Array var)) more) none in
     names_from-meanings more (earlier ++ declared_var earlier number (vars.Array var) ∷ []) number (stated + added_by (vars.Array var)) before sets
-    (All-more sets earlier var.name.text (d.Array (kind_of var.base) (terms_of earlier var.array.entries)) known here) (All-tail IsVarWithin (vars.Array var) more within) rest n e
+    (All-more sets earlier var.name.text (d.Array (kind_of var.base) (entry_terms earlier var.array.entries)) known here) (All-tail IsVarWithin (vars.Array var) more within) rest n e
 
 -- what the names of declarations without faults stand for
 pub names-meanings : (params : List Param) (all : List Var) (stated : ℕ) → AreDeclarationsWithin params all → declaration_faults params all stated ≡ [] → AreMeanings (declared_sets (vars_of all)) (names_of params all)
@@ -187,7 +187,7 @@ names-meanings params all stated within none =
 item-within : (sets : List IntSet) (names : NameList) (known : AreMeanings sets names) (var : ArrayVar) (anns : List Ann) → All IsBasicWithin var.array.entries → All (IsOutputItem (length sets)) (map (array_item names var) anns)
 item-within sets names known var [] within = All-nil (IsOutputItem (length sets))
 item-within sets names known var (ann ∷ anns) within =
-    All-cons (IsOutputItem (length sets)) (array_item names var ann) (map (array_item names var) anns) (terms_of-within sets names known var.array.entries within) (item-within sets names known var anns within)
+    All-cons (IsOutputItem (length sets)) (array_item names var ann) (map (array_item names var) anns) (entry_terms-within sets names known var.array.entries within) (item-within sets names known var anns within)
 
 when-within : (count : ℕ) (test : Bool) (item : OutputItem) → IsOutputItem count item → All (IsOutputItem count) (when test item)
 when-within count true item h = All-cons (IsOutputItem count) item [] h (All-nil (IsOutputItem count))
@@ -197,10 +197,10 @@ pub shown-within : (sets : List IntSet) (names : NameList) (known : AreMeanings 
     → All (IsOutputItem (length sets)) (shown_from names number all)
 shown-within sets names known [] number within low few = All-nil (IsOutputItem (length sets))
 shown-within sets names known (vars.Single var ∷ more) number within low few =
-    All-append (IsOutputItem (length sets)) (items_of names number (vars.Single var)) (shown_from names (number + 1) more)
+    All-append (IsOutputItem (length sets)) (output_items names number (vars.Single var)) (shown_from names (number + 1) more)
     (when-within (length sets) (is_marked var.anns) (single_item number var) (low, omega arith))
     (shown-within sets names known more (number + 1) (All-tail IsVarWithin (vars.Single var) more within) (omega arith) (omega arith))
 shown-within sets names known (vars.Array var ∷ more) number within low few =
-    All-append (IsOutputItem (length sets)) (items_of names number (vars.Array var)) (shown_from names number more)
+    All-append (IsOutputItem (length sets)) (output_items names number (vars.Array var)) (shown_from names number more)
     (item-within sets names known var (filter (is_array_mark (length var.array.entries)) var.anns) (All-head IsVarWithin (vars.Array var) more within).1.0)
     (shown-within sets names known more number (All-tail IsVarWithin (vars.Array var) more within) low few)

@@ -13,7 +13,7 @@ use Rattle.fzn_meaning.specs.Term.{IsTerm}
 use Rattle.fzn_names.specs.Types.{fits, is_wanted, wrong_in}
 use Rattle.fzn_names.specs.Limits.{IsLiteralWithin, IsBasicWithin}
 use Rattle.fzn_names.specs.Positions.{when, position_of}
-use Rattle.fzn_names.specs.Values.{NameList, listed, literal_value, value_of, value_term, term_in, term_of, terms_of, value_terms, value_set}
+use Rattle.fzn_names.specs.Values.{NameList, listed_set, literal_value, basic_meaning, value_term, term_in, term_of, entry_terms, value_terms, value_set}
 use Rattle.fzn_names.specs.declared.names.Declared.{Declared}
 use Rattle.fzn_names.specs.declared.names.Declared.TheVariants as d
 use Rattle.fzn_names.proofs.FirstLemmas.{left_empty, right_empty}
@@ -22,7 +22,7 @@ use Rattle.fzn_tree.specs.declared.tree.Basic.TheVariants as basics
 use Rattle.fzn_tree.specs.declared.tree.Literal.{Literal}
 use Rattle.fzn_tree.specs.declared.tree.Literal.TheVariants as l
 use Rattle.fzn_registry.specs.declared.signature.Argument.TheVariants.{Boolean, BooleanList}
-use Rattle.fzn_names.proofs.ValueSetLemmas.{range-limited, zero_in_limits, one_in_limits, none_limited, listed-limited}
+use Rattle.fzn_names.proofs.ValueSetLemmas.{range-limited, zero_in_limits, one_in_limits, none_limited, listed_set-limited}
 
 -- its term, its terms and its set are within these variables and the limits, and are Boolean where that is its type
 pub record IsMeaning (sets : List IntSet) (value : Declared) : Type 0 where
@@ -57,7 +57,7 @@ literal_meaning sets (l.Bool true position) within = constant_meaning sets k.Boo
 literal_meaning sets (l.Bool false position) within = constant_meaning sets k.Boolean (pos 0) zero_in_limits (λ e. inl refl)
 literal_meaning sets (l.Int number) within = constant_meaning sets k.Integer number.value within (λ e. cc)
 literal_meaning sets (l.Range r) within = set_meaning sets (range r.low.value r.high) (range-limited r.low.value r.high within.0 within.1)
-literal_meaning sets (l.Set position xs) within = set_meaning sets (listed xs) (listed-limited xs within)
+literal_meaning sets (l.Set position xs) within = set_meaning sets (listed_set xs) (listed_set-limited xs within)
 
 -- ---- names that are declared
 
@@ -70,7 +70,7 @@ lookup-meaning sets test (entry ∷ names) value all found =
     ] found
 
 module _ (sets : List IntSet) (names : NameList) (known : AreMeanings sets names) where
-  pub value-meaning : (b : Basic) (value : Declared) → IsBasicWithin b → value_of names b ≡ Some value → IsMeaning sets value
+  pub value-meaning : (b : Basic) (value : Declared) → IsBasicWithin b → basic_meaning names b ≡ Some value → IsMeaning sets value
   value-meaning (basics.Literal literal) value within e = let same : literal_value literal ≡ value = cc in subst (IsMeaning sets) same (literal_meaning sets literal within)
   value-meaning (basics.Name name) value within e = lookup-meaning sets (bytes_eq name.text) names value known e
 
@@ -88,19 +88,19 @@ when_not false x e = cc
 
 module _ (sets : List IntSet) (names : NameList) (known : AreMeanings sets names) where
   pub term_of-within : (b : Basic) → IsBasicWithin b → IsTerm (length sets) (term_of names b)
-  term_of-within b within = term_in-within sets (value_of names b) (λ value e. value-meaning sets names known b value within e)
+  term_of-within b within = term_in-within sets (basic_meaning names b) (λ value e. value-meaning sets names known b value within e)
 
-  pub terms_of-within : (bs : List Basic) → All IsBasicWithin bs → All (IsTerm (length sets)) (terms_of names bs)
-  terms_of-within [] within = All-nil (IsTerm (length sets))
-  terms_of-within (b ∷ bs) within =
-      All-cons (IsTerm (length sets)) (term_of names b) (terms_of names bs) (term_of-within b (All-head IsBasicWithin b bs within)) (terms_of-within bs (All-tail IsBasicWithin b bs within))
+  pub entry_terms-within : (bs : List Basic) → All IsBasicWithin bs → All (IsTerm (length sets)) (entry_terms names bs)
+  entry_terms-within [] within = All-nil (IsTerm (length sets))
+  entry_terms-within (b ∷ bs) within =
+      All-cons (IsTerm (length sets)) (term_of names b) (entry_terms names bs) (term_of-within b (All-head IsBasicWithin b bs within)) (entry_terms-within bs (All-tail IsBasicWithin b bs within))
 
-  pub boolean_term : (b : Basic) → IsBasicWithin b → is_wanted Boolean (value_of names b) ≡ true → IsBoolean sets (term_of names b)
-  boolean_term b within fit = boolean_in sets (value_of names b) (λ value e. value-meaning sets names known b value within e) fit
+  pub boolean_term : (b : Basic) → IsBasicWithin b → is_wanted Boolean (basic_meaning names b) ≡ true → IsBoolean sets (term_of names b)
+  boolean_term b within fit = boolean_in sets (basic_meaning names b) (λ value e. value-meaning sets names known b value within e) fit
 
-  pub boolean_terms : (bs : List Basic) → All IsBasicWithin bs → flat_map (wrong_in names Boolean) bs ≡ [] → All (IsBoolean sets) (terms_of names bs)
+  pub boolean_terms : (bs : List Basic) → All IsBasicWithin bs → flat_map (wrong_in names Boolean) bs ≡ [] → All (IsBoolean sets) (entry_terms names bs)
   boolean_terms [] within e = All-nil (IsBoolean sets)
   boolean_terms (b ∷ bs) within e =
-      All-cons (IsBoolean sets) (term_of names b) (terms_of names bs)
-      (boolean_term b (All-head IsBasicWithin b bs within) (when_not (is_wanted Boolean (value_of names b)) (position_of b) (left_empty (wrong_in names Boolean b) (flat_map (wrong_in names Boolean) bs) e)))
+      All-cons (IsBoolean sets) (term_of names b) (entry_terms names bs)
+      (boolean_term b (All-head IsBasicWithin b bs within) (when_not (is_wanted Boolean (basic_meaning names b)) (position_of b) (left_empty (wrong_in names Boolean b) (flat_map (wrong_in names Boolean) bs) e)))
       (boolean_terms bs (All-tail IsBasicWithin b bs within) (right_empty (wrong_in names Boolean b) (flat_map (wrong_in names Boolean) bs) e))

@@ -2,7 +2,7 @@
 use Rattle.std.proofs.Common.{◌≡◌, ◌⊎◌, ℕ, zero, suc, ◌*◌, ◌<◌, ◌≤◌, List, [], ◌∷◌, length, Some, min, inl, inr, refl, ap, ◌∙◌, arith}
 use Rattle.fzn_domain.specs.IntSet.{width}
 use Rattle.fzn_meaning.specs.declared.model.IndexRange.{IndexRange}
-use Rattle.fzn_names.specs.Annotations.{range_of, ranges_in, size_of}
+use Rattle.fzn_names.specs.Annotations.{index_range, ranges_in, size_of}
 use Rattle.fzn_names.specs.Capped.{capped}
 use Rattle.fzn_tree.specs.declared.tree.Ann.{Ann}
 use Rattle.fzn_tree.specs.declared.tree.AnnTerm.{AnnTerm}
@@ -41,7 +41,7 @@ is-capped n count few e = omega arith
 pub ruleset sizes = (capped-more, capped-low, capped-is, is-capped)
 
 -- one more factor
-pub grown-more : (size grown : ℕ) (term : AnnTerm Ann) (r : IndexRange) (more : List (AnnTerm Ann)) → range_of term ≡ Some r → grown ≡ capped (size * width r.low r.high)
+pub grown-more : (size grown : ℕ) (term : AnnTerm Ann) (r : IndexRange) (more : List (AnnTerm Ann)) → index_range term ≡ Some r → grown ≡ capped (size * width r.low r.high)
     → capped (grown * size_of (ranges_in more)) ≡ capped (size * size_of (ranges_in (term ∷ more)))
 grown-more size grown term r more is grown_is = rw (grown_is, is) (capped-more size (width r.low r.high) (size_of (ranges_in more)))
 

@@ -5,11 +5,11 @@ use Rattle.fzn_lexer.specs.declared.fault.Fault.{Fault}
 use Rattle.fzn_lexer.specs.declared.fault.FaultKind.TheVariants.{SetRefused, UnboundedInt, DuplicateName, UnknownName, «Type» as WrongType, Length, TooMany, OutputAnnotation}
 use Rattle.fzn_meaning.specs.Meaning.{longest}
 use Rattle.fzn_names.specs.Annotations.{is_bad_mark, is_bad_array_mark, mark_faults}
-use Rattle.fzn_names.specs.Declarations.{name_of, var_value, declared_var, number_after, vars_faults, names_from}
-use Rattle.fzn_names.specs.Faults.{set_types, unbounded_types, wanted_of, unknown_values, wrong_written, added_by_value, added_by_entries, added_by, passes, single_faults, array_faults, var_faults}
-use Rattle.fzn_names.specs.Params.{set_elements, set_values, wanted_by, wrong_values, wrong_lengths, param_faults, param_value, declared_param, params_faults, param_names}
+use Rattle.fzn_names.specs.Declarations.{declared_name, var_value, declared_var, number_after, vars_faults, names_from}
+use Rattle.fzn_names.specs.Faults.{set_types, unbounded_types, wanted_of, unknown_values, wrong_written, added_by_value, added_by_entries, added_by, passes_limit, single_faults, array_faults, var_faults}
+use Rattle.fzn_names.specs.Params.{set_elements, set_values, wanted_by, wrong_values, wrong_lengths, param_faults, declared_value, declared_param, params_faults, param_names}
 use Rattle.fzn_meaning.specs.declared.model.OutputItem.{OutputItem}
-use Rattle.fzn_names.specs.Outputs.{items_of, shown_from}
+use Rattle.fzn_names.specs.Outputs.{output_items, shown_from}
 use Rattle.fzn_tree.specs.declared.tree.ArrayVar.{ArrayVar}
 use Rattle.fzn_tree.specs.declared.tree.Name.{Name}
 use Rattle.fzn_tree.specs.declared.tree.Param.{Param}
@@ -61,7 +61,7 @@ param_fresh earlier param none =
     let all : sets ++ names ++ wrong ++ lengths ≡ [] = empty-first (sets ++ names ++ wrong ++ lengths) none in
     new_name earlier param.name (right_empty sets names (left_empty (sets ++ names) wrong (left_empty (sets ++ names ++ wrong) lengths all)))
 
-few_more : (before more : ℕ) → before ≤ longest → passes before more ≡ false → before + more ≤ longest
+few_more : (before more : ℕ) → before ≤ longest → passes_limit before more ≡ false → before + more ≤ longest
 few_more before more room e = grind (arith, e)
 
 module _ (earlier : NameList) (before : ℕ) (var : SingleVar) (none : first (single_faults earlier before var) ≡ None) where
@@ -73,7 +73,7 @@ module _ (earlier : NameList) (before : ℕ) (var : SingleVar) (none : first (si
       ++ at WrongType (wrong_written earlier (wanted_of (kind_of var.base)) var.value)
 
   abbrev many : List Fault
-  many = at TooMany (when (passes before (added_by_value var.value)) var.name.position)
+  many = at TooMany (when (passes_limit before (added_by_value var.value)) var.name.position)
 
   upto_many : middle ++ many ≡ []
   unfolding single_faults
@@ -89,7 +89,7 @@ module _ (earlier : NameList) (before : ℕ) (var : SingleVar) (none : first (si
   pub single_room : before ≤ longest → before + added_by_value var.value ≤ longest
   single_room room =
       few_more before (added_by_value var.value) room
-      (when_false (passes before (added_by_value var.value)) var.name.position (at-empty TooMany (when (passes before (added_by_value var.value)) var.name.position) (right_empty middle many upto_many)))
+      (when_false (passes_limit before (added_by_value var.value)) var.name.position (at-empty TooMany (when (passes_limit before (added_by_value var.value)) var.name.position) (right_empty middle many upto_many)))
 
 module _ (earlier : NameList) (before : ℕ) (var : ArrayVar) (none : first (array_faults earlier before var) ≡ None) where
   abbrev front_of : List Fault
@@ -101,7 +101,7 @@ module _ (earlier : NameList) (before : ℕ) (var : ArrayVar) (none : first (arr
       ++ at Length (when (not (nat_eq (length var.array.entries) var.size.count)) var.array.position)
 
   abbrev many_of : List Fault
-  many_of = at TooMany (when (passes before (added_by_entries var.base var.array.entries)) var.name.position)
+  many_of = at TooMany (when (passes_limit before (added_by_entries var.base var.array.entries)) var.name.position)
 
   array_upto_many : middle_of ++ many_of ≡ []
   unfolding array_faults
@@ -121,11 +121,11 @@ module _ (earlier : NameList) (before : ℕ) (var : ArrayVar) (none : first (arr
   pub array_room : before ≤ longest → before + added_by_entries var.base var.array.entries ≤ longest
   array_room room =
       few_more before (added_by_entries var.base var.array.entries) room
-      (when_false (passes before (added_by_entries var.base var.array.entries)) var.name.position
-      (at-empty TooMany (when (passes before (added_by_entries var.base var.array.entries)) var.name.position) (right_empty middle_of many_of array_upto_many)))
+      (when_false (passes_limit before (added_by_entries var.base var.array.entries)) var.name.position
+      (at-empty TooMany (when (passes_limit before (added_by_entries var.base var.array.entries)) var.name.position) (right_empty middle_of many_of array_upto_many)))
 
 -- a declaration without faults has a new name, and leaves the constraints within their limit
-pub var_fresh : (earlier : NameList) (before : ℕ) (var : Var) → first (var_faults earlier before var) ≡ None → meaning_of earlier (name_of var) ≡ None
+pub var_fresh : (earlier : NameList) (before : ℕ) (var : Var) → first (var_faults earlier before var) ≡ None → meaning_of earlier (declared_name var) ≡ None
 var_fresh earlier before (vars.Single var) none = single_fresh earlier before var none
 var_fresh earlier before (vars.Array var) none = array_fresh earlier before var none
 
@@ -136,19 +136,19 @@ var_room earlier before (vars.Array var) none room = array_room earlier before v
 -- ---- the faults and names to come
 
 pub params_step : (names new : NameList) (xs ys : List Param) (x : Param) (value : Declared) → xs ≡ x ∷ ys → first (param_faults names x) ≡ None
-    → value ≡ param_value x.base x.value → new ≡ names ++ (x.name.text, value) ∷ [] → first (params_faults new ys) ≡ first (params_faults names xs)
+    → value ≡ declared_value x.base x.value → new ≡ names ++ (x.name.text, value) ∷ [] → first (params_faults new ys) ≡ first (params_faults names xs)
 params_step names new xs ys x value all none value_is new_is =
     let next : new ≡ names ++ declared_param x ∷ [] = rw (new_is, value_is) refl in
     rw (all, next) (sym (first-append_none (param_faults names x) (params_faults (names ++ declared_param x ∷ []) ys) none))
 
 pub param_names_step : (names new : NameList) (xs ys : List Param) (x : Param) (value : Declared) → xs ≡ x ∷ ys
-    → value ≡ param_value x.base x.value → new ≡ names ++ (x.name.text, value) ∷ [] → new ++ param_names ys ≡ names ++ param_names xs
+    → value ≡ declared_value x.base x.value → new ≡ names ++ (x.name.text, value) ∷ [] → new ++ param_names ys ≡ names ++ param_names xs
 param_names_step names new xs ys x value all value_is new_is =
     let next : new ≡ names ++ declared_param x ∷ [] = rw (new_is, value_is) refl in
     rw (all, next) (append_assoc names (declared_param x ∷ []) (param_names ys))
 
 module _ (names new : NameList) (number : ℕ) (xs ys : List Var) (x : Var) (value : Declared) (name : List ℕ)
-    (all : xs ≡ x ∷ ys) (name_is : name ≡ name_of x) (value_is : value ≡ var_value names number x) (new_is : new ≡ names ++ (name, value) ∷ []) where
+    (all : xs ≡ x ∷ ys) (name_is : name ≡ declared_name x) (value_is : value ≡ var_value names number x) (new_is : new ≡ names ++ (name, value) ∷ []) where
   var_next : new ≡ names ++ declared_var names number x ∷ []
   var_next = rw (new_is, value_is, name_is) refl
 
@@ -168,6 +168,6 @@ number_moves number (vars.Array var) ys = refl
 pub number_step : (number : ℕ) (xs ys : List Var) (x : Var) → xs ≡ x ∷ ys → number_after number x + length (vars_of ys) ≡ number + length (vars_of xs)
 number_step number xs ys x all = rw all (number_moves number x ys)
 
-pub shown_step : (names : NameList) (number : ℕ) (xs ys : List Var) (x : Var) (old new : List OutputItem) → xs ≡ x ∷ ys → new ≡ old ++ items_of names number x
+pub shown_step : (names : NameList) (number : ℕ) (xs ys : List Var) (x : Var) (old new : List OutputItem) → xs ≡ x ∷ ys → new ≡ old ++ output_items names number x
     → new ++ shown_from names (number_after number x) ys ≡ old ++ shown_from names number xs
-shown_step names number xs ys x old new all new_is = rw (all, new_is) (append_assoc old (items_of names number x) (shown_from names (number_after number x) ys))
+shown_step names number xs ys x old new all new_is = rw (all, new_is) (append_assoc old (output_items names number x) (shown_from names (number_after number x) ys))

@@ -15,8 +15,8 @@ use Rattle.fzn_domain.proofs.SetLemmas.{contains-range, contains-no_values}
 use Rattle.fzn_meaning.specs.Meaning.{IsBit}
 use Rattle.fzn_meaning.specs.Solutions.{declared_sets}
 use Rattle.fzn_names.specs.Limits.{AreValuesWithin, IsBaseWithin, IsVarWithin}
-use Rattle.fzn_names.specs.Values.{listed}
-use Rattle.fzn_names.specs.Variables.{values_in, values_of, vars_of}
+use Rattle.fzn_names.specs.Values.{listed_set}
+use Rattle.fzn_names.specs.Variables.{values_in, base_values, vars_of}
 use Rattle.fzn_tree.specs.declared.tree.Base.{Base}
 use Rattle.fzn_tree.specs.declared.tree.Base.TheVariants as bases
 use Rattle.fzn_tree.specs.declared.tree.Values.{Values}
@@ -57,14 +57,14 @@ member-limited (y ∷ xs) x within h = elim (or_cases (eq_by_cmp int_cmp x y) (l
   | inr inside ↦ member-limited xs x (All-tail IsInLimits y xs within) inside
 ]
 
-pub listed-limited : (xs : List ℤ) → All IsInLimits xs → IsLimited (listed xs)
-listed-limited xs within x inside = member-limited xs x within (sym (contains-from_list xs x) ∙ inside)
+pub listed_set-limited : (xs : List ℤ) → All IsInLimits xs → IsLimited (listed_set xs)
+listed_set-limited xs within x inside = member-limited xs x within (sym (contains-from_list xs x) ∙ inside)
 
 pub values_in-limited : (values : Values) → AreValuesWithin values → IsLimited (values_in values)
 values_in-limited (values_are.Range r) within = range-limited r.low.value r.high within.0 within.1
-values_in-limited (values_are.Listed xs) within = listed-limited xs within
+values_in-limited (values_are.Listed xs) within = listed_set-limited xs within
 
-pub values-limited : (base : Base) → IsBaseWithin base → IsLimited (values_of base)
+pub values-limited : (base : Base) → IsBaseWithin base → IsLimited (base_values base)
 values-limited bases.Bool within = range-limited (pos 0) (pos 1) zero_in_limits one_in_limits
 values-limited (bases.Int position) within = none_limited
 values-limited (bases.Values values) within = values_in-limited values within
@@ -73,7 +73,7 @@ values-limited (bases.Set position values) within = none_limited
 pub sets-limited : (all : List Var) → All IsVarWithin all → All IsLimited (declared_sets (vars_of all))
 sets-limited [] within = All-nil IsLimited
 sets-limited (vars.Single var ∷ more) within =
-    All-cons IsLimited (values_of var.base) (declared_sets (vars_of more)) (values-limited var.base (All-head IsVarWithin (vars.Single var) more within).0) (sets-limited more (All-tail IsVarWithin (vars.Single var) more within))
+    All-cons IsLimited (base_values var.base) (declared_sets (vars_of more)) (values-limited var.base (All-head IsVarWithin (vars.Single var) more within).0) (sets-limited more (All-tail IsVarWithin (vars.Single var) more within))
 sets-limited (vars.Array var ∷ more) within = sets-limited more (All-tail IsVarWithin (vars.Array var) more within)
 
 pub length-declared_sets : (all : List Var) → length (declared_sets (vars_of all)) ≡ length (vars_of all)

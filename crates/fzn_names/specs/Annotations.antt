@@ -40,13 +40,13 @@ is_marked anns = list_any is_mark anns
 
 -- ---- arrays
 
-abbrev pub range_of : AnnTerm Ann → Option IndexRange
-range_of (t.Literal (l.Range r)) = Some (record { low = r.low.value; high = r.high })
-range_of _ = None
+abbrev pub index_range : AnnTerm Ann → Option IndexRange
+index_range (t.Literal (l.Range r)) = Some (record { low = r.low.value; high = r.high })
+index_range _ = None
 
 -- the ranges among these
 abbrev pub ranges_in : List (AnnTerm Ann) → List IndexRange
-ranges_in terms = filter_map range_of terms
+ranges_in terms = filter_map index_range terms
 
 -- how many indices there are
 abbrev pub size_of : List IndexRange → ℕ
@@ -56,7 +56,7 @@ size_of (r ∷ ranges) = width r.low r.high * size_of ranges
 -- from 1 to 6 ranges and nothing else, with this many indices
 abbrev pub have_form : ℕ → List (AnnTerm Ann) → Bool
 have_form count terms =
-    list_all (λ term. is_some (range_of term)) terms && nat_lt 0 (length terms) && nat_lt (length terms) 7 && nat_eq (size_of (ranges_in terms)) count
+    list_all (λ term. is_some (index_range term)) terms && nat_lt 0 (length terms) && nat_lt (length terms) 7 && nat_eq (size_of (ranges_in terms)) count
 
 -- what stands in the list that is the one argument
 abbrev pub listed_terms : Option (List (AnnArg Ann)) → List (AnnTerm Ann)

@@ -6,24 +6,24 @@ use Rattle.fzn_names.specs.Params.{params_faults, param_names}
 use Rattle.fzn_tree.specs.declared.tree.Param.{Param}
 use Rattle.fzn_tree.specs.declared.tree.Var.{Var}
 use Rattle.fzn_tree.specs.declared.tree.Var.TheVariants as vars
-use Rattle.fzn_names.specs.Values.{NameList, terms_of}
+use Rattle.fzn_names.specs.Values.{NameList, entry_terms}
 use Rattle.fzn_names.specs.Variables.{kind_of}
 use Rattle.fzn_names.specs.declared.names.Declared.{Declared}
 use Rattle.fzn_names.specs.declared.names.Declared.TheVariants.{Array, Variable}
 
 -- ---- variables and arrays
 
-abbrev pub name_of : Var → List ℕ
-name_of (vars.Single var) = var.name.text
-name_of (vars.Array var) = var.name.text
+abbrev pub declared_name : Var → List ℕ
+declared_name (vars.Single var) = var.name.text
+declared_name (vars.Array var) = var.name.text
 
 -- a variable with this number, or an array
 abbrev pub var_value : NameList → ℕ → Var → Declared
 var_value earlier number (vars.Single var) = Variable (kind_of var.base) (record { 0 = number })
-var_value earlier number (vars.Array var) = Array (kind_of var.base) (terms_of earlier var.array.entries)
+var_value earlier number (vars.Array var) = Array (kind_of var.base) (entry_terms earlier var.array.entries)
 
 abbrev pub declared_var : NameList → ℕ → Var → List ℕ × Declared
-declared_var earlier number var = (name_of var, var_value earlier number var)
+declared_var earlier number var = (declared_name var, var_value earlier number var)
 
 -- the number of the next variable
 abbrev pub number_after : ℕ → Var → ℕ

@@ -56,8 +56,8 @@ added_by (vars.Single var) = added_by_value var.value
 added_by (vars.Array var) = added_by_entries var.base var.array.entries
 
 -- with these the constraints pass their limit
-abbrev pub passes : ℕ → ℕ → Bool
-passes before more = not (nat_lt longest before) && nat_lt longest (before + more)
+abbrev pub passes_limit : ℕ → ℕ → Bool
+passes_limit before more = not (nat_lt longest before) && nat_lt longest (before + more)
 
 -- the faults of a variable behind these names and this many constraints
 unfoldable pub single_faults : NameList → ℕ → SingleVar → List Fault
@@ -67,7 +67,7 @@ single_faults earlier before var =
     ++ at DuplicateName (repeated earlier var.name)
     ++ at UnknownName (unknown_values earlier var.value)
     ++ at WrongType (wrong_written earlier (wanted_of (kind_of var.base)) var.value)
-    ++ at TooMany (when (passes before (added_by_value var.value)) var.name.position)
+    ++ at TooMany (when (passes_limit before (added_by_value var.value)) var.name.position)
     ++ at OutputAnnotation (mark_faults is_bad_mark var.anns)
 
 unfoldable pub array_faults : NameList → ℕ → ArrayVar → List Fault
@@ -77,7 +77,7 @@ array_faults earlier before var =
     ++ at UnknownName (flat_map (unknown_in earlier) var.array.entries)
     ++ at WrongType (flat_map (wrong_in earlier (wanted_of (kind_of var.base))) var.array.entries)
     ++ at Length (when (not (nat_eq (length var.array.entries) var.size.count)) var.array.position)
-    ++ at TooMany (when (passes before (added_by_entries var.base var.array.entries)) var.name.position)
+    ++ at TooMany (when (passes_limit before (added_by_entries var.base var.array.entries)) var.name.position)
     ++ at OutputAnnotation (mark_faults (is_bad_array_mark (length var.array.entries)) var.anns)
 
 abbrev pub var_faults : NameList → ℕ → Var → List Fault

@@ -56,12 +56,12 @@ abbrev pub kind_by : ParamBase → Kind
 kind_by (p.Bool position) = k.Boolean
 kind_by _ = k.Integer
 
-abbrev pub param_value : ParamBase → ParamValue → Declared
-param_value base (v.Literal literal) = literal_value literal
-param_value base (v.Array position entries) = Constants (kind_by base) (map (λ literal. value_term (literal_value literal)) entries)
+abbrev pub declared_value : ParamBase → ParamValue → Declared
+declared_value base (v.Literal literal) = literal_value literal
+declared_value base (v.Array position entries) = Constants (kind_by base) (map (λ literal. value_term (literal_value literal)) entries)
 
 abbrev pub declared_param : Param → List ℕ × Declared
-declared_param param = (param.name.text, param_value param.base param.value)
+declared_param param = (param.name.text, declared_value param.base param.value)
 
 -- the faults of these parameters behind earlier names
 abbrev pub params_faults : NameList → List Param → List Fault

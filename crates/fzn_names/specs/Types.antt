@@ -5,7 +5,7 @@ use Rattle.fzn_meaning.specs.declared.model.Kind.TheVariants as k
 use Rattle.fzn_names.specs.declared.names.Declared.{Declared}
 use Rattle.fzn_names.specs.declared.names.Declared.TheVariants as d
 use Rattle.fzn_names.specs.Positions.{when, position_of, position_of_literal}
-use Rattle.fzn_names.specs.Values.{NameList, meaning_of, literal_value, value_of}
+use Rattle.fzn_names.specs.Values.{NameList, meaning_of, literal_value, basic_meaning}
 use Rattle.fzn_tree.specs.declared.tree.Basic.{Basic}
 use Rattle.fzn_tree.specs.declared.tree.Literal.{Literal}
 use Rattle.fzn_tree.specs.declared.tree.Name.{Name}
@@ -44,18 +44,18 @@ abbrev pub set_literals : Literal → List Position
 set_literals literal = when (is_set (Some (literal_value literal))) (position_of_literal literal)
 
 abbrev pub sets_in : NameList → Basic → List Position
-sets_in names basic = when (is_set (value_of names basic)) (position_of basic)
+sets_in names basic = when (is_set (basic_meaning names basic)) (position_of basic)
 
 -- a name that is not declared
 abbrev pub unknown_in : NameList → Basic → List Position
-unknown_in names basic = when (is_none (value_of names basic)) (position_of basic)
+unknown_in names basic = when (is_none (basic_meaning names basic)) (position_of basic)
 
 -- a value of another type than is wanted
 abbrev pub wrong_literals : Argument → Literal → List Position
 wrong_literals wanted literal = when (not (fits wanted (literal_value literal))) (position_of_literal literal)
 
 abbrev pub wrong_in : NameList → Argument → Basic → List Position
-wrong_in names wanted basic = when (not (is_wanted wanted (value_of names basic))) (position_of basic)
+wrong_in names wanted basic = when (not (is_wanted wanted (basic_meaning names basic))) (position_of basic)
 
 -- an earlier name is declared once more
 abbrev pub repeated : NameList → Name → List Position

@@ -21,20 +21,20 @@ NameList = List (List ℕ × Declared)
 abbrev pub meaning_of : NameList → List ℕ → Option Declared
 meaning_of names text = lookup (bytes_eq text) names
 
-abbrev pub listed : List ℤ → IntSet
-listed values = set.from_list values
+abbrev pub listed_set : List ℤ → IntSet
+listed_set values = set.from_list values
 
 abbrev pub literal_value : Literal → Declared
 literal_value (l.Bool true position) = Constant Boolean (pos 1)
 literal_value (l.Bool false position) = Constant Boolean (pos 0)
 literal_value (l.Int number) = Constant Integer number.value
 literal_value (l.Range r) = Set (range r.low.value r.high)
-literal_value (l.Set position values) = Set (listed values)
+literal_value (l.Set position values) = Set (listed_set values)
 
 -- none where the name is not declared
-abbrev pub value_of : NameList → Basic → Option Declared
-value_of names (basics.Literal literal) = Some (literal_value literal)
-value_of names (basics.Name name) = meaning_of names name.text
+abbrev pub basic_meaning : NameList → Basic → Option Declared
+basic_meaning names (basics.Literal literal) = Some (literal_value literal)
+basic_meaning names (basics.Name name) = meaning_of names name.text
 
 -- ---- terms
 
@@ -49,10 +49,10 @@ term_in None = terms.Constant (pos 0)
 term_in (Some value) = value_term value
 
 abbrev pub term_of : NameList → Basic → Term
-term_of names basic = term_in (value_of names basic)
+term_of names basic = term_in (basic_meaning names basic)
 
-abbrev pub terms_of : NameList → List Basic → List Term
-terms_of names entries = map (term_of names) entries
+abbrev pub entry_terms : NameList → List Basic → List Term
+entry_terms names entries = map (term_of names) entries
 
 -- the entries of an array; else none, as above
 abbrev pub value_terms : Declared → List Term
@@ -60,9 +60,9 @@ value_terms (Constants kind entries) = entries
 value_terms (Array kind entries) = entries
 value_terms _ = []
 
-abbrev pub terms_in : Option Declared → List Term
-terms_in None = []
-terms_in (Some value) = value_terms value
+abbrev pub terms_meant : Option Declared → List Term
+terms_meant None = []
+terms_meant (Some value) = value_terms value
 
 -- a set; else none, as above
 abbrev pub value_set : Declared → IntSet

@@ -4,7 +4,7 @@ use Rattle.fzn_domain.specs.IntSet.{IntSet, no_values, range}
 use Rattle.fzn_meaning.specs.declared.model.Kind.{Kind}
 use Rattle.fzn_meaning.specs.declared.model.Kind.TheVariants.{Integer, Boolean}
 use Rattle.fzn_meaning.specs.declared.model.Var.{Var as ModelVar}
-use Rattle.fzn_names.specs.Values.{listed}
+use Rattle.fzn_names.specs.Values.{listed_set}
 use Rattle.fzn_tree.specs.declared.tree.Base.{Base}
 use Rattle.fzn_tree.specs.declared.tree.Base.TheVariants as bases
 use Rattle.fzn_tree.specs.declared.tree.SingleVar.{SingleVar}
@@ -19,16 +19,16 @@ kind_of _ = Integer
 
 abbrev pub values_in : Values → IntSet
 values_in (values_are.Range r) = range r.low.value r.high
-values_in (values_are.Listed values) = listed values
+values_in (values_are.Listed values) = listed_set values
 
 -- none for a type that no variable may have
-abbrev pub values_of : Base → IntSet
-values_of bases.Bool = range (pos 0) (pos 1)
-values_of (bases.Values values) = values_in values
-values_of _ = no_values
+abbrev pub base_values : Base → IntSet
+base_values bases.Bool = range (pos 0) (pos 1)
+base_values (bases.Values values) = values_in values
+base_values _ = no_values
 
 abbrev pub var_of : SingleVar → ModelVar
-var_of var = record { name = var.name.text; domain = values_of var.base; kind = kind_of var.base }
+var_of var = record { name = var.name.text; domain = base_values var.base; kind = kind_of var.base }
 
 -- the single variables, in order of declaration
 abbrev pub vars_of : List Var → List ModelVar

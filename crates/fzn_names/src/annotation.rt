@@ -3,7 +3,7 @@ ghost use Rattle.std.specs.Prelude.{◌≡◌, ◌≤◌, ◌*◌, List, ◌∷�
 ghost use Rattle.std.specs.List.{list_all};
 ghost use Rattle.fzn_domain.specs.IntSet.{width};
 ghost use Rattle.fzn_meaning.specs.Meaning.{longest};
-ghost use Rattle.fzn_names.specs.Annotations.{has_no_args, is_output_var, is_output_array, is_output, is_mark, is_marked, is_bad_mark, range_of, ranges_in, size_of, have_form, listed_terms, is_array_mark, is_bad_array_mark, position_of_ann, mark_faults};
+ghost use Rattle.fzn_names.specs.Annotations.{has_no_args, is_output_var, is_output_array, is_output, is_mark, is_marked, is_bad_mark, index_range, ranges_in, size_of, have_form, listed_terms, is_array_mark, is_bad_array_mark, position_of_ann, mark_faults};
 ghost use Rattle.fzn_names.specs.Capped.{capped};
 ghost use Rattle.fzn_tree.specs.declared.tree.Ann.{Ann, out-Ann};
 ghost use Rattle.fzn_tree.specs.declared.tree.AnnTerm.{AnnTerm};
@@ -64,7 +64,7 @@ pub fn is_marked(mut anns: &[Ann]) -> bool
 // ---- arrays
 
 fn range_of(term: &AnnTerm<Ann>) -> Option<IndexRange>
-    ensures { result ≡ range_of term.now }
+    ensures { result ≡ index_range term.now }
 {
     match term {
         AnnTerm::Literal(Literal::Range(range)) => Some(IndexRange {
@@ -78,7 +78,7 @@ fn range_of(term: &AnnTerm<Ann>) -> Option<IndexRange>
 }
 
 fn are_ranges(mut terms: &[AnnTerm<Ann>]) -> bool
-    ensures { result ≡ list_all (λ term. is_some (range_of term)) terms.now }
+    ensures { result ≡ list_all (λ term. is_some (index_range term)) terms.now }
 {
     while let [term, rest @ ..] = terms {
         if range_of(term).is_none() {

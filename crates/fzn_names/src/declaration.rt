@@ -2,7 +2,7 @@
 ghost use Rattle.std.specs.Prelude.{◌≡◌, ◌+◌, ◌≤◌, length, IfOk};
 ghost use Rattle.std.specs.List.{All};
 ghost use Rattle.fzn_meaning.specs.Meaning.{longest};
-ghost use Rattle.fzn_names.specs.Declarations.{name_of, var_value, number_after, vars_faults, names_from, names_of, declaration_faults};
+ghost use Rattle.fzn_names.specs.Declarations.{declared_name, var_value, number_after, vars_faults, names_from, names_of, declaration_faults};
 ghost use Rattle.fzn_names.specs.Given.{Gives};
 ghost use Rattle.fzn_names.specs.Known.{known};
 ghost use Rattle.fzn_names.specs.Limits.{IsVarWithin, AreDeclarationsWithin};
@@ -32,7 +32,7 @@ pub fn number_after(number: usize, var: &Var) -> usize
 }
 
 fn name_of(var: &Var) -> &Text
-    ensures { result.now ≡ name_of var.now }
+    ensures { result.now ≡ declared_name var.now }
 {
     match var {
         Var::Single(single) => &single.name.text,

@@ -4,8 +4,8 @@ ghost use Rattle.std.specs.List.{All};
 ghost use Rattle.fzn_domain.specs.IntSet.{no_values};
 ghost use Rattle.fzn_names.specs.Known.{known};
 ghost use Rattle.fzn_names.specs.Limits.{IsLiteralWithin, IsBasicWithin, AreValuesWithin, IsBaseWithin, IsVarWithin};
-ghost use Rattle.fzn_names.specs.Values.{literal_value, value_of, value_set, set_in};
-ghost use Rattle.fzn_names.specs.Variables.{kind_of, values_in, values_of, var_of, vars_of};
+ghost use Rattle.fzn_names.specs.Values.{literal_value, basic_meaning, value_set, set_in};
+ghost use Rattle.fzn_names.specs.Variables.{kind_of, values_in, base_values, var_of, vars_of};
 
 use crate::names::{Declared, Names};
 use fzn_domain::Domain;
@@ -46,7 +46,7 @@ fn literal_set(alloc: Global, literal: &Literal) -> Result<Domain, AllocError>
 /// The set that the value is, else none. It answers `Err` where memory runs out.
 pub fn set_of(alloc: Global, names: &Names, basic: &Basic) -> Result<Domain, AllocError>
     requires { IsBasicWithin basic.now }
-    ensures { IfOk result (λ domain. domain ≡ set_in (value_of (known names.now) basic.now)) }
+    ensures { IfOk result (λ domain. domain ≡ set_in (basic_meaning (known names.now) basic.now)) }
 {
     match basic {
         Basic::Literal(literal) => literal_set(alloc, literal),
@@ -60,7 +60,7 @@ pub fn set_of(alloc: Global, names: &Names, basic: &Basic) -> Result<Domain, All
 /// The values of a type that a variable may have, else none.
 fn values_of(alloc: Global, base: &Base) -> Result<Domain, AllocError>
     requires { IsBaseWithin base.now }
-    ensures { IfOk result (λ domain. domain ≡ values_of base.now) }
+    ensures { IfOk result (λ domain. domain ≡ base_values base.now) }
 {
     match base {
         Base::Bool => Domain::range(alloc, 0, 1),

@@ -1,7 +1,7 @@
 // The faults of a variable or an array, and how many constraints it adds.
 ghost use Rattle.std.specs.Prelude.{◌≡◌, ◌≤◌, ◌++◌, length, flat_map};
 ghost use Rattle.fzn_meaning.specs.Meaning.{longest};
-ghost use Rattle.fzn_names.specs.Faults.{set_types, unbounded_types, wanted_of, unknown_values, wrong_written, added_by_value, added_by_entries, added_by, passes, single_faults, array_faults, var_faults};
+ghost use Rattle.fzn_names.specs.Faults.{set_types, unbounded_types, wanted_of, unknown_values, wrong_written, added_by_value, added_by_entries, added_by, passes_limit, single_faults, array_faults, var_faults};
 ghost use Rattle.fzn_names.specs.Known.{known};
 ghost use Rattle.fzn_names.specs.Limits.{IsVarWithin};
 ghost use Rattle.fzn_names.specs.Positions.{first};
@@ -49,7 +49,7 @@ fn unbounded_type(base: &Base) -> Option<Position>
 fn passes(before: usize, more: usize) -> bool
     requires before { before ≤ longest }
     requires more { more ≤ longest }
-    ensures { result ≡ passes before more }
+    ensures { result ≡ passes_limit before more }
 {
     before + more > LONGEST
 }

@@ -4,7 +4,7 @@ ghost use Rattle.std.specs.List.{All};
 ghost use Rattle.fzn_domain.specs.declared.literal.VarId.{VarId};
 ghost use Rattle.fzn_meaning.specs.Meaning.{longest};
 ghost use Rattle.fzn_names.specs.Annotations.{is_array_mark};
-ghost use Rattle.fzn_names.specs.Outputs.{single_item, array_item, items_of, shown_from};
+ghost use Rattle.fzn_names.specs.Outputs.{single_item, array_item, output_items, shown_from};
 ghost use Rattle.fzn_names.specs.Known.{known};
 ghost use Rattle.fzn_names.specs.Limits.{IsVarWithin};
 ghost use Rattle.fzn_names.specs.Variables.{vars_of};
@@ -75,7 +75,7 @@ fn show(
     shown: &mut Items<OutputItem>,
 ) -> Result<(), AllocError>
     requires { IsVarWithin var.now }
-    ensures { OnOk result (shown.new ≡ shown.old ++ items_of (known names.now) number var.now) }
+    ensures { OnOk result (shown.new ≡ shown.old ++ output_items (known names.now) number var.now) }
 {
     match var {
         Var::Single(single) => {

@@ -2,7 +2,7 @@
 ghost use Rattle.std.specs.Prelude.{◌≡◌, [], ◌++◌, flat_map, IfOk};
 ghost use Rattle.std.specs.List.{All};
 ghost use Rattle.fzn_names.specs.Given.{Gives};
-ghost use Rattle.fzn_names.specs.Params.{set_elements, set_values, wanted_by, wrong_values, wrong_lengths, param_faults, kind_by, param_value, params_faults, param_names};
+ghost use Rattle.fzn_names.specs.Params.{set_elements, set_values, wanted_by, wrong_values, wrong_lengths, param_faults, kind_by, declared_value, params_faults, param_names};
 ghost use Rattle.fzn_names.specs.Known.{known};
 ghost use Rattle.fzn_names.specs.Limits.{IsLiteralWithin, IsParamWithin};
 ghost use Rattle.fzn_names.specs.Positions.{first};
@@ -171,7 +171,7 @@ fn kind_by(base: ParamBase) -> Kind
 
 fn param_value(alloc: Global, param: &Param) -> Result<Declared, AllocError>
     requires { IsParamWithin param.now }
-    ensures { IfOk result (λ value. value ≡ param_value param.now.base param.now.value) }
+    ensures { IfOk result (λ value. value ≡ declared_value param.now.base param.now.value) }
 {
     match &param.value {
         ParamValue::Literal(literal) => literal_value(alloc, literal),

@@ -5,7 +5,7 @@ ghost use Rattle.fzn_names.specs.Known.{known};
 ghost use Rattle.fzn_names.specs.Positions.{first, position_of_literal, position_of};
 ghost use Rattle.fzn_names.specs.Signs.{is_negative};
 ghost use Rattle.fzn_names.specs.Types.{fits, is_wanted, is_set, set_literals, sets_in, unknown_in, wrong_literals, wrong_in};
-ghost use Rattle.fzn_names.specs.Values.{literal_value, value_of, value_term, term_of, terms_of, term_in, terms_in, meaning_of};
+ghost use Rattle.fzn_names.specs.Values.{literal_value, basic_meaning, value_term, term_of, entry_terms, term_in, terms_meant, meaning_of};
 
 use crate::names::{Declared, Names};
 use fzn_lexer::Position;
@@ -106,7 +106,7 @@ fn fits(wanted: Argument, value: &Declared) -> bool
 
 /// Whether the value is of the type that is wanted.
 pub fn is_wanted(names: &Names, wanted: Argument, basic: &Basic) -> bool
-    ensures { result ≡ is_wanted wanted (value_of (known names.now) basic.now) }
+    ensures { result ≡ is_wanted wanted (basic_meaning (known names.now) basic.now) }
 {
     match basic {
         Basic::Literal(literal) => literal_fits(wanted, literal),
@@ -127,7 +127,7 @@ fn is_set_literal(literal: &Literal) -> bool
 }
 
 fn is_set(names: &Names, basic: &Basic) -> bool
-    ensures { result ≡ is_set (value_of (known names.now) basic.now) }
+    ensures { result ≡ is_set (basic_meaning (known names.now) basic.now) }
 {
     match basic {
         Basic::Literal(literal) => is_set_literal(literal),
@@ -243,7 +243,7 @@ pub fn term_of(names: &Names, basic: &Basic) -> Term
 
 /// The entries of the array that is named, else none.
 pub fn array_of<'a>(names: &'a Names, basic: &Basic) -> &'a [Term]
-    ensures { result.now ≡ terms_in (value_of (known names.now) basic.now) }
+    ensures { result.now ≡ terms_meant (basic_meaning (known names.now) basic.now) }
 {
     match basic {
         Basic::Literal(_) => &[],
@@ -258,7 +258,7 @@ pub fn array_of<'a>(names: &'a Names, basic: &Basic) -> &'a [Term]
 /// The list of the array that is named, for one more owner, else an empty list. It answers `Err` where memory runs out or no further owner
 /// can be counted.
 pub fn list_of(alloc: Global, names: &Names, basic: &Basic) -> Result<Shared<Term>, AllocError>
-    ensures { IfOk result (λ list. list ≡ terms_in (value_of (known names.now) basic.now)) }
+    ensures { IfOk result (λ list. list ≡ terms_meant (basic_meaning (known names.now) basic.now)) }
 {
     match basic {
         Basic::Literal(_) => Shared::new(alloc, Items::new(alloc)),
@@ -272,7 +272,7 @@ pub fn list_of(alloc: Global, names: &Names, basic: &Basic) -> Result<Shared<Ter
 
 /// Whether a constant below 0 is among the entries of the array that is named.
 pub fn has_negative_entry(names: &Names, basic: &Basic) -> bool
-    ensures { result ≡ list_any is_negative (terms_in (value_of (known names.now) basic.now)) }
+    ensures { result ≡ list_any is_negative (terms_meant (basic_meaning (known names.now) basic.now)) }
 {
     match basic {
         Basic::Literal(_) => false,
@@ -290,7 +290,7 @@ pub fn terms_of(
     names: &Names,
     mut entries: &[Basic],
 ) -> Result<Items<Term>, AllocError>
-    ensures { IfOk result (λ terms. terms ≡ terms_of (known names.now) entries.now) }
+    ensures { IfOk result (λ terms. terms ≡ entry_terms (known names.now) entries.now) }
 {
     let mut terms = Items::new(alloc);
     while let [basic, rest @ ..] = entries {

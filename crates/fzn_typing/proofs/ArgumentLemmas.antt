@@ -12,10 +12,10 @@ use Rattle.fzn_meaning.specs.Meaning.{IsBoolean, AreTerms}
 use Rattle.fzn_meaning.specs.Term.{number_in, weighted, IsTerm, IsPlace}
 use Rattle.fzn_names.specs.Positions.{position_of}
 use Rattle.fzn_names.specs.Types.{is_wanted}
-use Rattle.fzn_names.specs.Values.{NameList, value_of, terms_in, set_in}
+use Rattle.fzn_names.specs.Values.{NameList, basic_meaning, terms_meant, set_in}
 use Rattle.fzn_names.specs.declared.names.Declared.{Declared}
 use Rattle.fzn_names.proofs.FirstLemmas.{left_empty, right_empty}
-use Rattle.fzn_names.proofs.MeaningLemmas.{IsMeaning, AreMeanings, value-meaning, when_not, term_of-within, terms_of-within, boolean_term, boolean_terms}
+use Rattle.fzn_names.proofs.MeaningLemmas.{IsMeaning, AreMeanings, value-meaning, when_not, term_of-within, entry_terms-within, boolean_term, boolean_terms}
 use Rattle.fzn_names.proofs.ValueSetLemmas.{zero_in_limits, none_limited}
 use Rattle.fzn_tree.specs.declared.tree.Arg.{Arg}
 use Rattle.fzn_tree.specs.declared.tree.Arg.TheVariants as args
@@ -73,7 +73,7 @@ right_at names (x ∷ wanted) (y ∷ all) (suc i) w arg e there here =
     right_at names wanted all i w arg (right_empty (wrong_parts names x y) (wrong_arguments names wanted all) e) there here
 
 module _ (sets : List IntSet) (names : NameList) (known : AreMeanings sets names) where
-  array-within : (o : Option Declared) → ((value : Declared) → o ≡ Some value → IsMeaning sets value) → AreTerms (length sets) (terms_in o)
+  array-within : (o : Option Declared) → ((value : Declared) → o ≡ Some value → IsMeaning sets value) → AreTerms (length sets) (terms_meant o)
   array-within None h = (All-nil (IsTerm (length sets)), omega arith)
   array-within (Some value) h = let m = h value refl in (m.terms, m.few)
 
@@ -81,7 +81,7 @@ module _ (sets : List IntSet) (names : NameList) (known : AreMeanings sets names
   set-limited None h = none_limited
   set-limited (Some value) h = (h value refl).set
 
-  array-boolean : (o : Option Declared) → ((value : Declared) → o ≡ Some value → IsMeaning sets value) → is_wanted BooleanList o ≡ true → All (IsBoolean sets) (terms_in o)
+  array-boolean : (o : Option Declared) → ((value : Declared) → o ≡ Some value → IsMeaning sets value) → is_wanted BooleanList o ≡ true → All (IsBoolean sets) (terms_meant o)
   array-boolean None h fit = cc
   array-boolean (Some value) h fit = (h value refl).booleans fit
 
@@ -92,19 +92,19 @@ module _ (sets : List IntSet) (names : NameList) (known : AreMeanings sets names
 
   pub list-within : (o : Option Arg) → IsGivenWithin o → AreTerms (length sets) (terms_given names o)
   list-within None within = (All-nil (IsTerm (length sets)), omega arith)
-  list-within (Some (args.Basic b)) within = array-within (value_of names b) (λ value e. value-meaning sets names known b value within e)
-  list-within (Some (args.Array array)) within = (terms_of-within sets names known array.entries within.0, rw length-map within.1)
+  list-within (Some (args.Basic b)) within = array-within (basic_meaning names b) (λ value e. value-meaning sets names known b value within e)
+  list-within (Some (args.Array array)) within = (entry_terms-within sets names known array.entries within.0, rw length-map within.1)
 
   pub set-within : (o : Option Arg) → IsGivenWithin o → IsLimited (set_given names o)
   set-within None within = none_limited
-  set-within (Some (args.Basic b)) within = set-limited (value_of names b) (λ value e. value-meaning sets names known b value within e)
+  set-within (Some (args.Basic b)) within = set-limited (basic_meaning names b) (λ value e. value-meaning sets names known b value within e)
   set-within (Some (args.Array array)) within = none_limited
 
   pub boolean-given : (arg : Arg) → IsArgWithin arg → wrong_parts names Boolean arg ≡ [] → IsBoolean sets (term_given names (Some arg))
-  boolean-given (args.Basic b) within e = boolean_term sets names known b within (when_not (is_wanted Boolean (value_of names b)) (position_of b) e)
+  boolean-given (args.Basic b) within e = boolean_term sets names known b within (when_not (is_wanted Boolean (basic_meaning names b)) (position_of b) e)
   boolean-given (args.Array array) within e = absurd cc
 
   pub booleans-given : (arg : Arg) → IsArgWithin arg → wrong_parts names BooleanList arg ≡ [] → All (IsBoolean sets) (terms_given names (Some arg))
   booleans-given (args.Basic b) within e =
-      array-boolean (value_of names b) (λ value f. value-meaning sets names known b value within f) (when_not (is_wanted BooleanList (value_of names b)) (position_of b) e)
+      array-boolean (basic_meaning names b) (λ value f. value-meaning sets names known b value within f) (when_not (is_wanted BooleanList (basic_meaning names b)) (position_of b) e)
   booleans-given (args.Array array) within e = boolean_terms sets names known array.entries within.0 e

@@ -3,7 +3,7 @@ use Rattle.std.proofs.Common.{◌≡◌, true, false, List, [], ◌∷◌, Optio
 use Rattle.std.proofs.lemmas.Bool.{and_parts}
 use Rattle.fzn_names.specs.Positions.{first, position_of}
 use Rattle.fzn_names.specs.Types.{is_wanted, is_set, sets_in, unknown_in, wrong_in}
-use Rattle.fzn_names.specs.Values.{NameList, value_of}
+use Rattle.fzn_names.specs.Values.{NameList, basic_meaning}
 use Rattle.fzn_names.proofs.FirstLemmas.{empty-first, left_empty, right_empty}
 use Rattle.fzn_names.proofs.MeaningLemmas.{when_not}
 use Rattle.fzn_registry.specs.declared.name.Name.{Name}
@@ -40,16 +40,16 @@ module _ (names : NameList) where
   entries_right : (wanted entry : Argument) (bs : List Basic) → entry_of wanted ≡ Some entry → flat_map (wrong_in names entry) bs ≡ [] → (flat_map (sets_in names) bs ≡ []) × (flat_map (unknown_in names) bs ≡ [])
   entries_right wanted entry [] is right = (refl, refl)
   entries_right wanted entry (b ∷ bs) is right =
-      let fit = when_not (is_wanted entry (value_of names b)) (position_of b) (left_empty (wrong_in names entry b) (flat_map (wrong_in names entry) bs) right) in
+      let fit = when_not (is_wanted entry (basic_meaning names b)) (position_of b) (left_empty (wrong_in names entry b) (flat_map (wrong_in names entry) bs) right) in
       let more = entries_right wanted entry bs is (right_empty (wrong_in names entry b) (flat_map (wrong_in names entry) bs) right) in
-      (rw (not_a_set wanted entry (value_of names b) is fit) more.0, rw (declared entry (value_of names b) fit) more.1)
+      (rw (not_a_set wanted entry (basic_meaning names b) is fit) more.0, rw (declared entry (basic_meaning names b) fit) more.1)
 
   array_right : (wanted : Argument) (o : Option Argument) (array : Array) → entry_of wanted ≡ o → wrong_entries names o array ≡ [] → (flat_map (sets_in names) array.entries ≡ []) × (flat_map (unknown_in names) array.entries ≡ [])
   array_right wanted None array is right = absurd cc
   array_right wanted (Some entry) array is right = entries_right wanted entry array.entries is right
 
   argument_right : (wanted : Argument) (arg : Arg) → wrong_parts names wanted arg ≡ [] → (set_entries names arg ≡ []) × (unknown_names names arg ≡ [])
-  argument_right wanted (args.Basic b) right = (refl, rw (declared wanted (value_of names b) (when_not (is_wanted wanted (value_of names b)) (position_of b) right)) refl)
+  argument_right wanted (args.Basic b) right = (refl, rw (declared wanted (basic_meaning names b) (when_not (is_wanted wanted (basic_meaning names b)) (position_of b) right)) refl)
   argument_right wanted (args.Array array) right = array_right wanted (entry_of wanted) array refl right
 
   arguments_right : (wanted : List Argument) (all : List Arg) → length all ≡ length wanted → wrong_arguments names wanted all ≡ []

@@ -19,7 +19,7 @@ use Rattle.fzn_meaning.specs.WellFormed.{IsGoal}
 use Rattle.fzn_names.specs.Declarations.{added_by_value, added_by_entries, added_by, var_faults, declared_var, number_after, vars_faults}
 use Rattle.fzn_names.specs.Limits.{IsBasicWithin, IsValueWithin, IsBaseWithin, IsVarWithin}
 use Rattle.fzn_names.specs.Positions.{first, when, at}
-use Rattle.fzn_names.specs.Values.{NameList, value_of, term_of}
+use Rattle.fzn_names.specs.Values.{NameList, basic_meaning, term_of}
 use Rattle.fzn_names.specs.Variables.{kind_of, values_in}
 use Rattle.fzn_names.specs.declared.names.Declared.{Declared}
 use Rattle.fzn_names.specs.declared.names.Declared.TheVariants as d
@@ -182,7 +182,7 @@ module _ (sets : List IntSet) (names : NameList) (known : AreMeanings sets names
   objective-within (basics.Literal (l.Int number)) var e = cc
   objective-within (basics.Literal (l.Range range)) var e = cc
   objective-within (basics.Literal (l.Set position values)) var e = cc
-  objective-within (basics.Name name) var e = integer_within (value_of names (basics.Name name)) var (λ value found. lookup-meaning sets (bytes_eq name.text) names value known found) e
+  objective-within (basics.Name name) var e = integer_within (basic_meaning names (basics.Name name)) var (λ value found. lookup-meaning sets (bytes_eq name.text) names value known found) e
 
   minimized : (found : Option VarId) (goal : Goal) → ((var : VarId) → found ≡ Some var → IsVariable (length sets) var) → option_map Minimize found ≡ Some goal → IsGoal (length sets) goal
   minimized None goal h e = cc

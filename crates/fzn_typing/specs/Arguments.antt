@@ -8,7 +8,7 @@ use Rattle.fzn_meaning.specs.declared.term.Term.TheVariants as terms
 use Rattle.fzn_meaning.specs.Term.{number_in, numbers_in}
 use Rattle.fzn_names.specs.Positions.{first}
 use Rattle.fzn_names.specs.Types.{sets_in, unknown_in, wrong_in}
-use Rattle.fzn_names.specs.Values.{NameList, value_of, term_of, terms_of, terms_in, set_in}
+use Rattle.fzn_names.specs.Values.{NameList, basic_meaning, term_of, entry_terms, terms_meant, set_in}
 use Rattle.fzn_names.specs.Signs.{is_negative}
 use Rattle.fzn_tree.specs.declared.tree.Arg.{Arg}
 use Rattle.fzn_tree.specs.declared.tree.Arg.TheVariants as args
@@ -63,11 +63,11 @@ term_given names _ = terms.Constant (pos 0)
 
 abbrev pub terms_given : NameList → Option Arg → List Term
 terms_given names None = []
-terms_given names (Some (args.Basic basic)) = terms_in (value_of names basic)
-terms_given names (Some (args.Array array)) = terms_of names array.entries
+terms_given names (Some (args.Basic basic)) = terms_meant (basic_meaning names basic)
+terms_given names (Some (args.Array array)) = entry_terms names array.entries
 
 abbrev pub set_given : NameList → Option Arg → IntSet
-set_given names (Some (args.Basic basic)) = set_in (value_of names basic)
+set_given names (Some (args.Basic basic)) = set_in (basic_meaning names basic)
 set_given names _ = no_values
 
 -- the argument at this place

@@ -8,7 +8,7 @@ use Rattle.fzn_meaning.specs.declared.model.Kind.TheVariants.{Integer}
 use Rattle.fzn_names.specs.Declarations.{names_of, declaration_faults}
 use Rattle.fzn_names.specs.Positions.{when, at, position_of}
 use Rattle.fzn_names.specs.Types.{unknown_in}
-use Rattle.fzn_names.specs.Values.{NameList, value_of}
+use Rattle.fzn_names.specs.Values.{NameList, basic_meaning}
 use Rattle.fzn_names.specs.declared.names.Declared.{Declared}
 use Rattle.fzn_names.specs.declared.names.Declared.TheVariants.{Variable}
 use Rattle.fzn_tree.specs.declared.tree.Basic.{Basic}
@@ -50,7 +50,7 @@ integer_variable _ = None
 
 -- the integer variable that is named
 abbrev pub objective_of : NameList → Basic → Option VarId
-objective_of names basic = integer_variable (value_of names basic)
+objective_of names basic = integer_variable (basic_meaning names basic)
 
 abbrev pub objective_faults : NameList → Basic → List Fault
 objective_faults names basic = at UnknownName (unknown_in names basic) ++ at WrongType (when (is_none (objective_of names basic)) (position_of basic))

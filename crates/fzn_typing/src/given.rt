@@ -5,7 +5,7 @@ ghost use Rattle.fzn_names.specs.Known.{known};
 ghost use Rattle.fzn_typing.specs.Arguments.{argument_term, terms_at, set_at, number_given, numbers_at, length_at, has_lengths, has_negative};
 ghost use Rattle.fzn_typing.specs.Limits.{IsArgWithin};
 ghost use Rattle.fzn_meaning.specs.Term.{weighted};
-ghost use Rattle.fzn_names.specs.Values.{terms_of};
+ghost use Rattle.fzn_names.specs.Values.{entry_terms};
 ghost use Rattle.fzn_names.specs.Signs.{is_negative};
 
 use fzn_domain::Domain;
@@ -115,7 +115,7 @@ pub fn has_lengths(names: &Names, wanted: Lengths, args: &[Arg]) -> bool
 }
 
 fn has_negative_value(names: &Names, mut entries: &[Basic]) -> bool
-    ensures { result ≡ list_any is_negative (terms_of (known names.now) entries.now) }
+    ensures { result ≡ list_any is_negative (entry_terms (known names.now) entries.now) }
 {
     while let [basic, rest @ ..] = entries {
         if is_negative(term_of(names, basic)) {
