@@ -40,19 +40,19 @@ listed_mapped f one one' close same (x ∷ xs) =
 abbrev folded : Ann → pieces
 folded = fold-Ann pieces G.ann_layer
 
-term_mapped : (level : ℕ) (x : AnnTerm Ann) → G.ann_term level (shapes.former-Ann-args-at-4.map Ann pieces folded x) ≡ A.term level x
+term_mapped : (level : ℕ) (x : AnnTerm Ann) → G.ann_term level (shapes.former-Ann-args-at-4.map Ann pieces folded x) ≡ A.term_pieces level x
 unfolding G.ann
 term_mapped level (terms.Literal value) = refl
 term_mapped level (terms.Text text position) = refl
 term_mapped level (terms.Ann a) = refl
 
-arg_mapped : (level : ℕ) (x : AnnArg Ann) → G.ann_arg level (shapes.former-Ann-args-at-11.map Ann pieces folded x) ≡ A.arg level x
+arg_mapped : (level : ℕ) (x : AnnArg Ann) → G.ann_arg level (shapes.former-Ann-args-at-11.map Ann pieces folded x) ≡ A.arg_pieces level x
 arg_mapped level (inner_args.One one) = term_mapped level one
-arg_mapped level (inner_args.List all) = ap (λ (z : List Piece). G.opened s.OpenBracket level ++ z) (listed_mapped _ (G.ann_entry (suc level)) (A.entry (suc level)) s.CloseBracket (λ n x. ap (marked (nat_lt n G.most)) (term_mapped (suc level) x)) all)
+arg_mapped level (inner_args.List all) = ap (λ (z : List Piece). G.opened s.OpenBracket level ++ z) (listed_mapped _ (G.ann_entry (suc level)) (A.entry_pieces (suc level)) s.CloseBracket (λ n x. ap (marked (nat_lt n G.most)) (term_mapped (suc level) x)) all)
 
 args_mapped : (level : ℕ) (x : Option (List (AnnArg Ann))) → G.ann_args level (shapes.former-Ann-args.map Ann pieces folded x) ≡ optional level x
 args_mapped level None = refl
-args_mapped level (Some args) = ap (λ (z : List Piece). G.opened s.OpenParen level ++ z) (listed_mapped _ (λ n. G.ann_arg (suc level)) (λ n. A.arg (suc level)) s.CloseParen (λ n x. arg_mapped (suc level) x) args)
+args_mapped level (Some args) = ap (λ (z : List Piece). G.opened s.OpenParen level ++ z) (listed_mapped _ (λ n. G.ann_arg (suc level)) (λ n. A.arg_pieces (suc level)) s.CloseParen (λ n x. arg_mapped (suc level) x) args)
 
 pub ann_rolled : (level : ℕ) (layer : Ann-F Ann) → G.ann level (roll-Ann layer) ≡ G.name layer.name ++ optional level layer.args
 unfolding G.ann

@@ -13,7 +13,7 @@ use Rattle.fzn_tree.specs.declared.tree.Name.{Name}
 use Rattle.fzn_tree.specs.Piece.{Piece, Fits, AreSpelled, sign, placed, marked}
 use Rattle.fzn_tree.specs.Grammar as G
 use Rattle.fzn_parser.specs.declared.cursor.Refusal.{Refusal}
-use Rattle.fzn_parser.specs.Reads.{next_is, SameNext, PassesLimit, Limited, IsRefused, Reads}
+use Rattle.fzn_parser.specs.Reads.{next_is, SameNext, PassesLimit, Limited, IsRefused, ReadsValue}
 use Rattle.fzn_parser.specs.GoesOn.{never}
 use Rattle.fzn_parser.specs.Taken.{over, refusal}
 use Rattle.fzn_parser.proofs.SpelledLaws.{next_is-same}
@@ -66,8 +66,8 @@ marked_spelled false u [] spelled = spelled
 marked_spelled false [] (p ∷ ps) spelled = absurd spelled
 marked_spelled false (y ∷ u) (p ∷ ps) spelled = spelled
 
-pub within_limit : {A : Type 0} {s : A → List Piece} {g : Token → Bool} {ts : List Token} {r : Result A (Halt Refusal)} {rest : List Token} (below : Bool) → below ≡ true → Reads s g ts r rest → Reads (λ a. marked below (s a)) g ts r rest
-within_limit {A} {s} {g} {ts} {r} {rest} below e p = subst (λ (b : Bool). Reads (λ a. marked b (s a)) g ts r rest) (sym e) p
+pub within_limit : {A : Type 0} {s : A → List Piece} {g : Token → Bool} {ts : List Token} {r : Result A (Halt Refusal)} {rest : List Token} (below : Bool) → below ≡ true → ReadsValue s g ts r rest → ReadsValue (λ a. marked below (s a)) g ts r rest
+within_limit {A} {s} {g} {ts} {r} {rest} below e p = subst (λ (b : Bool). ReadsValue (λ a. marked b (s a)) g ts r rest) (sym e) p
 
 -- a value that the token begins
 abbrev pub First : {A : Type 0} → (A → List Piece) → Token → Type 0

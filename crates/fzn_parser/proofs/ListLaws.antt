@@ -13,10 +13,10 @@ use Rattle.fzn_lexer.specs.declared.token.Symbol.TheVariants as s
 use Rattle.fzn_tree.specs.Piece.{Piece, AreSpelled, sign, sign_piece, each_by, one_more, ◌and◌}
 use Rattle.fzn_tree.specs.Grammar as G
 use Rattle.fzn_parser.specs.declared.cursor.Refusal.{Refusal}
-use Rattle.fzn_parser.specs.Reads.{next_is, SameNext, Stops, Reads}
+use Rattle.fzn_parser.specs.Reads.{next_is, SameNext, Stops, ReadsValue}
 use Rattle.fzn_parser.specs.GoesOn.{never}
 use Rattle.fzn_parser.specs.Taken.{is}
-use Rattle.fzn_parser.specs.Lists.{IsListed}
+use Rattle.fzn_parser.specs.Lists.{IsListable}
 use Rattle.fzn_parser.proofs.SpelledLaws.{next_is-same}
 use Rattle.fzn_parser.proofs.NextLaws.{is_symbol-true, is_symbol-same, next_kind, stops_never, next_split}
 use Rattle.fzn_parser.proofs.Onward.{Parts, last, part, loop, Values, Onward, IsForm, form, begin, ◌then◌, stop, stop_last, done}
@@ -52,7 +52,7 @@ module _ {A : Type 0} (part_of : ℕ → A → List Piece) (close : Symbol) wher
   pub record AreListed (ts : List Token) (parts : List A) (mid : List Token) : Type 0 where
     pub on : Onward (G.listed part_of close) never ts (rest_parts (length parts)) (λ q. parts ++ q.0) mid
 
-module _ {A : Type 0} {part_of : ℕ → A → List Piece} {g : Token → Bool} {close : Symbol} (w : IsListed part_of g close) where
+module _ {A : Type 0} {part_of : ℕ → A → List Piece} {g : Token → Bool} {close : Symbol} (w : IsListable part_of g close) where
   not_false : (b : Bool) → not b ≡ false → b ≡ true
   not_false true e = refl
   not_false false e = absurd cc
@@ -112,7 +112,7 @@ module _ {A : Type 0} {part_of : ℕ → A → List Piece} {g : Token → Bool} 
         onto (x ∷ more) u v spelled stops same = ((x, (more, tt)), refl)
 
   module _ {ts : List Token} where
-    pub listed_begun : {a : A} {mid : List Token} → next_is (is close) ts ≡ false → Reads (part_of 0) g ts (Ok a) mid → AreListed part_of close ts (a ∷ []) mid
+    pub listed_begun : {a : A} {mid : List Token} → next_is (is close) ts ≡ false → ReadsValue (part_of 0) g ts (Ok a) mid → AreListed part_of close ts (a ∷ []) mid
     listed_begun there r = record { on = begin (listed_open ts there) then r }
 
     module _ {parts : List A} {mid : List Token} (all : AreListed part_of close ts parts mid) where
@@ -120,13 +120,13 @@ module _ {A : Type 0} {part_of : ℕ → A → List Piece} {g : Token → Bool} 
       in_item = begin (comma_item (length parts) mid)
 
       module _ {x : Halt Refusal} {r : Result (List A) (Halt Refusal)} {rest : List Token} (there : next_is (is s.Comma) mid ≡ true) where
-        pub listed_no_comma : {after : List Token} → Reads (λ (u : Unit {0}). sign s.Comma) never mid (Err x) after → IsErrAnd r (λ y. y ≡ x) → Reads (G.listed part_of close) never ts r rest
+        pub listed_no_comma : {after : List Token} → ReadsValue (λ (u : Unit {0}). sign s.Comma) never mid (Err x) after → IsErrAnd r (λ y. y ≡ x) → ReadsValue (G.listed part_of close) never ts r rest
         listed_no_comma {after} p is = turn_stop commas all.on there (stop in_item {r = Err x} {rest = after} p refl) is
 
-        pub listed_no_part : {next after : List Token} → Reads (λ (u : Unit {0}). sign s.Comma) never mid (Ok tt) next → Reads (part_of (length parts)) g next (Err x) after → IsErrAnd r (λ y. y ≡ x) → Reads (G.listed part_of close) never ts r rest
+        pub listed_no_part : {next after : List Token} → ReadsValue (λ (u : Unit {0}). sign s.Comma) never mid (Ok tt) next → ReadsValue (part_of (length parts)) g next (Err x) after → IsErrAnd r (λ y. y ≡ x) → ReadsValue (G.listed part_of close) never ts r rest
         listed_no_part {next} {after} c p is = turn_stop commas all.on there (stop_last (in_item then c) {r = Err x} {rest = after} p refl) is
 
-      pub listed_turn : {a : A} {next after : List Token} → next_is (is s.Comma) mid ≡ true → Reads (λ (u : Unit {0}). sign s.Comma) never mid (Ok tt) next → Reads (part_of (length parts)) g next (Ok a) after → AreListed part_of close ts (parts ++ a ∷ []) after
+      pub listed_turn : {a : A} {next after : List Token} → next_is (is s.Comma) mid ≡ true → ReadsValue (λ (u : Unit {0}). sign s.Comma) never mid (Ok tt) next → ReadsValue (part_of (length parts)) g next (Ok a) after → AreListed part_of close ts (parts ++ a ∷ []) after
       listed_turn {a} {next} {after} there c p =
           let len : suc (length parts) ≡ length (parts ++ a ∷ []) = omega (arith, length-append parts (a ∷ [])) in
           record {
@@ -135,8 +135,8 @@ module _ {A : Type 0} {part_of : ℕ → A → List Piece} {g : Token → Bool} 
           }
 
       module _ (over : next_is (is s.Comma) mid ≡ false) where
-        pub listed_unended : {x : Halt Refusal} {r : Result (List A) (Halt Refusal)} {after rest : List Token} → Reads (closing part_of close) never mid (Err x) after → IsErrAnd r (λ y. y ≡ x) → Reads (G.listed part_of close) never ts r rest
+        pub listed_unended : {x : Halt Refusal} {r : Result (List A) (Halt Refusal)} {after rest : List Token} → ReadsValue (closing part_of close) never mid (Err x) after → IsErrAnd r (λ y. y ≡ x) → ReadsValue (G.listed part_of close) never ts r rest
         listed_unended p is = stop_last (turns_end commas all.on over) p is
 
-        pub listed_read : {rest : List Token} → Reads (closing part_of close) never mid (Ok tt) rest → Reads (G.listed part_of close) never ts (Ok parts) rest
-        listed_read {rest} p = subst (λ (z : List A). Reads (G.listed part_of close) never ts (Ok z) rest) (append-nil parts) (done (turns_end commas all.on over) p)
+        pub listed_read : {rest : List Token} → ReadsValue (closing part_of close) never mid (Ok tt) rest → ReadsValue (G.listed part_of close) never ts (Ok parts) rest
+        listed_read {rest} p = subst (λ (z : List A). ReadsValue (G.listed part_of close) never ts (Ok z) rest) (append-nil parts) (done (turns_end commas all.on over) p)

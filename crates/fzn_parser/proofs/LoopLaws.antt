@@ -5,7 +5,7 @@ use Rattle.fzn_lexer.specs.declared.halt.Halt.{Halt}
 use Rattle.fzn_lexer.specs.declared.token.Token.{Token}
 use Rattle.fzn_tree.specs.Piece.{Piece, AreSpelled, each_by}
 use Rattle.fzn_parser.specs.declared.cursor.Refusal.{Refusal}
-use Rattle.fzn_parser.specs.Reads.{next_is, SameNext, Stops, IsRead, IsRefused, Reads}
+use Rattle.fzn_parser.specs.Reads.{next_is, SameNext, Stops, IsRead, IsRefused, ReadsValue}
 use Rattle.fzn_parser.proofs.SpelledLaws.{next_is-same}
 use Rattle.fzn_parser.proofs.NextLaws.{next_split}
 use Rattle.fzn_parser.proofs.Onward.{Parts, loop, Values, spells, some_of, Onward, exit}
@@ -53,14 +53,14 @@ module _ {A : Type 0} (next : ℕ → A → ℕ) (s : ℕ → A → List Piece) 
   none_onto k there (a ∷ all, b) u v spelled stops same = absurd (let n = next_is-same test (u ++ v) mid same in let o = some_starts k a all b u v spelled in cc)
 
 module _ {A B : Type 0} {next : ℕ → A → ℕ} {s : ℕ → A → List Piece} {test g e : Token → Bool} (w : IsLoop next s test g e) {spell : B → List Piece} {h : Token → Bool} {ts : List Token} {k : ℕ} {ps : Parts} {f : List A × Values ps → B} {mid : List Token} (on : Onward spell h ts (loop next s k e ps) f mid) where
-  pub turn : {a : A} {mid' : List Token} → next_is test mid ≡ true → Reads (s k) g mid (Ok a) mid' → Onward spell h ts (loop next s (next k a) e ps) (λ p. f (a ∷ p.0, p.1)) mid'
+  pub turn : {a : A} {mid' : List Token} → next_is test mid ≡ true → ReadsValue (s k) g mid (Ok a) mid' → Onward spell h ts (loop next s (next k a) e ps) (λ p. f (a ∷ p.0, p.1)) mid'
   turn {a} {mid'} there r = record {
     follow = on.follow;
     read = λ c rest p. on.read (a ∷ c.0, c.1) rest (turn_ok next s test g e w h ps on.follow.0 mid k a mid' c rest there (r.ok a refl) p);
     refused = λ x p. on.refused x (turn_err next s test g e w h ps on.follow.0 mid k a mid' x there (r.ok a refl) p);
   }
 
-  pub turn_stop : {x : Halt Refusal} {r : Result B (Halt Refusal)} {after rest : List Token} → next_is test mid ≡ true → Reads (s k) g mid (Err x) after → IsErrAnd r (λ y. y ≡ x) → Reads spell h ts r rest
+  pub turn_stop : {x : Halt Refusal} {r : Result B (Halt Refusal)} {after rest : List Token} → next_is test mid ≡ true → ReadsValue (s k) g mid (Err x) after → IsErrAnd r (λ y. y ≡ x) → ReadsValue spell h ts r rest
   turn_stop {x} {r} {after} {rest} there p is = exit x r rest is (λ y i. on.refused y (turn_none next s test g e w h ps on.follow.0 mid k y there (p.err y (ap Err i))))
 
   pub turns_end : next_is test mid ≡ false → Onward spell h ts ps (λ c. f ([], c)) mid

@@ -8,7 +8,7 @@ use Rattle.fzn_lexer.specs.declared.token.Symbol.{Symbol}
 use Rattle.fzn_lexer.specs.declared.token.Token.{Token}
 use Rattle.fzn_tree.specs.Piece.{Piece, AreSpelled, each, one_more}
 use Rattle.fzn_parser.specs.declared.cursor.Refusal.{Refusal}
-use Rattle.fzn_parser.specs.Reads.{next_is, Stops, Reads}
+use Rattle.fzn_parser.specs.Reads.{next_is, Stops, ReadsValue}
 use Rattle.fzn_parser.specs.Taken.{is}
 use Rattle.fzn_parser.specs.Lists.{AreMany}
 use Rattle.fzn_parser.proofs.Onward.{last, loop, Onward, form, begin, done, is_read}
@@ -43,7 +43,7 @@ module _ {A : Type 0} {spell : ℕ → A → List Piece} {g : Token → Bool} {b
   begun = record { starts = w.starts; apart = w.apart; ends = λ v stops. (stops_both v stops).0; ends_test = λ v stops. (stops_both v stops).1 }
 
   module _ {ts mid : List Token} {parts : List A} (all : AreRead spell g begins ts parts mid) where
-    pub many_turn : {a : A} {after : List Token} → next_is (is begins) mid ≡ true → Reads (spell (length parts)) g mid (Ok a) after → AreRead spell g begins ts (parts ++ a ∷ []) after
+    pub many_turn : {a : A} {after : List Token} → next_is (is begins) mid ≡ true → ReadsValue (spell (length parts)) g mid (Ok a) after → AreRead spell g begins ts (parts ++ a ∷ []) after
     many_turn {a} {after} there p =
         let len : suc (length parts) ≡ length (parts ++ a ∷ []) = omega (arith, length-append parts (a ∷ [])) in
         record {
@@ -51,8 +51,8 @@ module _ {A : Type 0} {spell : ℕ → A → List Piece} {g : Token → Bool} {b
               (same_onward (λ p. (parts ++ a ∷ []) ++ p.0) (λ p. sym (append_assoc parts (a ∷ []) p.0)) (turn begun all.on there p));
         }
 
-    pub many_stop : {x : Halt Refusal} {r : Result (List A) (Halt Refusal)} {after rest : List Token} → next_is (is begins) mid ≡ true → Reads (spell (length parts)) g mid (Err x) after → IsErrAnd r (λ y. y ≡ x) → Reads (each spell 0) (one_goes_on spell g begins) ts r rest
+    pub many_stop : {x : Halt Refusal} {r : Result (List A) (Halt Refusal)} {after rest : List Token} → next_is (is begins) mid ≡ true → ReadsValue (spell (length parts)) g mid (Err x) after → IsErrAnd r (λ y. y ≡ x) → ReadsValue (each spell 0) (one_goes_on spell g begins) ts r rest
     many_stop there p is = turn_stop begun all.on there p is
 
-    pub many_read : next_is (is begins) mid ≡ false → Reads (each spell 0) (one_goes_on spell g begins) ts (Ok parts) mid
-    many_read over = subst (λ (z : List A). Reads (each spell 0) (one_goes_on spell g begins) ts (Ok z) mid) (append-nil parts) (done (turns_end begun all.on over) (is_read (nothing_read (one_goes_on spell g begins) mid)))
+    pub many_read : next_is (is begins) mid ≡ false → ReadsValue (each spell 0) (one_goes_on spell g begins) ts (Ok parts) mid
+    many_read over = subst (λ (z : List A). ReadsValue (each spell 0) (one_goes_on spell g begins) ts (Ok z) mid) (append-nil parts) (done (turns_end begun all.on over) (is_read (nothing_read (one_goes_on spell g begins) mid)))

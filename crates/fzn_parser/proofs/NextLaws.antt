@@ -12,7 +12,7 @@ use Rattle.fzn_lexer.specs.declared.token.Symbol.TheVariants as s
 use Rattle.fzn_tree.specs.Piece.{Piece, AreSpelled}
 use Rattle.fzn_parser.specs.Reads.{next_is, Stops}
 use Rattle.fzn_parser.proofs.SpelledLaws.{AreSpelled-split}
-use Rattle.fzn_parser.specs.GoesOn.{never, goes_on, further}
+use Rattle.fzn_parser.specs.GoesOn.{never, goes_on, goes_further}
 use Rattle.fzn_parser.specs.Taken as R
 
 -- ---- tests of the next token
@@ -47,20 +47,20 @@ or_false false b e = (refl, e)
 none_of : (a b c : Bool) → (a || b || c) ≡ false → (a ≡ false) × (b ≡ false) × (c ≡ false)
 none_of a b c e = let f = or_false (a || b) c e in let g = or_false a b f.0 in (g.0, g.1, f.1)
 
-pub no_dots : (v : List Token) → Stops further v → next_is (R.is s.Dots) v ≡ false
+pub no_dots : (v : List Token) → Stops goes_further v → next_is (R.is s.Dots) v ≡ false
 no_dots [] e = refl
 no_dots (t ∷ v) e = (none_of (is_symbol s.Dots t.kind) (is_symbol s.OpenParen t.kind) (is_symbol s.Colons t.kind) e).0
 
-pub no_paren : (v : List Token) → Stops further v → next_is (R.is s.OpenParen) v ≡ false
+pub no_paren : (v : List Token) → Stops goes_further v → next_is (R.is s.OpenParen) v ≡ false
 no_paren [] e = refl
 no_paren (t ∷ v) e = (none_of (is_symbol s.Dots t.kind) (is_symbol s.OpenParen t.kind) (is_symbol s.Colons t.kind) e).1
 
-pub no_colons : (v : List Token) → Stops further v → next_is (R.is s.Colons) v ≡ false
+pub no_colons : (v : List Token) → Stops goes_further v → next_is (R.is s.Colons) v ≡ false
 no_colons [] e = refl
 no_colons (t ∷ v) e = (none_of (is_symbol s.Dots t.kind) (is_symbol s.OpenParen t.kind) (is_symbol s.Colons t.kind) e).2
 
 -- a sign that does not go on a phrase
-pub ends_further : (x : Symbol) → goes_on (k.Symbol x) ≡ false → (v : List Token) → next_is (R.is x) v ≡ true → Stops further v
+pub ends_further : (x : Symbol) → goes_on (k.Symbol x) ≡ false → (v : List Token) → next_is (R.is x) v ≡ true → Stops goes_further v
 ends_further x apart [] there = refl
 ends_further x apart (t ∷ v) there = ap goes_on (is_symbol-true x t.kind there) ∙ apart
 

@@ -13,8 +13,8 @@ use Rattle.fzn_tree.specs.Piece.{Piece, Fits, AreSpelled}
 use Rattle.fzn_parser.specs.declared.cursor.Refusal.{Refusal}
 use Rattle.fzn_parser.specs.declared.cursor.Start.{Start}
 use Rattle.fzn_parser.specs.Begins.{begins}
-use Rattle.fzn_parser.specs.Reads.{SameNext, Stops, IsRead, IsRefused, Reads}
-use Rattle.fzn_parser.specs.Taken.{IsTaken, IsOther, Takes, refusal}
+use Rattle.fzn_parser.specs.Reads.{SameNext, Stops, IsRead, IsRefused, ReadsValue}
+use Rattle.fzn_parser.specs.Taken.{IsTaken, IsUnexpected, Takes, refusal}
 use Rattle.fzn_parser.proofs.SpelledLaws.{next_is-same, pair_is}
 use Rattle.fzn_parser.proofs.Onward.{is_read, exit}
 
@@ -117,13 +117,13 @@ module _ {A : Type 0} {start : Start} {f : Kind × Position → A} {piece : A �
       (subst (λ (z : A). IsRead (single piece) g (t ∷ rest) z rest) same
       (one_read piece g t rest (f (t.kind, t.span.position)) (w.sound t p.wanted) (w.within (f (t.kind, t.span.position))) (λ b fits. sym (w.complete t b fits).1)))
 
-  pub token_read : {before : List Token} {taken : Kind × Position} {rest : List Token} → Takes start before (Ok taken) rest → Reads (single piece) g before (Ok (f taken)) rest
+  pub token_read : {before : List Token} {taken : Kind × Position} {rest : List Token} → Takes start before (Ok taken) rest → ReadsValue (single piece) g before (Ok (f taken)) rest
   token_read {before} {taken} {rest} p = is_read (taken_is before taken rest (p.ok taken refl))
 
-  other_is : (before : List Token) (e : Refusal) → IsOther start before e → IsRefused (single piece) g before e
+  other_is : (before : List Token) (e : Refusal) → IsUnexpected start before e → IsRefused (single piece) g before e
   other_is before e p =
       subst (λ (z : Refusal). IsRefused (single piece) g before z) (sym p.is)
       (one_refused piece g w.some before (λ b y ys fits next. let c = (w.complete y b fits).0 in let same = next_is-same (begins start) (y ∷ ys) before next in let o = p.other in cc))
 
-  pub token_refused : {before : List Token} {x : Halt Refusal} {r : Result A (Halt Refusal)} {after rest : List Token} → Takes start before (Err x) after → IsErrAnd r (λ y. y ≡ x) → Reads (single piece) g before r rest
+  pub token_refused : {before : List Token} {x : Halt Refusal} {r : Result A (Halt Refusal)} {after rest : List Token} → Takes start before (Err x) after → IsErrAnd r (λ y. y ≡ x) → ReadsValue (single piece) g before r rest
   token_refused {before} {x} {r} {after} {rest} p is = exit x r rest is (λ e k. other_is before e (p.err e (ap Err k)))

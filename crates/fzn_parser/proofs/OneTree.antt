@@ -11,7 +11,7 @@ use Rattle.fzn_tree.specs.Piece.{Piece, Fits, AreSpelled, AreWithin, sign}
 use Rattle.fzn_tree.specs.Grammar as G
 use Rattle.fzn_parser.proofs.SpelledLaws.{AreSpelled-append, AreSpelled-split, AreWithin-split}
 use Rattle.fzn_parser.proofs.NextLaws.{stops_never}
-use Rattle.fzn_parser.specs.Parse.{IsTree, Begins, NoneBegins, IsPast, EachIsPast, IsFault, IsReading}
+use Rattle.fzn_parser.specs.Parse.{IsTree, Begins, NoneBegins, IsPast, EachIsPast, IsFault, IsParsing}
 use Rattle.fzn_parser.proofs.UniqueTree.{items_unique}
 
 -- ---- one tree
@@ -161,7 +161,7 @@ one_fault ts f g x y = elim (ends x.before x.after x.token y.before y.after y.to
   | inr (inr h) ↦ absurd (no_earlier ts g f y x h.0 h.1)
 ]
 
-pub one_reading : (ts : List Token) (x y : Tree ⊎ Fault) → IsReading ts x → IsReading ts y → x ≡ y
+pub one_reading : (ts : List Token) (x y : Tree ⊎ Fault) → IsParsing ts x → IsParsing ts y → x ≡ y
 one_reading ts (inl t) (inl u) a b = ap inl (one_tree ts t u a b)
 one_reading ts (inl t) (inr g) a b = absurd (tree_or_fault ts t g a b)
 one_reading ts (inr f) (inl u) a b = absurd (tree_or_fault ts u f b a)

@@ -7,7 +7,7 @@ use Rattle.fzn_lexer.specs.declared.token.Token.{Token}
 use Rattle.fzn_lexer.specs.declared.halt.Halt.TheVariants as halts
 use Rattle.fzn_tree.specs.Piece.{Piece, AreSpelled, each_by}
 use Rattle.fzn_parser.specs.declared.cursor.Refusal.{Refusal}
-use Rattle.fzn_parser.specs.Reads.{SameNext, Stops, IsRead, IsRefused, Reads}
+use Rattle.fzn_parser.specs.Reads.{SameNext, Stops, IsRead, IsRefused, ReadsValue}
 use Rattle.fzn_parser.proofs.SequenceLaws.{StopsBefore, then_ok, then_err, first_err, form_ok, form_err, weaker_ok, weaker_err}
 
 -- ---- the parts of a phrase: what each spells, what goes on it, and one value of it
@@ -64,41 +64,41 @@ begin {B} {spell} {h} {ts} {ps} {f} w = record {
 -- ---- answers
 
 module _ {B : Type 0} {spell : B → List Piece} {h : Token → Bool} {ts : List Token} where
-  pub is_read : {b : B} {rest : List Token} → IsRead spell h ts b rest → Reads spell h ts (Ok b) rest
+  pub is_read : {b : B} {rest : List Token} → IsRead spell h ts b rest → ReadsValue spell h ts (Ok b) rest
   is_read {b} {rest} p = record { ok = λ a e. let k : b ≡ a = cc in subst (λ (z : B). IsRead spell h ts z rest) k p; err = λ e is. absurd cc }
 
-  pub is_refused : {e : Refusal} {rest : List Token} → IsRefused spell h ts e → Reads spell h ts (Err (halts.Fault e)) rest
+  pub is_refused : {e : Refusal} {rest : List Token} → IsRefused spell h ts e → ReadsValue spell h ts (Err (halts.Fault e)) rest
   is_refused {e} {rest} p = record { ok = λ a is. absurd cc; err = λ x is. let k : e ≡ x = cc in subst (λ (z : Refusal). IsRefused spell h ts z) k p }
 
-  pub gives_refused : {x : Halt Refusal} {rest : List Token} (e : Refusal) → x ≡ halts.Fault e → IsRefused spell h ts e → Reads spell h ts (Err x) rest
-  gives_refused {x} {rest} e is p = subst (λ (z : Halt Refusal). Reads spell h ts (Err z) rest) (sym is) (is_refused p)
+  pub gives_refused : {x : Halt Refusal} {rest : List Token} (e : Refusal) → x ≡ halts.Fault e → IsRefused spell h ts e → ReadsValue spell h ts (Err x) rest
+  gives_refused {x} {rest} e is p = subst (λ (z : Halt Refusal). ReadsValue spell h ts (Err z) rest) (sym is) (is_refused p)
 
-  pub is_same : {a b : B} {rest : List Token} → Reads spell h ts (Ok a) rest → a ≡ b → Reads spell h ts (Ok b) rest
-  is_same {a} {b} {rest} p e = subst (λ (z : B). Reads spell h ts (Ok z) rest) e p
+  pub is_same : {a b : B} {rest : List Token} → ReadsValue spell h ts (Ok a) rest → a ≡ b → ReadsValue spell h ts (Ok b) rest
+  is_same {a} {b} {rest} p e = subst (λ (z : B). ReadsValue spell h ts (Ok z) rest) e p
 
   -- the exit of a `?`
-  pub exit : (x : Halt Refusal) (r : Result B (Halt Refusal)) (rest : List Token) → IsErrAnd r (λ y. y ≡ x) → ((e : Refusal) → x ≡ halts.Fault e → IsRefused spell h ts e) → Reads spell h ts r rest
+  pub exit : (x : Halt Refusal) (r : Result B (Halt Refusal)) (rest : List Token) → IsErrAnd r (λ y. y ≡ x) → ((e : Refusal) → x ≡ halts.Fault e → IsRefused spell h ts e) → ReadsValue spell h ts r rest
   exit x r rest is p =
       let q = err_from_is_err_and r is in
       record { ok = λ a e. let k = q.1 in absurd cc; err = λ e k. let i = q.1 in let j = q.2 in p e cc }
 
   module _ {A : Type 0} {s : A → List Piece} {g : Token → Bool} {some : A} {mid : List Token} where
     module _ {ps : Parts} {f : Values (part s g some ps) → B} (on : Onward spell h ts (part s g some ps) f mid) where
-      step : {a : A} {next : List Token} → Reads s g mid (Ok a) next → Onward spell h ts ps (λ c. f (a, c)) next
+      step : {a : A} {next : List Token} → ReadsValue s g mid (Ok a) next → Onward spell h ts ps (λ c. f (a, c)) next
       step {a} {next} r = record {
         follow = on.follow.1;
         read = λ c rest p. on.read (a, c) rest (then_ok s g (λ z. spells ps) h (λ z. on.follow.0) mid a next c rest (r.ok a refl) p);
         refused = λ e p. on.refused e (then_err s g (λ z. spells ps) h (λ z. on.follow.0) mid a next e (r.ok a refl) p);
       }
 
-      pub stop : {x : Halt Refusal} {r : Result B (Halt Refusal)} {after rest : List Token} → Reads s g mid (Err x) after → IsErrAnd r (λ y. y ≡ x) → Reads spell h ts r rest
+      pub stop : {x : Halt Refusal} {r : Result B (Halt Refusal)} {after rest : List Token} → ReadsValue s g mid (Err x) after → IsErrAnd r (λ y. y ≡ x) → ReadsValue spell h ts r rest
       stop {x} {r} {after} {rest} p is = exit x r rest is (λ e k. on.refused e (first_err s g (λ z. spells ps) h (λ z. on.follow.0) (λ z. some_of ps) mid e (p.err e (ap Err k))))
 
     module _ {f : A → B} (on : Onward spell h ts (last s g some) f mid) where
-      pub done : {a : A} {rest : List Token} → Reads s g mid (Ok a) rest → Reads spell h ts (Ok (f a)) rest
+      pub done : {a : A} {rest : List Token} → ReadsValue s g mid (Ok a) rest → ReadsValue spell h ts (Ok (f a)) rest
       done {a} {rest} p = is_read (on.read a rest (weaker_ok s g h on.follow mid a rest (p.ok a refl)))
 
-      pub stop_last : {x : Halt Refusal} {r : Result B (Halt Refusal)} {after rest : List Token} → Reads s g mid (Err x) after → IsErrAnd r (λ y. y ≡ x) → Reads spell h ts r rest
+      pub stop_last : {x : Halt Refusal} {r : Result B (Halt Refusal)} {after rest : List Token} → ReadsValue s g mid (Err x) after → IsErrAnd r (λ y. y ≡ x) → ReadsValue spell h ts r rest
       stop_last {x} {r} {after} {rest} p is = exit x r rest is (λ e k. on.refused e (weaker_err s g h on.follow mid e (p.err e (ap Err k))))
 
       -- a phrase that is the last part
@@ -106,16 +106,16 @@ module _ {B : Type 0} {spell : B → List Piece} {h : Token → Bool} {ts : List
       inside {ps} {f'} {mid'} in_last = record { follow = in_last.follow; read = λ c rest p. on.read (f' c) rest (in_last.read c rest p); refused = λ e p. on.refused e (in_last.refused e p) }
 
 -- the last part's answer is returned as it is
-pub passes : {A : Type 0} {spell : A → List Piece} {h : Token → Bool} {ts : List Token} {s : A → List Piece} {g : Token → Bool} {some : A} {f : A → A} {mid : List Token} {r : Result A (Halt Refusal)} {rest : List Token} → Onward spell h ts (last s g some) f mid → ((a : A) → f a ≡ a) → Reads s g mid r rest → Reads spell h ts r rest
+pub passes : {A : Type 0} {spell : A → List Piece} {h : Token → Bool} {ts : List Token} {s : A → List Piece} {g : Token → Bool} {some : A} {f : A → A} {mid : List Token} {r : Result A (Halt Refusal)} {rest : List Token} → Onward spell h ts (last s g some) f mid → ((a : A) → f a ≡ a) → ReadsValue s g mid r rest → ReadsValue spell h ts r rest
 passes {A} {spell} {h} {ts} {s} {g} {some} {f} {mid} {r} {rest} on same p = record {
   ok = λ a e. subst (λ (z : A). IsRead spell h ts z rest) (same a) (on.read a rest (weaker_ok s g h on.follow mid a rest (p.ok a e)));
   err = λ e is. on.refused e (weaker_err s g h on.follow mid e (p.err e is));
 }
 
-pub weaker_reads : {A : Type 0} {s : A → List Piece} {g : Token → Bool} {ts : List Token} {r : Result A (Halt Refusal)} {rest : List Token} (h : Token → Bool) → ((v : List Token) → Stops h v → Stops g v) → Reads s g ts r rest → Reads s h ts r rest
+pub weaker_reads : {A : Type 0} {s : A → List Piece} {g : Token → Bool} {ts : List Token} {r : Result A (Halt Refusal)} {rest : List Token} (h : Token → Bool) → ((v : List Token) → Stops h v → Stops g v) → ReadsValue s g ts r rest → ReadsValue s h ts r rest
 weaker_reads {A} {s} {g} {ts} {r} {rest} h less p = record { ok = λ a e. weaker_ok s g h less ts a rest (p.ok a e); err = λ e is. weaker_err s g h less ts e (p.err e is) }
 
 -- one part more is read
 infixl 11 ◌then◌
-pub ◌then◌ : {A B : Type 0} {spell : B → List Piece} {h : Token → Bool} {ts : List Token} {s : A → List Piece} {g : Token → Bool} {some : A} {ps : Parts} {f : A × Values ps → B} {mid : List Token} {a : A} {next : List Token} → Onward spell h ts (part s g some ps) f mid → Reads s g mid (Ok a) next → Onward spell h ts ps (λ c. f (a, c)) next
+pub ◌then◌ : {A B : Type 0} {spell : B → List Piece} {h : Token → Bool} {ts : List Token} {s : A → List Piece} {g : Token → Bool} {some : A} {ps : Parts} {f : A × Values ps → B} {mid : List Token} {a : A} {next : List Token} → Onward spell h ts (part s g some ps) f mid → ReadsValue s g mid (Ok a) next → Onward spell h ts ps (λ c. f (a, c)) next
 on then r = step on r

@@ -16,7 +16,7 @@ use Rattle.fzn_tree.specs.Grammar as G
 use Rattle.fzn_parser.specs.declared.declarations.ParamRest.{ParamRest}
 use Rattle.fzn_parser.specs.Declarations.{param_rest}
 use Rattle.fzn_parser.specs.Reads.{next_is, SameNext, Stops}
-use Rattle.fzn_parser.specs.GoesOn.{never, further, goes_on}
+use Rattle.fzn_parser.specs.GoesOn.{never, goes_further, goes_on}
 use Rattle.fzn_parser.specs.Taken.{is}
 use Rattle.fzn_parser.proofs.NextLaws.{next_kind, next_split}
 use Rattle.fzn_parser.proofs.TokenLaws.{some_position}
@@ -51,24 +51,24 @@ module _ (ts : List Token) where
       onto (param_bases.Bool at) u v spelled stops same = absurd (clash' (is s.Bool) ts (u ++ v) not_bool same (next_kind (is_symbol s.Bool) (piece_at (k.Symbol s.Bool) at) [] u v spelled))
       onto (param_bases.Int at) u v spelled stops same = absurd (clash' (is s.Int) ts (u ++ v) not_int same (next_kind (is_symbol s.Int) (piece_at (k.Symbol s.Int) at) [] u v spelled))
 
-  pub value_literal : next_is (is s.OpenBracket) ts ≡ false → IsForm G.param_value further ts (last G.literal further some_literal) (λ x. param_values.Literal x)
+  pub value_literal : next_is (is s.OpenBracket) ts ≡ false → IsForm G.param_value goes_further ts (last G.literal goes_further some_literal) (λ x. param_values.Literal x)
   value_literal there = form (λ x. param_values.Literal x) (λ x. refl) onto (λ v stops. stops)
     where
-      onto : (x : ParamValue) (u v : List Token) → AreSpelled u (G.param_value x) → Stops further v → SameNext (u ++ v) ts → (c : Literal) × (param_values.Literal c ≡ x)
+      onto : (x : ParamValue) (u v : List Token) → AreSpelled u (G.param_value x) → Stops goes_further v → SameNext (u ++ v) ts → (c : Literal) × (param_values.Literal c ≡ x)
       onto (param_values.Literal x) u v spelled stops same = (x, refl)
       onto (param_values.Array at all) u v spelled stops same = absurd (clash' (is s.OpenBracket) ts (u ++ v) there same (next_kind (is_symbol s.OpenBracket) (piece_at (k.Symbol s.OpenBracket) at) _ u v spelled))
 
-  pub value_array : next_is (is s.OpenBracket) ts ≡ true → IsForm G.param_value further ts (placed_word s.OpenBracket (last (G.listed G.param_entry s.CloseBracket) never [])) (λ p. param_values.Array p.0 p.1)
-  value_array there = form (λ p. param_values.Array p.0 p.1) (λ p. refl) onto (closed _ _, closed_last further)
+  pub value_array : next_is (is s.OpenBracket) ts ≡ true → IsForm G.param_value goes_further ts (placed_word s.OpenBracket (last (G.listed G.param_entry s.CloseBracket) never [])) (λ p. param_values.Array p.0 p.1)
+  value_array there = form (λ p. param_values.Array p.0 p.1) (λ p. refl) onto (closed _ _, closed_last goes_further)
     where
-      onto : (x : ParamValue) (u v : List Token) → AreSpelled u (G.param_value x) → Stops further v → SameNext (u ++ v) ts → (c : Position × List Literal) × (param_values.Array c.0 c.1 ≡ x)
+      onto : (x : ParamValue) (u v : List Token) → AreSpelled u (G.param_value x) → Stops goes_further v → SameNext (u ++ v) ts → (c : Position × List Literal) × (param_values.Array c.0 c.1 ≡ x)
       onto (param_values.Array at all) u v spelled stops same = ((at, all), refl)
       onto (param_values.Literal x) u v spelled stops same = absurd (clash (is s.OpenBracket) ts (u ++ v) there same (literal_next (is_symbol s.OpenBracket) false refl refl refl (λ z. refl) x u v spelled))
 
 pub some_param_rest : ParamRest
 some_param_rest = record { base = param_bases.Bool some_position; name = some_name; value = param_values.Literal some_literal }
 
-pub param_rest_begun : (ts : List Token) → IsForm param_rest never ts (part G.param_base never (param_bases.Bool some_position) (word s.Colon (named (word s.Equals (part G.param_value further (param_values.Literal some_literal) (last_word s.Semicolon)))))) (λ p. record { base = p.0; name = p.1.1.0; value = p.1.1.1.1.0 })
+pub param_rest_begun : (ts : List Token) → IsForm param_rest never ts (part G.param_base never (param_bases.Bool some_position) (word s.Colon (named (word s.Equals (part G.param_value goes_further (param_values.Literal some_literal) (last_word s.Semicolon)))))) (λ p. record { base = p.0; name = p.1.1.0; value = p.1.1.1.1.0 })
 param_rest_begun ts =
     form (λ p. record { base = p.0; name = p.1.1.0; value = p.1.1.1.1.0 }) (λ p. refl) (λ x u v spelled stops same. ((x.base, (tt, (x.name, (tt, (x.value, tt))))), refl))
     (closed _ _, (closed _ _, (closed _ _, (closed _ _, (λ b u v spelled stops. next_kind goes_on (sign_piece s.Semicolon) [] u v spelled, closed_last never)))))

@@ -17,7 +17,7 @@ use Rattle.fzn_tree.specs.Grammar as G
 use Rattle.fzn_parser.specs.Reads.{next_is, SameNext, Stops}
 use Rattle.fzn_parser.specs.GoesOn.{never}
 use Rattle.fzn_parser.specs.Taken.{is}
-use Rattle.fzn_parser.specs.Lists.{IsListed, AreMany}
+use Rattle.fzn_parser.specs.Lists.{IsListable, AreMany}
 use Rattle.fzn_parser.proofs.NextLaws.{next_kind, next_split, stops_never}
 use Rattle.fzn_parser.proofs.OneTokenLaws.{no_pieces}
 use Rattle.fzn_parser.proofs.TokenLaws.{number_piece}
@@ -99,7 +99,7 @@ param_next (Some i) b p u v spelled = next_kind (is_symbol s.CloseParen) (sign_p
 param_next None true p u v spelled = next_kind (is_symbol s.CloseParen) (sign_piece s.Var) _ u v spelled
 param_next None false p u v spelled = typed_next s.CloseParen refl refl refl refl p u v spelled
 
-pub params_listed : IsListed (λ n. G.predicate_param) never s.CloseParen
+pub params_listed : IsListable (λ n. G.predicate_param) never s.CloseParen
 params_listed = record {
   some = record { array = None; is_var = false; base = bases.Bool; name = some_name };
   not_end = λ e. cc;

@@ -18,9 +18,9 @@ use Rattle.fzn_tree.specs.Piece.{Piece, Fits, sign_piece, piece_at}
 use Rattle.fzn_tree.specs.Grammar as G
 use Rattle.fzn_parser.specs.declared.cursor.Refusal.{Refusal}
 use Rattle.fzn_parser.specs.declared.cursor.Start.TheVariants as w
-use Rattle.fzn_parser.specs.Begins.{starts, begins}
+use Rattle.fzn_parser.specs.Begins.{may_start, begins}
 use Rattle.fzn_parser.specs.Reads.{SameNext, IsRead, IsRefused}
-use Rattle.fzn_parser.specs.Taken.{IsTaken, IsOther, text_in, value_in, refusal, one}
+use Rattle.fzn_parser.specs.Taken.{IsTaken, IsUnexpected, text_in, int_in, refusal, one}
 use Rattle.fzn_parser.proofs.SpelledLaws.{next_is-same}
 use Rattle.fzn_parser.proofs.NextLaws.{is_symbol-true, is_symbol-same}
 use Rattle.fzn_parser.proofs.OneTokenLaws.{IsToken, single, one_read, one_refused, one_over}
@@ -44,7 +44,7 @@ position_token x apart = record {
   within = λ a. refl;
 }
 
-a_name : (kind : Kind) → starts w.Name kind ≡ true → kind ≡ k.Name (text_in kind)
+a_name : (kind : Kind) → may_start w.Name kind ≡ true → kind ≡ k.Name (text_in kind)
 a_name (k.Symbol s) e = absurd cc
 a_name (k.Name text) e = refl
 a_name (k.Int value) e = absurd cc
@@ -57,11 +57,11 @@ pub name_token : IsToken w.Name name_of (λ n. piece_at (k.Name n.text) n.positi
 name_token = record {
   some = record { text = 97 ∷ []; position = some_position };
   sound = λ t e. let is = a_name t.kind e in ((is, refl), λ ends. cc);
-  complete = λ t n fits. (ap (starts w.Name) fits.0, ap (λ (x : Kind). name_of (x, t.span.position)) fits.0 ∙ ap (λ (x : Position). name_of (k.Name n.text, x)) fits.1);
+  complete = λ t n fits. (ap (may_start w.Name) fits.0, ap (λ (x : Kind). name_of (x, t.span.position)) fits.0 ∙ ap (λ (x : Position). name_of (k.Name n.text, x)) fits.1);
   within = λ a. refl;
 }
 
-a_text : (kind : Kind) → starts w.Text kind ≡ true → kind ≡ k.Text (text_in kind)
+a_text : (kind : Kind) → may_start w.Text kind ≡ true → kind ≡ k.Text (text_in kind)
 a_text (k.Symbol s) e = absurd cc
 a_text (k.Name text) e = absurd cc
 a_text (k.Int value) e = absurd cc
@@ -74,37 +74,37 @@ pub text_token : IsToken w.Text text_of (λ n. piece_at (k.Text n.0) n.1)
 text_token = record {
   some = ([], some_position);
   sound = λ t e. let is = a_text t.kind e in ((is, refl), λ ends. cc);
-  complete = λ t n fits. (ap (starts w.Text) fits.0, ap (λ (x : Kind). text_of (x, t.span.position)) fits.0 ∙ ap (λ (x : Position). text_of (k.Text n.0, x)) fits.1);
+  complete = λ t n fits. (ap (may_start w.Text) fits.0, ap (λ (x : Kind). text_of (x, t.span.position)) fits.0 ∙ ap (λ (x : Position). text_of (k.Text n.0, x)) fits.1);
   within = λ a. refl;
 }
 
 -- ---- numbers
 
-pub a_number : (kind : Kind) → starts w.Int kind ≡ true → kind ≡ k.Int (value_in kind)
+pub a_number : (kind : Kind) → may_start w.Int kind ≡ true → kind ≡ k.Int (int_in kind)
 a_number (k.Symbol s) e = absurd cc
 a_number (k.Name text) e = absurd cc
 a_number (k.Int value) e = refl
 a_number (k.Text text) e = absurd cc
 
 abbrev int_of : Kind × Position → Int
-int_of p = record { value = value_in p.0; position = p.1 }
+int_of p = record { value = int_in p.0; position = p.1 }
 
 pub int_token : IsToken w.Int int_of (λ n. piece_at (k.Int n.value) n.position)
 int_token = record {
   some = record { value = pos 0; position = some_position };
   sound = λ t e. let is = a_number t.kind e in ((is, refl), λ ends. cc);
-  complete = λ t n fits. (ap (starts w.Int) fits.0, ap (λ (x : Kind). int_of (x, t.span.position)) fits.0 ∙ ap (λ (x : Position). int_of (k.Int n.value, x)) fits.1);
+  complete = λ t n fits. (ap (may_start w.Int) fits.0, ap (λ (x : Kind). int_of (x, t.span.position)) fits.0 ∙ ap (λ (x : Position). int_of (k.Int n.value, x)) fits.1);
   within = λ a. refl;
 }
 
 abbrev pub number_piece : ℤ → Piece
 number_piece z = record { kind = k.Int z; position = None; past = None }
 
-pub number_token : IsToken w.Int (λ p. value_in p.0) number_piece
+pub number_token : IsToken w.Int (λ p. int_in p.0) number_piece
 number_token = record {
   some = pos 0;
   sound = λ t e. let is = a_number t.kind e in ((is, tt), λ ends. cc);
-  complete = λ t z fits. (ap (starts w.Int) fits.0, ap value_in fits.0);
+  complete = λ t z fits. (ap (may_start w.Int) fits.0, ap int_in fits.0);
   within = λ a. refl;
 }
 
@@ -122,10 +122,10 @@ same_int a b p q e f = cc
 -- ---- the number 1, and the size of an array
 
 module _ (g : Token → Bool) (ts : List Token) (taken : Kind × Position) (rest : List Token) (p : IsTaken w.Int ts taken rest) where
-  is_int : p.token.kind ≡ k.Int (value_in taken.0)
-  is_int = a_number p.token.kind p.wanted ∙ ap (λ (z : Kind). k.Int (value_in z)) (sym p.kind)
+  is_int : p.token.kind ≡ k.Int (int_in taken.0)
+  is_int = a_number p.token.kind p.wanted ∙ ap (λ (z : Kind). k.Int (int_in z)) (sym p.kind)
 
-  taken_read : {A : Type 0} (piece : A → Piece) (a : A) → (piece a).kind ≡ k.Int (value_in taken.0) → (piece a).position ≡ None → (piece a).past ≡ None → ((b : A) → Fits p.token (piece b) → b ≡ a) → IsRead (single piece) g ts a rest
+  taken_read : {A : Type 0} (piece : A → Piece) (a : A) → (piece a).kind ≡ k.Int (int_in taken.0) → (piece a).position ≡ None → (piece a).past ≡ None → ((b : A) → Fits p.token (piece b) → b ≡ a) → IsRead (single piece) g ts a rest
   taken_read piece a kind position within one =
       subst (λ (z : List Token). IsRead (single piece) g z a rest) (sym p.parts)
       (one_read piece g p.token rest a ((is_int ∙ sym kind, rw position tt), λ ends. let i = is_int in cc) within one)
@@ -133,47 +133,47 @@ module _ (g : Token → Bool) (ts : List Token) (taken : Kind × Position) (rest
   taken_other : {A : Type 0} (piece : A → Piece) (some : A) → ((b : A) → Fits p.token (piece b) → ⊥) → IsRefused (single piece) g ts (refusal Syntax ts)
   taken_other piece some none = one_refused piece g some ts (λ b y ys fits next. none b (subst (λ (z : Token). Fits z (piece b)) (subst (λ (z : List Token). SameNext (y ∷ ys) z) p.parts next) fits))
 
-  pub one_taken : value_in taken.0 ≡ pos 1 → IsRead one g ts tt rest
+  pub one_taken : int_in taken.0 ≡ pos 1 → IsRead one g ts tt rest
   one_taken e = taken_read (λ u. number_piece (pos 1)) tt (ap k.Int (sym e)) refl refl (λ b fits. refl)
 
-  pub not_one : (value_in taken.0 ≡ pos 1 → ⊥) → IsRefused one g ts (refusal Syntax ts)
-  not_one other = taken_other (λ u. number_piece (pos 1)) tt (λ b fits. other (ap value_in (sym is_int ∙ fits.0)))
+  pub not_one : (int_in taken.0 ≡ pos 1 → ⊥) → IsRefused one g ts (refusal Syntax ts)
+  not_one other = taken_other (λ u. number_piece (pos 1)) tt (λ b fits. other (ap int_in (sym is_int ∙ fits.0)))
 
   abbrev size_piece : ℕ → Piece
   size_piece n = record { kind = k.Int (pos n); position = None; past = cond (nat_le n G.most) None (Some TooMany) }
 
-  one_size : (n : ℕ) → value_in taken.0 ≡ pos n → (b : ℕ) → Fits p.token (size_piece b) → b ≡ n
+  one_size : (n : ℕ) → int_in taken.0 ≡ pos n → (b : ℕ) → Fits p.token (size_piece b) → b ≡ n
   one_size n e b fits = let i = is_int in let j = fits.0 in cc
 
-  pub size_taken : (n : ℕ) → value_in taken.0 ≡ pos n → nat_le n G.most ≡ true → IsRead G.size g ts n rest
+  pub size_taken : (n : ℕ) → int_in taken.0 ≡ pos n → nat_le n G.most ≡ true → IsRead G.size g ts n rest
   size_taken n e small = taken_read size_piece n (ap k.Int (sym e)) refl (rw small refl) (one_size n e)
 
-  pub size_over : (n : ℕ) → value_in taken.0 ≡ pos n → nat_le n G.most ≡ false → IsRefused G.size g ts (refusal TooMany ts)
+  pub size_over : (n : ℕ) → int_in taken.0 ≡ pos n → nat_le n G.most ≡ false → IsRefused G.size g ts (refusal TooMany ts)
   size_over n e large =
       subst (λ (z : List Token). IsRefused G.size g z (refusal TooMany z)) (sym p.parts)
       (one_over size_piece g TooMany n p.token rest (is_int ∙ ap k.Int e, tt) (rw large refl) (one_size n e))
 
-  pub size_below : (n : ℕ) → value_in taken.0 ≡ negsuc n → IsRefused G.size g ts (refusal Syntax ts)
+  pub size_below : (n : ℕ) → int_in taken.0 ≡ negsuc n → IsRefused G.size g ts (refusal Syntax ts)
   size_below n e = taken_other size_piece 0 (λ b fits. let i = is_int in let j = fits.0 in cc)
 
   -- the same for a number with its sign
-  pub size_negative : (v : ℤ) → value_in taken.0 ≡ v → lt_z v (pos 0) ≡ true → IsRefused G.size g ts (refusal Syntax ts)
+  pub size_negative : (v : ℤ) → int_in taken.0 ≡ v → lt_z v (pos 0) ≡ true → IsRefused G.size g ts (refusal Syntax ts)
   size_negative (pos n) e less = let none = le-ltb n 0 (omega arith) in absurd cc
   size_negative (negsuc n) e less = size_below n e
 
-  pub size_large : (v : ℤ) → value_in taken.0 ≡ v → lt_z v (pos 0) ≡ false → G.most < nat_abs v → IsRefused G.size g ts (refusal TooMany ts)
+  pub size_large : (v : ℤ) → int_in taken.0 ≡ v → lt_z v (pos 0) ≡ false → G.most < nat_abs v → IsRefused G.size g ts (refusal TooMany ts)
   size_large (pos n) e less large = size_over n e (lt-leb n G.most large)
   size_large (negsuc n) e less large = absurd cc
 
-  pub size_small : (v : ℤ) → value_in taken.0 ≡ v → lt_z v (pos 0) ≡ false → nat_abs v ≤ G.most → IsRead G.size g ts (nat_abs v) rest
+  pub size_small : (v : ℤ) → int_in taken.0 ≡ v → lt_z v (pos 0) ≡ false → nat_abs v ≤ G.most → IsRead G.size g ts (nat_abs v) rest
   size_small (pos n) e less small = size_taken n e (le-leb n G.most small)
   size_small (negsuc n) e less small = absurd cc
 
-module _ (g : Token → Bool) (ts : List Token) (e : Refusal) (p : IsOther w.Int ts e) where
+module _ (g : Token → Bool) (ts : List Token) (e : Refusal) (p : IsUnexpected w.Int ts e) where
   none_taken : {A : Type 0} (piece : A → Piece) (some : A) → ((b : A) → (z : ℤ) × ((piece b).kind ≡ k.Int z)) → IsRefused (single piece) g ts e
   none_taken piece some int =
       subst (λ (z : Refusal). IsRefused (single piece) g ts z) (sym p.is)
-      (one_refused piece g some ts (λ b y ys fits next. let same = next_is-same (begins w.Int) (y ∷ ys) ts next in let o = p.other in let c = ap (starts w.Int) (fits.0 ∙ (int b).1) in cc))
+      (one_refused piece g some ts (λ b y ys fits next. let same = next_is-same (begins w.Int) (y ∷ ys) ts next in let o = p.other in let c = ap (may_start w.Int) (fits.0 ∙ (int b).1) in cc))
 
   pub one_none : IsRefused one g ts e
   one_none = none_taken (λ (u : Unit {0}). number_piece (pos 1)) tt (λ b. (pos 1, refl))

@@ -9,7 +9,7 @@ use Rattle.fzn_tree.specs.Grammar as G
 use Rattle.fzn_parser.specs.declared.cursor.Start.TheVariants as w
 use Rattle.fzn_parser.specs.declared.declarations.Declared.{Declared}
 use Rattle.fzn_parser.specs.declared.declarations.Declared.TheVariants as declared_as
-use Rattle.fzn_parser.specs.Begins.{begins, starts}
+use Rattle.fzn_parser.specs.Begins.{begins, may_start}
 use Rattle.fzn_parser.specs.Declarations.{declared, vars}
 use Rattle.fzn_parser.specs.GoesOn.{never, declares}
 use Rattle.fzn_parser.specs.Reads.{next_is, Stops}
@@ -36,7 +36,7 @@ module _ (unique : IsUnique declared never) (unique_vars : IsUnique (vars 0) dec
       let e = joined_same (declared_as.Param q, (qs, others)) in
       let f = (first_same (declared_as.Array a) (declared_as.Param q) (vars 0 more) (G.declarations (qs, others)) u v x y in_a (subst (AreSpelled x) e in_b) within_a (subst AreWithin e within_b) same).0 in
       cc
-  no_param (vars_are.Single a ∷ more) q qs others u v x y in_a in_b within_a within_b stops same = begins_both u v x y (next_split (begins w.Declaration) false (G.var 0 (vars_are.Single a)) _ u v (λ o z done. counted_next (starts w.Declaration) 0 a o z done) in_a) (param_first q qs others x y in_b) same
+  no_param (vars_are.Single a ∷ more) q qs others u v x y in_a in_b within_a within_b stops same = begins_both u v x y (next_split (begins w.Declaration) false (G.var 0 (vars_are.Single a)) _ u v (λ o z done. counted_next (may_start w.Declaration) 0 a o z done) in_a) (param_first q qs others x y in_b) same
   no_param [] q qs others u v x y in_a in_b within_a within_b stops same = begins_both u v x y (none_next (begins w.Declaration) no_declaration u v in_a stops) (param_first q qs others x y in_b) same
 
   decl_one : (params others : List Param) (all more : List Var) (u v x y : List Token) → AreSpelled u (G.declarations (params, all)) → AreSpelled x (G.declarations (others, more)) → AreWithin (G.declarations (params, all)) → AreWithin (G.declarations (others, more)) → Stops declares v → Stops declares y → u ++ v ≡ x ++ y → (◌≡◌ {A = Declarations} (params, all) (others, more)) × (v ≡ y)

@@ -6,7 +6,7 @@ use Rattle.fzn_lexer.specs.declared.token.Symbol.TheVariants as s
 use Rattle.fzn_tree.specs.Piece.{Piece, Fits, AreSpelled, AreWithin, sign, sign_piece, each_by, marked}
 use Rattle.fzn_tree.specs.Grammar as G
 use Rattle.fzn_parser.specs.GoesOn.{never}
-use Rattle.fzn_parser.specs.Lists.{IsListed}
+use Rattle.fzn_parser.specs.Lists.{IsListable}
 use Rattle.fzn_parser.specs.Reads.{next_is, SameNext, Stops}
 use Rattle.fzn_parser.specs.Taken.{is}
 use Rattle.fzn_parser.proofs.SpelledLaws.{AreSpelled-split, AreWithin-split, SameNext-refl, pair_is}
@@ -162,7 +162,7 @@ marked_unique {A} {s} {g} p below = record {
 pub sign_unique : (x : Symbol) (g : Token → Bool) → IsUnique (λ (u : Unit {0}). sign x) g
 sign_unique x g = piece_unique (λ (u : Unit {0}). sign_piece x) g (λ t a b p q. refl)
 
-pub listed_unique : {A : Type 0} {part_of : ℕ → A → List Piece} {g : Token → Bool} {close : Symbol} → IsListed part_of g close → ((n : ℕ) → IsUnique (part_of n) g) → IsUnique (G.listed part_of close) never
+pub listed_unique : {A : Type 0} {part_of : ℕ → A → List Piece} {g : Token → Bool} {close : Symbol} → IsListable part_of g close → ((n : ℕ) → IsUnique (part_of n) g) → IsUnique (G.listed part_of close) never
 listed_unique {A} {part_of} {g} {close} w unique =
     forms_unique
     (λ ts. by_next (is close) ts

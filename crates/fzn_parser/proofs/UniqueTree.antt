@@ -13,8 +13,8 @@ use Rattle.fzn_tree.specs.Grammar as G
 use Rattle.fzn_parser.specs.declared.cursor.Start.TheVariants as w
 use Rattle.fzn_parser.specs.Annotations as A
 use Rattle.fzn_parser.specs.Begins.{begins}
-use Rattle.fzn_parser.specs.Declarations.{param_rest, given, array_rest, declared, vars}
-use Rattle.fzn_parser.specs.GoesOn.{never, further, declares}
+use Rattle.fzn_parser.specs.Declarations.{param_rest, given_pieces, array_rest, declared, vars}
+use Rattle.fzn_parser.specs.GoesOn.{never, goes_further, declares}
 use Rattle.fzn_parser.specs.Reads.{Stops}
 use Rattle.fzn_parser.specs.Taken.{is}
 use Rattle.fzn_parser.proofs.TokenLaws.{text_token}
@@ -38,7 +38,7 @@ module _ (level : ℕ) where
   abbrev Inside : Type 0
   Inside = (nat_lt level G.deepest ≡ false) ⊎ (IsUnique (G.ann (suc level)) is_paren × (nat_lt level G.deepest ≡ true))
 
-  term_unique : IsUnique (G.ann level) is_paren → IsUnique (A.term level) further
+  term_unique : IsUnique (G.ann level) is_paren → IsUnique (A.term_pieces level) goes_further
   term_unique p =
       forms_unique
       (λ ts. by_next (begins w.Text) ts
@@ -47,14 +47,14 @@ module _ (level : ℕ) where
       (λ there. of_form (term_ann level ts there) p)
       (λ no_name. of_form (term_literal level ts no_text no_name) literal_unique)))
 
-  terms_unique : IsUnique (G.ann level) is_paren → IsUnique (A.terms_in level) never
+  terms_unique : IsUnique (G.ann level) is_paren → IsUnique (A.terms_pieces level) never
   terms_unique p = listed_unique (terms_listed level) (λ n. marked_unique (term_unique p) (nat_lt n G.most))
 
 not_within : (level : ℕ) (bracket : Symbol) (ps : List Piece) → nat_lt level G.deepest ≡ false → AreWithin (G.opened bracket level ++ ps) → ⊥
 not_within level bracket ps deep within = let e = (rw deep at within).0 in cc
 
 module _ (level : ℕ) where
-  arg_unique_in : IsUnique (G.ann level) is_paren → Inside level → IsUnique (A.arg level) further
+  arg_unique_in : IsUnique (G.ann level) is_paren → Inside level → IsUnique (A.arg_pieces level) goes_further
   arg_unique_in p (inr q) =
       forms_unique
       (λ ts. by_next (is s.OpenBracket) ts
@@ -62,10 +62,10 @@ module _ (level : ℕ) where
       (λ there. of_form (arg_term level ts there) (term_unique level p)))
   arg_unique_in p (inl deep) = record { one = at }
     where
-      at : (a b : AnnArg Ann) (u v x y : List Token) → AreSpelled u (A.arg level a) → AreSpelled x (A.arg level b) → AreWithin (A.arg level a) → AreWithin (A.arg level b) → Stops further v → Stops further y → u ++ v ≡ x ++ y → (a ≡ b) × (v ≡ y)
+      at : (a b : AnnArg Ann) (u v x y : List Token) → AreSpelled u (A.arg_pieces level a) → AreSpelled x (A.arg_pieces level b) → AreWithin (A.arg_pieces level a) → AreWithin (A.arg_pieces level b) → Stops goes_further v → Stops goes_further y → u ++ v ≡ x ++ y → (a ≡ b) × (v ≡ y)
       at (inner_args.One a) (inner_args.One b) u v x y in_a in_b within_a within_b stops_v stops_y same = let r = (term_unique level p).one a b u v x y in_a in_b within_a within_b stops_v stops_y same in (ap (λ z. inner_args.One z) r.0, r.1)
-      at (inner_args.List a) b u v x y in_a in_b within_a within_b stops_v stops_y same = absurd (not_within level s.OpenBracket (A.terms_in (suc level) a) deep within_a)
-      at (inner_args.One a) (inner_args.List b) u v x y in_a in_b within_a within_b stops_v stops_y same = absurd (not_within level s.OpenBracket (A.terms_in (suc level) b) deep within_b)
+      at (inner_args.List a) b u v x y in_a in_b within_a within_b stops_v stops_y same = absurd (not_within level s.OpenBracket (A.terms_pieces (suc level) a) deep within_a)
+      at (inner_args.One a) (inner_args.List b) u v x y in_a in_b within_a within_b stops_v stops_y same = absurd (not_within level s.OpenBracket (A.terms_pieces (suc level) b) deep within_b)
 
   args_unique : IsUnique (G.ann level) is_paren → Inside level → IsUnique (A.args_in level) never
   args_unique p q = listed_unique (ann_args_listed level) (λ n. arg_unique_in p q)
@@ -96,7 +96,7 @@ levels_unique (suc n) level e =
 ann_unique : IsUnique (G.ann 0) is_paren
 ann_unique = (levels_unique G.deepest 0 refl).0
 
-anns_unique : IsUnique G.anns further
+anns_unique : IsUnique G.anns goes_further
 anns_unique = weaker_unique anns_end (each_unique (begun anns_many) (λ n. forms_unique (λ ts. of_form (colons_begun n ts) (sign_unique s.Colons never, ann_unique))) 0)
 
 -- ---- declarations
@@ -110,7 +110,7 @@ param_base_unique =
     (λ there. of_form (base_is_int ts there) (placed_unique s.Int never))
     (λ not_int. of_form (base_is_set ts not_bool not_int) (placed_unique s.Set never, (sign_unique s.Of never, sign_unique s.Int never)))))
 
-param_value_unique : IsUnique G.param_value further
+param_value_unique : IsUnique G.param_value goes_further
 param_value_unique =
     forms_unique
     (λ ts. by_next (is s.OpenBracket) ts
@@ -120,7 +120,7 @@ param_value_unique =
 param_rest_unique : IsUnique param_rest never
 param_rest_unique = forms_unique (λ ts. of_form (param_rest_begun ts) (param_base_unique, (sign_unique s.Colon never, (name_unique never, (sign_unique s.Equals never, (param_value_unique, sign_unique s.Semicolon never))))))
 
-given_unique : IsUnique given never
+given_unique : IsUnique given_pieces never
 given_unique =
     forms_unique
     (λ ts. by_next (is s.Equals) ts
@@ -162,7 +162,7 @@ declared_unique =
 con_unique : IsUnique G.con never
 con_unique = forms_unique (λ ts. of_form (con_begun ts) (sign_unique s.Constraint never, (name_unique never, (sign_unique s.OpenParen never, (listed_unique args_listed (λ n. arg_unique), (anns_unique, sign_unique s.Semicolon never))))))
 
-goal_unique : IsUnique G.goal further
+goal_unique : IsUnique G.goal goes_further
 goal_unique =
     forms_unique
     (λ ts. by_next (is s.Satisfy) ts

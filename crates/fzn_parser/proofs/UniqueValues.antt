@@ -10,7 +10,7 @@ use Rattle.fzn_tree.specs.Piece.{placed, piece_at}
 use Rattle.fzn_tree.specs.Grammar as G
 use Rattle.fzn_parser.specs.declared.cursor.Start.TheVariants as w
 use Rattle.fzn_parser.specs.Begins.{begins}
-use Rattle.fzn_parser.specs.GoesOn.{never, further}
+use Rattle.fzn_parser.specs.GoesOn.{never, goes_further}
 use Rattle.fzn_parser.specs.Taken.{is, one}
 use Rattle.fzn_parser.proofs.TokenLaws.{name_token, int_token, number_token}
 use Rattle.fzn_parser.proofs.LiteralLaws.{values_listed, listed_values, values_braced, values_range, tail, literal_true, literal_false, literal_set, literal_number, tail_range, tail_none}
@@ -43,14 +43,14 @@ values_unique =
     (λ there. of_form (values_braced ts there) (sign_unique s.OpenBrace never, listed_values_unique))
     (λ there. of_form (values_range ts there) (int_unique never, (sign_unique s.Dots never, number_unique never))))
 
-pub tail_unique : IsUnique tail further
+pub tail_unique : IsUnique tail goes_further
 tail_unique =
     forms_unique
     (λ ts. by_next (is s.Dots) ts
     (λ there. of_form (tail_range ts there) (sign_unique s.Dots never, number_unique never))
-    (λ there. of_form (tail_none ts there) (nothing_unique further)))
+    (λ there. of_form (tail_none ts there) (nothing_unique goes_further)))
 
-pub literal_unique : IsUnique G.literal further
+pub literal_unique : IsUnique G.literal goes_further
 literal_unique =
     forms_unique
     (λ ts. by_next (is s.True) ts
@@ -61,7 +61,7 @@ literal_unique =
     (λ there. of_form (literal_set ts there) (placed_unique s.OpenBrace never, listed_values_unique))
     (λ not_brace. of_form (literal_number ts not_true not_false not_brace) (int_unique never, tail_unique)))))
 
-pub basic_unique : IsUnique G.basic further
+pub basic_unique : IsUnique G.basic goes_further
 basic_unique =
     forms_unique
     (λ ts. by_next (begins w.Name) ts
@@ -71,7 +71,7 @@ basic_unique =
 pub array_unique : IsUnique G.array never
 array_unique = forms_unique (λ ts. of_form (array_of ts) (placed_unique s.OpenBracket never, listed_unique entries_listed (λ n. marked_unique basic_unique (nat_lt n G.most))))
 
-pub arg_unique : IsUnique G.arg further
+pub arg_unique : IsUnique G.arg goes_further
 arg_unique =
     forms_unique
     (λ ts. by_next (is s.OpenBracket) ts

@@ -16,23 +16,23 @@ literal_signs x = is_symbol s.True (k.Symbol x) || is_symbol s.False (k.Symbol x
 abbrev pub types_begin : Kind → Bool
 types_begin kind = is_symbol s.Bool kind || is_symbol s.Int kind || is_symbol s.Set kind
 
-abbrev pub starts : Start → Kind → Bool
-starts (w.Sign x) kind = is_symbol x kind
-starts w.Name (k.Name text) = true
-starts w.Int (k.Int value) = true
-starts w.Text (k.Text text) = true
-starts w.Literal (k.Symbol x) = literal_signs x
-starts w.Literal (k.Int value) = true
-starts w.Basic (k.Symbol x) = literal_signs x
-starts w.Basic (k.Name text) = true
-starts w.Basic (k.Int value) = true
-starts w.Term (k.Symbol x) = literal_signs x
-starts w.Term (k.Name text) = true
-starts w.Term (k.Int value) = true
-starts w.Term (k.Text text) = true
-starts w.Declaration kind = is_symbol s.Array kind || types_begin kind
-starts w.Var kind = is_symbol s.Var kind || is_symbol s.Array kind
-starts _ _ = false
+abbrev pub may_start : Start → Kind → Bool
+may_start (w.Sign x) kind = is_symbol x kind
+may_start w.Name (k.Name text) = true
+may_start w.Int (k.Int value) = true
+may_start w.Text (k.Text text) = true
+may_start w.Literal (k.Symbol x) = literal_signs x
+may_start w.Literal (k.Int value) = true
+may_start w.Basic (k.Symbol x) = literal_signs x
+may_start w.Basic (k.Name text) = true
+may_start w.Basic (k.Int value) = true
+may_start w.Term (k.Symbol x) = literal_signs x
+may_start w.Term (k.Name text) = true
+may_start w.Term (k.Int value) = true
+may_start w.Term (k.Text text) = true
+may_start w.Declaration kind = is_symbol s.Array kind || types_begin kind
+may_start w.Var kind = is_symbol s.Var kind || is_symbol s.Array kind
+may_start _ _ = false
 
 abbrev pub begins : Start → Token → Bool
-begins start t = starts start t.kind
+begins start t = may_start start t.kind

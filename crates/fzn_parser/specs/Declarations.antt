@@ -18,8 +18,8 @@ abbrev pub param_rest : ParamRest → List Piece
 param_rest p = grammar.param_base p.base and sign s.Colon and grammar.name p.name and sign s.Equals and grammar.param_value p.value and sign s.Semicolon
 
 -- [ "=" basic ] ";"
-abbrev pub given : Option Basic → List Piece
-given value = grammar.given value and sign s.Semicolon
+abbrev pub given_pieces : Option Basic → List Piece
+given_pieces value = grammar.given value and sign s.Semicolon
 
 -- "var" base ":" NAME annotations "=" array ";"
 abbrev pub array_rest : ArrayRest → List Piece

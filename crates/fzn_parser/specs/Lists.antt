@@ -8,7 +8,7 @@ use Rattle.fzn_parser.specs.Reads.{next_is, Stops}
 use Rattle.fzn_parser.specs.Taken.{is}
 
 -- a comma goes on no part, nor does the closing sign, with which no part begins
-pub record IsListed {A : Type 0} (part : ℕ → A → List Piece) (goes_on : Token → Bool) (close : Symbol) : Type 0 where
+pub record IsListable {A : Type 0} (part : ℕ → A → List Piece) (goes_on : Token → Bool) (close : Symbol) : Type 0 where
   -- there is some part
   pub some : A
   pub not_end : close ≢ s.End

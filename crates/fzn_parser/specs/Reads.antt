@@ -41,7 +41,7 @@ pub record IsRead {A : Type 0} (spell : A → List Piece) (goes_on : Token → B
   pub only : ForEachText spell goes_on front rest (λ b behind others. (b ≡ a) × (behind ≡ others))
 
 -- some value begins with these tokens, and goes on with these pieces
-pub record BeginsWith {A : Type 0} (spell : A → List Piece) (front : List Token) (more : List Piece) : Type 0 where
+pub record BeginsValue {A : Type 0} (spell : A → List Piece) (front : List Token) (more : List Piece) : Type 0 where
   pub value : A
   pub pieces : List Piece
   pub parts : spell value ≡ pieces ++ more
@@ -77,10 +77,10 @@ pub record IsRefused {A : Type 0} (spell : A → List Piece) (goes_on : Token �
   pub plain : NoEnd front
   pub size : length rest ≡ refusal.left
   pub more : List Piece
-  pub begins : BeginsWith spell front more
+  pub begins : BeginsValue spell front more
   pub why : ((refusal.kind ≡ Syntax) × NoneGoesOn spell goes_on front rest) ⊎ (PassesLimit refusal.kind rest more × EachPassesLimit spell goes_on refusal.kind front rest)
 
 -- what is answered, with the tokens before and after it, is the value that is read, or the refusal, or that memory ran out
-pub record Reads {A : Type 0} (spell : A → List Piece) (goes_on : Token → Bool) (before : List Token) (result : Result A (Halt Refusal)) (after : List Token) : Type 0 where
+pub record ReadsValue {A : Type 0} (spell : A → List Piece) (goes_on : Token → Bool) (before : List Token) (result : Result A (Halt Refusal)) (after : List Token) : Type 0 where
   pub ok : (a : A) → result ≡ Ok a → IsRead spell goes_on before a after
   pub err : (refusal : Refusal) → result ≡ Err (halts.Fault refusal) → IsRefused spell goes_on before refusal

@@ -27,11 +27,11 @@ text_in (k.Name text) = text
 text_in (k.Int value) = []
 text_in (k.Text text) = text
 
-abbrev pub value_in : Kind → ℤ
-value_in (k.Symbol s) = pos 0
-value_in (k.Name text) = pos 0
-value_in (k.Int value) = value
-value_in (k.Text text) = pos 0
+abbrev pub int_in : Kind → ℤ
+int_in (k.Symbol s) = pos 0
+int_in (k.Name text) = pos 0
+int_in (k.Int value) = value
+int_in (k.Text text) = pos 0
 
 -- a fault of this kind at the next token
 abbrev pub refusal : FaultKind → List Token → Refusal
@@ -51,13 +51,13 @@ pub record IsTaken (start : Start) (before : List Token) (taken : Kind × Positi
   pub position : taken.1 ≡ token.span.position
 
 -- the next token is none of these
-pub record IsOther (start : Start) (before : List Token) (found : Refusal) : Type 0 where
+pub record IsUnexpected (start : Start) (before : List Token) (found : Refusal) : Type 0 where
   pub is : found ≡ refusal Syntax before
   pub other : next_is (begins start) before ≡ false
 
 pub record Takes (start : Start) (before : List Token) (result : Result (Kind × Position) (Halt Refusal)) (after : List Token) : Type 0 where
   pub ok : (taken : Kind × Position) → result ≡ Ok taken → IsTaken start before taken after
-  pub err : (found : Refusal) → result ≡ Err (halts.Fault found) → IsOther start before found
+  pub err : (found : Refusal) → result ≡ Err (halts.Fault found) → IsUnexpected start before found
 
 -- ---- what one token says
 

@@ -4,8 +4,8 @@ ghost use Rattle.std.specs.Prelude.{◌<◌, ◌≤◌, ◌-◌, length, OnOk};
 ghost use Rattle.fzn_lexer.specs.declared.token.Symbol.TheVariants.{OpenParen};
 ghost use Rattle.fzn_tree.specs.Grammar as grammar;
 ghost use Rattle.fzn_parser.specs.Annotations as spec;
-ghost use Rattle.fzn_parser.specs.GoesOn.{never, further};
-ghost use Rattle.fzn_parser.specs.Reads.{Reads};
+ghost use Rattle.fzn_parser.specs.GoesOn.{never, goes_further};
+ghost use Rattle.fzn_parser.specs.Reads.{ReadsValue};
 ghost use Rattle.fzn_parser.specs.Taken.{is};
 
 use crate::cursor::Start::Sign;
@@ -23,7 +23,7 @@ const DEEPEST: usize = 64;
 #[cycle(ann)]
 fn ann(alloc: Global, tokens: &mut Tokens<'_>, levels: usize) -> Result<Ann, Stop>
     requires in_range { levels ≤ grammar.deepest }
-    ensures reads { Reads (grammar.ann (grammar.deepest - levels)) (is OpenParen) tokens.old result tokens.new }
+    ensures reads { ReadsValue (grammar.ann (grammar.deepest - levels)) (is OpenParen) tokens.old result tokens.new }
     ensures shorter { OnOk result (length tokens.new < length tokens.old) }
 {
     let name = tokens.name(alloc)?;
@@ -49,7 +49,7 @@ fn ann_args(
     levels: usize,
 ) -> Result<Items<AnnArg<Ann>>, Stop>
     requires in_range { levels ≤ grammar.deepest }
-    ensures reads { Reads (spec.args_in (grammar.deepest - levels)) never tokens.old result tokens.new }
+    ensures reads { ReadsValue (spec.args_in (grammar.deepest - levels)) never tokens.old result tokens.new }
     ensures never_longer { OnOk result (length tokens.new ≤ length tokens.old) }
 {
     let mut args = Items::new(alloc);
@@ -71,7 +71,7 @@ fn ann_args(
 #[cycle(ann)]
 fn ann_arg(alloc: Global, tokens: &mut Tokens<'_>, levels: usize) -> Result<AnnArg<Ann>, Stop>
     requires in_range { levels ≤ grammar.deepest }
-    ensures reads { Reads (spec.arg (grammar.deepest - levels)) further tokens.old result tokens.new }
+    ensures reads { ReadsValue (spec.arg_pieces (grammar.deepest - levels)) goes_further tokens.old result tokens.new }
     ensures never_longer { OnOk result (length tokens.new ≤ length tokens.old) }
 {
     if !tokens.sees(Sign(Symbol::OpenBracket)) {
@@ -92,7 +92,7 @@ fn ann_terms(
     levels: usize,
 ) -> Result<Items<AnnTerm<Ann>>, Stop>
     requires in_range { levels ≤ grammar.deepest }
-    ensures reads { Reads (spec.terms_in (grammar.deepest - levels)) never tokens.old result tokens.new }
+    ensures reads { ReadsValue (spec.terms_pieces (grammar.deepest - levels)) never tokens.old result tokens.new }
     ensures never_longer { OnOk result (length tokens.new ≤ length tokens.old) }
 {
     let mut terms = Items::new(alloc);
@@ -120,7 +120,7 @@ fn ann_entry(
     number: usize,
 ) -> Result<AnnTerm<Ann>, Stop>
     requires in_range { levels ≤ grammar.deepest }
-    ensures reads { Reads (spec.entry (grammar.deepest - levels) number) further tokens.old result tokens.new }
+    ensures reads { ReadsValue (spec.entry_pieces (grammar.deepest - levels) number) goes_further tokens.old result tokens.new }
     ensures never_longer { OnOk result (length tokens.new ≤ length tokens.old) }
 {
     if number < LONGEST {
@@ -133,7 +133,7 @@ fn ann_entry(
 #[cycle(ann)]
 fn ann_term(alloc: Global, tokens: &mut Tokens<'_>, levels: usize) -> Result<AnnTerm<Ann>, Stop>
     requires in_range { levels ≤ grammar.deepest }
-    ensures reads { Reads (spec.term (grammar.deepest - levels)) further tokens.old result tokens.new }
+    ensures reads { ReadsValue (spec.term_pieces (grammar.deepest - levels)) goes_further tokens.old result tokens.new }
     ensures never_longer { OnOk result (length tokens.new ≤ length tokens.old) }
 {
     if tokens.sees(Start::Text) {
@@ -160,7 +160,7 @@ impl Part for Ann {
 
 /// As many annotations as there are, each behind two colons.
 pub fn anns(alloc: Global, tokens: &mut Tokens<'_>) -> Result<Items<Ann>, Stop>
-    ensures reads { Reads grammar.anns further tokens.old result tokens.new }
+    ensures reads { ReadsValue grammar.anns goes_further tokens.old result tokens.new }
     ensures never_longer { OnOk result (length tokens.new ≤ length tokens.old) }
 {
     many(alloc, tokens, Symbol::Colons)

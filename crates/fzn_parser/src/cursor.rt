@@ -2,8 +2,8 @@
 
 ghost use Rattle.std.specs.Prelude.{◌≡◌, ◌≢◌, ◌<◌, ℕ, Bool, true, false, List, Err, length, OnOk};
 ghost use Rattle.fzn_lexer.specs.Kept.{kind_in};
-ghost use Rattle.fzn_parser.specs.Begins.{literal_signs, starts};
-ghost use Rattle.fzn_parser.specs.Taken.{value_in, text_in};
+ghost use Rattle.fzn_parser.specs.Begins.{literal_signs, may_start};
+ghost use Rattle.fzn_parser.specs.Taken.{int_in, text_in};
 
 use fzn_lexer::{FaultKind, Halt, Kept, Position, Positions, Symbol, TokenForm, TokenList, inside};
 use fzn_list::{LONGEST, Text};
@@ -14,7 +14,9 @@ use std::marker::Model;
 /// A fault of this kind at the token with which this many are left, that token among them.
 #[derive(Clone, Copy)]
 pub struct Refusal {
+    /// What is wrong.
     pub kind: FaultKind,
+    /// How many tokens of the file have not been taken, the refused one among them.
     pub left: usize,
 }
 
@@ -50,7 +52,7 @@ fn begins_literal(symbol: Symbol) -> bool
 impl Start {
     /// Whether a token of this form is one of these.
     fn fits(self, form: TokenForm) -> bool
-        ensures { (text : List ℕ) → result ≡ starts self (kind_in form text) }
+        ensures { (text : List ℕ) → result ≡ may_start self (kind_in form text) }
     {
         match self {
             Start::Sign(symbol) => form.is(symbol),
@@ -103,7 +105,7 @@ impl<'a> Model for Taken<'a> {
 impl<'a> Taken<'a> {
     /// Its number, 0 where it is none.
     fn value(&self) -> i64
-        ensures { result ≡ value_in self.now.0 }
+        ensures { result ≡ int_in self.now.0 }
     {
         match self.form {
             TokenForm::Int(value) => i64::from(value),
@@ -149,7 +151,7 @@ impl<'a> Tokens<'a> {
     ghost use Rattle.fzn_tree.specs.Grammar as grammar;
     ghost use Rattle.fzn_parser.specs.Begins.{begins};
     ghost use Rattle.fzn_parser.specs.GoesOn.{never};
-    ghost use Rattle.fzn_parser.specs.Reads.{Reads, next_is};
+    ghost use Rattle.fzn_parser.specs.Reads.{ReadsValue, next_is};
     ghost use Rattle.fzn_parser.specs.Taken.{Takes, is, refusal, over, one, text};
 
     /// All of these tokens.
@@ -218,7 +220,7 @@ impl<'a> Tokens<'a> {
     /// Past this symbol. A syntax fault where the next token is another.
     pub fn symbol(&mut self, symbol: Symbol) -> Result<(), Stop>
         requires not_end { symbol ≢ End }
-        ensures reads { Reads (λ u. sign symbol) never self.old result self.new }
+        ensures reads { ReadsValue (λ u. sign symbol) never self.old result self.new }
         ensures shorter { OnOk result (length self.new < length self.old) }
     {
         self.take_if(Start::Sign(symbol))?;
@@ -237,7 +239,7 @@ impl<'a> Tokens<'a> {
     /// Past this symbol, with its position. A syntax fault where the next token is another.
     pub fn symbol_position(&mut self, symbol: Symbol) -> Result<Position, Stop>
         requires not_end { symbol ≢ End }
-        ensures reads { Reads (λ at. placed (kinds.Symbol symbol) at) never self.old result self.new }
+        ensures reads { ReadsValue (λ at. placed (kinds.Symbol symbol) at) never self.old result self.new }
         ensures shorter { OnOk result (length self.new < length self.old) }
     {
         let token = self.take_if(Start::Sign(symbol))?;
@@ -246,7 +248,7 @@ impl<'a> Tokens<'a> {
 
     /// The name that is next, with its position. A syntax fault where the next token is none.
     pub fn name(&mut self, alloc: Global) -> Result<Name, Stop>
-        ensures reads { Reads grammar.name never self.old result self.new }
+        ensures reads { ReadsValue grammar.name never self.old result self.new }
         ensures shorter { OnOk result (length self.new < length self.old) }
     {
         let token = self.take_if(Start::Name)?;
@@ -258,7 +260,7 @@ impl<'a> Tokens<'a> {
 
     /// The text that is next, without its quotes, and its position. A syntax fault where the next token is none.
     pub fn text(&mut self, alloc: Global) -> Result<(Text, Position), Stop>
-        ensures reads { Reads text never self.old result self.new }
+        ensures reads { ReadsValue text never self.old result self.new }
         ensures shorter { OnOk result (length self.new < length self.old) }
     {
         let token = self.take_if(Start::Text)?;
@@ -268,7 +270,7 @@ impl<'a> Tokens<'a> {
 
     /// The number that is next, with its position. A syntax fault where the next token is none.
     pub fn int(&mut self) -> Result<Int, Stop>
-        ensures reads { Reads grammar.int never self.old result self.new }
+        ensures reads { ReadsValue grammar.int never self.old result self.new }
         ensures shorter { OnOk result (length self.new < length self.old) }
     {
         let token = self.take_if(Start::Int)?;
@@ -280,7 +282,7 @@ impl<'a> Tokens<'a> {
 
     /// A number, where its position is not wanted. A syntax fault where the next token is none.
     pub fn number(&mut self) -> Result<i64, Stop>
-        ensures reads { Reads grammar.number never self.old result self.new }
+        ensures reads { ReadsValue grammar.number never self.old result self.new }
         ensures shorter { OnOk result (length self.new < length self.old) }
     {
         let token = self.take_if(Start::Int)?;
@@ -289,7 +291,7 @@ impl<'a> Tokens<'a> {
 
     /// The number 1. A syntax fault where the next token is another.
     pub fn one(&mut self) -> Result<(), Stop>
-        ensures reads { Reads one never self.old result self.new }
+        ensures reads { ReadsValue one never self.old result self.new }
         ensures shorter { OnOk result (length self.new < length self.old) }
     {
         let refused = self.refuse(FaultKind::Syntax);
@@ -302,7 +304,7 @@ impl<'a> Tokens<'a> {
 
     /// The number of an array's entries. A syntax fault where the next token is no number or is below 0, too many above `LONGEST`.
     pub fn size(&mut self) -> Result<usize, Stop>
-        ensures reads { Reads grammar.size never self.old result self.new }
+        ensures reads { ReadsValue grammar.size never self.old result self.new }
         ensures shorter { OnOk result (length self.new < length self.old) }
     {
         let refused = self.refuse(FaultKind::Syntax);

@@ -4,8 +4,8 @@ ghost use Rattle.std.specs.Prelude.{◌≡◌, ◌<◌, ◌≤◌, Err, length, 
 ghost use Rattle.fzn_lexer.specs.declared.halt.Halt.TheVariants.{Fault};
 ghost use Rattle.fzn_tree.specs.Grammar as grammar;
 ghost use Rattle.fzn_parser.specs.Declarations as spec;
-ghost use Rattle.fzn_parser.specs.GoesOn.{never, further, declares};
-ghost use Rattle.fzn_parser.specs.Reads.{Reads, IsRefused};
+ghost use Rattle.fzn_parser.specs.GoesOn.{never, goes_further, declares};
+ghost use Rattle.fzn_parser.specs.Reads.{ReadsValue, IsRefused};
 
 use crate::annotations::anns;
 use crate::cursor::Start::Sign;
@@ -22,7 +22,7 @@ use fzn_tree::{
 use std::alloc::Global;
 
 fn param_base(tokens: &mut Tokens<'_>) -> Result<ParamBase, Stop>
-    ensures reads { Reads grammar.param_base never tokens.old result tokens.new }
+    ensures reads { ReadsValue grammar.param_base never tokens.old result tokens.new }
     ensures shorter { OnOk result (length tokens.new < length tokens.old) }
 {
     if tokens.sees(Sign(Symbol::Bool)) {
@@ -38,7 +38,7 @@ fn param_base(tokens: &mut Tokens<'_>) -> Result<ParamBase, Stop>
 }
 
 fn param_value(alloc: Global, tokens: &mut Tokens<'_>) -> Result<ParamValue, Stop>
-    ensures reads { Reads grammar.param_value further tokens.old result tokens.new }
+    ensures reads { ReadsValue grammar.param_value goes_further tokens.old result tokens.new }
     ensures never_longer { OnOk result (length tokens.new ≤ length tokens.old) }
 {
     if !tokens.sees(Sign(Symbol::OpenBracket)) {
@@ -52,8 +52,11 @@ fn param_value(alloc: Global, tokens: &mut Tokens<'_>) -> Result<ParamValue, Sto
 /// A parameter from its type on.
 #[derive(Drop)]
 pub struct ParamRest {
+    /// The type of its value, or of each entry where it is an array.
     pub base: ParamBase,
+    /// The name that is declared, with its position.
     pub name: Name,
+    /// What the name stands for.
     pub value: ParamValue,
 }
 
@@ -72,7 +75,7 @@ impl ParamRest {
 }
 
 fn param_rest(alloc: Global, tokens: &mut Tokens<'_>) -> Result<ParamRest, Stop>
-    ensures reads { Reads spec.param_rest never tokens.old result tokens.new }
+    ensures reads { ReadsValue spec.param_rest never tokens.old result tokens.new }
     ensures shorter { OnOk result (length tokens.new < length tokens.old) }
 {
     let base = param_base(tokens)?;
@@ -86,7 +89,7 @@ fn param_rest(alloc: Global, tokens: &mut Tokens<'_>) -> Result<ParamRest, Stop>
 
 /// The value that a variable is declared with, up to the semicolon.
 fn given(alloc: Global, tokens: &mut Tokens<'_>) -> Result<Option<Basic>, Stop>
-    ensures reads { Reads spec.given never tokens.old result tokens.new }
+    ensures reads { ReadsValue spec.given_pieces never tokens.old result tokens.new }
     ensures never_longer { OnOk result (length tokens.new ≤ length tokens.old) }
 {
     if !tokens.sees(Sign(Symbol::Equals)) {
@@ -100,7 +103,7 @@ fn given(alloc: Global, tokens: &mut Tokens<'_>) -> Result<Option<Basic>, Stop>
 }
 
 fn single_var(alloc: Global, tokens: &mut Tokens<'_>) -> Result<SingleVar, Stop>
-    ensures reads { Reads grammar.single_var never tokens.old result tokens.new }
+    ensures reads { ReadsValue grammar.single_var never tokens.old result tokens.new }
     ensures shorter { OnOk result (length tokens.new < length tokens.old) }
 {
     let position = tokens.symbol_position(Symbol::Var)?;
@@ -121,9 +124,13 @@ fn single_var(alloc: Global, tokens: &mut Tokens<'_>) -> Result<SingleVar, Stop>
 /// An array of variables from `var` on.
 #[derive(Drop)]
 pub struct ArrayRest {
+    /// The type of each entry.
     pub base: Base,
+    /// The name that is declared, with its position.
     pub name: Name,
+    /// The annotations, in order.
     pub anns: Items<Ann>,
+    /// The entries.
     pub array: Array,
 }
 
@@ -143,7 +150,7 @@ impl ArrayRest {
 }
 
 fn array_rest(alloc: Global, tokens: &mut Tokens<'_>) -> Result<ArrayRest, Stop>
-    ensures reads { Reads spec.array_rest never tokens.old result tokens.new }
+    ensures reads { ReadsValue spec.array_rest never tokens.old result tokens.new }
     ensures shorter { OnOk result (length tokens.new < length tokens.old) }
 {
     tokens.symbol(Symbol::Var)?;
@@ -165,7 +172,7 @@ fn array_rest(alloc: Global, tokens: &mut Tokens<'_>) -> Result<ArrayRest, Stop>
 /// A variable or an array of them, behind so many single variables.
 fn var(alloc: Global, tokens: &mut Tokens<'_>, singles: usize) -> Result<Var, Stop>
     requires { singles ≤ LONGEST }
-    ensures reads { Reads (grammar.var singles) never tokens.old result tokens.new }
+    ensures reads { ReadsValue (grammar.var singles) never tokens.old result tokens.new }
     ensures few { IfOk result (λ found. grammar.singles_with singles found ≤ LONGEST) }
     ensures shorter { OnOk result (length tokens.new < length tokens.old) }
 {
@@ -217,7 +224,7 @@ pub enum Declared {
 }
 
 fn declaration(alloc: Global, tokens: &mut Tokens<'_>) -> Result<Declared, Stop>
-    ensures reads { Reads spec.declared never tokens.old result tokens.new }
+    ensures reads { ReadsValue spec.declared never tokens.old result tokens.new }
     ensures shorter { OnOk result (length tokens.new < length tokens.old) }
 {
     if !tokens.sees(Sign(Symbol::Array)) {
@@ -238,7 +245,7 @@ pub fn declarations(
     alloc: Global,
     tokens: &mut Tokens<'_>,
 ) -> Result<(Items<Param>, Items<Var>), Stop>
-    ensures reads { Reads grammar.declarations declares tokens.old result tokens.new }
+    ensures reads { ReadsValue grammar.declarations declares tokens.old result tokens.new }
 {
     let mut params = Items::new(alloc);
     let mut vars = Items::new(alloc);

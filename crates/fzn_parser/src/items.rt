@@ -5,8 +5,8 @@ ghost use Rattle.fzn_lexer.specs.declared.halt.Halt.TheVariants.{Fault};
 ghost use Rattle.fzn_lexer.specs.Tokens.{EndsInEnd};
 ghost use Rattle.fzn_tree.specs.Grammar as grammar;
 ghost use Rattle.fzn_tree.specs.Piece.{marked};
-ghost use Rattle.fzn_parser.specs.GoesOn.{never, further};
-ghost use Rattle.fzn_parser.specs.Reads.{Reads};
+ghost use Rattle.fzn_parser.specs.GoesOn.{never, goes_further};
+ghost use Rattle.fzn_parser.specs.Reads.{ReadsValue};
 ghost use Rattle.fzn_parser.specs.Whole.{IsOneTree, IsFirstFault};
 
 use crate::annotations::anns;
@@ -21,7 +21,7 @@ use fzn_tree::{Arg, Con, Goal, Predicate, Solve, Tree};
 use std::alloc::Global;
 
 fn con(alloc: Global, tokens: &mut Tokens<'_>) -> Result<Con, Stop>
-    ensures reads { Reads grammar.con never tokens.old result tokens.new }
+    ensures reads { ReadsValue grammar.con never tokens.old result tokens.new }
     ensures shorter { OnOk result (length tokens.new < length tokens.old) }
 {
     tokens.symbol(Symbol::Constraint)?;
@@ -48,7 +48,7 @@ impl Part for Con {
 }
 
 fn goal(alloc: Global, tokens: &mut Tokens<'_>) -> Result<Goal, Stop>
-    ensures reads { Reads grammar.goal further tokens.old result tokens.new }
+    ensures reads { ReadsValue grammar.goal goes_further tokens.old result tokens.new }
 {
     if tokens.sees(Sign(Symbol::Satisfy)) {
         tokens.symbol(Symbol::Satisfy)?;
@@ -63,7 +63,7 @@ fn goal(alloc: Global, tokens: &mut Tokens<'_>) -> Result<Goal, Stop>
 }
 
 fn solve(alloc: Global, tokens: &mut Tokens<'_>) -> Result<Solve, Stop>
-    ensures reads { Reads grammar.solve never tokens.old result tokens.new }
+    ensures reads { ReadsValue grammar.solve never tokens.old result tokens.new }
 {
     tokens.symbol(Symbol::Solve)?;
     let anns = anns(alloc, tokens)?;
@@ -73,7 +73,7 @@ fn solve(alloc: Global, tokens: &mut Tokens<'_>) -> Result<Solve, Stop>
 }
 
 fn items(alloc: Global, tokens: &mut Tokens<'_>) -> Result<Tree, Stop>
-    ensures reads { Reads grammar.items never tokens.old result tokens.new }
+    ensures reads { ReadsValue grammar.items never tokens.old result tokens.new }
 {
     let predicates: Items<Predicate> = many(alloc, tokens, Symbol::Predicate)?;
     let (params, vars) = declarations(alloc, tokens)?;

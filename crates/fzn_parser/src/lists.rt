@@ -5,8 +5,8 @@ ghost use Rattle.fzn_lexer.specs.declared.token.Symbol.TheVariants.{End};
 ghost use Rattle.fzn_tree.specs.Grammar as grammar;
 ghost use Rattle.fzn_tree.specs.Piece.{each};
 ghost use Rattle.fzn_parser.specs.GoesOn.{never};
-ghost use Rattle.fzn_parser.specs.Lists.{IsListed, AreMany};
-ghost use Rattle.fzn_parser.specs.Reads.{Reads};
+ghost use Rattle.fzn_parser.specs.Lists.{IsListable, AreMany};
+ghost use Rattle.fzn_parser.specs.Reads.{ReadsValue};
 ghost use Rattle.fzn_parser.specs.Taken.{is};
 
 use crate::cursor::Start::Sign;
@@ -29,7 +29,7 @@ pub trait Part: Sized + Drop {
 
     /// The part that is next, behind so many others. The first fault where it is not written so, or where there are as many as there may be.
     fn read(alloc: Global, tokens: &mut Tokens<'_>, number: usize) -> Result<Self, Stop>
-        ensures reads { Reads (spell number) goes_on tokens.old result tokens.new }
+        ensures reads { ReadsValue (spell number) goes_on tokens.old result tokens.new }
         ensures shorter { OnOk result (length tokens.new < length tokens.old) };
 }
 
@@ -39,8 +39,8 @@ pub fn listed<P: Part>(
     tokens: &mut Tokens<'_>,
     close: Symbol,
 ) -> Result<Items<P>, Stop>
-    requires listed { IsListed P.spell P.goes_on close }
-    ensures reads { Reads (grammar.listed P.spell close) never tokens.old result tokens.new }
+    requires listed { IsListable P.spell P.goes_on close }
+    ensures reads { ReadsValue (grammar.listed P.spell close) never tokens.old result tokens.new }
     ensures shorter { OnOk result (length tokens.new < length tokens.old) }
 {
     let mut parts = Items::new(alloc);
@@ -66,7 +66,7 @@ pub fn many<P: Part>(
     begins: Symbol,
 ) -> Result<Items<P>, Stop>
     requires many { AreMany P.spell P.goes_on begins }
-    ensures reads { Reads (each P.spell 0) (λ t. is begins t || P.goes_on t) tokens.old result tokens.new }
+    ensures reads { ReadsValue (each P.spell 0) (λ t. is begins t || P.goes_on t) tokens.old result tokens.new }
     ensures never_longer { OnOk result (length tokens.new ≤ length tokens.old) }
 {
     let mut parts = Items::new(alloc);

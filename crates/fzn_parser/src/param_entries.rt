@@ -1,7 +1,7 @@
 //! The entries of a parameter that is an array.
 
 ghost use Rattle.fzn_tree.specs.Grammar as grammar;
-ghost use Rattle.fzn_parser.specs.GoesOn.{further};
+ghost use Rattle.fzn_parser.specs.GoesOn.{goes_further};
 
 use crate::cursor::{Start, Stop, Tokens};
 use crate::lists::Part;
@@ -14,7 +14,7 @@ use std::alloc::Global;
 impl Part for Literal {
     ghost spell = { grammar.param_entry };
 
-    ghost goes_on = { further };
+    ghost goes_on = { goes_further };
 
     fn read(alloc: Global, tokens: &mut Tokens<'_>, number: usize) -> Result<Literal, Stop> {
         if number < LONGEST {

@@ -4,7 +4,7 @@ ghost use Rattle.std.specs.Prelude.{◌<◌, ◌≤◌, length, OnOk};
 ghost use Rattle.fzn_lexer.specs.declared.token.Symbol.TheVariants.{Array, Var};
 ghost use Rattle.fzn_tree.specs.Grammar as grammar;
 ghost use Rattle.fzn_parser.specs.GoesOn.{never};
-ghost use Rattle.fzn_parser.specs.Reads.{Reads};
+ghost use Rattle.fzn_parser.specs.Reads.{ReadsValue};
 ghost use Rattle.fzn_parser.specs.Taken.{is};
 
 use crate::cursor::Start::Sign;
@@ -17,7 +17,7 @@ use fzn_tree::{Indices, Predicate, PredicateParam};
 use std::alloc::Global;
 
 fn index_set(tokens: &mut Tokens<'_>) -> Result<Indices, Stop>
-    ensures reads { Reads grammar.index_set never tokens.old result tokens.new }
+    ensures reads { ReadsValue grammar.index_set never tokens.old result tokens.new }
     ensures never_longer { OnOk result (length tokens.new ≤ length tokens.old) }
 {
     if tokens.sees(Sign(Symbol::Int)) {
@@ -29,7 +29,7 @@ fn index_set(tokens: &mut Tokens<'_>) -> Result<Indices, Stop>
 
 /// The index set of an array in a predicate, if an array is written.
 fn predicate_array(tokens: &mut Tokens<'_>) -> Result<Option<Indices>, Stop>
-    ensures reads { Reads grammar.predicate_array (is Array) tokens.old result tokens.new }
+    ensures reads { ReadsValue grammar.predicate_array (is Array) tokens.old result tokens.new }
     ensures never_longer { OnOk result (length tokens.new ≤ length tokens.old) }
 {
     if !tokens.sees(Sign(Symbol::Array)) {
@@ -45,7 +45,7 @@ fn predicate_array(tokens: &mut Tokens<'_>) -> Result<Option<Indices>, Stop>
 
 /// Whether `var` is written.
 fn optional_var(tokens: &mut Tokens<'_>) -> Result<bool, Stop>
-    ensures reads { Reads grammar.optional_var (is Var) tokens.old result tokens.new }
+    ensures reads { ReadsValue grammar.optional_var (is Var) tokens.old result tokens.new }
     ensures never_longer { OnOk result (length tokens.new ≤ length tokens.old) }
 {
     if !tokens.sees(Sign(Symbol::Var)) {

@@ -3,8 +3,8 @@
 ghost use Rattle.std.specs.Prelude.{ℕ, ◌<◌, ◌≤◌, length, OnOk};
 ghost use Rattle.fzn_lexer.specs.declared.token.Symbol.TheVariants.{CloseBrace};
 ghost use Rattle.fzn_tree.specs.Grammar as grammar;
-ghost use Rattle.fzn_parser.specs.GoesOn.{never, further};
-ghost use Rattle.fzn_parser.specs.Reads.{Reads};
+ghost use Rattle.fzn_parser.specs.GoesOn.{never, goes_further};
+ghost use Rattle.fzn_parser.specs.Reads.{ReadsValue};
 
 use crate::cursor::Start::Sign;
 use crate::cursor::{Start, Stop, Tokens};
@@ -34,7 +34,7 @@ impl Part for i64 {
 
 /// The values up to the closing brace.
 fn listed_values(alloc: Global, tokens: &mut Tokens<'_>) -> Result<Items<i64>, Stop>
-    ensures reads { Reads (grammar.listed grammar.listed_value CloseBrace) never tokens.old result tokens.new }
+    ensures reads { ReadsValue (grammar.listed grammar.listed_value CloseBrace) never tokens.old result tokens.new }
     ensures never_longer { OnOk result (length tokens.new ≤ length tokens.old) }
 {
     listed(alloc, tokens, Symbol::CloseBrace)
@@ -42,7 +42,7 @@ fn listed_values(alloc: Global, tokens: &mut Tokens<'_>) -> Result<Items<i64>, S
 
 /// Values in braces, or a range.
 pub fn values(alloc: Global, tokens: &mut Tokens<'_>) -> Result<Values, Stop>
-    ensures reads { Reads grammar.values never tokens.old result tokens.new }
+    ensures reads { ReadsValue grammar.values never tokens.old result tokens.new }
     ensures never_longer { OnOk result (length tokens.new ≤ length tokens.old) }
 {
     if tokens.sees(Sign(Symbol::OpenBrace)) {
@@ -57,7 +57,7 @@ pub fn values(alloc: Global, tokens: &mut Tokens<'_>) -> Result<Values, Stop>
 
 /// A literal. A syntax fault where none is next, and too many at a listed value past 65,536.
 pub fn literal(alloc: Global, tokens: &mut Tokens<'_>) -> Result<Literal, Stop>
-    ensures reads { Reads grammar.literal further tokens.old result tokens.new }
+    ensures reads { ReadsValue grammar.literal goes_further tokens.old result tokens.new }
     ensures shorter { OnOk result (length tokens.new < length tokens.old) }
 {
     if tokens.sees(Sign(Symbol::True)) {
@@ -82,7 +82,7 @@ pub fn literal(alloc: Global, tokens: &mut Tokens<'_>) -> Result<Literal, Stop>
 
 /// A literal or a name. The faults of a literal where no name is next.
 pub fn basic(alloc: Global, tokens: &mut Tokens<'_>) -> Result<Basic, Stop>
-    ensures reads { Reads grammar.basic further tokens.old result tokens.new }
+    ensures reads { ReadsValue grammar.basic goes_further tokens.old result tokens.new }
     ensures shorter { OnOk result (length tokens.new < length tokens.old) }
 {
     if tokens.sees(Start::Name) {
@@ -96,7 +96,7 @@ pub fn basic(alloc: Global, tokens: &mut Tokens<'_>) -> Result<Basic, Stop>
 impl Part for Basic {
     ghost spell = { grammar.entry };
 
-    ghost goes_on = { further };
+    ghost goes_on = { goes_further };
 
     fn read(alloc: Global, tokens: &mut Tokens<'_>, number: usize) -> Result<Basic, Stop> {
         if number < LONGEST {
@@ -109,7 +109,7 @@ impl Part for Basic {
 
 /// Entries in brackets. The faults of an entry, and too many at an entry past `LONGEST`.
 pub fn array(alloc: Global, tokens: &mut Tokens<'_>) -> Result<Array, Stop>
-    ensures reads { Reads grammar.array never tokens.old result tokens.new }
+    ensures reads { ReadsValue grammar.array never tokens.old result tokens.new }
     ensures shorter { OnOk result (length tokens.new < length tokens.old) }
 {
     let position = tokens.symbol_position(Symbol::OpenBracket)?;
@@ -118,7 +118,7 @@ pub fn array(alloc: Global, tokens: &mut Tokens<'_>) -> Result<Array, Stop>
 }
 
 fn arg(alloc: Global, tokens: &mut Tokens<'_>) -> Result<Arg, Stop>
-    ensures reads { Reads grammar.arg further tokens.old result tokens.new }
+    ensures reads { ReadsValue grammar.arg goes_further tokens.old result tokens.new }
     ensures shorter { OnOk result (length tokens.new < length tokens.old) }
 {
     if tokens.sees(Sign(Symbol::OpenBracket)) {
@@ -131,7 +131,7 @@ fn arg(alloc: Global, tokens: &mut Tokens<'_>) -> Result<Arg, Stop>
 impl Part for Arg {
     ghost spell = { λ n. grammar.arg };
 
-    ghost goes_on = { further };
+    ghost goes_on = { goes_further };
 
     fn read(alloc: Global, tokens: &mut Tokens<'_>, _number: usize) -> Result<Arg, Stop> {
         arg(alloc, tokens)

@@ -1,7 +1,7 @@
 -- The forms of a literal, by the token that is next.
 use Rattle.std.proofs.Common.{sym, ◌∙◌}
 use Rattle.fzn_parser.proofs.OneTokenLaws.{nothing_read}
-use Rattle.fzn_parser.specs.GoesOn.{further}
+use Rattle.fzn_parser.specs.GoesOn.{goes_further}
 use Rattle.fzn_parser.proofs.LiteralLaws.{literal_true, literal_false, literal_set, literal_number, tail_range, tail_none}
 use Rattle.fzn_parser.proofs.Onward.{begin, ◌then◌, stop, stop_last, done, inside, is_read}
 use Rattle.std.proofs.Common.{rules, w64}
@@ -42,4 +42,4 @@ pub returns-then-sees-4-clause-reads : goal.returns-then-sees-4-clause-reads
 returns-then-sees-4-clause-reads c = rw (to_z-of_z w64 c.in_ok-high.high (search rules)) (done (inside (begin (literal_number _ (sym c.sees.ensures ∙ c.if-sees.false) (sym c.sees-2.ensures ∙ c.if-sees-2.false) (sym c.sees-3.ensures ∙ c.if-sees-3.false)) then c.in_ok-low.ensures.reads) (begin (tail_range _ (sym c.sees-4.ensures ∙ c.if-sees-4.true))) then c.in_ok-symbol.ensures.reads) c.in_ok-high.ensures.reads)
 
 pub returns-clause-reads : goal.returns-clause-reads
-returns-clause-reads c = done (inside (begin (literal_number _ (sym c.sees.ensures ∙ c.if-sees.false) (sym c.sees-2.ensures ∙ c.if-sees-2.false) (sym c.sees-3.ensures ∙ c.if-sees-3.false)) then c.in_ok-low.ensures.reads) (begin (tail_none _ (sym c.sees-4.ensures ∙ c.if-sees-4.false)))) (is_read (nothing_read further _))
+returns-clause-reads c = done (inside (begin (literal_number _ (sym c.sees.ensures ∙ c.if-sees.false) (sym c.sees-2.ensures ∙ c.if-sees-2.false) (sym c.sees-3.ensures ∙ c.if-sees-3.false)) then c.in_ok-low.ensures.reads) (begin (tail_none _ (sym c.sees-4.ensures ∙ c.if-sees-4.false)))) (is_read (nothing_read goes_further _))
