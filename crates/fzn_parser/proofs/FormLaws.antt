@@ -10,7 +10,7 @@ use Rattle.fzn_lexer.specs.declared.token.Token.{Token}
 use Rattle.fzn_lexer.specs.declared.token.Kind.TheVariants as k
 use Rattle.fzn_tree.specs.declared.tree.Int.{Int}
 use Rattle.fzn_tree.specs.declared.tree.Name.{Name}
-use Rattle.fzn_tree.specs.Piece.{Piece, Fits, AreSpelled, sign, placed, marked}
+use Rattle.fzn_tree.specs.Piece.{Piece, FitsPiece, AreSpelled, sign, placed, marked}
 use Rattle.fzn_tree.specs.Grammar as G
 use Rattle.fzn_parser.specs.declared.cursor.Refusal.{Refusal}
 use Rattle.fzn_parser.specs.Reads.{next_is, SameNext, PassesLimit, Limited, IsRefused, ReadsValue}
@@ -71,7 +71,7 @@ within_limit {A} {s} {g} {ts} {r} {rest} below e p = subst (λ (b : Bool). Reads
 
 -- a value that the token begins
 abbrev pub First : {A : Type 0} → (A → List Piece) → Token → Type 0
-First {A} spell t = (x : A) × (p : Piece) × (ps : List Piece) × (spell x ≡ p ∷ ps) × Fits t p
+First {A} spell t = (x : A) × (p : Piece) × (ps : List Piece) × (spell x ≡ p ∷ ps) × FitsPiece t p
 
 -- each value passes a test at its first token, and each token that passes it begins a value
 pub record IsTold {A : Type 0} (test : Token → Bool) (s : A → List Piece) : Type 0 where

@@ -9,7 +9,7 @@ use Rattle.fzn_lexer.specs.declared.token.Token.{Token}
 use Rattle.fzn_lexer.specs.declared.fault.FaultKind.{FaultKind}
 use Rattle.fzn_lexer.specs.declared.fault.FaultKind.TheVariants.{Syntax}
 use Rattle.fzn_lexer.specs.declared.token.Kind.TheVariants as k
-use Rattle.fzn_tree.specs.Piece.{Piece, Fits, AreSpelled}
+use Rattle.fzn_tree.specs.Piece.{Piece, FitsPiece, AreSpelled}
 use Rattle.fzn_parser.specs.declared.cursor.Refusal.{Refusal}
 use Rattle.fzn_parser.specs.declared.cursor.Start.{Start}
 use Rattle.fzn_parser.specs.Begins.{begins}
@@ -41,15 +41,15 @@ nothing_read g ts = record {
 -- what is made of a token, and its piece
 pub record IsToken {A : Type 0} (start : Start) (f : Kind × Position → A) (piece : A → Piece) : Type 0 where
   pub some : A
-  pub sound : (t : Token) → begins start t ≡ true → Fits t (piece (f (t.kind, t.span.position))) × (t.kind ≢ k.Symbol End)
-  pub complete : (t : Token) (a : A) → Fits t (piece a) → (begins start t ≡ true) × (f (t.kind, t.span.position) ≡ a)
+  pub sound : (t : Token) → begins start t ≡ true → FitsPiece t (piece (f (t.kind, t.span.position))) × (t.kind ≢ k.Symbol End)
+  pub complete : (t : Token) (a : A) → FitsPiece t (piece a) → (begins start t ≡ true) × (f (t.kind, t.span.position) ≡ a)
   pub within : (a : A) → (piece a).past ≡ None
 
 abbrev pub single : {A : Type 0} → (A → Piece) → A → List Piece
 single piece a = piece a ∷ []
 
 module _ {A : Type 0} (piece : A → Piece) (g : Token → Bool) where
-  pub one_read : (t : Token) (rest : List Token) (a : A) → Fits t (piece a) × (t.kind ≢ k.Symbol End) → (piece a).past ≡ None → ((b : A) → Fits t (piece b) → b ≡ a) → IsRead (single piece) g (t ∷ rest) a rest
+  pub one_read : (t : Token) (rest : List Token) (a : A) → FitsPiece t (piece a) × (t.kind ≢ k.Symbol End) → (piece a).past ≡ None → ((b : A) → FitsPiece t (piece b) → b ≡ a) → IsRead (single piece) g (t ∷ rest) a rest
   one_read t rest a fits within one = record {
     front = t ∷ [];
     parts = refl;
@@ -62,14 +62,14 @@ module _ {A : Type 0} (piece : A → Piece) (g : Token → Bool) where
         | [] ↦ λ spelled stops there next.
             let first : y ≡ t = cc in
             let behind : v ≡ x = cc in
-            (one b (subst (λ (z : Token). Fits z (piece b)) first spelled.0), behind)
+            (one b (subst (λ (z : Token). FitsPiece z (piece b)) first spelled.0), behind)
         | (z ∷ zs) ↦ λ spelled. absurd spelled.1
       ]
     ];
   }
 
   -- no value begins with the next token
-  pub one_refused : (some : A) (ts : List Token) → ((b : A) (y : Token) (ys : List Token) → Fits y (piece b) → SameNext (y ∷ ys) ts → ⊥) → IsRefused (single piece) g ts (refusal Syntax ts)
+  pub one_refused : (some : A) (ts : List Token) → ((b : A) (y : Token) (ys : List Token) → FitsPiece y (piece b) → SameNext (y ∷ ys) ts → ⊥) → IsRefused (single piece) g ts (refusal Syntax ts)
   one_refused some ts none = record {
     front = [];
     rest = ts;
@@ -88,7 +88,7 @@ module _ {A : Type 0} (piece : A → Piece) (g : Token → Bool) where
   }
 
   -- the next token passes a limit, whatever it begins
-  pub one_over : (kind : FaultKind) (some : A) (t : Token) (ts : List Token) → Fits t (piece some) → (piece some).past ≡ Some kind → ((b : A) → Fits t (piece b) → b ≡ some) → IsRefused (single piece) g (t ∷ ts) (refusal kind (t ∷ ts))
+  pub one_over : (kind : FaultKind) (some : A) (t : Token) (ts : List Token) → FitsPiece t (piece some) → (piece some).past ≡ Some kind → ((b : A) → FitsPiece t (piece b) → b ≡ some) → IsRefused (single piece) g (t ∷ ts) (refusal kind (t ∷ ts))
   one_over kind some t ts fits past one = record {
     front = [];
     rest = t ∷ ts;
@@ -103,7 +103,7 @@ module _ {A : Type 0} (piece : A → Piece) (g : Token → Bool) where
         | [] ↦ λ spelled. absurd spelled
         | (y ∷ ys) ↦ λ spelled stops there next.
             let first : y ≡ t = subst (λ (z : List Token). SameNext z (t ∷ ts)) (sym there) next in
-            ap (λ (z : A). (piece z).past) (one b (subst (λ (z : Token). Fits z (piece b)) first spelled.0)) ∙ past
+            ap (λ (z : A). (piece z).past) (one b (subst (λ (z : Token). FitsPiece z (piece b)) first spelled.0)) ∙ past
       ],
     );
   }

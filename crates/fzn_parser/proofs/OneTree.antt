@@ -7,9 +7,9 @@ use Rattle.fzn_lexer.specs.declared.token.Position.{Position}
 use Rattle.fzn_lexer.specs.declared.token.Symbol.TheVariants.{End}
 use Rattle.fzn_lexer.specs.declared.token.Token.{Token}
 use Rattle.fzn_tree.specs.declared.tree.Tree.{Tree}
-use Rattle.fzn_tree.specs.Piece.{Piece, Fits, AreSpelled, AreWithin, sign}
+use Rattle.fzn_tree.specs.Piece.{Piece, FitsPiece, AreSpelled, PassNoLimit, sign}
 use Rattle.fzn_tree.specs.Grammar as G
-use Rattle.fzn_parser.proofs.SpelledLaws.{AreSpelled-append, AreSpelled-split, AreWithin-split}
+use Rattle.fzn_parser.proofs.SpelledLaws.{AreSpelled-append, AreSpelled-split, PassNoLimit-split}
 use Rattle.fzn_parser.proofs.NextLaws.{stops_never}
 use Rattle.fzn_parser.specs.Parse.{IsTree, Begins, NoneBegins, IsPast, EachIsPast, IsFault, IsParsing}
 use Rattle.fzn_parser.proofs.UniqueTree.{items_unique}
@@ -20,7 +20,7 @@ one_tree : (ts : List Token) (t u : Tree) → IsTree ts t → IsTree ts u → t 
 one_tree ts t u a b =
     let d = AreSpelled-split ts (G.items t) (sign End) a.spelled in
     let e = AreSpelled-split ts (G.items u) (sign End) b.spelled in
-    (items_unique.one t u d.left d.right e.left e.right d.on_left e.on_left (AreWithin-split (G.items t) (sign End) a.within).0 (AreWithin-split (G.items u) (sign End) b.within).0 (stops_never d.right) (stops_never e.right) (sym d.parts ∙ e.parts)).0
+    (items_unique.one t u d.left d.right e.left e.right d.on_left e.on_left (PassNoLimit-split (G.items t) (sign End) a.within).0 (PassNoLimit-split (G.items u) (sign End) b.within).0 (stops_never d.right) (stops_never e.right) (sym d.parts ∙ e.parts)).0
 
 -- ---- no fault within what begins a tree
 
@@ -45,7 +45,7 @@ record Next (x : List Token) (t : Token) (ps : List Piece) : Type 0 where
   more : List Piece
   parts : ps ≡ front ++ here ∷ more
   spelled : AreSpelled x front
-  fits : Fits t here
+  fits : FitsPiece t here
 
 next_of : (x : List Token) (t : Token) (y : List Token) (ps : List Piece) → AreSpelled (x ++ t ∷ y) ps → Next x t ps
 next_of [] t y [] s = absurd s
@@ -56,11 +56,11 @@ next_of (u ∷ x) t y (p ∷ ps) s =
     record { front = p ∷ r.front; here = r.here; more = r.more; parts = ap (λ (z : List Piece). p ∷ z) r.parts; spelled = (s.0, r.spelled); fits = r.fits }
 
 -- a tree that goes on, within the limits, past where a fault stands
-no_fault : (ts : List Token) (f : Fault) (fault : IsFault ts f) (t : Tree) (ps qs : List Piece) (y : List Token) → G.tree t ≡ ps ++ qs → AreSpelled (fault.before ++ fault.token ∷ y) ps → AreWithin ps → ⊥
+no_fault : (ts : List Token) (f : Fault) (fault : IsFault ts f) (t : Tree) (ps qs : List Piece) (y : List Token) → G.tree t ≡ ps ++ qs → AreSpelled (fault.before ++ fault.token ∷ y) ps → PassNoLimit ps → ⊥
 no_fault ts f fault t ps qs y whole spelled within =
     let n = next_of fault.before fault.token y ps spelled in
     let all : G.tree t ≡ n.front ++ n.here ∷ (n.more ++ qs) = whole ∙ ap (λ (z : List Piece). z ++ qs) n.parts ∙ append_assoc n.front (n.here ∷ n.more) qs in
-    let low = AreWithin-split n.front (n.here ∷ n.more) (subst AreWithin n.parts within) in
+    let low = PassNoLimit-split n.front (n.here ∷ n.more) (subst PassNoLimit n.parts within) in
     elim fault.why [
       | inl w ↦ w.1 t (n.front ++ n.here ∷ []) (n.more ++ qs) (all ∙ sym (append_assoc n.front (n.here ∷ []) (n.more ++ qs))) (AreSpelled-append fault.before (fault.token ∷ []) n.front (n.here ∷ []) n.spelled (n.fits, tt))
       | inr w ↦ let past = w.1 t n.front n.here (n.more ++ qs) all n.spelled low.0 n.fits in let none = low.1.0 in cc
@@ -103,7 +103,7 @@ no_earlier ts f g x y w is =
     no_fault ts f x b.value b.front b.more w b.parts (subst (λ (z : List Token). AreSpelled z b.front) is b.spelled) b.within
 
 -- at one token the kind of fault is one
-past_next : (kind : FaultKind) (t : Token) (ps : List Piece) → IsPast kind t ps → (p : Piece) × (more : List Piece) × (ps ≡ p ∷ more) × Fits t p × (p.past ≡ Some kind)
+past_next : (kind : FaultKind) (t : Token) (ps : List Piece) → IsPast kind t ps → (p : Piece) × (more : List Piece) × (ps ≡ p ∷ more) × FitsPiece t p × (p.past ≡ Some kind)
 past_next kind t [] past = absurd past
 past_next kind t (p ∷ ps) past = (p, ps, refl, past.0, past.1)
 

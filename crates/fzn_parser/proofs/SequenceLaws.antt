@@ -2,10 +2,10 @@
 use Rattle.std.proofs.Common.{◌≡◌, ℕ, ◌+◌, Bool, List, [], ◌++◌, length, sym, ap, subst, ◌∙◌, append_assoc, inl, inr, length-append}
 use Rattle.std.proofs.lemmas.List.{append-nil}
 use Rattle.fzn_lexer.specs.declared.token.Token.{Token}
-use Rattle.fzn_tree.specs.Piece.{Piece, AreSpelled, AreWithin}
+use Rattle.fzn_tree.specs.Piece.{Piece, AreSpelled, PassNoLimit}
 use Rattle.fzn_parser.specs.declared.cursor.Refusal.{Refusal}
 use Rattle.fzn_parser.specs.Reads.{SameNext, Stops, IsRead, Limited, IsRefused}
-use Rattle.fzn_parser.proofs.SpelledLaws.{AreSpelled-append, AreSpelled-split, AreWithin-append, AreSpelled-length, Limited-left, Limited-right, NoEnd-append, SameNext-append, PassesLimit-append}
+use Rattle.fzn_parser.proofs.SpelledLaws.{AreSpelled-append, AreSpelled-split, PassNoLimit-append, AreSpelled-length, Limited-left, Limited-right, NoEnd-append, SameNext-append, PassesLimit-append}
 
 -- ---- a second part behind a first
 
@@ -28,7 +28,7 @@ module _ {A : Type 0} {B : A → Type 0} (s : A → List Piece) (g : Token → B
     parts = p.parts ∙ ap (λ (z : List Token). p.front ++ z) q.parts ∙ sym (append_assoc p.front q.front rest);
     plain = NoEnd-append p.front q.front p.plain q.plain;
     spelled = AreSpelled-append p.front q.front (s a) (t a b) p.spelled q.spelled;
-    within = AreWithin-append (s a) (t a b) p.within q.within;
+    within = PassNoLimit-append (s a) (t a b) p.within q.within;
     only = λ c u v x spelled stops same next.
         let d = AreSpelled-split u (s c.0) (t c.0 c.1) spelled in
         let near : SameNext (q.front ++ x) mid = subst (λ (z : List Token). SameNext (q.front ++ x) z) (sym q.parts) (SameNext-append q.front x rest next) in
@@ -50,7 +50,7 @@ module _ {A : Type 0} {B : A → Type 0} (s : A → List Piece) (g : Token → B
       pieces = s a ++ q.begins.pieces;
       parts = ap (λ (z : List Piece). s a ++ z) q.begins.parts ∙ sym (append_assoc (s a) q.begins.pieces q.more);
       spelled = AreSpelled-append p.front q.front (s a) q.begins.pieces p.spelled q.begins.spelled;
-      within = AreWithin-append (s a) q.begins.pieces p.within q.begins.within;
+      within = PassNoLimit-append (s a) q.begins.pieces p.within q.begins.within;
     };
     why = elim q.why [
       | inl w ↦ inl (
@@ -120,7 +120,7 @@ module _ {A B : Type 0} (s : A → List Piece) (t : B → List Piece) (h : Token
     parts = p.parts;
     plain = p.plain;
     spelled = subst (λ (z : List Piece). AreSpelled p.front z) (sym (same a)) p.spelled;
-    within = subst AreWithin (sym (same a)) p.within;
+    within = subst PassNoLimit (sym (same a)) p.within;
     only = λ b u v x spelled stops there next.
         let o = onto b u v spelled stops (near p.front rest (u ++ v) x p.parts there next) in
         let one = p.only o.0 u v x (moved b o.0 u o.1 spelled) stops there next in

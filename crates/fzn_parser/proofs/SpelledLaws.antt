@@ -2,7 +2,7 @@
 use Rattle.std.proofs.Common.{◌≡◌, ℕ, zero, suc, ◌+◌, Bool, List, [], ◌∷◌, ◌++◌, length, Some, refl, ap, subst, arith}
 use Rattle.fzn_lexer.specs.declared.token.Token.{Token}
 use Rattle.fzn_lexer.specs.declared.fault.FaultKind.{FaultKind}
-use Rattle.fzn_tree.specs.Piece.{Piece, AreSpelled, AreWithin}
+use Rattle.fzn_tree.specs.Piece.{Piece, AreSpelled, PassNoLimit}
 use Rattle.fzn_lexer.specs.Tokens.{NoEnd}
 use Rattle.fzn_parser.specs.Reads.{next_is, SameNext, PassesLimit, Limited}
 
@@ -26,13 +26,13 @@ AreSpelled-split (t ∷ u) (p ∷ ps) qs s =
     let r = AreSpelled-split u ps qs s.1 in
     record { left = t ∷ r.left; right = r.right; parts = ap (λ (z : List Token). t ∷ z) r.parts; on_left = (s.0, r.on_left); on_right = r.on_right }
 
-pub AreWithin-append : (ps qs : List Piece) → AreWithin ps → AreWithin qs → AreWithin (ps ++ qs)
-AreWithin-append [] qs p q = q
-AreWithin-append (x ∷ ps) qs p q = (p.0, AreWithin-append ps qs p.1 q)
+pub PassNoLimit-append : (ps qs : List Piece) → PassNoLimit ps → PassNoLimit qs → PassNoLimit (ps ++ qs)
+PassNoLimit-append [] qs p q = q
+PassNoLimit-append (x ∷ ps) qs p q = (p.0, PassNoLimit-append ps qs p.1 q)
 
-pub AreWithin-split : (ps qs : List Piece) → AreWithin (ps ++ qs) → AreWithin ps × AreWithin qs
-AreWithin-split [] qs w = (tt, w)
-AreWithin-split (x ∷ ps) qs w = let r = AreWithin-split ps qs w.1 in ((w.0, r.0), r.1)
+pub PassNoLimit-split : (ps qs : List Piece) → PassNoLimit (ps ++ qs) → PassNoLimit ps × PassNoLimit qs
+PassNoLimit-split [] qs w = (tt, w)
+PassNoLimit-split (x ∷ ps) qs w = let r = PassNoLimit-split ps qs w.1 in ((w.0, r.0), r.1)
 
 pub AreSpelled-length : (u : List Token) (ps : List Piece) → AreSpelled u ps → length u ≡ length ps
 AreSpelled-length [] [] s = refl
@@ -51,13 +51,13 @@ Limited-right kind n zero (p ∷ ps) qs is l = absurd (omega arith)
 Limited-right kind n (suc k) (p ∷ ps) qs is l = λ w. Limited-right kind n k ps qs (omega arith) l
 
 -- what is within all limits passes none
-pub Limited-within : (kind : FaultKind) (n : ℕ) (ps : List Piece) → Limited kind n ps → AreWithin ps → ⊥
+pub Limited-within : (kind : FaultKind) (n : ℕ) (ps : List Piece) → Limited kind n ps → PassNoLimit ps → ⊥
 Limited-within kind n [] l w = l
 Limited-within kind zero (p ∷ ps) l w = let e = w.0 in cc
 Limited-within kind (suc n) (p ∷ ps) l w = Limited-within kind n ps (l w.0) w.1
 
 -- the piece that passes the limit
-pub Limited-here : (kind : FaultKind) (n : ℕ) (ps : List Piece) (p : Piece) (qs : List Piece) → length ps ≡ n → AreWithin ps → Limited kind n (ps ++ p ∷ qs) → p.past ≡ Some kind
+pub Limited-here : (kind : FaultKind) (n : ℕ) (ps : List Piece) (p : Piece) (qs : List Piece) → length ps ≡ n → PassNoLimit ps → Limited kind n (ps ++ p ∷ qs) → p.past ≡ Some kind
 Limited-here kind zero [] p qs is w l = l
 Limited-here kind (suc n) [] p qs is w l = absurd (omega arith)
 Limited-here kind zero (o ∷ ps) p qs is w l = absurd (omega arith)

@@ -14,7 +14,7 @@ use Rattle.fzn_lexer.specs.declared.token.Symbol.TheVariants as s
 use Rattle.fzn_tree.specs.declared.tree.Int.{Int}
 use Rattle.fzn_tree.specs.declared.tree.Name.{Name}
 use Rattle.fzn_lexer.specs.declared.fault.FaultKind.TheVariants.{Syntax, TooMany}
-use Rattle.fzn_tree.specs.Piece.{Piece, Fits, sign_piece, piece_at}
+use Rattle.fzn_tree.specs.Piece.{Piece, FitsPiece, sign_piece, piece_at}
 use Rattle.fzn_tree.specs.Grammar as G
 use Rattle.fzn_parser.specs.declared.cursor.Refusal.{Refusal}
 use Rattle.fzn_parser.specs.declared.cursor.Start.TheVariants as w
@@ -125,13 +125,13 @@ module _ (g : Token → Bool) (ts : List Token) (taken : Kind × Position) (rest
   is_int : p.token.kind ≡ k.Int (int_in taken.0)
   is_int = a_number p.token.kind p.wanted ∙ ap (λ (z : Kind). k.Int (int_in z)) (sym p.kind)
 
-  taken_read : {A : Type 0} (piece : A → Piece) (a : A) → (piece a).kind ≡ k.Int (int_in taken.0) → (piece a).position ≡ None → (piece a).past ≡ None → ((b : A) → Fits p.token (piece b) → b ≡ a) → IsRead (single piece) g ts a rest
+  taken_read : {A : Type 0} (piece : A → Piece) (a : A) → (piece a).kind ≡ k.Int (int_in taken.0) → (piece a).position ≡ None → (piece a).past ≡ None → ((b : A) → FitsPiece p.token (piece b) → b ≡ a) → IsRead (single piece) g ts a rest
   taken_read piece a kind position within one =
       subst (λ (z : List Token). IsRead (single piece) g z a rest) (sym p.parts)
       (one_read piece g p.token rest a ((is_int ∙ sym kind, rw position tt), λ ends. let i = is_int in cc) within one)
 
-  taken_other : {A : Type 0} (piece : A → Piece) (some : A) → ((b : A) → Fits p.token (piece b) → ⊥) → IsRefused (single piece) g ts (refusal Syntax ts)
-  taken_other piece some none = one_refused piece g some ts (λ b y ys fits next. none b (subst (λ (z : Token). Fits z (piece b)) (subst (λ (z : List Token). SameNext (y ∷ ys) z) p.parts next) fits))
+  taken_other : {A : Type 0} (piece : A → Piece) (some : A) → ((b : A) → FitsPiece p.token (piece b) → ⊥) → IsRefused (single piece) g ts (refusal Syntax ts)
+  taken_other piece some none = one_refused piece g some ts (λ b y ys fits next. none b (subst (λ (z : Token). FitsPiece z (piece b)) (subst (λ (z : List Token). SameNext (y ∷ ys) z) p.parts next) fits))
 
   pub one_taken : int_in taken.0 ≡ pos 1 → IsRead one g ts tt rest
   one_taken e = taken_read (λ u. number_piece (pos 1)) tt (ap k.Int (sym e)) refl refl (λ b fits. refl)
@@ -142,30 +142,30 @@ module _ (g : Token → Bool) (ts : List Token) (taken : Kind × Position) (rest
   abbrev size_piece : ℕ → Piece
   size_piece n = record { kind = k.Int (pos n); position = None; past = cond (nat_le n G.most) None (Some TooMany) }
 
-  one_size : (n : ℕ) → int_in taken.0 ≡ pos n → (b : ℕ) → Fits p.token (size_piece b) → b ≡ n
+  one_size : (n : ℕ) → int_in taken.0 ≡ pos n → (b : ℕ) → FitsPiece p.token (size_piece b) → b ≡ n
   one_size n e b fits = let i = is_int in let j = fits.0 in cc
 
-  pub size_taken : (n : ℕ) → int_in taken.0 ≡ pos n → nat_le n G.most ≡ true → IsRead G.size g ts n rest
+  pub size_taken : (n : ℕ) → int_in taken.0 ≡ pos n → nat_le n G.most ≡ true → IsRead G.array_length g ts n rest
   size_taken n e small = taken_read size_piece n (ap k.Int (sym e)) refl (rw small refl) (one_size n e)
 
-  pub size_over : (n : ℕ) → int_in taken.0 ≡ pos n → nat_le n G.most ≡ false → IsRefused G.size g ts (refusal TooMany ts)
+  pub size_over : (n : ℕ) → int_in taken.0 ≡ pos n → nat_le n G.most ≡ false → IsRefused G.array_length g ts (refusal TooMany ts)
   size_over n e large =
-      subst (λ (z : List Token). IsRefused G.size g z (refusal TooMany z)) (sym p.parts)
+      subst (λ (z : List Token). IsRefused G.array_length g z (refusal TooMany z)) (sym p.parts)
       (one_over size_piece g TooMany n p.token rest (is_int ∙ ap k.Int e, tt) (rw large refl) (one_size n e))
 
-  pub size_below : (n : ℕ) → int_in taken.0 ≡ negsuc n → IsRefused G.size g ts (refusal Syntax ts)
+  pub size_below : (n : ℕ) → int_in taken.0 ≡ negsuc n → IsRefused G.array_length g ts (refusal Syntax ts)
   size_below n e = taken_other size_piece 0 (λ b fits. let i = is_int in let j = fits.0 in cc)
 
   -- the same for a number with its sign
-  pub size_negative : (v : ℤ) → int_in taken.0 ≡ v → lt_z v (pos 0) ≡ true → IsRefused G.size g ts (refusal Syntax ts)
+  pub size_negative : (v : ℤ) → int_in taken.0 ≡ v → lt_z v (pos 0) ≡ true → IsRefused G.array_length g ts (refusal Syntax ts)
   size_negative (pos n) e less = let none = le-ltb n 0 (omega arith) in absurd cc
   size_negative (negsuc n) e less = size_below n e
 
-  pub size_large : (v : ℤ) → int_in taken.0 ≡ v → lt_z v (pos 0) ≡ false → G.most < nat_abs v → IsRefused G.size g ts (refusal TooMany ts)
+  pub size_large : (v : ℤ) → int_in taken.0 ≡ v → lt_z v (pos 0) ≡ false → G.most < nat_abs v → IsRefused G.array_length g ts (refusal TooMany ts)
   size_large (pos n) e less large = size_over n e (lt-leb n G.most large)
   size_large (negsuc n) e less large = absurd cc
 
-  pub size_small : (v : ℤ) → int_in taken.0 ≡ v → lt_z v (pos 0) ≡ false → nat_abs v ≤ G.most → IsRead G.size g ts (nat_abs v) rest
+  pub size_small : (v : ℤ) → int_in taken.0 ≡ v → lt_z v (pos 0) ≡ false → nat_abs v ≤ G.most → IsRead G.array_length g ts (nat_abs v) rest
   size_small (pos n) e less small = size_taken n e (le-leb n G.most small)
   size_small (negsuc n) e less small = absurd cc
 
@@ -178,5 +178,5 @@ module _ (g : Token → Bool) (ts : List Token) (e : Refusal) (p : IsUnexpected 
   pub one_none : IsRefused one g ts e
   one_none = none_taken (λ (u : Unit {0}). number_piece (pos 1)) tt (λ b. (pos 1, refl))
 
-  pub size_none : IsRefused G.size g ts e
+  pub size_none : IsRefused G.array_length g ts e
   size_none = none_taken (λ n. record { kind = k.Int (pos n); position = None; past = cond (nat_le n G.most) None (Some TooMany) }) 0 (λ b. (pos b, refl))

@@ -85,7 +85,7 @@ base_next f b p i q o n (bases.Int at) u v spelled = next_kind f (piece_at (k.Sy
 base_next f b p i q o n (bases.Set at x) u v spelled = next_kind f (piece_at (k.Symbol s.Set) at) _ u v spelled ∙ q
 base_next f b p i q o n (bases.Values x) u v spelled = values_next f b o n x u v spelled
 
-pub index_of : (ts : List Token) → IsForm G.index never ts (part one never tt (word s.Dots (last G.size never 0))) (λ p. p.1.1)
+pub index_of : (ts : List Token) → IsForm G.index never ts (part one never tt (word s.Dots (last G.array_length never 0))) (λ p. p.1.1)
 index_of ts = form (λ p. p.1.1) (λ p. refl) (λ n u v spelled stops same. ((tt, (tt, n)), refl)) (closed _ _, (closed _ _, closed_last never))
 
 pub array_size : (ts : List Token) → IsForm G.array_of never ts (placed_word s.Array (word s.OpenBracket (part G.index never 0 (word s.CloseBracket (last_word s.Of))))) (λ p. record { position = p.0; count = p.1.1.0 })

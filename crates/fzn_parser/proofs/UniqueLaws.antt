@@ -3,13 +3,13 @@ use Rattle.std.proofs.Common.{◌≡◌, ℕ, Bool, true, false, List, [], ◌�
 use Rattle.fzn_lexer.specs.declared.token.Symbol.{Symbol}
 use Rattle.fzn_lexer.specs.declared.token.Token.{Token}
 use Rattle.fzn_lexer.specs.declared.token.Symbol.TheVariants as s
-use Rattle.fzn_tree.specs.Piece.{Piece, Fits, AreSpelled, AreWithin, sign, sign_piece, each_by, marked}
+use Rattle.fzn_tree.specs.Piece.{Piece, FitsPiece, AreSpelled, PassNoLimit, sign, sign_piece, each_by, marked}
 use Rattle.fzn_tree.specs.Grammar as G
 use Rattle.fzn_parser.specs.GoesOn.{never}
 use Rattle.fzn_parser.specs.Lists.{IsListable}
 use Rattle.fzn_parser.specs.Reads.{next_is, SameNext, Stops}
 use Rattle.fzn_parser.specs.Taken.{is}
-use Rattle.fzn_parser.proofs.SpelledLaws.{AreSpelled-split, AreWithin-split, SameNext-refl, pair_is}
+use Rattle.fzn_parser.proofs.SpelledLaws.{AreSpelled-split, PassNoLimit-split, SameNext-refl, pair_is}
 use Rattle.fzn_parser.proofs.OneTokenLaws.{IsToken, single, no_pieces}
 use Rattle.fzn_parser.proofs.NextLaws.{next_split}
 use Rattle.fzn_parser.proofs.Onward.{Parts, last, part, loop, Values, spells, Follow, IsForm}
@@ -20,7 +20,7 @@ use Rattle.fzn_parser.proofs.ListLaws.{comma_item, commas, listed_closed, listed
 
 -- tokens that spell a value, and behind which the phrase does not go on, spell no other
 pub record IsUnique {A : Type 0} (s : A → List Piece) (g : Token → Bool) : Type 0 where
-  pub one : (a b : A) (u v x y : List Token) → AreSpelled u (s a) → AreSpelled x (s b) → AreWithin (s a) → AreWithin (s b) → Stops g v → Stops g y → u ++ v ≡ x ++ y → (a ≡ b) × (v ≡ y)
+  pub one : (a b : A) (u v x y : List Token) → AreSpelled u (s a) → AreSpelled x (s b) → PassNoLimit (s a) → PassNoLimit (s b) → Stops g v → Stops g y → u ++ v ≡ x ++ y → (a ≡ b) × (v ≡ y)
 
 -- ---- one part behind another
 
@@ -32,8 +32,8 @@ both_unique {A} {B} {s} {g} {t} {h} after p q = record {
   one = λ a b u v x y in_a in_b within_a within_b stops_v stops_y same.
       let d = AreSpelled-split u (s a.0) (t a.1) in_a in
       let e = AreSpelled-split x (s b.0) (t b.1) in_b in
-      let i = AreWithin-split (s a.0) (t a.1) within_a in
-      let j = AreWithin-split (s b.0) (t b.1) within_b in
+      let i = PassNoLimit-split (s a.0) (t a.1) within_a in
+      let j = PassNoLimit-split (s b.0) (t b.1) within_b in
       let first = p.one a.0 b.0 d.left (d.right ++ v) e.left (e.right ++ y) d.on_left e.on_left i.0 j.0 (after a.1 d.right v d.on_right stops_v) (after b.1 e.right y e.on_right stops_y) (same_parts u d.left d.right v x e.left e.right y d.parts e.parts same) in
       let second = q.one a.1 b.1 d.right v e.right y d.on_right e.on_right i.1 j.1 stops_v stops_y first.1 in
       (pair_is a.0 b.0 a.1 b.1 first.0 second.0, second.1);
@@ -80,7 +80,7 @@ module _ {B : Type 0} {spell : B → List Piece} {h : Token → Bool} where
         let at_b = w.is_form.onto b x y in_b stops_y (subst (λ (z : List Token). SameNext z (u ++ v)) same (SameNext-refl (u ++ v))) in
         let e = ap spell (sym at_a.1) ∙ w.is_form.same at_a.0 in
         let f = ap spell (sym at_b.1) ∙ w.is_form.same at_b.0 in
-        let p = (parts_unique h w.parts w.is_form.follow w.unique).one at_a.0 at_b.0 u v x y (subst (AreSpelled u) e in_a) (subst (AreSpelled x) f in_b) (subst AreWithin e within_a) (subst AreWithin f within_b) stops_v stops_y same in
+        let p = (parts_unique h w.parts w.is_form.follow w.unique).one at_a.0 at_b.0 u v x y (subst (AreSpelled u) e in_a) (subst (AreSpelled x) f in_b) (subst PassNoLimit e within_a) (subst PassNoLimit f within_b) stops_v stops_y same in
         (sym at_a.1 ∙ ap w.make p.0 ∙ at_b.1, p.1);
   }
 
@@ -94,7 +94,7 @@ nothing_unique g = record { one = λ a b u v x y in_a in_b within_a within_b sto
     none [] v (t ∷ x) y p q same = absurd q
     none (t ∷ u) v x y p q same = absurd p
 
-one_token : {A : Type 0} (piece : A → Piece) → ((t : Token) (a b : A) → Fits t (piece a) → Fits t (piece b) → a ≡ b) → (a b : A) (u v x y : List Token) → AreSpelled u (single piece a) → AreSpelled x (single piece b) → u ++ v ≡ x ++ y → (a ≡ b) × (v ≡ y)
+one_token : {A : Type 0} (piece : A → Piece) → ((t : Token) (a b : A) → FitsPiece t (piece a) → FitsPiece t (piece b) → a ≡ b) → (a b : A) (u v x y : List Token) → AreSpelled u (single piece a) → AreSpelled x (single piece b) → u ++ v ≡ x ++ y → (a ≡ b) × (v ≡ y)
 one_token piece one a b [] v x y p q same = absurd p
 one_token piece one a b (t ∷ n ∷ u) v x y p q same = absurd p.1
 one_token piece one a b (t ∷ []) v [] y p q same = absurd q
@@ -102,9 +102,9 @@ one_token piece one a b (t ∷ []) v (n ∷ m ∷ x) y p q same = absurd q.1
 one_token piece one a b (t ∷ []) v (n ∷ []) y p q same =
     let first : n ≡ t = cc in
     let behind : v ≡ y = cc in
-    (one t a b p.0 (subst (λ (z : Token). Fits z (piece b)) first q.0), behind)
+    (one t a b p.0 (subst (λ (z : Token). FitsPiece z (piece b)) first q.0), behind)
 
-pub piece_unique : {A : Type 0} (piece : A → Piece) (g : Token → Bool) → ((t : Token) (a b : A) → Fits t (piece a) → Fits t (piece b) → a ≡ b) → IsUnique (single piece) g
+pub piece_unique : {A : Type 0} (piece : A → Piece) (g : Token → Bool) → ((t : Token) (a b : A) → FitsPiece t (piece a) → FitsPiece t (piece b) → a ≡ b) → IsUnique (single piece) g
 piece_unique piece g one = record { one = λ a b u v x y in_a in_b within_a within_b stops_v stops_y same. one_token piece one a b u v x y in_a in_b same }
 
 pub token_unique : {A : Type 0} {start : _} {f : _ → A} {piece : A → Piece} → IsToken start f piece → (g : Token → Bool) → IsUnique (single piece) g
@@ -125,18 +125,18 @@ module _ {A : Type 0} {next : ℕ → A → ℕ} {s : ℕ → A → List Piece} 
   none_or_some [] v x y p stops same passes = let o = w.ends_test v stops in let f = ap (next_is test) same in cc
   none_or_some (t ∷ u) v x y p stops same passes = absurd p
 
-  each_one : (a b : List A) (k : ℕ) (u v x y : List Token) → AreSpelled u (each_by next s k a) → AreSpelled x (each_by next s k b) → AreWithin (each_by next s k a) → AreWithin (each_by next s k b) → Stops e v → Stops e y → u ++ v ≡ x ++ y → (a ≡ b) × (v ≡ y)
+  each_one : (a b : List A) (k : ℕ) (u v x y : List Token) → AreSpelled u (each_by next s k a) → AreSpelled x (each_by next s k b) → PassNoLimit (each_by next s k a) → PassNoLimit (each_by next s k b) → Stops e v → Stops e y → u ++ v ≡ x ++ y → (a ≡ b) × (v ≡ y)
   each_one [] [] k u v x y in_a in_b within_a within_b stops_v stops_y same = (refl, ((nothing_unique e).one tt tt u v x y in_a in_b tt tt stops_v stops_y same).1)
   each_one [] (b ∷ others) k u v x y in_a in_b within_a within_b stops_v stops_y same = absurd (none_or_some u v x y in_a stops_v same (some_next k b others x y in_b))
   each_one (a ∷ more) [] k u v x y in_a in_b within_a within_b stops_v stops_y same = absurd (none_or_some x y u v in_b stops_y (sym same) (some_next k a more u v in_a))
   each_one (a ∷ more) (b ∷ others) k u v x y in_a in_b within_a within_b stops_v stops_y same =
       let d = AreSpelled-split u (s k a) (each_by next s (next k a) more) in_a in
       let c = AreSpelled-split x (s k b) (each_by next s (next k b) others) in_b in
-      let i = AreWithin-split (s k a) (each_by next s (next k a) more) within_a in
-      let j = AreWithin-split (s k b) (each_by next s (next k b) others) within_b in
+      let i = PassNoLimit-split (s k a) (each_by next s (next k a) more) within_a in
+      let j = PassNoLimit-split (s k b) (each_by next s (next k b) others) within_b in
       let first = (unique k).one a b d.left (d.right ++ v) c.left (c.right ++ y) d.on_left c.on_left i.0 j.0 (rest_stops (next k a) more d.right v d.on_right stops_v) (rest_stops (next k b) others c.right y c.on_right stops_y) (same_parts u d.left d.right v x c.left c.right y d.parts c.parts same) in
       let back = sym first.0 in
-      let second = each_one more others (next k a) d.right v c.right y d.on_right (subst (λ (z : A). AreSpelled c.right (each_by next s (next k z) others)) back c.on_right) i.1 (subst (λ (z : A). AreWithin (each_by next s (next k z) others)) back j.1) stops_v stops_y first.1 in
+      let second = each_one more others (next k a) d.right v c.right y d.on_right (subst (λ (z : A). AreSpelled c.right (each_by next s (next k z) others)) back c.on_right) i.1 (subst (λ (z : A). PassNoLimit (each_by next s (next k z) others)) back j.1) stops_v stops_y first.1 in
       (cons_is a b more others first.0 second.0, second.1)
     where
       cons_is : (a b : A) (more others : List A) → a ≡ b → more ≡ others → a ∷ more ≡ b ∷ others
@@ -147,7 +147,7 @@ module _ {A : Type 0} {next : ℕ → A → ℕ} {s : ℕ → A → List Piece} 
 
 -- ---- a limit on the number
 
-marked_within : (b : Bool) (ps : List Piece) → AreWithin (marked b ps) → AreWithin ps
+marked_within : (b : Bool) (ps : List Piece) → PassNoLimit (marked b ps) → PassNoLimit ps
 marked_within true ps within = within
 marked_within false [] within = within
 marked_within false (p ∷ ps) within = absurd (let e = within.0 in cc)

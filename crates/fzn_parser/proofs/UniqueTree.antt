@@ -8,7 +8,7 @@ use Rattle.fzn_lexer.specs.declared.token.Symbol.TheVariants as s
 use Rattle.fzn_tree.specs.declared.tree.AnnArg.TheVariants as inner_args
 use Rattle.fzn_tree.specs.declared.tree.Ann.{Ann}
 use Rattle.fzn_tree.specs.declared.tree.AnnArg.{AnnArg}
-use Rattle.fzn_tree.specs.Piece.{Piece, AreSpelled, AreWithin}
+use Rattle.fzn_tree.specs.Piece.{Piece, AreSpelled, PassNoLimit}
 use Rattle.fzn_tree.specs.Grammar as G
 use Rattle.fzn_parser.specs.declared.cursor.Start.TheVariants as w
 use Rattle.fzn_parser.specs.Annotations as A
@@ -50,7 +50,7 @@ module _ (level : ℕ) where
   terms_unique : IsUnique (G.ann level) is_paren → IsUnique (A.terms_pieces level) never
   terms_unique p = listed_unique (terms_listed level) (λ n. marked_unique (term_unique p) (nat_lt n G.most))
 
-not_within : (level : ℕ) (bracket : Symbol) (ps : List Piece) → nat_lt level G.deepest ≡ false → AreWithin (G.opened bracket level ++ ps) → ⊥
+not_within : (level : ℕ) (bracket : Symbol) (ps : List Piece) → nat_lt level G.deepest ≡ false → PassNoLimit (G.opened bracket level ++ ps) → ⊥
 not_within level bracket ps deep within = let e = (rw deep at within).0 in cc
 
 module _ (level : ℕ) where
@@ -62,7 +62,7 @@ module _ (level : ℕ) where
       (λ there. of_form (arg_term level ts there) (term_unique level p)))
   arg_unique_in p (inl deep) = record { one = at }
     where
-      at : (a b : AnnArg Ann) (u v x y : List Token) → AreSpelled u (A.arg_pieces level a) → AreSpelled x (A.arg_pieces level b) → AreWithin (A.arg_pieces level a) → AreWithin (A.arg_pieces level b) → Stops goes_further v → Stops goes_further y → u ++ v ≡ x ++ y → (a ≡ b) × (v ≡ y)
+      at : (a b : AnnArg Ann) (u v x y : List Token) → AreSpelled u (A.arg_pieces level a) → AreSpelled x (A.arg_pieces level b) → PassNoLimit (A.arg_pieces level a) → PassNoLimit (A.arg_pieces level b) → Stops goes_further v → Stops goes_further y → u ++ v ≡ x ++ y → (a ≡ b) × (v ≡ y)
       at (inner_args.One a) (inner_args.One b) u v x y in_a in_b within_a within_b stops_v stops_y same = let r = (term_unique level p).one a b u v x y in_a in_b within_a within_b stops_v stops_y same in (ap (λ z. inner_args.One z) r.0, r.1)
       at (inner_args.List a) b u v x y in_a in_b within_a within_b stops_v stops_y same = absurd (not_within level s.OpenBracket (A.terms_pieces (suc level) a) deep within_a)
       at (inner_args.One a) (inner_args.List b) u v x y in_a in_b within_a within_b stops_v stops_y same = absurd (not_within level s.OpenBracket (A.terms_pieces (suc level) b) deep within_b)
@@ -78,7 +78,7 @@ optional_unique level (inr q) =
     (λ there. of_form (args_none level ts there) (nothing_unique is_paren)))
 optional_unique level (inl deep) = record { one = at }
   where
-    at : (a b : Option (List (AnnArg Ann))) (u v x y : List Token) → AreSpelled u (optional level a) → AreSpelled x (optional level b) → AreWithin (optional level a) → AreWithin (optional level b) → Stops is_paren v → Stops is_paren y → u ++ v ≡ x ++ y → (a ≡ b) × (v ≡ y)
+    at : (a b : Option (List (AnnArg Ann))) (u v x y : List Token) → AreSpelled u (optional level a) → AreSpelled x (optional level b) → PassNoLimit (optional level a) → PassNoLimit (optional level b) → Stops is_paren v → Stops is_paren y → u ++ v ≡ x ++ y → (a ≡ b) × (v ≡ y)
     at None None u v x y in_a in_b within_a within_b stops_v stops_y same = (refl, ((nothing_unique is_paren).one tt tt u v x y in_a in_b tt tt stops_v stops_y same).1)
     at (Some a) b u v x y in_a in_b within_a within_b stops_v stops_y same = absurd (not_within level s.OpenParen (A.args_in (suc level) a) deep within_a)
     at None (Some b) u v x y in_a in_b within_a within_b stops_v stops_y same = absurd (not_within level s.OpenParen (A.args_in (suc level) b) deep within_b)

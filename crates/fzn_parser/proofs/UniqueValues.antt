@@ -98,7 +98,7 @@ base_unique =
     (λ there. of_form (base_set ts there) (placed_unique s.Set never, (sign_unique s.Of never, elements_unique)))
     (λ not_set. of_form (base_values ts not_bool not_int not_set) values_unique))))
 
-pub size_unique : IsUnique G.size never
+pub size_unique : IsUnique G.array_length never
 size_unique = piece_unique _ never (λ t a b p q. size_is a b (sym p.0 ∙ q.0))
   where
     size_is : (a b : ℕ) → ◌≡◌ {A = Kind} (k.Int (pos a)) (k.Int (pos b)) → a ≡ b

@@ -6,7 +6,7 @@ use Rattle.fzn_lexer.specs.declared.fault.FaultKind.{FaultKind}
 use Rattle.fzn_lexer.specs.declared.fault.FaultKind.TheVariants.{Syntax}
 use Rattle.fzn_lexer.specs.declared.halt.Halt.TheVariants as halts
 use Rattle.fzn_lexer.specs.Tokens.{NoEnd}
-use Rattle.fzn_tree.specs.Piece.{Piece, Fits, AreSpelled, AreWithin}
+use Rattle.fzn_tree.specs.Piece.{Piece, FitsPiece, AreSpelled, PassNoLimit}
 use Rattle.fzn_parser.specs.declared.cursor.Refusal.{Refusal}
 
 -- a test of the next token
@@ -37,7 +37,7 @@ pub record IsRead {A : Type 0} (spell : A → List Piece) (goes_on : Token → B
   pub parts : ts ≡ front ++ rest
   pub plain : NoEnd front
   pub spelled : AreSpelled front (spell a)
-  pub within : AreWithin (spell a)
+  pub within : PassNoLimit (spell a)
   pub only : ForEachText spell goes_on front rest (λ b behind others. (b ≡ a) × (behind ≡ others))
 
 -- some value begins with these tokens, and goes on with these pieces
@@ -46,13 +46,13 @@ pub record BeginsValue {A : Type 0} (spell : A → List Piece) (front : List Tok
   pub pieces : List Piece
   pub parts : spell value ≡ pieces ++ more
   pub spelled : AreSpelled front pieces
-  pub within : AreWithin pieces
+  pub within : PassNoLimit pieces
 
 -- the next token passes a limit
 abbrev pub PassesLimit : FaultKind → List Token → List Piece → Type 0
 PassesLimit kind [] more = ⊥
 PassesLimit kind (t ∷ ts) [] = ⊥
-PassesLimit kind (t ∷ ts) (p ∷ ps) = Fits t p × (p.past ≡ Some kind)
+PassesLimit kind (t ∷ ts) (p ∷ ps) = FitsPiece t p × (p.past ≡ Some kind)
 
 -- of these pieces the one behind so many passes this limit, where none before it passes one
 abbrev pub Limited : FaultKind → ℕ → List Piece → Type 0

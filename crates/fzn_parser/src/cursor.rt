@@ -304,7 +304,7 @@ impl<'a> Tokens<'a> {
 
     /// The number of an array's entries. A syntax fault where the next token is no number or is below 0, too many above `LONGEST`.
     pub fn size(&mut self) -> Result<usize, Stop>
-        ensures reads { ReadsValue grammar.size never self.old result self.new }
+        ensures reads { ReadsValue grammar.array_length never self.old result self.new }
         ensures shorter { OnOk result (length self.new < length self.old) }
     {
         let refused = self.refuse(FaultKind::Syntax);

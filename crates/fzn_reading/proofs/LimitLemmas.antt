@@ -31,7 +31,7 @@ use Rattle.fzn_tree.specs.declared.tree.Var.{Var}
 use Rattle.fzn_tree.specs.declared.tree.Var.TheVariants as vars
 use Rattle.fzn_parser.specs.Grammar as G
 use Rattle.fzn_parser.specs.Parse.{IsTree}
-use Rattle.fzn_parser.specs.Piece.{Piece, AreSpelled, AreWithin, sign, each, each_by, one_more, marked}
+use Rattle.fzn_parser.specs.Piece.{Piece, AreSpelled, PassNoLimit, sign, each, each_by, one_more, marked}
 use Rattle.fzn_names.specs.Limits.{IsRangeWithin, IsLiteralWithin, AreValuesWithin, IsBaseWithin, IsBasicWithin, IsValueWithin, AreEntriesWithin, IsParamValueWithin, IsParamWithin, IsVarWithin}
 use Rattle.fzn_names.specs.Variables.{vars_of}
 use Rattle.fzn_typing.specs.Limits.{IsArgWithin, IsConWithin, IsTreeWithin}
@@ -44,7 +44,7 @@ AreFine [] = Unit {0}
 AreFine (p ∷ ps) = (IsSmall p.kind × (p.past ≡ None)) × AreFine ps
 
 -- what tokens spell whose numbers are small
-fine_small : (tokens : List Token) (ps : List Piece) → All (λ (t : Token). IsSmall t.kind) tokens → AreSpelled tokens ps → AreWithin ps → AreFine ps
+fine_small : (tokens : List Token) (ps : List Piece) → All (λ (t : Token). IsSmall t.kind) tokens → AreSpelled tokens ps → PassNoLimit ps → AreFine ps
 fine_small tokens [] small spelled within = tt
 fine_small [] (p ∷ ps) small spelled within = absurd spelled
 fine_small (t ∷ tokens) (p ∷ ps) small spelled within =
@@ -110,7 +110,7 @@ limited z (n, few, inr e) = subst IsInLimits (sym e) (omega (arith, ints, few), 
 
 -- ---- the tree
 
-range_within : (r : Range) → AreFine (G.range r) → IsRangeWithin r
+range_within : (r : Range) → AreFine (G.int_range r) → IsRangeWithin r
 range_within r f = (limited r.low.value f.0.0, limited r.high f.1.1.0.0)
 
 listed_within : (all : List ℤ) → AreFine (G.listed G.listed_value s.CloseBrace all) → All IsInLimits all

@@ -16,10 +16,10 @@ use Rattle.fzn_tree.specs.declared.tree.Var.{Var}
 use Rattle.fzn_tree.specs.Piece.{Piece, ◌and◌, sign, each, each_by, marked}
 use Rattle.fzn_tree.specs.declared.tree.Goal.TheVariants as goals
 pub use Rattle.fzn_tree.specs.Grammar.Limits.{most, most_listed, deepest}
-pub use Rattle.fzn_tree.specs.Grammar.Values.{listed, name, int, number, range, listed_value, values, literal, basic, entry, array, arg}
+pub use Rattle.fzn_tree.specs.Grammar.Values.{listed, name, int, number, int_range, listed_value, values, literal, basic, entry, array, arg}
 pub use Rattle.fzn_tree.specs.Grammar.Annotations.{opened, ann_term, ann_entry, ann_arg, ann_args, ann_layer, anns}
 unfoldable pub use Rattle.fzn_tree.specs.Grammar.Annotations.{ann}
-pub use Rattle.fzn_tree.specs.Grammar.Types.{elements, base, size, index, array_of}
+pub use Rattle.fzn_tree.specs.Grammar.Types.{elements, base, array_length, index, array_of}
 pub use Rattle.fzn_tree.specs.Grammar.Predicates.{index_set, predicate_array, optional_var, predicate_param, predicate}
 pub use Rattle.fzn_tree.specs.Grammar.Declarations.{param_base, param_entry, param_value, param_array, param, given, single_var, array_var, var, singles_with}
 

@@ -16,20 +16,20 @@ pub record Piece : Type 0 where
   -- the limit that the tree passes at this token
   pub past : Option FaultKind
 
-abbrev pub Fits : Token → Piece → Type 0
-Fits token piece = (token.kind ≡ piece.kind) × IfSome piece.position (λ at. token.span.position ≡ at)
+abbrev pub FitsPiece : Token → Piece → Type 0
+FitsPiece token piece = (token.kind ≡ piece.kind) × IfSome piece.position (λ at. token.span.position ≡ at)
 
 -- the tokens are these pieces, one by one
 abbrev pub AreSpelled : List Token → List Piece → Type 0
 AreSpelled [] [] = Unit {0}
 AreSpelled [] (p ∷ ps) = ⊥
 AreSpelled (t ∷ ts) [] = ⊥
-AreSpelled (t ∷ ts) (p ∷ ps) = Fits t p × AreSpelled ts ps
+AreSpelled (t ∷ ts) (p ∷ ps) = FitsPiece t p × AreSpelled ts ps
 
 -- no piece passes a limit
-abbrev pub AreWithin : List Piece → Type 0
-AreWithin [] = Unit {0}
-AreWithin (p ∷ ps) = (p.past ≡ None) × AreWithin ps
+abbrev pub PassNoLimit : List Piece → Type 0
+PassNoLimit [] = Unit {0}
+PassNoLimit (p ∷ ps) = (p.past ≡ None) × PassNoLimit ps
 
 -- ---- how pieces are put together
 

@@ -24,12 +24,12 @@ base (bases.Values v) = values v
 base (bases.Set position v) = placed (k.Symbol s.Set) position and sign s.Of and elements v
 
 -- an INT that is not below 0, the number of an array's entries
-abbrev pub size : ℕ → List Piece
-size n = record { kind = k.Int (pos n); position = None; past = if nat_le n most then None else Some TooMany } ∷ []
+abbrev pub array_length : ℕ → List Piece
+array_length n = record { kind = k.Int (pos n); position = None; past = if nat_le n most then None else Some TooMany } ∷ []
 
--- 1 ".." size
+-- 1 ".." array_length
 abbrev pub index : ℕ → List Piece
-index n = number (pos 1) and sign s.Dots and size n
+index n = number (pos 1) and sign s.Dots and array_length n
 
 -- "array" "[" index "]" "of"
 abbrev pub array_of : Size → List Piece

@@ -36,25 +36,25 @@ abbrev pub number : ℤ → List Piece
 number z = record { kind = k.Int z; position = None; past = None } ∷ []
 
 -- INT ".." INT
-abbrev pub range : Range → List Piece
-range r = int r.low and sign s.Dots and number r.high
+abbrev pub int_range : Range → List Piece
+int_range r = int r.low and sign s.Dots and number r.high
 
 abbrev pub listed_value : ℕ → ℤ → List Piece
 listed_value n z = marked (nat_lt n most_listed) (number z)
 
--- range | "{" [ INT { "," INT } ] "}"
+-- int_range | "{" [ INT { "," INT } ] "}"
 abbrev pub values : Values → List Piece
-values (values_are.Range r) = range r
+values (values_are.Range r) = int_range r
 values (values_are.Listed all) = sign s.OpenBrace and listed listed_value s.CloseBrace all
 
 -- ---- values
 
--- "true" | "false" | INT | range | "{" [ INT { "," INT } ] "}"
+-- "true" | "false" | INT | int_range | "{" [ INT { "," INT } ] "}"
 abbrev pub literal : Literal → List Piece
 literal (l.Bool true position) = placed (k.Symbol s.True) position
 literal (l.Bool false position) = placed (k.Symbol s.False) position
 literal (l.Int i) = int i
-literal (l.Range r) = range r
+literal (l.Range r) = int_range r
 literal (l.Set position all) = placed (k.Symbol s.OpenBrace) position and listed listed_value s.CloseBrace all
 
 -- literal | NAME
