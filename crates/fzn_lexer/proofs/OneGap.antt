@@ -5,19 +5,19 @@ use Rattle.std.proofs.lemmas.Bool.Decides.{nat_tests}
 use Rattle.std.proofs.lemmas.List.Elements.{All-tail}
 use Rattle.std.specs.List.{AllPass}
 use Rattle.fzn_lexer.specs.Bytes.{is_lf, is_white}
-use Rattle.fzn_lexer.specs.Tokens.{IsGap, IsLastGap, begins_gap, nothing, white, comment}
+use Rattle.fzn_lexer.specs.Tokens.{IsSpacing, IsLastGap, begins_gap, nothing, white, comment}
 
 abbrev NoLf : List ℕ → Type 0
 NoLf text = AllPass (λ b. not (is_lf b)) text
 
 -- how a gap begins
 abbrev White : List ℕ → Type 0
-White bytes = (b : ℕ) × (more : List ℕ) × (bytes ≡ b ∷ more) × (is_white b ≡ true) × IsGap more
+White bytes = (b : ℕ) × (more : List ℕ) × (bytes ≡ b ∷ more) × (is_white b ≡ true) × IsSpacing more
 
 abbrev Comment : List ℕ → Type 0
-Comment bytes = (text : List ℕ) × (more : List ℕ) × (bytes ≡ 37 ∷ text ++ 10 ∷ more) × NoLf text × IsGap more
+Comment bytes = (text : List ℕ) × (more : List ℕ) × (bytes ≡ 37 ∷ text ++ 10 ∷ more) × NoLf text × IsSpacing more
 
-seen : (bytes : List ℕ) → IsGap bytes → (bytes ≡ []) ⊎ (White bytes ⊎ Comment bytes)
+seen : (bytes : List ℕ) → IsSpacing bytes → (bytes ≡ []) ⊎ (White bytes ⊎ Comment bytes)
 seen _ nothing = inl refl
 seen _ (white {b} {more} is rest) = inr (inl (b, more, refl, is, rest))
 seen _ (comment text {more} pass rest) = inr (inr (text, more, refl, pass, rest))
@@ -56,18 +56,18 @@ lf_within (c ∷ a) [] x q e = cc
 lf_within (c ∷ a) (d ∷ b) x q e = lf_within a b x (no_lf_tail d b q) (rest_is c d (a ++ 10 ∷ x) b e)
 
 -- a gap that is not empty begins like one
-begins : (b : ℕ) (more : List ℕ) → IsGap (b ∷ more) → (is_white b || b == 37) ≡ true
+begins : (b : ℕ) (more : List ℕ) → IsSpacing (b ∷ more) → (is_white b || b == 37) ≡ true
 begins b more g = elim (seen (b ∷ more) g) [
   | inl e ↦ cc
   | inr (inl w) ↦ white_begins b (ap is_white (first_is b w.0 more w.1 w.2) ∙ w.3)
   | inr (inr c) ↦ ap (λ (n : ℕ). is_white n || n == 37) (first_is b 37 more (c.0 ++ 10 ∷ c.1) c.2)
 ]
 
-stops : (b : ℕ) (more rest : List ℕ) → IsGap (b ∷ more) → begins_gap ((b ∷ more) ++ rest) ≡ false → ⊥
+stops : (b : ℕ) (more rest : List ℕ) → IsSpacing (b ∷ more) → begins_gap ((b ∷ more) ++ rest) ≡ false → ⊥
 stops b more rest g e = false≢true (sym e ∙ begins b more g)
 
 -- two gaps at the front, which go no further, are the same
-pub one_gap : (g h r s : List ℕ) → IsGap g → IsGap h → g ++ r ≡ h ++ s → begins_gap r ≡ false → begins_gap s ≡ false → g ≡ h
+pub one_gap : (g h r s : List ℕ) → IsSpacing g → IsSpacing h → g ++ r ≡ h ++ s → begins_gap r ≡ false → begins_gap s ≡ false → g ≡ h
 one_gap _ [] r s nothing k e p q = refl
 one_gap _ (c ∷ h) r s nothing k e p q = absurd (stops c h s k (ap begins_gap (sym e) ∙ p))
 one_gap _ h r s (white {b} {more} is rest) k e p q = elim (seen h k) [
@@ -96,12 +96,12 @@ one_gap _ h r s (comment text {more} pass rest) k e p q = elim (seen h k) [
 -- ---- the gap at the end of a file
 
 abbrev Open : List ℕ → Type 0
-Open bytes = (gap : List ℕ) × (text : List ℕ) × IsGap gap × NoLf text × (bytes ≡ gap ++ 37 ∷ text)
+Open bytes = (gap : List ℕ) × (text : List ℕ) × IsSpacing gap × NoLf text × (bytes ≡ gap ++ 37 ∷ text)
 
 last_white : (b : ℕ) (more : List ℕ) → is_white b ≡ true → IsLastGap (b ∷ more) → IsLastGap more
 last_white b more is (inl g) = elim (seen (b ∷ more) g) [
   | inl e ↦ cc
-  | inr (inl w) ↦ inl (subst IsGap (sym (rest_is b w.0 more w.1 w.2)) w.4)
+  | inr (inl w) ↦ inl (subst IsSpacing (sym (rest_is b w.0 more w.1 w.2)) w.4)
   | inr (inr c) ↦ absurd (percent b (first_is b 37 more (c.0 ++ 10 ∷ c.1) c.2) is)
 ]
 last_white b more is (inr o) = elim (seen o.0 o.2) [
@@ -114,7 +114,7 @@ last_comment : (text more : List ℕ) → NoLf text → IsLastGap (37 ∷ text +
 last_comment text more pass (inl g) = elim (seen (37 ∷ text ++ 10 ∷ more) g) [
   | inl e ↦ cc
   | inr (inl w) ↦ absurd (percent w.0 (sym (first_is 37 w.0 (text ++ 10 ∷ more) w.1 w.2)) w.3)
-  | inr (inr c) ↦ inl (subst IsGap (sym (lf_split text c.0 more c.1 pass c.3 (rest_is 37 37 (text ++ 10 ∷ more) (c.0 ++ 10 ∷ c.1) c.2)).1) c.4)
+  | inr (inr c) ↦ inl (subst IsSpacing (sym (lf_split text c.0 more c.1 pass c.3 (rest_is 37 37 (text ++ 10 ∷ more) (c.0 ++ 10 ∷ c.1) c.2)).1) c.4)
 ]
 last_comment text more pass (inr o) = elim (seen o.0 o.2) [
   | inl none ↦ absurd (lf_within text o.1 more o.3 (rest_is 37 37 (text ++ 10 ∷ more) o.1 (o.4 ∙ ap (λ (z : List ℕ). z ++ 37 ∷ o.1) none)))
@@ -124,7 +124,7 @@ last_comment text more pass (inr o) = elim (seen o.0 o.2) [
       inr (c.1, o.1, c.4, o.3, (lf_split text c.0 more (c.1 ++ 37 ∷ o.1) pass c.3 tails).1)
 ]
 
-last_behind : (g r : List ℕ) → IsGap g → IsLastGap (g ++ r) → IsLastGap r
+last_behind : (g r : List ℕ) → IsSpacing g → IsLastGap (g ++ r) → IsLastGap r
 last_behind _ r nothing l = l
 last_behind _ r (white {b} {more} is rest) l = last_behind more r rest (last_white b (more ++ r) is l)
 last_behind _ r (comment text {more} pass rest) l = last_behind more r rest (last_comment text (more ++ r) pass (subst IsLastGap (ap (λ (z : List ℕ). 37 ∷ z) (append_assoc text (10 ∷ more) r)) l))
@@ -138,6 +138,6 @@ last_begins b more (inr o) = elim (seen o.0 o.2) [
 ]
 
 -- what goes on behind a gap is no end of a file
-pub no_last : (g r : List ℕ) → IsGap g → IsLastGap (g ++ r) → begins_gap r ≡ false → r ≡ []
+pub no_last : (g r : List ℕ) → IsSpacing g → IsLastGap (g ++ r) → begins_gap r ≡ false → r ≡ []
 no_last g [] gap l stops = refl
 no_last g (b ∷ more) gap l stops = absurd (false≢true (sym stops ∙ last_begins b more (last_behind g (b ∷ more) gap l)))

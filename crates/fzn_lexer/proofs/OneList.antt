@@ -11,7 +11,7 @@ use Rattle.fzn_lexer.specs.declared.token.Token.{Token}
 use Rattle.fzn_lexer.specs.Bytes.{is_known}
 use Rattle.fzn_lexer.specs.Positions.{position_after}
 use Rattle.fzn_lexer.specs.Lexemes.{StandsFirst, StandsFault}
-use Rattle.fzn_lexer.specs.Tokens.{IsGap, IsLastGap, begins_gap, StandsAt, Stand, FaultStandsAt, IsEnd, IsKnown, IsBadByte, AreTokens, IsLexicalFault, IsReading, max_file}
+use Rattle.fzn_lexer.specs.Tokens.{IsSpacing, IsLastGap, begins_gap, StandsAt, Stand, FaultStandsAt, IsEnd, HasKnownBytes, IsBadByte, AreTokens, IsLexicalFault, IsReading, max_file}
 use Rattle.fzn_lexer.proofs.Shapes.{spells_some}
 use Rattle.fzn_lexer.proofs.OneGap.{one_gap, no_last}
 use Rattle.fzn_lexer.proofs.OneToken.{spells_no_gap, one_text, no_fault, one_fault}
@@ -29,7 +29,7 @@ tail_same (b ∷ g) r s e = tail_same g r s (ap (drop 1) e)
 
 record Behind (bytes : List ℕ) (from start : ℕ) : Type 0 where
   in_order : from ≤ start
-  gap : IsGap (slice_range bytes from start)
+  gap : IsSpacing (slice_range bytes from start)
   ends : begins_gap (drop start bytes) ≡ false
   within : start < length bytes
 
@@ -154,7 +154,7 @@ one_bad bytes p q x y =
 too_long : (bytes : List ℕ) → max_file < length bytes → length bytes ≤ max_file → ⊥
 too_long bytes long short = omega arith
 
-no_bad_byte : (bytes : List ℕ) (p : Position) → IsBadByte bytes p → IsKnown bytes → ⊥
+no_bad_byte : (bytes : List ℕ) (p : Position) → IsBadByte bytes p → HasKnownBytes bytes → ⊥
 no_bad_byte bytes p x known = unknown_not bytes x.at x.within known.known x.unknown
 
 -- no list of tokens where a fault is

@@ -10,7 +10,7 @@ use Rattle.fzn_lexer.specs.declared.token.Kind.TheVariants as k
 use Rattle.fzn_lexer.specs.declared.token.Symbol.{Symbol}
 use Rattle.fzn_lexer.specs.declared.token.Symbol.TheVariants as s
 use Rattle.fzn_lexer.specs.Bytes.{begins_word, is_word, is_white, is_digit, starts, value}
-use Rattle.fzn_lexer.specs.Lexemes.{spelling, IsWord, IsNatural, IsNumeral, Spells, IsFloatWord, IsFloatDigits, IsFloat, EndsWell, StandsFirst, IsSmall, StandsFault}
+use Rattle.fzn_lexer.specs.Lexemes.{spelling, IsWord, IsNatural, IsNumeral, Spells, IsFloatWord, IsFloatDigits, IsFloat, EndsWell, StandsFirst, HasSmallNumber, StandsFault}
 use Rattle.fzn_lexer.specs.Steps.{begins_number}
 use Rattle.fzn_lexer.proofs.Runs.{front_get, front_take}
 use Rattle.fzn_lexer.proofs.Shapes.{as_word, as_number, spells_some, natural_head, numeral_head, digit_number, one_length, symbol_no_quote}
@@ -209,9 +209,9 @@ no_float rest text kind p (inr (inr f)) = number_ends rest text kind (ap (λ (z 
 
 -- ---- one fault in a token's position, and no token
 
-pub no_fault : (rest text : List ℕ) (kind : Kind) (fault : FaultKind) → StandsFirst rest text kind → IsSmall kind → StandsFault rest fault → ⊥
+pub no_fault : (rest text : List ℕ) (kind : Kind) (fault : FaultKind) → StandsFirst rest text kind → HasSmallNumber kind → StandsFault rest fault → ⊥
 no_fault rest text kind fault p small (inl f) = no_float rest text kind p f.1
-no_fault rest text kind fault p small (inr (inl f)) = f.1.3 (subst IsSmall (one_text rest text f.1.0 kind (k.Int f.1.1) p f.1.2).1 small)
+no_fault rest text kind fault p small (inr (inl f)) = f.1.3 (subst HasSmallNumber (one_text rest text f.1.0 kind (k.Int f.1.1) p f.1.2).1 small)
 no_fault rest text kind fault p small (inr (inr f)) = f.2 text kind p
 
 pub one_fault : (rest : List ℕ) (a b : FaultKind) → StandsFault rest a → StandsFault rest b → a ≡ b

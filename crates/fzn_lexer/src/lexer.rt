@@ -2,7 +2,7 @@
 
 ghost use Rattle.std.specs.Prelude.{◌≡◌, ◌≤◌, length, IfOk};
 ghost use Rattle.fzn_lexer.specs.Steps.{StandsNext};
-ghost use Rattle.fzn_lexer.specs.Tokens.{IsKnown, Lexes, EndsInEnd};
+ghost use Rattle.fzn_lexer.specs.Tokens.{HasKnownBytes, Lexes, EndsInEnd};
 
 use crate::bytes::Class;
 use crate::fault::{Fault, FaultKind};
@@ -27,7 +27,7 @@ pub enum Next {
 
 /// What stands next, from a byte on where a token may begin.
 fn read_next(bytes: &[u8], from: usize) -> Result<Next, Fault>
-    requires known { IsKnown bytes.now }
+    requires known { HasKnownBytes bytes.now }
     requires from { from ≤ length bytes.now }
     ensures { StandsNext bytes.now from result }
 {
@@ -54,7 +54,7 @@ fn read_next(bytes: &[u8], from: usize) -> Result<Next, Fault>
 
 /// The tokens of a file all of whose bytes may stand in one.
 fn scan(alloc: Global, bytes: &[u8]) -> Result<TokenList<'_>, Halt<Fault>>
-    requires { IsKnown bytes.now }
+    requires { HasKnownBytes bytes.now }
     ensures { Lexes bytes.now result }
 {
     let mut kept = Items::new(alloc);

@@ -10,7 +10,9 @@ use std::marker::Model;
 /// The position of the byte with an index.
 #[derive(Clone, Copy)]
 pub struct Known {
+    /// How many bytes of the file stand before it.
     pub index: usize,
+    /// Its line and column.
     pub position: Position,
 }
 

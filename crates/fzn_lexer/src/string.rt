@@ -1,7 +1,7 @@
 //! Strings.
 
 ghost use Rattle.std.specs.Prelude.{◌≡◌, ◌<◌, length, slice_index};
-ghost use Rattle.fzn_lexer.specs.Steps.{Reads};
+ghost use Rattle.fzn_lexer.specs.Steps.{ReadsToken};
 
 use crate::bytes::inside_len;
 use crate::fault::FaultKind;
@@ -12,7 +12,7 @@ use crate::lexeme::Lexeme;
 pub fn string(rest: &[u8]) -> Result<Lexeme, FaultKind>
     requires some { 0 < length rest.now }
     requires head { slice_index rest.now 0 ≡ 34 }
-    ensures { Reads rest.now result }
+    ensures { ReadsToken rest.now result }
 {
     let behind = &rest[1..];
     let Some(len) = inside_len(behind) else {

@@ -5,7 +5,7 @@ ghost use Rattle.fzn_lexer.specs.declared.token.Symbol.{Symbol};
 ghost use Rattle.fzn_lexer.specs.declared.token.Symbol.TheVariants as symbols;
 ghost use Rattle.fzn_lexer.specs.Bytes.{begins_word};
 ghost use Rattle.fzn_lexer.specs.Lexemes.{spelling, IsWord};
-ghost use Rattle.fzn_lexer.specs.Steps.{Reads};
+ghost use Rattle.fzn_lexer.specs.Steps.{ReadsToken};
 
 use crate::bytes::Class;
 use crate::fault::FaultKind;
@@ -43,7 +43,7 @@ fn reserved(word: &[u8]) -> Option<Symbol>
 pub fn word(rest: &[u8]) -> Result<Lexeme, FaultKind>
     requires some { 0 < length rest.now }
     requires head { begins_word (slice_index rest.now 0) ≡ true }
-    ensures { Reads rest.now result }
+    ensures { ReadsToken rest.now result }
 {
     let len = Class::Word.run(rest);
     let text = &rest[..len];

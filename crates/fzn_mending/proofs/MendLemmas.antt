@@ -7,7 +7,7 @@ use Rattle.fzn_lexer.specs.declared.token.Kind.{Kind}
 use Rattle.fzn_lexer.specs.declared.token.Kind.TheVariants as k
 use Rattle.fzn_lexer.specs.declared.token.Symbol.TheVariants as s
 use Rattle.fzn_lexer.specs.declared.token.Token.{Token}
-use Rattle.fzn_lexer.specs.Lexemes.{IsSmall}
+use Rattle.fzn_lexer.specs.Lexemes.{HasSmallNumber}
 use Rattle.fzn_lexer.specs.Tokens.{NoEnd, EndsInEnd}
 use Rattle.fzn_tree.specs.declared.tree.Param.{Param}
 use Rattle.fzn_mending.specs.declared.mending.Seen.{Seen}
@@ -85,7 +85,7 @@ ends-mended params tokens ends = subst (λ (z : List Token). EndsInEnd (mended p
 -- ---- small numbers
 
 abbrev HasSmall : Token → Type 0
-HasSmall token = IsSmall token.kind
+HasSmall token = HasSmallNumber token.kind
 
 abbrev AreSmall : List Token → Type 0
 AreSmall tokens = All HasSmall tokens
@@ -136,5 +136,5 @@ small-from params seen (token ∷ later) small =
     AreSmall-append (instead number seen token) (mended_from params (next number seen token) later) (instead-small number seen token (All-head HasSmall token later small))
     (small-from params (next number seen token) later (All-tail HasSmall token later small))
 
-pub small-mended : (params : List Param) (tokens : List Token) → All (λ (token : Token). IsSmall token.kind) tokens → All (λ (token : Token). IsSmall token.kind) (mended params tokens)
+pub small-mended : (params : List Param) (tokens : List Token) → All (λ (token : Token). HasSmallNumber token.kind) tokens → All (λ (token : Token). HasSmallNumber token.kind) (mended params tokens)
 small-mended params tokens small = small-from params Nothing tokens small

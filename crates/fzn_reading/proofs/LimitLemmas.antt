@@ -8,7 +8,7 @@ use Rattle.fzn_domain.specs.Limits.{IsInLimits}
 use Rattle.fzn_lexer.specs.declared.token.Symbol.{Symbol}
 use Rattle.fzn_lexer.specs.declared.token.Symbol.TheVariants as s
 use Rattle.fzn_lexer.specs.declared.token.Token.{Token}
-use Rattle.fzn_lexer.specs.Lexemes.{IsSmall, IsInRange}
+use Rattle.fzn_lexer.specs.Lexemes.{HasSmallNumber, IsInRange}
 use Rattle.fzn_lexer.specs.Tokens.{Lexes, Stand}
 use Rattle.fzn_tree.specs.declared.tree.Arg.{Arg}
 use Rattle.fzn_tree.specs.declared.tree.Arg.TheVariants as args
@@ -41,14 +41,14 @@ use Rattle.fzn_typing.specs.Limits.{IsArgWithin, IsConWithin, IsTreeWithin}
 -- the numbers are within their limits, and no piece passes a limit
 abbrev AreFine : List Piece → Type 0
 AreFine [] = Unit {0}
-AreFine (p ∷ ps) = (IsSmall p.kind × (p.past ≡ None)) × AreFine ps
+AreFine (p ∷ ps) = (HasSmallNumber p.kind × (p.past ≡ None)) × AreFine ps
 
 -- what tokens spell whose numbers are small
-fine_small : (tokens : List Token) (ps : List Piece) → All (λ (t : Token). IsSmall t.kind) tokens → AreSpelled tokens ps → PassNoLimit ps → AreFine ps
+fine_small : (tokens : List Token) (ps : List Piece) → All (λ (t : Token). HasSmallNumber t.kind) tokens → AreSpelled tokens ps → PassNoLimit ps → AreFine ps
 fine_small tokens [] small spelled within = tt
 fine_small [] (p ∷ ps) small spelled within = absurd spelled
 fine_small (t ∷ tokens) (p ∷ ps) small spelled within =
-    ((subst IsSmall spelled.0.0 (All-head (λ (x : Token). IsSmall x.kind) t tokens small), within.0), fine_small tokens ps (All-tail (λ (x : Token). IsSmall x.kind) t tokens small) spelled.1 within.1)
+    ((subst HasSmallNumber spelled.0.0 (All-head (λ (x : Token). HasSmallNumber x.kind) t tokens small), within.0), fine_small tokens ps (All-tail (λ (x : Token). HasSmallNumber x.kind) t tokens small) spelled.1 within.1)
 
 fine_split : (ps qs : List Piece) → AreFine (ps ++ qs) → AreFine ps × AreFine qs
 fine_split [] qs f = (tt, f)
@@ -205,7 +205,7 @@ con_within : (con : Con) → AreFine (G.con con) → IsConWithin con
 con_within con f = listed_all IsArgWithin (λ n. G.arg) s.CloseParen (λ n arg g. arg_within arg g) con.args (fine_split (G.listed (λ n. G.arg) s.CloseParen con.args) _ f.1.1.1).0
 
 -- the tree of tokens whose numbers are small
-pub small_within : (tokens : List Token) (tree : Tree) → All (λ (t : Token). IsSmall t.kind) tokens → IsTree tokens tree → IsTreeWithin tree
+pub small_within : (tokens : List Token) (tree : Tree) → All (λ (t : Token). HasSmallNumber t.kind) tokens → IsTree tokens tree → IsTreeWithin tree
 small_within tokens tree small parsed =
     let fine = fine_small tokens (G.tree tree) small parsed.spelled parsed.within in
     let items = (fine_split (G.items tree) (sign s.End) fine).0 in
@@ -227,14 +227,14 @@ small_within tokens tree small parsed =
 
 -- ---- the tokens of a file
 
-stand_small : (bytes : List ℕ) (from upto : ℕ) (front : List Token) (last : Token) → Stand bytes from front upto → IsSmall last.kind → All (λ (t : Token). IsSmall t.kind) (front ++ last ∷ [])
-stand_small bytes from upto [] last stand small = All-cons (λ (x : Token). IsSmall x.kind) last [] small (All-nil (λ (x : Token). IsSmall x.kind))
+stand_small : (bytes : List ℕ) (from upto : ℕ) (front : List Token) (last : Token) → Stand bytes from front upto → HasSmallNumber last.kind → All (λ (t : Token). HasSmallNumber t.kind) (front ++ last ∷ [])
+stand_small bytes from upto [] last stand small = All-cons (λ (x : Token). HasSmallNumber x.kind) last [] small (All-nil (λ (x : Token). HasSmallNumber x.kind))
 stand_small bytes from upto (t ∷ front) last stand small =
-    All-cons (λ (x : Token). IsSmall x.kind) t (front ++ last ∷ []) stand.0.small (stand_small bytes t.span.end upto front last stand.1 small)
+    All-cons (λ (x : Token). HasSmallNumber x.kind) t (front ++ last ∷ []) stand.0.small (stand_small bytes t.span.end upto front last stand.1 small)
 
-pub lexed_small : (bytes : List ℕ) (tokens : List Token) → Lexes bytes (Ok tokens) → All (λ (t : Token). IsSmall t.kind) tokens
+pub lexed_small : (bytes : List ℕ) (tokens : List Token) → Lexes bytes (Ok tokens) → All (λ (t : Token). HasSmallNumber t.kind) tokens
 lexed_small bytes tokens lexed =
-    subst (λ (z : List Token). All (λ (t : Token). IsSmall t.kind) z) (sym lexed.parts) (stand_small bytes 0 lexed.upto lexed.front lexed.last lexed.stand (subst IsSmall (sym lexed.is_end.kind) tt))
+    subst (λ (z : List Token). All (λ (t : Token). HasSmallNumber t.kind) z) (sym lexed.parts) (stand_small bytes 0 lexed.upto lexed.front lexed.last lexed.stand (subst HasSmallNumber (sym lexed.is_end.kind) tt))
 
 -- the tree of the tokens of a file
 pub tree_within : (bytes : List ℕ) (tokens : List Token) (tree : Tree) → Lexes bytes (Ok tokens) → IsTree tokens tree → IsTreeWithin tree

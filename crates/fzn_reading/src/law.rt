@@ -5,7 +5,7 @@ ghost use Rattle.fzn_lexer.specs.declared.fault.Fault.{Fault};
 ghost use Rattle.fzn_lexer.specs.declared.halt.Halt.{Halt};
 ghost use Rattle.fzn_lexer.specs.declared.halt.Halt.TheVariants.{Memory};
 ghost use Rattle.fzn_lexer.specs.declared.token.Token.{Token};
-ghost use Rattle.fzn_lexer.specs.Lexemes.{IsSmall};
+ghost use Rattle.fzn_lexer.specs.Lexemes.{HasSmallNumber};
 ghost use Rattle.fzn_lexer.specs.Tokens.{Lexes};
 ghost use Rattle.fzn_meaning.specs.declared.model.Model.{Model};
 ghost use Rattle.fzn_tree.specs.declared.tree.Tree.{Tree};
@@ -27,10 +27,10 @@ pub fn within_limits()
 
 /// Each number among the tokens of a file is small.
 pub fn small_tokens()
-    ensures { (bytes : List ℕ) (tokens : List Token) → Lexes bytes (Ok tokens) → All (λ (token : Token). IsSmall token.kind) tokens }
+    ensures { (bytes : List ℕ) (tokens : List Token) → Lexes bytes (Ok tokens) → All (λ (token : Token). HasSmallNumber token.kind) tokens }
 {}
 
 /// What tokens spell whose numbers are small keeps the limits that looking at types requires.
 pub fn small_within_limits()
-    ensures { (tokens : List Token) (tree : Tree) → All (λ (token : Token). IsSmall token.kind) tokens → IsTree tokens tree → IsTreeWithin tree }
+    ensures { (tokens : List Token) (tree : Tree) → All (λ (token : Token). HasSmallNumber token.kind) tokens → IsTree tokens tree → IsTreeWithin tree }
 {}

@@ -1,7 +1,7 @@
 use Rattle.std.proofs.Common.{◌≡◌, List, ap, subst, sym, ◌∙◌}
 use Rattle.std.specs.List.{All}
 use Rattle.fzn_lexer.specs.declared.token.Token.{Token}
-use Rattle.fzn_lexer.specs.Lexemes.{IsSmall}
+use Rattle.fzn_lexer.specs.Lexemes.{HasSmallNumber}
 use Rattle.fzn_lexer.specs.Tokens.{EndsInEnd}
 use Rattle.fzn_tree.specs.declared.tree.Param.{Param}
 use Rattle.fzn_mending.specs.Mending.{mended, mended_places, constant}
@@ -20,7 +20,7 @@ pub named_or-requires : goal.named_or-requires
 named_or-requires c =
     let told : c.in_ok-told.told ≡ mended c.args.stated.now.params c.args.tokens.now = c.in_ok-told.ensures ∙ ap (λ (ps : List Param). mended ps c.args.tokens.now) c.as_slice-params.ensures in
     c.small_within_limits.ensures c.in_ok-told.told c.in_ok-tree.tree
-    (subst (λ (z : List Token). All (λ (token : Token). IsSmall token.kind) z) (sym told)
+    (subst (λ (z : List Token). All (λ (token : Token). HasSmallNumber token.kind) z) (sym told)
     (small-mended c.args.stated.now.params c.args.tokens.now (c.small_tokens.ensures c.args.bytes.now c.args.tokens.now c.requires.lexed)))
     c.in_ok-tree.ensures.ok
 
@@ -38,7 +38,7 @@ pub listing_of-requires-clause-within : goal.listing_of-requires-clause-within
 listing_of-requires-clause-within c =
     let told : c.in_ok-told.told ≡ mended c.args.stated.now.params c.args.tokens.now = c.in_ok-told.ensures ∙ ap (λ (ps : List Param). mended ps c.args.tokens.now) c.as_slice-params.ensures in
     c.small_within_limits.ensures c.in_ok-told.told c.in_ok-tree.tree
-    (subst (λ (z : List Token). All (λ (token : Token). IsSmall token.kind) z) (sym told)
+    (subst (λ (z : List Token). All (λ (token : Token). HasSmallNumber token.kind) z) (sym told)
     (small-mended c.args.stated.now.params c.args.tokens.now (c.small_tokens.ensures c.args.bytes.now c.args.tokens.now c.requires.lexed)))
     c.in_ok-tree.ensures.ok
 
