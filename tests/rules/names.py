@@ -7,7 +7,8 @@ from tree import Fault
 
 LIST = 'names.txt'
 # What begins a definition that others can name: a word, and `pub` in front of it or behind; or `pub` alone, of a statement with its type.
-DEFINED = re.compile(r'\s*(?:(?:abbrev|unfoldable|record|data|def) pub|pub (?:abbrev|unfoldable|record|data|def)) ([^\s:({]+)|pub ([^\s:({]+) :')
+# `pub use` hands on what another file defines.
+DEFINED = re.compile(r'\s*(?:(?:abbrev|unfoldable|record|data|def) pub|pub (?:abbrev|unfoldable|record|data|def)) (?!use )([^\s:({]+)|pub ([^\s:({]+) :')
 
 
 def definitions(tree):

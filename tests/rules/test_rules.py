@@ -155,6 +155,12 @@ class RulesTest(unittest.TestCase):
             self.write(path, text + '\n')
             self.assertEqual(self.faults(names), [f'{path}:{len(text.splitlines())}'], text)
 
+    def test_names_handed_on(self):
+        """What two specs hand on with `pub use` is defined by neither."""
+        for path in ('crates/fzn_low/specs/Sum.antt', 'crates/fzn_high/specs/High.antt'):
+            self.write(path, FILES[path] + 'unfoldable pub use Rattle.fzn_low.specs.Part.{part}\npub use Rattle.fzn_low.specs.Whole\n')
+        self.assertEqual(self.faults(names), [])
+
     def test_listed_names(self):
         """A listed name may be double, and has to be; the list is sorted."""
         self.plant('crates/fzn_high/specs/High.antt', 'IsHigh', 'IsSum')
