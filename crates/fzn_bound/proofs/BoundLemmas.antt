@@ -1,7 +1,6 @@
 -- What steps say of the objective is true, and as strong as they say it; and so is what is known at the end.
 use Rattle.std.proofs.Common.{◌≡◌, ℕ, ◌+◌, ◌-◌, ◌<◌, ◌≤◌, List, [], ◌∷◌, ◌++◌, Bool, true, false, ◌&&◌, ◌||◌, Option, Some, None, IfSome, length, get_or, refl, sym, ap, subst, ◌∙◌, ◌⊎◌, inl, inr, unwrap_or, ℤ, pos, ◌+ℤ◌, ◌-ℤ◌, ◌<ℤ◌, ◌≤ℤ◌, int_le, arith}
 use Rattle.std.specs.Prelude.{nat_eq, if◌then◌else◌}
-use Rattle.std.specs.Int.{int_min, int_max}
 use Rattle.std.specs.List.{All, AllByRecursion, AllPairs, fold}
 use Rattle.std.specs.Ordering.{int_eq}
 use Rattle.std.proofs.lemmas.Int.{ints, int_min_is, int_max_is}
@@ -12,8 +11,8 @@ use Rattle.fzn_domain.specs.declared.literal.Lit.{Lit}
 use Rattle.fzn_domain.specs.declared.literal.Op.{Op}
 use Rattle.fzn_domain.specs.declared.literal.Op.TheVariants.{AtMost, AtLeast, Equal, NotEqual}
 use Rattle.fzn_domain.specs.declared.literal.VarId.{VarId}
-use Rattle.fzn_domain.specs.IntSet.{IntSet, contains}
-use Rattle.fzn_domain.specs.Literal.{compares, is_true_at}
+use Rattle.fzn_domain.specs.IntSet.{contains}
+use Rattle.fzn_domain.specs.Literal.{compares}
 use Rattle.fzn_domain.specs.Narrow.{is_clause_true, set_of, value_of}
 use Rattle.fzn_meaning.specs.declared.model.Goal.{Goal}
 use Rattle.fzn_meaning.specs.declared.model.Goal.TheVariants.{Satisfy, Minimize, Maximize}
@@ -30,8 +29,8 @@ use Rattle.fzn_cert.specs.Sound.{IsSound}
 use Rattle.fzn_cert.proofs.SoundLaws.{sound-after, sound-start}
 use Rattle.fzn_bound.specs.declared.known.Known.{Known}
 use Rattle.fzn_bound.specs.declared.known.Known.TheVariants.{NoObjective}
-use Rattle.fzn_bound.specs.Known.{IsBetterValue, objective_in, IsBoundOf, IsTrueOf, NoneBetter, IsDeclared, IsObjective, SaysBound, clause_given, IsAsStrong, IsStrongest, IsStrong}
-use Rattle.fzn_bound.specs.Said.{IsBestDeclared, is_objective, has_side, said_of, said_in, stronger, strengthened, bound_after, weaker, unsolved, solved, found_of, known_after}
+use Rattle.fzn_bound.specs.Known.{IsBetterValue, objective_in, IsTrueOf, NoneBetter, IsDeclared, IsObjective, SaysBound, clause_given, IsAsStrong, IsStrongest, IsStrong}
+use Rattle.fzn_bound.specs.Said.{IsBestDeclared, is_objective, has_side, said_in, stronger, strengthened, bound_after, weaker, unsolved, solved, found_of, known_after}
 use Rattle.fzn_bound.specs.Bounded.{IsBoundBy}
 
 -- ---- one literal

@@ -1,19 +1,18 @@
 -- Steps that are taken one after another with the bound that they say, and what they make of a whole certificate.
-use Rattle.std.proofs.Common.{◌≡◌, ℕ, ◌+◌, Bool, true, false, List, [], ◌∷◌, ◌++◌, ℤ, Option, Some, None, IsSome, IfSome, Err, unwrap_or, refl, sym, ap, subst, ◌∙◌}
+use Rattle.std.proofs.Common.{◌≡◌, ℕ, ◌+◌, Bool, true, false, List, [], ◌∷◌, ◌++◌, ℤ, Option, None, IsSome, IfSome, Err, unwrap_or, refl, sym, ap, subst, ◌∙◌}
 use Rattle.std.specs.List.{fold}
 use Rattle.std.specs.Prelude.{MatchOption}
 use Rattle.std.proofs.KnownBytes.{Keeps-refl}
 use Rattle.fzn_meaning.specs.declared.model.Model.{Model}
 use Rattle.fzn_meaning.specs.WellFormed.{IsWellFormed}
-use Rattle.fzn_meaning.specs.Solutions.{IsProper, IsExhausted}
+use Rattle.fzn_meaning.specs.Solutions.{IsExhausted}
 use Rattle.fzn_printer.specs.Answer.{answer_text}
 use Rattle.fzn_reading.specs.declared.fault.ModelFault.{ModelFault}
 use Rattle.fzn_reading.specs.declared.fault.ModelFault.TheVariants as reading
 use Rattle.fzn_reading.specs.Reads.{Answers, States}
 use Rattle.fzn_cert.specs.declared.header.Header.{Header}
 use Rattle.fzn_cert.specs.declared.step.Step.{Step}
-use Rattle.fzn_cert.specs.Past.{Past, start}
-use Rattle.fzn_cert.specs.Accepted.{past_of}
+use Rattle.fzn_cert.specs.Past.{Past}
 use Rattle.fzn_cert.specs.Verdict.{Outcome, accepted, MayEnd, VerdictFrom, VerdictOn}
 use Rattle.fzn_cert.proofs.SoundLaws.{proper-sound, exhausted-sound}
 use Rattle.fzn_cert_reader.specs.Reader.{Progress, IsAtStart, GivesStep, Ends, HasRead}
@@ -21,7 +20,6 @@ use Rattle.fzn_cert_reader.proofs.CallerLemmas.{HasRead-fresh, HasRead-step}
 use Rattle.fzn_checker.specs.declared.fault.CheckFault.{CheckFault}
 use Rattle.fzn_checker.specs.declared.fault.CheckFault.TheVariants.{File, Refused, NotVersionOne, Memory, Read, WriteOutput, WriteCert}
 use Rattle.fzn_checker.specs.declared.hold.Taken.{Taken}
-use Rattle.fzn_checker.specs.Answered.{Shows}
 use Rattle.fzn_checker.specs.Checked.{IsFaultWhere, HasCounts, IsMidway, ComesTo, Accepts}
 use Rattle.fzn_checker.specs.FileFaults.{fault_from}
 use Rattle.fzn_checker.specs.Held.{past_in, HasTaken, IsCertificate}

@@ -10,7 +10,6 @@ use Rattle.fzn_names.specs.declared.names.Declared.TheVariants.{Variable}
 use Rattle.fzn_tree.specs.declared.tree.Ann.{Ann, out-Ann}
 use Rattle.fzn_tree.specs.declared.tree.AnnArg.{AnnArg}
 use Rattle.fzn_tree.specs.declared.tree.AnnArg.TheVariants as a
-use Rattle.fzn_tree.specs.declared.tree.AnnTerm.{AnnTerm}
 use Rattle.fzn_tree.specs.declared.tree.AnnTerm.TheVariants as t
 
 -- `is_defined_var` without arguments: a constraint defines the variable

@@ -1,7 +1,6 @@
 -- One token more on the way through a file.
 use Rattle.std.proofs.Common.{◌≡◌, ℕ, ◌≤◌, List, [], ◌∷◌, ◌++◌, length, get_or, ℤ, Option, None, refl, sym, ap, ◌∙◌, arith, append_assoc}
 use Rattle.fzn_lexer.specs.declared.kept.Kept.{Kept}
-use Rattle.fzn_lexer.specs.declared.token.Token.{Token}
 use Rattle.fzn_lexer.specs.Kept.{token_of, tokens_of}
 use Rattle.fzn_names.proofs.StepLemmas.{rest_of, uncons}
 use Rattle.fzn_tree.specs.declared.tree.Param.{Param}

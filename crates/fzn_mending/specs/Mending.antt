@@ -1,5 +1,5 @@
 -- A file mended: its tokens, where some are put in the place of others.
-use Rattle.std.specs.Prelude.{ℕ, Bool, true, false, List, [], ◌∷◌, ◌++◌, ℤ, pos, negsuc, Option, Some, None, is_some, bytes_eq, if◌then◌else◌}
+use Rattle.std.specs.Prelude.{ℕ, Bool, true, false, List, [], ◌∷◌, ◌++◌, ℤ, pos, negsuc, Option, Some, None, bytes_eq, if◌then◌else◌}
 use Rattle.std.specs.Ordering.{int_eq}
 use Rattle.fzn_lexer.specs.Kinds.{is_symbol}
 use Rattle.fzn_lexer.specs.declared.kept.Kept.{Kept}
