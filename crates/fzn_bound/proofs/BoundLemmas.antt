@@ -23,8 +23,8 @@ use Rattle.fzn_meaning.specs.WellFormed.{IsGoal, IsWellFormed}
 use Rattle.fzn_meaning.proofs.CallerLemmas.{passes-better}
 use Rattle.fzn_cert.specs.declared.step.Step.{Step}
 use Rattle.fzn_cert.specs.declared.step.Step.TheVariants.{Infer, Resolve, Solution, Delete}
-use Rattle.fzn_cert.specs.Past.{Past, start}
-use Rattle.fzn_cert.specs.Accepted.{AllAcceptedAfter, after}
+use Rattle.fzn_cert.specs.Past.{StepsPast, no_past}
+use Rattle.fzn_cert.specs.Accepted.{AllAcceptedAfter, after_step}
 use Rattle.fzn_cert.specs.Sound.{IsSound}
 use Rattle.fzn_cert.proofs.SoundLaws.{sound-after, sound-start}
 use Rattle.fzn_bound.specs.declared.known.Known.{Known}
@@ -272,18 +272,18 @@ All-front P (x ∷ xs) y h = let r = All-front P xs y h.1 in ((h.0, r.0), r.1)
 front_of : {X : Type 0} (P : X → Type 0) (xs : List X) (y : X) → All P (xs ++ y ∷ []) → All P xs × P y
 front_of P xs y h = let r = All-front P xs y (recursion_from_All P (xs ++ y ∷ []) h) in (All-from_recursion P xs r.0, r.1)
 
-passes-first : (model : Model) (past : Past) (step : Step) (a : List ℤ) → PassesCuts model (after model past step).solutions a → PassesCuts model past.solutions a
+passes-first : (model : Model) (past : StepsPast) (step : Step) (a : List ℤ) → PassesCuts model (after_step model past step).solutions a → PassesCuts model past.solutions a
 passes-first model past (Infer constraint rule clause) a passes = passes
 passes-first model past (Resolve clause ids) a passes = passes
 passes-first model past (Delete ids) a passes = passes
 passes-first model past (Solution values) a passes = (front_of (λ m. is_clause_true a (cut_of model m) ≡ true) past.solutions values passes).0
 
-passes-before : (model : Model) (past : Past) (steps : List Step) (a : List ℤ) → PassesCuts model (fold (after model) past steps).solutions a → PassesCuts model past.solutions a
+passes-before : (model : Model) (past : StepsPast) (steps : List Step) (a : List ℤ) → PassesCuts model (fold (after_step model) past steps).solutions a → PassesCuts model past.solutions a
 passes-before model past [] a passes = passes
-passes-before model past (step ∷ later) a passes = passes-first model past step a (passes-before model (after model past step) later a passes)
+passes-before model past (step ∷ later) a passes = passes-first model past step a (passes-before model (after_step model past step) later a passes)
 
 -- what an accepted step says holds where all cuts so far are passed
-step-says : (model : Model) (past : Past) (step : Step) (a : List ℤ) → IsSound model (after model past step) → IsSolution model a → PassesCuts model (after model past step).solutions a
+step-says : (model : Model) (past : StepsPast) (step : Step) (a : List ℤ) → IsSound model (after_step model past step) → IsSolution model a → PassesCuts model (after_step model past step).solutions a
     → IfSome (said_in model.goal (clause_given step)) (λ m. IsBetterValue model.goal (objective_in model.goal a) m → ⊥)
 step-says model past (Infer constraint rule clause) a sound solution passes =
     said-holds model.goal clause a ((front_of (λ held. IfSome held (λ c. is_clause_true a c ≡ true)) past.clauses (Some clause) (sound.clauses a solution passes)).1)
@@ -293,13 +293,13 @@ step-says model past (Solution values) a sound solution passes = said-nothing mo
 step-says model past (Delete ids) a sound solution passes = said-nothing model.goal a
 
 -- and what all of them say
-steps-hold : (model : Model) (past : Past) (steps : List Step) (bound : Option ℤ) (a : List ℤ) → IsWellFormed model → IsSound model past → AllAcceptedAfter model past steps → IsSolution model a
-    → PassesCuts model (fold (after model) past steps).solutions a → Holds model.goal a bound → Holds model.goal a (fold (bound_after model.goal) bound steps)
+steps-hold : (model : Model) (past : StepsPast) (steps : List Step) (bound : Option ℤ) (a : List ℤ) → IsWellFormed model → IsSound model past → AllAcceptedAfter model past steps → IsSolution model a
+    → PassesCuts model (fold (after_step model) past steps).solutions a → Holds model.goal a bound → Holds model.goal a (fold (bound_after model.goal) bound steps)
 steps-hold model past [] bound a wf sound accepted solution passes holds = holds
 steps-hold model past (step ∷ later) bound a wf sound accepted solution passes holds =
     let next = sound-after model past step wf sound accepted.0 in
-    let so_far = passes-before model (after model past step) later a passes in
-    steps-hold model (after model past step) later (bound_after model.goal bound step) a wf next accepted.1 solution passes
+    let so_far = passes-before model (after_step model past step) later a passes in
+    steps-hold model (after_step model past step) later (bound_after model.goal bound step) a wf next accepted.1 solution passes
     (holds-more model.goal a bound (said_in model.goal (clause_given step)) holds (step-says model past step a next solution so_far))
 
 -- a value of the declared set
@@ -321,13 +321,13 @@ pub record HasFound (model : Model) (found : List (List ℤ)) (closed : Bool) (b
   pub exhausted : closed ≡ true → IsExhausted model found
   pub holds : (a : List ℤ) → IsSolution model a → PassesCuts model found a → Holds model.goal a bound
 
-pub has-found : (model : Model) (steps : List Step) (past : Past) (closed : Bool) (bound : Option ℤ) → IsWellFormed model → (model.goal ≡ Satisfy → ⊥) → AllAcceptedAfter model start steps → past ≡ fold (after model) start steps
+pub has-found : (model : Model) (steps : List Step) (past : StepsPast) (closed : Bool) (bound : Option ℤ) → IsWellFormed model → (model.goal ≡ Satisfy → ⊥) → AllAcceptedAfter model no_past steps → past ≡ fold (after_step model) no_past steps
     → IsSound model past → (closed ≡ true → IsExhausted model past.solutions) → IsBoundBy model steps bound → HasFound model past.solutions closed bound
 has-found model steps past closed bound wf other accepted is sound exhausted by = record {
   cuts = sound.cuts;
   exhausted = exhausted;
   holds = λ a solution passes. subst (Holds model.goal a) (sym by.is)
-      (steps-hold model start steps by.first a wf (sound-start model) accepted solution (subst (λ (p : Past). PassesCuts model p.solutions a) is passes)
+      (steps-hold model no_past steps by.first a wf (sound-start model) accepted solution (subst (λ (p : StepsPast). PassesCuts model p.solutions a) is passes)
       (end-holds model model.goal by.first a other wf.goal solution.0 by.end));
 }
 

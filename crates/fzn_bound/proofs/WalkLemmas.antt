@@ -12,7 +12,7 @@ use Rattle.fzn_reading.specs.declared.fault.ModelFault.TheVariants as reading
 use Rattle.fzn_reading.specs.Reads.{Answers, States}
 use Rattle.fzn_cert.specs.declared.header.Header.{Header}
 use Rattle.fzn_cert.specs.declared.step.Step.{Step}
-use Rattle.fzn_cert.specs.Past.{Past}
+use Rattle.fzn_cert.specs.Past.{StepsPast}
 use Rattle.fzn_cert.specs.Verdict.{Outcome, accepted, MayEnd, VerdictFrom, VerdictOn}
 use Rattle.fzn_cert.proofs.SoundLaws.{proper-sound, exhausted-sound}
 use Rattle.fzn_cert_reader.specs.Reader.{Progress, IsAtStart, GivesStep, Ends, HasRead}
@@ -58,7 +58,7 @@ midway-start model now taken fresh has_taken = record {
   fresh = λ _. (has_taken.past, fresh.2);
 }
 
-pub standing-start : (model : Model) (now : Progress) (past : Past) (outcome : Outcome) → now.header ≡ None → ComesTo model past now outcome → VerdictOn model now.left outcome
+pub standing-start : (model : Model) (now : Progress) (past : StepsPast) (outcome : Outcome) → now.header ≡ None → ComesTo model past now outcome → VerdictOn model now.left outcome
 standing-start model now past outcome none standing =
     subst (λ (o : Option Header). MatchOption o (VerdictOn model now.left outcome) (λ header. VerdictFrom model header.version past now.steps now.left outcome)) none standing
 
@@ -111,8 +111,8 @@ module _ (file cert : Option (List ℕ)) (model : Model) (states : States file m
         closed = walked.closed;
         shows = record {
           states = states;
-          verdict = subst (λ (p : Past). VerdictOn model cert (accepted p.solutions walked.closed)) (sym is.taken.past)
-              (certificate-accepted model is.version cert steps walked.closed is.certificate is.taken.accepted (subst (λ (p : Past). MayEnd p walked.closed) is.taken.past is.may_end));
+          verdict = subst (λ (p : StepsPast). VerdictOn model cert (accepted p.solutions walked.closed)) (sym is.taken.past)
+              (certificate-accepted model is.version cert steps walked.closed is.certificate is.taken.accepted (subst (λ (p : StepsPast). MayEnd p walked.closed) is.taken.past is.may_end));
           proper = proper-sound model past sound;
           exhausted = exhausted;
         };

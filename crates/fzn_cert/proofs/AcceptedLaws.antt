@@ -6,9 +6,9 @@ use Rattle.fzn_meaning.specs.declared.model.Model.{Model}
 use Rattle.fzn_meaning.specs.Solutions.{declared_sets}
 use Rattle.fzn_rules.specs.declared.rule.Rule.{Rule}
 use Rattle.fzn_rules.specs.Rules.{IsAcceptedBy}
-use Rattle.fzn_cert.specs.Accepted.{IsTrivial, IsJustifiedBy}
+use Rattle.fzn_cert.specs.Accepted.{IsTrivial, IsInferredBy}
 
-pub justified-trivial : (model : Model) (c : ℕ) (rule : Rule) (clause : List Lit) → IsTrivial model clause → IsJustifiedBy model c rule clause
+pub justified-trivial : (model : Model) (c : ℕ) (rule : Rule) (clause : List Lit) → IsTrivial model clause → IsInferredBy model c rule clause
 justified-trivial model c rule clause trivial = at_option (slice_get model.constraints (c - 1))
   where
     at_option : (found : Option Constraint) → IfSome found (λ constraint. IsAcceptedBy constraint rule (declared_sets model.vars) clause)

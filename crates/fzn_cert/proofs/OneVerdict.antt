@@ -6,7 +6,7 @@ use Rattle.fzn_cert.specs.declared.refusal.Refusal.TheVariants.{Header as BadHea
 use Rattle.fzn_cert.specs.declared.step.Version.{Version}
 use Rattle.fzn_cert.specs.Spelling.{version_text, counts_text, header_lines, IsSized}
 use Rattle.fzn_cert.specs.Stream.{IsVersionText}
-use Rattle.fzn_cert.specs.Past.{start}
+use Rattle.fzn_cert.specs.Past.{no_past}
 use Rattle.fzn_cert.specs.Verdict.{Outcome, accepted, refused, VerdictFrom, header_of, IsSecondRefused, VerdictOn, Verdict}
 use Rattle.fzn_cert.proofs.OneVerdictLines.{IsLine, same_line, LineFault, one_line_fault, no_line_fault}
 use Rattle.fzn_cert.proofs.OneVerdictSteps.{taken_from, one_from}
@@ -21,7 +21,7 @@ data Leads (model : Model) (bytes : List ℕ) (x : Outcome) : Type 0 where
   first : (a : Refusal) → x ≡ refused 1 a → LineFault IsVersionText BadHeader bytes a → Leads model bytes x
   second : (a : Refusal) → x ≡ refused 2 a → (version : Version) (rest : List ℕ) → IsLine bytes (version_text version) rest → WrongCounts model rest a → Leads model bytes x
   steps : (version : Version) (rest last : List ℕ) → IsSized (length model.vars) → IsSized (length model.constraints) → IsLine bytes (version_text version) rest → IsLine rest (own_counts model) last
-      → VerdictFrom model version start 0 (Some last) x → Leads model bytes x
+      → VerdictFrom model version no_past 0 (Some last) x → Leads model bytes x
 
 module _ (model : Model) (bytes : List ℕ) where
   leads : (x : Outcome) → VerdictOn model (Some bytes) x → Leads model bytes x
@@ -31,7 +31,7 @@ module _ (model : Model) (bytes : List ℕ) where
       let t = taken_from bytes (version_text version ++ 10 ∷ []) (λ rest. IsSecondRefused model rest a) h in
       second a (ap (λ (l : ℕ). refused l a) is) version t.0 (version_is_line bytes version t.0 t.1) (wrong_counts model t.0 a t.2)
   leads x (inr (version, sized, h)) =
-      let t = taken_from bytes (header_lines (header_of model version)) (λ rest. VerdictFrom model version start 0 rest x) h in
+      let t = taken_from bytes (header_lines (header_of model version)) (λ rest. VerdictFrom model version no_past 0 rest x) h in
       let front = version_text version ++ 10 ∷ [] in
       let rest = own_counts model ++ 10 ∷ t.0 in
       steps version rest t.0 sized.0 sized.1
@@ -66,8 +66,8 @@ module _ (model : Model) (bytes : List ℕ) where
   one_lead x y (steps v r last s t is counts f) (steps w o end m n are told g) =
       let same = same_first v w r o is are in
       let behind : last ≡ end = (same_line o (own_counts model) (own_counts model) last end (subst (λ (l : List ℕ). IsLine l (own_counts model) last) same.1 counts) told).1 in
-      one_from model v start 0 last x y f
-      (subst (λ (l : List ℕ). VerdictFrom model v start 0 (Some l) y) (sym behind) (subst (λ (u : Version). VerdictFrom model u start 0 (Some end) y) (sym same.0) g))
+      one_from model v no_past 0 last x y f
+      (subst (λ (l : List ℕ). VerdictFrom model v no_past 0 (Some l) y) (sym behind) (subst (λ (u : Version). VerdictFrom model u no_past 0 (Some end) y) (sym same.0) g))
 
 pub one_verdict_lem : (model : Model) (bytes : List ℕ) (x y : Outcome) → Verdict model bytes x → Verdict model bytes y → x ≡ y
 one_verdict_lem model bytes x y h k = one_lead model bytes x y (leads model bytes x h) (leads model bytes y k)

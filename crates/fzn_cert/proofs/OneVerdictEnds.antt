@@ -11,7 +11,7 @@ use Rattle.fzn_cert.specs.declared.step.Version.{Version}
 use Rattle.fzn_cert.specs.Spelling.{step_text, step_line, end_line, HasLine}
 use Rattle.fzn_cert.specs.Parts.{step_parts}
 use Rattle.fzn_cert.specs.Stream.{IsMisspelled}
-use Rattle.fzn_cert.specs.Past.{Past}
+use Rattle.fzn_cert.specs.Past.{StepsPast}
 use Rattle.fzn_cert.specs.Accepted.{IsAccepted, HasFault}
 use Rattle.fzn_cert.specs.Verdict.{MayEnd}
 use Rattle.fzn_cert.proofs.SpaceLaws.{step_text_is}
@@ -70,13 +70,13 @@ pub misspelled : (version : Version) (count : ℕ) (text : List ℕ) → IsMissp
 misspelled version count text h (inl (step, has, is)) = h.0 step has is
 misspelled version count text h (inr (closed, is)) = h.1 closed is
 
-pub data Wrong (model : Model) (version : Version) (past : Past) (count : ℕ) (bytes : List ℕ) (a : Refusal) : Type 0 where
+pub data Wrong (model : Model) (version : Version) (past : StepsPast) (count : ℕ) (bytes : List ℕ) (a : Refusal) : Type 0 where
   line : LineFault (IsNextText version count) Spelling bytes a → Wrong model version past count bytes a
   not_closed : a ≡ NotClosed → (rest : List ℕ) → bytes ≡ end_line true ++ rest → past.refuted ≡ false → Wrong model version past count bytes a
   trailing : a ≡ Trailing → (closed : Bool) (byte : ℕ) (rest : List ℕ) → bytes ≡ end_line closed ++ byte ∷ rest → MayEnd past closed → Wrong model version past count bytes a
   at_step : (step : Step) (rest : List ℕ) → HasLine version count step → bytes ≡ step_line step ++ rest → HasFault model past step a → Wrong model version past count bytes a
 
-module _ (model : Model) (version : Version) (past : Past) (count : ℕ) (bytes : List ℕ) where
+module _ (model : Model) (version : Version) (past : StepsPast) (count : ℕ) (bytes : List ℕ) where
   -- a right ending that is no fault of the line
   end_fault : (a : Refusal) (closed : Bool) (rest : List ℕ) → bytes ≡ end_line closed ++ rest → LineFault (IsNextText version count) Spelling bytes a → ⊥
   end_fault a closed rest e f = no_line_fault (IsNextText version count) Spelling bytes a (end_text closed) rest (end_is_line bytes closed rest e) (inr (closed, is closed)) f

@@ -6,7 +6,7 @@ use Rattle.std.proofs.lemmas.List.{append-nil, length-append}
 use Rattle.fzn_cert.specs.declared.limits.TheConstants.{LINE_LIMIT}
 use Rattle.fzn_cert.specs.declared.refusal.Refusal.{Refusal}
 use Rattle.fzn_cert.specs.declared.refusal.Refusal.TheVariants.{Truncated, LineTooLong}
-use Rattle.fzn_cert.specs.Stream.{BeginsWithLine, IsTruncated, IsTooLong}
+use Rattle.fzn_cert.specs.Stream.{BeginsWithLine, IsTruncated, IsLineTooLong}
 use Rattle.fzn_cert.proofs.LineLaws.{and_true, IsInside, is_inside, same_lines}
 
 -- the text before the first line feed
@@ -84,7 +84,7 @@ module _ (IsText : List ℕ → Type 0) (bad : Refusal) (bytes : List ℕ) where
           let whole : h.text ≡ bytes = sym (taken ∙ ap (λ (t : List ℕ). h.text ++ t) at_end ∙ append-nil h.text) in
           short refl (subst IsInside whole h.inside) (subst (λ (t : List ℕ). length t ≤ LINE_LIMIT) whole h.within)
 
-  pub long_fault : IsTooLong (Some bytes) → LineFault IsText bad bytes LineTooLong
+  pub long_fault : IsLineTooLong (Some bytes) → LineFault IsText bad bytes LineTooLong
   long_fault h = by_rest h.rest h.taken
     where
       by_rest : (rest : Option (List ℕ)) → Consumes (Some bytes) rest h.text → LineFault IsText bad bytes LineTooLong

@@ -10,14 +10,14 @@ use Rattle.fzn_cert.specs.declared.step.Step.{Step}
 use Rattle.fzn_cert.specs.declared.step.Step.TheVariants.{Infer, Resolve, Solution, Delete}
 use Rattle.fzn_cert.specs.declared.refusal.Refusal.{Refusal}
 use Rattle.fzn_cert.specs.declared.refusal.Refusal.TheVariants.{NoSuchConstraint, RuleFails, NoSuchClause, NotUnit, NoConflict, NotASolution, CutByEarlier, NoSuchVariable}
-use Rattle.fzn_cert.specs.Past.{Past, IsHeld, clauses_held}
+use Rattle.fzn_cert.specs.Past.{StepsPast, IsClauseHeld, clauses_held}
 use Rattle.fzn_cert.specs.Accepted.{HasVariables, denying, IsConstraintNumber, IsAccepted, HasFault}
 
 neither : {A B : Type 0} → A ⊎ B → (A → ⊥) → (B → ⊥) → ⊥
 neither (inl a) p q = p a
 neither (inr b) p q = q b
 
-pub not_accepted : (model : Model) (past : Past) (step : Step) (fault : Refusal) → HasFault model past step fault → IsAccepted model past step → ⊥
+pub not_accepted : (model : Model) (past : StepsPast) (step : Step) (fault : Refusal) → HasFault model past step fault → IsAccepted model past step → ⊥
 not_accepted model past (Infer c rule clause) NoSuchVariable f a = f a.0
 not_accepted model past (Infer c rule clause) NoSuchConstraint f a = f.1 a.1
 not_accepted model past (Infer c rule clause) RuleFails f a = f.2 a.2
@@ -50,7 +50,7 @@ one_view First Second p q Rest one a b (inr (inr x)) (inl y) = absurd (y.1 x.0)
 one_view First Second p q Rest one a b (inr (inr x)) (inr (inl y)) = absurd (y.2 x.1)
 one_view First Second p q Rest one a b (inr (inr x)) (inr (inr y)) = one a b x.2 y.2
 
-infer_view : (model : Model) (past : Past) (c : ℕ) (rule : Rule) (clause : List Lit) (a : Refusal) → HasFault model past (Infer c rule clause) a → View (HasVariables model clause) (IsConstraintNumber model c) NoSuchVariable NoSuchConstraint (λ r. r ≡ RuleFails) a
+infer_view : (model : Model) (past : StepsPast) (c : ℕ) (rule : Rule) (clause : List Lit) (a : Refusal) → HasFault model past (Infer c rule clause) a → View (HasVariables model clause) (IsConstraintNumber model c) NoSuchVariable NoSuchConstraint (λ r. r ≡ RuleFails) a
 infer_view model past c rule clause NoSuchVariable f = inl (refl, f)
 infer_view model past c rule clause NoSuchConstraint f = inr (inl (refl, f.0, f.1))
 infer_view model past c rule clause RuleFails f = inr (inr (f.0, f.1, refl))
@@ -65,19 +65,19 @@ one_chain outcome a b (inl x) (inr y) = let e = sym x.1 ∙ y.1 in cc
 one_chain outcome a b (inr x) (inl y) = let e = sym x.1 ∙ y.1 in cc
 one_chain outcome a b (inr x) (inr y) = x.0 ∙ sym y.0
 
-resolve_view : (model : Model) (past : Past) (clause : List Lit) (ids : List ℕ) (a : Refusal) → HasFault model past (Resolve clause ids) a → View (HasVariables model clause) (All (IsHeld past) ids) NoSuchVariable NoSuchClause (IsChainFault (chain_outcome (denying model clause) (clauses_held past ids))) a
+resolve_view : (model : Model) (past : StepsPast) (clause : List Lit) (ids : List ℕ) (a : Refusal) → HasFault model past (Resolve clause ids) a → View (HasVariables model clause) (All (IsClauseHeld past) ids) NoSuchVariable NoSuchClause (IsChainFault (chain_outcome (denying model clause) (clauses_held past ids))) a
 resolve_view model past clause ids NoSuchVariable f = inl (refl, f)
 resolve_view model past clause ids NoSuchClause f = inr (inl (refl, f.0, f.1))
 resolve_view model past clause ids NotUnit f = inr (inr (f.0, f.1, inl (refl, f.3)))
 resolve_view model past clause ids NoConflict f = inr (inr (f.0, f.1, inr (refl, f.3)))
 resolve_view model past clause ids _ f = absurd f
 
-solution_view : (model : Model) (past : Past) (values : List ℤ) (a : Refusal) → HasFault model past (Solution values) a → ((a ≡ NotASolution) × (IsSolution model values → ⊥)) ⊎ ((a ≡ CutByEarlier) × IsSolution model values)
+solution_view : (model : Model) (past : StepsPast) (values : List ℤ) (a : Refusal) → HasFault model past (Solution values) a → ((a ≡ NotASolution) × (IsSolution model values → ⊥)) ⊎ ((a ≡ CutByEarlier) × IsSolution model values)
 solution_view model past values NotASolution f = inl (refl, f)
 solution_view model past values CutByEarlier f = inr (refl, f.0)
 solution_view model past values _ f = absurd f
 
-delete_view : (model : Model) (past : Past) (ids : List ℕ) (a : Refusal) → HasFault model past (Delete ids) a → a ≡ NoSuchClause
+delete_view : (model : Model) (past : StepsPast) (ids : List ℕ) (a : Refusal) → HasFault model past (Delete ids) a → a ≡ NoSuchClause
 delete_view model past ids NoSuchClause f = refl
 delete_view model past ids _ f = absurd f
 
@@ -87,13 +87,13 @@ one_of_two p q a b (inl x) (inr y) = absurd (x.1 y.1)
 one_of_two p q a b (inr x) (inl y) = absurd (y.1 x.1)
 one_of_two p q a b (inr x) (inr y) = x.0 ∙ sym y.0
 
-pub one_fault : (model : Model) (past : Past) (step : Step) (a b : Refusal) → HasFault model past step a → HasFault model past step b → a ≡ b
+pub one_fault : (model : Model) (past : StepsPast) (step : Step) (a b : Refusal) → HasFault model past step a → HasFault model past step b → a ≡ b
 one_fault model past (Infer c rule clause) a b f g =
     one_view (HasVariables model clause) (IsConstraintNumber model c) NoSuchVariable NoSuchConstraint (λ r. r ≡ RuleFails) (λ r s p q. p ∙ sym q) a b
     (infer_view model past c rule clause a f) (infer_view model past c rule clause b g)
 one_fault model past (Resolve clause ids) a b f g =
     let outcome = chain_outcome (denying model clause) (clauses_held past ids) in
-    one_view (HasVariables model clause) (All (IsHeld past) ids) NoSuchVariable NoSuchClause (IsChainFault outcome) (one_chain outcome) a b
+    one_view (HasVariables model clause) (All (IsClauseHeld past) ids) NoSuchVariable NoSuchClause (IsChainFault outcome) (one_chain outcome) a b
     (resolve_view model past clause ids a f) (resolve_view model past clause ids b g)
 one_fault model past (Solution values) a b f g = one_of_two NotASolution CutByEarlier a b (solution_view model past values a f) (solution_view model past values b g)
 one_fault model past (Delete ids) a b f g = delete_view model past ids a f ∙ sym (delete_view model past ids b g)

@@ -20,8 +20,8 @@ use Rattle.fzn_rules.specs.Rules.{IsAcceptedBy}
 use Rattle.fzn_rules.proofs.CallerLemmas.{accepted_by_sound}
 use Rattle.fzn_cert.specs.declared.step.Step.{Step}
 use Rattle.fzn_cert.specs.declared.step.Step.TheVariants.{Infer, Resolve, Solution, Delete}
-use Rattle.fzn_cert.specs.Past.{Past, start, clause_held, IsHeld, clauses_held, is_empty_clause, after_clause, after_solution, without, after_deletion}
-use Rattle.fzn_cert.specs.Accepted.{HasVariables, IsAccepted, AllAcceptedAfter, AllAccepted, after, past_of}
+use Rattle.fzn_cert.specs.Past.{StepsPast, no_past, clause_held, IsClauseHeld, clauses_held, is_empty_clause, after_clause, after_solution, without, after_deletion}
+use Rattle.fzn_cert.specs.Accepted.{HasVariables, IsAccepted, AllAcceptedAfter, AllAccepted, after_step, past_after}
 use Rattle.fzn_cert.specs.Sound.{IsSound}
 
 -- as many sets as variables
@@ -36,7 +36,7 @@ formed_sets model constraint h = subst (λ n. IsWellFormedConstraint n constrain
 
 -- ---- the clause of an accepted step is true at every solution that passes the cuts so far
 
-infer_true : (model : Model) (past : Past) (c : ℕ) (rule : Rule) (clause : List Lit) (a : List ℤ) → IsWellFormed model → IsAccepted model past (Infer c rule clause) → IsSolution model a → is_clause_true a clause ≡ true
+infer_true : (model : Model) (past : StepsPast) (c : ℕ) (rule : Rule) (clause : List Lit) (a : List ℤ) → IsWellFormed model → IsAccepted model past (Infer c rule clause) → IsSolution model a → is_clause_true a clause ≡ true
 infer_true model past c rule clause a wf accepted solution =
     elim (slice_get_cases model.constraints (c - 1)).1 [
       | inl (constraint, within, is, at) ↦
@@ -51,7 +51,7 @@ infer_true model past c rule clause a wf accepted solution =
 
 -- what holds of every held clause holds of the one with this number
 module _ (P : List Lit → Type 0) where
-  pub of_clause : (past : Past) (id : ℕ) → All (λ held. IfSome held P) past.clauses → IsHeld past id → P (unwrap_or (clause_held past id) [])
+  pub of_clause : (past : StepsPast) (id : ℕ) → All (λ held. IfSome held P) past.clauses → IsClauseHeld past id → P (unwrap_or (clause_held past id) [])
   of_clause past id h held = by_number (id == 0) (get_or past.clauses (id - 1) None) (at_place (cases_lt (id - 1) (length past.clauses))) held
     where
       by_number : (b : Bool) (o : Option (List Lit)) → IfSome o P → IsSome (cond b None o) → P (unwrap_or (cond b None o) [])
@@ -63,14 +63,14 @@ module _ (P : List Lit → Type 0) where
       at_place (inl lt) = h (id - 1) None lt
       at_place (inr past_end) = rw (get_or_past past.clauses (id - 1) None past_end) tt
 
-  by_recursion : (past : Past) (ids : List ℕ) → All (λ held. IfSome held P) past.clauses → AllByRecursion (IsHeld past) ids → AllByRecursion P (clauses_held past ids)
+  by_recursion : (past : StepsPast) (ids : List ℕ) → All (λ held. IfSome held P) past.clauses → AllByRecursion (IsClauseHeld past) ids → AllByRecursion P (clauses_held past ids)
   by_recursion past [] h held = tt
   by_recursion past (id ∷ ids) h held = (of_clause past id h held.0, by_recursion past ids h held.1)
 
-  pub of_clauses : (past : Past) (ids : List ℕ) → All (λ held. IfSome held P) past.clauses → All (IsHeld past) ids → All P (clauses_held past ids)
-  of_clauses past ids h held = All-from_recursion P (clauses_held past ids) (by_recursion past ids h (recursion_from_All (IsHeld past) ids held))
+  pub of_clauses : (past : StepsPast) (ids : List ℕ) → All (λ held. IfSome held P) past.clauses → All (IsClauseHeld past) ids → All P (clauses_held past ids)
+  of_clauses past ids h held = All-from_recursion P (clauses_held past ids) (by_recursion past ids h (recursion_from_All (IsClauseHeld past) ids held))
 
-resolve_true : (model : Model) (past : Past) (clause : List Lit) (ids : List ℕ) (a : List ℤ) → IsSound model past → IsAccepted model past (Resolve clause ids) → IsSolution model a → PassesCuts model past.solutions a → is_clause_true a clause ≡ true
+resolve_true : (model : Model) (past : StepsPast) (clause : List Lit) (ids : List ℕ) (a : List ℤ) → IsSound model past → IsAccepted model past (Resolve clause ids) → IsSolution model a → PassesCuts model past.solutions a → is_clause_true a clause ≡ true
 resolve_true model past clause ids a sound accepted solution passes =
     accepted_sound (declared_sets model.vars) clause (clauses_held past ids)
     (over_sets model clause accepted.0)
@@ -80,7 +80,7 @@ resolve_true model past clause ids a sound accepted solution passes =
 
 -- ---- soundness is kept
 
-pub sound-start : (model : Model) → IsSound model start
+pub sound-start : (model : Model) → IsSound model no_past
 sound-start model = record {
   solutions = All-nil (IsSolution model);
   cuts = λ i j d before within. absurd (omega arith);
@@ -93,7 +93,7 @@ empty_false : (clause : List Lit) (a : List ℤ) → is_empty_clause clause ≡ 
 empty_false [] a e t = cc
 empty_false (lit ∷ rest) a e t = grind arith
 
-sound-clause : (model : Model) (past : Past) (clause : List Lit) → IsSound model past → HasVariables model clause → ((a : List ℤ) → IsSolution model a → PassesCuts model past.solutions a → is_clause_true a clause ≡ true) → IsSound model (after_clause past clause)
+sound-clause : (model : Model) (past : StepsPast) (clause : List Lit) → IsSound model past → HasVariables model clause → ((a : List ℤ) → IsSolution model a → PassesCuts model past.solutions a → is_clause_true a clause ≡ true) → IsSound model (after_clause past clause)
 sound-clause model past clause sound variables true_at = record {
   solutions = sound.solutions;
   cuts = sound.cuts;
@@ -109,7 +109,7 @@ All-front : {X : Type 0} (P : X → Type 0) (xs : List X) (y : X) → AllByRecur
 All-front P [] y h = (tt, h.0)
 All-front P (x ∷ xs) y h = let r = All-front P xs y h.1 in ((h.0, r.0), r.1)
 
-sound-solution : (model : Model) (past : Past) (values : List ℤ) → IsWellFormed model → IsSound model past → IsSolution model values → PassesCuts model past.solutions values → IsSound model (after_solution past (cut_of model values) values)
+sound-solution : (model : Model) (past : StepsPast) (values : List ℤ) → IsWellFormed model → IsSound model past → IsSolution model values → PassesCuts model past.solutions values → IsSound model (after_solution past (cut_of model values) values)
 sound-solution model past values wf sound solution passes =
     let Passes : List ℤ → List ℤ → Type 0 = λ a m. is_clause_true a (cut_of model m) ≡ true in
     let parts : (a : List ℤ) → PassesCuts model (past.solutions ++ values ∷ []) a → PassesCuts model past.solutions a × (is_clause_true a (cut_of model values) ≡ true) =
@@ -129,7 +129,7 @@ All-without : (P : List Lit → Type 0) (clauses : List (Option (List Lit))) (id
 All-without P clauses [] h = h
 All-without P clauses (id ∷ ids) h = All-without P (set clauses (id - 1) None) ids (All-set (λ held. IfSome held P) clauses (id - 1) None tt h)
 
-sound-deletion : (model : Model) (past : Past) (ids : List ℕ) → IsSound model past → IsSound model (after_deletion past ids)
+sound-deletion : (model : Model) (past : StepsPast) (ids : List ℕ) → IsSound model past → IsSound model (after_deletion past ids)
 sound-deletion model past ids sound = record {
   solutions = sound.solutions;
   cuts = sound.cuts;
@@ -139,7 +139,7 @@ sound-deletion model past ids sound = record {
 }
 
 -- an accepted step keeps the past sound
-pub sound-after : (model : Model) (past : Past) (step : Step) → IsWellFormed model → IsSound model past → IsAccepted model past step → IsSound model (after model past step)
+pub sound-after : (model : Model) (past : StepsPast) (step : Step) → IsWellFormed model → IsSound model past → IsAccepted model past step → IsSound model (after_step model past step)
 sound-after model past (Infer c rule clause) wf sound accepted =
     sound-clause model past clause sound accepted.0 (λ a solution passes. infer_true model past c rule clause a wf accepted solution)
 sound-after model past (Resolve clause ids) wf sound accepted =
@@ -148,25 +148,25 @@ sound-after model past (Solution values) wf sound accepted = sound-solution mode
 sound-after model past (Delete ids) wf sound accepted = sound-deletion model past ids sound
 
 -- so do many
-pub sound-all : (model : Model) (past : Past) (steps : List Step) → IsWellFormed model → IsSound model past → AllAcceptedAfter model past steps → IsSound model (fold (after model) past steps)
+pub sound-all : (model : Model) (past : StepsPast) (steps : List Step) → IsWellFormed model → IsSound model past → AllAcceptedAfter model past steps → IsSound model (fold (after_step model) past steps)
 sound-all model past [] wf sound accepted = sound
-sound-all model past (step ∷ later) wf sound accepted = sound-all model (after model past step) later wf (sound-after model past step wf sound accepted.0) accepted.1
+sound-all model past (step ∷ later) wf sound accepted = sound-all model (after_step model past step) later wf (sound-after model past step wf sound accepted.0) accepted.1
 
-pub accepted-sound : (model : Model) (steps : List Step) → IsWellFormed model → AllAccepted model steps → IsSound model (past_of model steps)
-accepted-sound model steps wf accepted = sound-all model start steps wf (sound-start model) accepted
+pub accepted-sound : (model : Model) (steps : List Step) → IsWellFormed model → AllAccepted model steps → IsSound model (past_after model steps)
+accepted-sound model steps wf accepted = sound-all model no_past steps wf (sound-start model) accepted
 
 -- ---- what a sound past says is true
 
-pub proper-sound : (model : Model) (past : Past) → IsSound model past → IsProper model past.solutions
+pub proper-sound : (model : Model) (past : StepsPast) → IsSound model past → IsProper model past.solutions
 proper-sound model past sound = proper-from_cuts model past.solutions sound.solutions sound.cuts
 
-pub exhausted-sound : (model : Model) (past : Past) → IsSound model past → past.refuted ≡ true → IsExhausted model past.solutions
+pub exhausted-sound : (model : Model) (past : StepsPast) → IsSound model past → past.refuted ≡ true → IsExhausted model past.solutions
 exhausted-sound model past sound refuted = exhausted-from_cuts model past.solutions sound.cuts (sound.refuted refuted)
 
 -- the solutions of accepted steps are a proper list
-pub accepted-proper : (model : Model) (steps : List Step) → IsWellFormed model → AllAccepted model steps → IsProper model (past_of model steps).solutions
-accepted-proper model steps wf accepted = proper-sound model (past_of model steps) (accepted-sound model steps wf accepted)
+pub accepted-proper : (model : Model) (steps : List Step) → IsWellFormed model → AllAccepted model steps → IsProper model (past_after model steps).solutions
+accepted-proper model steps wf accepted = proper-sound model (past_after model steps) (accepted-sound model steps wf accepted)
 
 -- and exhausted once one of them gave the empty clause
-pub closed-exhausted : (model : Model) (steps : List Step) → IsWellFormed model → AllAccepted model steps → (past_of model steps).refuted ≡ true → IsExhausted model (past_of model steps).solutions
-closed-exhausted model steps wf accepted refuted = exhausted-sound model (past_of model steps) (accepted-sound model steps wf accepted) refuted
+pub closed-exhausted : (model : Model) (steps : List Step) → IsWellFormed model → AllAccepted model steps → (past_after model steps).refuted ≡ true → IsExhausted model (past_after model steps).solutions
+closed-exhausted model steps wf accepted refuted = exhausted-sound model (past_after model steps) (accepted-sound model steps wf accepted) refuted

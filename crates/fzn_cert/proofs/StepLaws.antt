@@ -10,8 +10,8 @@ use Rattle.fzn_cert.specs.declared.step.Step.TheVariants.{Infer, Resolve, Soluti
 use Rattle.fzn_rules.specs.declared.rule.Rule.{Rule}
 use Rattle.fzn_rules.specs.declared.rule.Rule.TheVariants.{Lin, Rows, Box, Fixed, Enum, Hall, Load, Energy, Cut, Pair}
 use Rattle.fzn_cert.specs.Spelling.{rule_name, hints, literal_text, step_words, IsNumber, IsValue, IsHint, IsLiteral, IsRule, Rises, IdsRise, IsSpelled}
-use Rattle.fzn_cert.specs.Words.{number_of, hint_of, is_value, literal_of}
-use Rattle.fzn_cert.specs.Reading.{rises, ids_rise, short_rule_of, rule_of, infer_of, resolve_of, solution_of, delete_of, step_of_words}
+use Rattle.fzn_cert.specs.Words.{positive_of, hint_of, is_value, literal_of}
+use Rattle.fzn_cert.specs.Reading.{rises, ids_rise, short_rule_of, rule_spelled, infer_of, resolve_of, solution_of, delete_of, step_of_words}
 use Rattle.fzn_cert.proofs.WordLaws.{number_again, hint_again, literal_again, items_again, marked_again, hint_apart, literal_apart}
 
 rises_test : (xs : List ℤ) → Rises xs → rises xs ≡ true
@@ -30,8 +30,8 @@ ids_rise_test (x ∷ y ∷ rest) h =
     let below : ltb x y ≡ true = grind (arith, h.0) in
     rw (below, ids_rise_test (y ∷ rest) h.1) refl
 
-pub rule_again : (rule : Rule) → IsRule rule → rule_of (rule_name rule) (hints rule) ≡ Some rule
-unfolding rule_of short_rule_of
+pub rule_again : (rule : Rule) → IsRule rule → rule_spelled (rule_name rule) (hints rule) ≡ Some rule
+unfolding rule_spelled short_rule_of
 rule_again Lin h = refl
 rule_again Rows h = refl
 rule_again Box h = refl
@@ -77,10 +77,10 @@ step_again v (Infer constraint rule clause) h =
 step_again v (Resolve clause ids) h =
     rw (
       marked_again literal_of literal_text IsLiteral literal_again literal_apart clause (map decimal ids) h.0,
-      items_again number_of decimal IsNumber number_again ids h.1,
+      items_again positive_of decimal IsNumber number_again ids h.1,
     ) refl
 step_again v (Solution values) h = rw (items_again hint_of signed_decimal IsHint hint_again values (values_are_hints values h), values_pass values h) refl
 step_again v (Delete ids) h =
     let some : eqb (length ids) 0 ≡ false = grind (arith, h.1) in
     subst (λ (w : Version). step_of_words w (step_words (Delete ids)) ≡ Some (Delete ids)) (sym h.0)
-    (rw (items_again number_of decimal IsNumber number_again ids h.2, some, ids_rise_test ids h.3) refl)
+    (rw (items_again positive_of decimal IsNumber number_again ids h.2, some, ids_rise_test ids h.3) refl)

@@ -9,17 +9,17 @@ use Rattle.fzn_meaning.specs.WellFormed.{IsWellFormed}
 use Rattle.fzn_cert.specs.declared.step.Step.{Step}
 use Rattle.fzn_cert.specs.declared.step.Version.{Version}
 use Rattle.fzn_cert.specs.Spelling.{step_line, HasLine}
-use Rattle.fzn_cert.specs.Past.{Past}
-use Rattle.fzn_cert.specs.Accepted.{IsAccepted, after}
+use Rattle.fzn_cert.specs.Past.{StepsPast}
+use Rattle.fzn_cert.specs.Accepted.{IsAccepted, after_step}
 use Rattle.fzn_cert.specs.Verdict.{Outcome, accepted, lines_of, EndsIn, VerdictFrom, VerdictOn}
 use Rattle.fzn_cert.proofs.SoundLaws.{accepted-proper, closed-exhausted}
 
 -- the end stands here, with no step before it
-pub verdict-ends : (model : Model) (version : Version) (past : Past) (count : ℕ) (left : Option (List ℕ)) (outcome : Outcome) → EndsIn model version past count left outcome → VerdictFrom model version past count left outcome
+pub verdict-ends : (model : Model) (version : Version) (past : StepsPast) (count : ℕ) (left : Option (List ℕ)) (outcome : Outcome) → EndsIn model version past count left outcome → VerdictFrom model version past count left outcome
 verdict-ends model version past count left outcome h = ([], tt, tt, (left, Consumes-nil left, subst (λ n. EndsIn model version past n left outcome) (omega arith) h))
 
 -- one accepted step, and then the rest
-pub verdict-step : (model : Model) (version : Version) (past : Past) (count : ℕ) (left next : Option (List ℕ)) (step : Step) (outcome : Outcome) → HasLine version count step → IsAccepted model past step → Consumes left next (step_line step) → VerdictFrom model version (after model past step) (count + 1) next outcome → VerdictFrom model version past count left outcome
+pub verdict-step : (model : Model) (version : Version) (past : StepsPast) (count : ℕ) (left next : Option (List ℕ)) (step : Step) (outcome : Outcome) → HasLine version count step → IsAccepted model past step → Consumes left next (step_line step) → VerdictFrom model version (after_step model past step) (count + 1) next outcome → VerdictFrom model version past count left outcome
 verdict-step model version past count left next step outcome line is_accepted taken (later, lines, all, (rest, rest_taken, ends)) = (
   step ∷ later,
   (line, lines),
@@ -27,7 +27,7 @@ verdict-step model version past count left next step outcome line is_accepted ta
   (
     rest,
     Consumes-trans left next rest (step_line step) (lines_of later) taken rest_taken,
-    subst (λ n. EndsIn model version (fold (after model) (after model past step) later) n rest outcome) (shift count (length later)) ends,
+    subst (λ n. EndsIn model version (fold (after_step model) (after_step model past step) later) n rest outcome) (shift count (length later)) ends,
   ),
 )
   where

@@ -12,7 +12,7 @@ use Rattle.fzn_cert.specs.declared.step.Step.{Step}
 use Rattle.fzn_cert.specs.declared.step.Step.TheVariants.{Infer, Resolve, Solution, Delete}
 use Rattle.fzn_cert.specs.declared.refusal.Refusal.{Refusal}
 use Rattle.fzn_cert.specs.declared.refusal.Refusal.TheVariants.{NoSuchConstraint, RuleFails, NoSuchClause, NotUnit, NoConflict, NotASolution, CutByEarlier, NoSuchVariable}
-use Rattle.fzn_cert.specs.Past.{Past, start, IsHeld, clauses_held, after_clause, after_solution, after_deletion}
+use Rattle.fzn_cert.specs.Past.{StepsPast, no_past, IsClauseHeld, clauses_held, after_clause, after_solution, after_deletion}
 
 -- every variable of the clause is one of the model's
 abbrev pub HasVariables : Model → List Lit → Type 0
@@ -31,56 +31,56 @@ abbrev pub IsConstraintNumber : Model → ℕ → Type 0
 IsConstraintNumber model c = (1 ≤ c) × (c ≤ length model.constraints)
 
 -- the clause is accepted from the numbered constraint, by the rule
-abbrev pub IsJustifiedBy : Model → ℕ → Rule → List Lit → Type 0
-IsJustifiedBy model c rule clause =
+abbrev pub IsInferredBy : Model → ℕ → Rule → List Lit → Type 0
+IsInferredBy model c rule clause =
     IfSome (slice_get model.constraints (c - 1)) (λ constraint. IsAcceptedBy constraint rule (declared_sets model.vars) clause)
 
 -- A step from a constraint, one from clauses, a solution, a deletion.
-abbrev pub IsAccepted : Model → Past → Step → Type 0
-IsAccepted model past (Infer c rule clause) = HasVariables model clause × IsConstraintNumber model c × IsJustifiedBy model c rule clause
+abbrev pub IsAccepted : Model → StepsPast → Step → Type 0
+IsAccepted model past (Infer c rule clause) = HasVariables model clause × IsConstraintNumber model c × IsInferredBy model c rule clause
 IsAccepted model past (Resolve clause ids) =
-    HasVariables model clause × All (IsHeld past) ids × IsAcceptedFrom (declared_sets model.vars) clause (clauses_held past ids)
+    HasVariables model clause × All (IsClauseHeld past) ids × IsAcceptedFrom (declared_sets model.vars) clause (clauses_held past ids)
 IsAccepted model past (Solution values) = IsSolution model values × PassesCuts model past.solutions values
-IsAccepted model past (Delete ids) = All (IsHeld past) ids
+IsAccepted model past (Delete ids) = All (IsClauseHeld past) ids
 
 -- What is wrong with a step that is not accepted. The tests come in the order in which the parts stand.
-abbrev pub HasFault : Model → Past → Step → Refusal → Type 0
+abbrev pub HasFault : Model → StepsPast → Step → Refusal → Type 0
 HasFault model past (Infer c rule clause) NoSuchVariable = ¬ HasVariables model clause
 HasFault model past (Infer c rule clause) NoSuchConstraint = HasVariables model clause × ¬ IsConstraintNumber model c
 HasFault model past (Infer c rule clause) RuleFails =
-    HasVariables model clause × IsConstraintNumber model c × ¬ IsJustifiedBy model c rule clause
+    HasVariables model clause × IsConstraintNumber model c × ¬ IsInferredBy model c rule clause
 HasFault model past (Resolve clause ids) NoSuchVariable = ¬ HasVariables model clause
-HasFault model past (Resolve clause ids) NoSuchClause = HasVariables model clause × ¬ All (IsHeld past) ids
+HasFault model past (Resolve clause ids) NoSuchClause = HasVariables model clause × ¬ All (IsClauseHeld past) ids
 HasFault model past (Resolve clause ids) NotUnit =
-    HasVariables model clause × All (IsHeld past) ids × ¬ IsTrivial model clause
+    HasVariables model clause × All (IsClauseHeld past) ids × ¬ IsTrivial model clause
     × (chain_outcome (denying model clause) (clauses_held past ids) ≡ not_unit)
 HasFault model past (Resolve clause ids) NoConflict =
-    HasVariables model clause × All (IsHeld past) ids × ¬ IsTrivial model clause
+    HasVariables model clause × All (IsClauseHeld past) ids × ¬ IsTrivial model clause
     × (chain_outcome (denying model clause) (clauses_held past ids) ≡ no_conflict)
 HasFault model past (Solution values) NotASolution = ¬ IsSolution model values
 HasFault model past (Solution values) CutByEarlier = IsSolution model values × ¬ PassesCuts model past.solutions values
-HasFault model past (Delete ids) NoSuchClause = ¬ All (IsHeld past) ids
+HasFault model past (Delete ids) NoSuchClause = ¬ All (IsClauseHeld past) ids
 HasFault model past _ _ = ⊥
 
 -- no fault says that the step is accepted
-abbrev pub IsJudged : Model → Past → Step → Option Refusal → Type 0
+abbrev pub IsJudged : Model → StepsPast → Step → Option Refusal → Type 0
 IsJudged model past step fault = MatchOption fault (IsAccepted model past step) (HasFault model past step)
 
 -- what an accepted step leaves
-abbrev pub after : Model → Past → Step → Past
-after model past (Infer c rule clause) = after_clause past clause
-after model past (Resolve clause ids) = after_clause past clause
-after model past (Solution values) = after_solution past (cut_of model values) values
-after model past (Delete ids) = after_deletion past ids
+abbrev pub after_step : Model → StepsPast → Step → StepsPast
+after_step model past (Infer c rule clause) = after_clause past clause
+after_step model past (Resolve clause ids) = after_clause past clause
+after_step model past (Solution values) = after_solution past (cut_of model values) values
+after_step model past (Delete ids) = after_deletion past ids
 
 -- what a list of steps leaves
-abbrev pub past_of : Model → List Step → Past
-past_of model steps = fold (after model) start steps
+abbrev pub past_after : Model → List Step → StepsPast
+past_after model steps = fold (after_step model) no_past steps
 
 -- each step is accepted after those before it, where this is what came before them all
-abbrev pub AllAcceptedAfter : Model → Past → List Step → Type 0
+abbrev pub AllAcceptedAfter : Model → StepsPast → List Step → Type 0
 AllAcceptedAfter model past [] = Unit {0}
-AllAcceptedAfter model past (step ∷ later) = IsAccepted model past step × AllAcceptedAfter model (after model past step) later
+AllAcceptedAfter model past (step ∷ later) = IsAccepted model past step × AllAcceptedAfter model (after_step model past step) later
 
 abbrev pub AllAccepted : Model → List Step → Type 0
-AllAccepted model steps = AllAcceptedAfter model start steps
+AllAccepted model steps = AllAcceptedAfter model no_past steps

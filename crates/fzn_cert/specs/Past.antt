@@ -2,7 +2,7 @@
 use Rattle.std.specs.Prelude.{ℕ, ◌-◌, ◌==◌, Bool, false, ◌||◌, List, [], ◌∷◌, ◌++◌, ℤ, Option, Some, None, slice_index_or, slice_set, if◌then◌else◌, IsSome, unwrap_or, map, nat_eq, length}
 use Rattle.fzn_domain.specs.declared.literal.Lit.{Lit}
 
-pub record Past : Type 0 where
+pub record StepsPast : Type 0 where
   -- the clause of each step, by its number; none where the step was deleted or is itself a deletion
   pub clauses : List (Option (List Lit))
   -- the values of the solution steps, in order
@@ -11,24 +11,24 @@ pub record Past : Type 0 where
   pub refuted : Bool
 
 -- before the first step
-abbrev pub start : Past
-start = record { clauses = []; solutions = []; refuted = false }
+abbrev pub no_past : StepsPast
+no_past = record { clauses = []; solutions = []; refuted = false }
 
 -- the clause of the step with this number, where one is held; steps are numbered from 1
-abbrev pub clause_held : Past → ℕ → Option (List Lit)
+abbrev pub clause_held : StepsPast → ℕ → Option (List Lit)
 clause_held past id = if id == 0 then None else slice_index_or past.clauses (id - 1) None
 
-abbrev pub IsHeld : Past → ℕ → Type 0
-IsHeld past id = IsSome (clause_held past id)
+abbrev pub IsClauseHeld : StepsPast → ℕ → Type 0
+IsClauseHeld past id = IsSome (clause_held past id)
 
-abbrev pub clauses_held : Past → List ℕ → List (List Lit)
+abbrev pub clauses_held : StepsPast → List ℕ → List (List Lit)
 clauses_held past ids = map (λ id. unwrap_or (clause_held past id) []) ids
 
 abbrev pub is_empty_clause : List Lit → Bool
 is_empty_clause clause = nat_eq (length clause) 0
 
 -- after a step that gives a clause
-abbrev pub after_clause : Past → List Lit → Past
+abbrev pub after_clause : StepsPast → List Lit → StepsPast
 after_clause past clause = record {
   clauses = past.clauses ++ Some clause ∷ [];
   solutions = past.solutions;
@@ -36,7 +36,7 @@ after_clause past clause = record {
 }
 
 -- after a solution, with its cut
-abbrev pub after_solution : Past → List Lit → List ℤ → Past
+abbrev pub after_solution : StepsPast → List Lit → List ℤ → StepsPast
 after_solution past cut values = record {
   clauses = past.clauses ++ Some cut ∷ [];
   solutions = past.solutions ++ values ∷ [];
@@ -49,7 +49,7 @@ without clauses [] = clauses
 without clauses (id ∷ ids) = without (slice_set clauses (id - 1) None) ids
 
 -- after a deletion
-abbrev pub after_deletion : Past → List ℕ → Past
+abbrev pub after_deletion : StepsPast → List ℕ → StepsPast
 after_deletion past ids = record {
   clauses = without past.clauses ids ++ None ∷ [];
   solutions = past.solutions;

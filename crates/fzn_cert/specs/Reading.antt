@@ -8,7 +8,7 @@ use Rattle.fzn_cert.specs.declared.step.Step.{Step}
 use Rattle.fzn_cert.specs.declared.step.Step.TheVariants.{Infer, Resolve, Solution, Delete}
 use Rattle.fzn_rules.specs.declared.rule.Rule.{Rule}
 use Rattle.fzn_rules.specs.declared.rule.Rule.TheVariants.{Lin, Rows, Box, Fixed, Enum, Hall, Load, Energy, Cut, Pair}
-use Rattle.fzn_cert.specs.Words.{◌>>=◌, natural_of, number_of, is_value, hint_of, literal_of, items_of, items_before_mark}
+use Rattle.fzn_cert.specs.Words.{◌>>=◌, natural_of, positive_of, is_value, hint_of, literal_of, items_of, items_before_mark}
 
 -- ---- numbers that rise, and rules
 
@@ -37,8 +37,8 @@ short_rule_of name (a ∷ b ∷ []) =
     else (if bytes_eq name (codes "pair") then Some (Pair a b) else None))
 short_rule_of name (a ∷ b ∷ c ∷ rest) = None
 
-unfoldable pub rule_of : List ℕ → List ℤ → Option Rule
-rule_of name hints =
+unfoldable pub rule_spelled : List ℕ → List ℤ → Option Rule
+rule_spelled name hints =
     if bytes_eq name (codes "cut") then (if rises hints then Some (Cut hints) else None)
     else short_rule_of name hints
 
@@ -48,16 +48,16 @@ unfoldable pub infer_of : List (List ℕ) → Option Step
 infer_of [] = None
 infer_of (number ∷ []) = None
 infer_of (number ∷ name ∷ words) = do
-  constraint ← number_of number
+  constraint ← positive_of number
   hints ← items_before_mark hint_of words
-  rule ← rule_of name hints.0
+  rule ← rule_spelled name hints.0
   clause ← items_of literal_of hints.1
   Some (Infer constraint rule clause)
 
 unfoldable pub resolve_of : List (List ℕ) → Option Step
 resolve_of words = do
   clause ← items_before_mark literal_of words
-  ids ← items_of number_of clause.1
+  ids ← items_of positive_of clause.1
   Some (Resolve clause.0 ids)
 
 unfoldable pub solution_of : List (List ℕ) → Option Step
@@ -68,7 +68,7 @@ is_deletion ids = not (length ids == 0) && ids_rise ids
 
 unfoldable pub delete_of : Version → List (List ℕ) → Option Step
 delete_of One words = None
-delete_of Two words = items_of number_of words >>= λ ids. if is_deletion ids then Some (Delete ids) else None
+delete_of Two words = items_of positive_of words >>= λ ids. if is_deletion ids then Some (Delete ids) else None
 
 unfoldable pub step_of_words : Version → List (List ℕ) → Option Step
 step_of_words v [] = None

@@ -16,8 +16,8 @@ unfoldable pub use Rattle.fzn_cert.specs.Text.{op_text, literal_text, rule_name,
 
 -- ---- numbers and literals
 
-abbrev pub IsIn : ℤ → ℤ → ℤ → Type 0
-IsIn low high z = (low ≤ℤ z) × (z ≤ℤ high)
+abbrev pub IsBetween : ℤ → ℤ → ℤ → Type 0
+IsBetween low high z = (low ≤ℤ z) × (z ≤ℤ high)
 
 -- at least 1, and at most 18 digits
 abbrev pub IsNumber : ℕ → Type 0
@@ -56,12 +56,12 @@ IsSpelled v (Solution values) = AllByRecursion IsValue values
 IsSpelled v (Delete ids) = (v ≡ Two) × (0 < length ids) × AllByRecursion IsNumber ids × IdsRise ids
 
 -- the line keeps the limit, and the number of the step, which stands after this many, is at most the last one
-abbrev pub HasRoom : ℕ → Step → Type 0
-HasRoom steps step = (length (step_text step) ≤ LINE_LIMIT) × (steps < LAST_STEP)
+abbrev pub HasLineRoom : ℕ → Step → Type 0
+HasLineRoom steps step = (length (step_text step) ≤ LINE_LIMIT) × (steps < LAST_STEP)
 
 -- the step has a line after this many steps
 abbrev pub HasLine : Version → ℕ → Step → Type 0
-HasLine version steps step = IsSpelled version step × HasRoom steps step
+HasLine version steps step = IsSpelled version step × HasLineRoom steps step
 
 -- ---- the first two lines
 

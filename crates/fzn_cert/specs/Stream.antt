@@ -31,7 +31,7 @@ pub record IsTruncated (left : Option (List ℕ)) : Type 0 where
   pub at_end : IsAtEnd rest
 
 -- the line passes its limit
-pub record IsTooLong (left : Option (List ℕ)) : Type 0 where
+pub record IsLineTooLong (left : Option (List ℕ)) : Type 0 where
   pub text : List ℕ
   pub rest : Option (List ℕ)
   pub taken : Consumes left rest text
@@ -62,16 +62,16 @@ IsMisspelled version steps text =
 abbrev pub IsFaultOf : Version → ℕ → Option (List ℕ) → FaultKind → Type 0
 IsFaultOf version steps left faults.Spelling = (text : List ℕ) × BeginsWithLine left text × IsMisspelled version steps text
 IsFaultOf version steps left faults.Truncated = IsTruncated left
-IsFaultOf version steps left faults.LineTooLong = IsTooLong left
+IsFaultOf version steps left faults.LineTooLong = IsLineTooLong left
 IsFaultOf version steps left faults.Trailing = IsTrailed left
 IsFaultOf version steps left faults.Memory = Unit {0}
 IsFaultOf version steps left faults.Read = Unit {0}
 IsFaultOf version steps left _ = ⊥
 
 -- the line of that fault: that of the next step, and one more for a byte after the last line
-abbrev pub line_of : FaultKind → ℕ → ℕ
-line_of faults.Trailing steps = steps + 4
-line_of _ steps = steps + 3
+abbrev pub line_of_fault : FaultKind → ℕ → ℕ
+line_of_fault faults.Trailing steps = steps + 4
+line_of_fault _ steps = steps + 3
 
 -- ---- the first two lines
 
@@ -79,7 +79,7 @@ line_of _ steps = steps + 3
 abbrev pub IsHeaderFaultOf : (List ℕ → Type 0) → Option (List ℕ) → FaultKind → Type 0
 IsHeaderFaultOf IsText left faults.Header = (text : List ℕ) × BeginsWithLine left text × (IsText text → ⊥)
 IsHeaderFaultOf IsText left faults.Truncated = IsTruncated left
-IsHeaderFaultOf IsText left faults.LineTooLong = IsTooLong left
+IsHeaderFaultOf IsText left faults.LineTooLong = IsLineTooLong left
 IsHeaderFaultOf IsText left faults.Memory = Unit {0}
 IsHeaderFaultOf IsText left faults.Read = Unit {0}
 IsHeaderFaultOf IsText left _ = ⊥

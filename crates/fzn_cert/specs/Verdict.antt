@@ -11,8 +11,8 @@ use Rattle.fzn_cert.specs.declared.step.Step.{Step}
 use Rattle.fzn_cert.specs.declared.step.Version.{Version}
 use Rattle.fzn_cert.specs.Spelling.{step_line, end_line, version_text, counts_text, header_lines, IsHeader, HasLine, IsSized}
 use Rattle.fzn_cert.specs.Stream.{After, IsFaultOf, IsHeaderFaultOf, IsVersionText, IsCountsText}
-use Rattle.fzn_cert.specs.Past.{Past, start}
-use Rattle.fzn_cert.specs.Accepted.{HasFault, AllAcceptedAfter, after}
+use Rattle.fzn_cert.specs.Past.{StepsPast, no_past}
+use Rattle.fzn_cert.specs.Accepted.{HasFault, AllAcceptedAfter, after_step}
 
 -- what is said of a certificate
 pub data Outcome : Type 0 where
@@ -36,12 +36,12 @@ abbrev pub BeginsWith : Option (List ℕ) → List ℕ → Type 0
 BeginsWith left text = After left text (λ _. Unit {0})
 
 -- a closed ending needs the empty clause
-abbrev pub MayEnd : Past → Bool → Type 0
+abbrev pub MayEnd : StepsPast → Bool → Type 0
 MayEnd past closed = closed ≡ true → past.refuted ≡ true
 
 -- What is wrong with the line after so many accepted steps: no step or ending has it, or it says closed
 -- without the empty clause, or an ending that is right is followed by a byte, or its step is not accepted.
-abbrev pub IsRefusedNext : Model → Version → Past → ℕ → Option (List ℕ) → Refusal → Type 0
+abbrev pub IsRefusedNext : Model → Version → StepsPast → ℕ → Option (List ℕ) → Refusal → Type 0
 IsRefusedNext model version past count left Spelling = IsFaultOf version count left faults.Spelling
 IsRefusedNext model version past count left Truncated = IsFaultOf version count left faults.Truncated
 IsRefusedNext model version past count left LineTooLong = IsFaultOf version count left faults.LineTooLong
@@ -55,14 +55,14 @@ line_after count Trailing = count + 4
 line_after count refusal = count + 3
 
 -- what is left is exactly an ending, or its first line is faulty
-abbrev pub EndsIn : Model → Version → Past → ℕ → Option (List ℕ) → Outcome → Type 0
+abbrev pub EndsIn : Model → Version → StepsPast → ℕ → Option (List ℕ) → Outcome → Type 0
 EndsIn model version past count left (accepted found closed) = After left (end_line closed) IsAtEnd × MayEnd past closed × (found ≡ past.solutions)
 EndsIn model version past count left (refused line refusal) = (line ≡ line_after count refusal) × IsRefusedNext model version past count left refusal
 
 -- what is left is the lines of accepted steps, and then such an end
-abbrev pub VerdictFrom : Model → Version → Past → ℕ → Option (List ℕ) → Outcome → Type 0
+abbrev pub VerdictFrom : Model → Version → StepsPast → ℕ → Option (List ℕ) → Outcome → Type 0
 VerdictFrom model version past count left outcome = (later : List Step) × AllHaveLines version count later × AllAcceptedAfter model past later
-    × After left (lines_of later) (λ rest. EndsIn model version (fold (after model) past later) (count + length later) rest outcome)
+    × After left (lines_of later) (λ rest. EndsIn model version (fold (after_step model) past later) (count + length later) rest outcome)
 
 -- the first two lines with the model's counts
 abbrev pub header_of : Model → Version → Header
@@ -99,7 +99,7 @@ IsHeaderRefused model left (refused line refusal) =
 -- each, and after them come accepted steps and an end. A reader that does not tell its bytes may have any.
 abbrev pub VerdictOn : Model → Option (List ℕ) → Outcome → Type 0
 VerdictOn model left outcome = IsHeaderRefused model left outcome
-    ⊎ ((version : Version) × IsHeader (header_of model version) × After left (header_lines (header_of model version)) (λ rest. VerdictFrom model version start 0 rest outcome))
+    ⊎ ((version : Version) × IsHeader (header_of model version) × After left (header_lines (header_of model version)) (λ rest. VerdictFrom model version no_past 0 rest outcome))
 
 -- the verdict on the bytes of a certificate
 abbrev pub Verdict : Model → List ℕ → Outcome → Type 0

@@ -28,25 +28,25 @@ unfoldable pub natural_of : List ℕ → Option ℕ
 natural_of word = if is_numeral word then Some (digits_value 10 word) else None
 
 -- at least 1
-unfoldable pub number_of : List ℕ → Option ℕ
-number_of word = natural_of word >>= λ n. if n == 0 then None else Some n
+unfoldable pub positive_of : List ℕ → Option ℕ
+positive_of word = natural_of word >>= λ n. if n == 0 then None else Some n
 
 unfoldable pub integer_of : List ℕ → Option ℤ
 integer_of word =
-    if slice_index word 0 == 45 then (number_of (drop 1 word) >>= λ n. Some (neg_ℤ (pos n)))
+    if slice_index word 0 == 45 then (positive_of (drop 1 word) >>= λ n. Some (neg_ℤ (pos n)))
     else (natural_of word >>= λ n. Some (pos n))
 
-abbrev pub is_within : ℤ → ℤ → ℤ → Bool
-is_within low high z = int_le low z && int_le z high
+abbrev pub is_between : ℤ → ℤ → ℤ → Bool
+is_between low high z = int_le low z && int_le z high
 
 unfoldable pub integer_within : ℤ → ℤ → List ℕ → Option ℤ
-integer_within low high word = integer_of word >>= λ z. if is_within low high z then Some z else None
+integer_within low high word = integer_of word >>= λ z. if is_between low high z then Some z else None
 
 abbrev pub is_value : ℤ → Bool
-is_value z = is_within LEAST_BOUND GREATEST_BOUND z
+is_value z = is_between LEAST_BOUND GREATEST_BOUND z
 
-abbrev pub value_of : List ℕ → Option ℤ
-value_of word = integer_within LEAST_BOUND GREATEST_BOUND word
+abbrev pub value_spelled : List ℕ → Option ℤ
+value_spelled word = integer_within LEAST_BOUND GREATEST_BOUND word
 
 abbrev pub hint_of : List ℕ → Option ℤ
 hint_of word = integer_within LEAST_HINT GREATEST_HINT word
@@ -66,9 +66,9 @@ digits_len word = position_or_len (λ b. not (is_ascii_digit b)) word
 
 unfoldable pub literal_of : List ℕ → Option Lit
 literal_of word = do
-  var ← number_of (take (digits_len word) word)
+  var ← positive_of (take (digits_len word) word)
   op ← op_at (drop (digits_len word) word)
-  value ← value_of op.1
+  value ← value_spelled op.1
   Some (record { var = record { 0 = var }; op = op.0; value = value })
 
 -- ---- words in a row

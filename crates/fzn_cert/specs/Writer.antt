@@ -9,7 +9,7 @@ use Rattle.fzn_cert.specs.declared.write_fault.WriteFault.{WriteFault}
 use Rattle.fzn_cert.specs.declared.write_fault.WriteFault.TheVariants.{Memory, Write, StepTooLong}
 use Rattle.fzn_cert.specs.declared.writer.Stage.{Stage}
 use Rattle.fzn_cert.specs.declared.writer.StepWriter.{StepWriter}
-use Rattle.fzn_cert.specs.Spelling.{HasRoom}
+use Rattle.fzn_cert.specs.Spelling.{HasLineRoom}
 
 -- what the writer below holds
 abbrev pub contents_of : {W : Type 0} → (W → Option (List ℕ)) → StepWriter W → Option (List ℕ)
@@ -24,8 +24,8 @@ abbrev pub has_failed_in : {W : Type 0} → (W → Bool) → StepWriter W → Bo
 has_failed_in has_failed writer = has_failed writer.out.now
 
 -- by this name a caller knows the writer below
-abbrev pub out_name : {W : Type 0} → StepWriter W → GName
-out_name writer = writer.out.ghost_name
+abbrev pub cert_name : {W : Type 0} → StepWriter W → GName
+cert_name writer = writer.out.ghost_name
 
 abbrev pub version_of : {W : Type 0} → StepWriter W → Version
 version_of writer = writer.version
@@ -52,5 +52,5 @@ IsLineFault _ = ⊥
 abbrev pub IsStepFault : ℕ → Step → WriteFault → Type 0
 IsStepFault steps step Memory = Unit {0}
 IsStepFault steps step Write = Unit {0}
-IsStepFault steps step StepTooLong = ¬ HasRoom steps step
+IsStepFault steps step StepTooLong = ¬ HasLineRoom steps step
 IsStepFault steps step _ = ⊥

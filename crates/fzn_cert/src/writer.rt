@@ -4,8 +4,8 @@ ghost use Rattle.std.specs.Io.KnownBytes.{Appends, Keeps};
 ghost use Rattle.fzn_streams.specs.Output.{Puts, IsDue};
 ghost use Rattle.fzn_cert.specs.declared.step.Version.TheVariants.{One};
 ghost use Rattle.fzn_cert.specs.declared.writer.Stage.TheVariants.{Fresh, Open, Shut};
-ghost use Rattle.fzn_cert.specs.Spelling.{step_line, IsSpelled, HasRoom, version_text, header_text, end_line};
-ghost use Rattle.fzn_cert.specs.Writer.{contents_of, stream_of, has_failed_in, out_name, version_of, step_count, stage_of, Leaves, IsLineFault, IsStepFault};
+ghost use Rattle.fzn_cert.specs.Spelling.{step_line, IsSpelled, HasLineRoom, version_text, header_text, end_line};
+ghost use Rattle.fzn_cert.specs.Writer.{contents_of, stream_of, has_failed_in, cert_name, version_of, step_count, stage_of, Leaves, IsLineFault, IsStepFault};
 
 use crate::limits::{LAST_STEP, LINE_LIMIT, USUAL_LINE};
 use crate::line::push_step;
@@ -51,7 +51,7 @@ impl<'w, W: TrackedWrite> StepWriter<'w, W> {
     pub fn over(out: &'w mut W) -> StepWriter<'w, W>
         ensures same { contents_of W.contents result ≡ W.contents out.old }
         ensures same_stream { stream_of W.stream result ≡ W.stream out.old }
-        ensures same_writer { out_name result ≡ out.entry.ghost_name }
+        ensures same_writer { cert_name result ≡ out.entry.ghost_name }
         ensures fresh { stage_of result ≡ Fresh }
     {
         StepWriter {
@@ -112,7 +112,7 @@ impl<'w, W: TrackedWrite> StepWriter<'w, W> {
         ensures ok { OnOk result (Appends (contents_of W.contents self.old) (contents_of W.contents self.new) (header_text version variables constraints)) }
         ensures begun { OnOk result ((stage_of self.new ≡ Open) × (version_of self.new ≡ version) × (step_count self.new ≡ 0)) }
         ensures same_stream { stream_of W.stream self.new ≡ stream_of W.stream self.old }
-        ensures same_writer { out_name self.new ≡ out_name self.old }
+        ensures same_writer { cert_name self.new ≡ cert_name self.old }
         ensures err { IfErr result (Leaves (header_text version variables constraints) (contents_of W.contents self.old) (contents_of W.contents self.new)) }
         ensures fault { stage_of self.old ≡ Fresh → IfErr result IsLineFault }
         ensures due { IfErr result (λ fault. fault ≡ WriteFault.Write → has_failed_in W.has_failed self.new ≡ true) }
@@ -140,9 +140,9 @@ impl<'w, W: TrackedWrite> StepWriter<'w, W> {
     pub fn write(&mut self, alloc: Global, step: &Step) -> Result<(), WriteFault>
         requires { IsSpelled (version_of self.old) step.now }
         ensures ok { OnOk result (Appends (contents_of W.contents self.old) (contents_of W.contents self.new) (step_line step.now)) }
-        ensures counted { OnOk result ((stage_of self.new ≡ Open) × (step_count self.new ≡ step_count self.old + 1) × HasRoom (step_count self.old) step.now) }
+        ensures counted { OnOk result ((stage_of self.new ≡ Open) × (step_count self.new ≡ step_count self.old + 1) × HasLineRoom (step_count self.old) step.now) }
         ensures same_stream { stream_of W.stream self.new ≡ stream_of W.stream self.old }
-        ensures same_writer { (out_name self.new ≡ out_name self.old) × (version_of self.new ≡ version_of self.old) }
+        ensures same_writer { (cert_name self.new ≡ cert_name self.old) × (version_of self.new ≡ version_of self.old) }
         ensures err { IfErr result (Leaves (step_line step.now) (contents_of W.contents self.old) (contents_of W.contents self.new)) }
         ensures fault { stage_of self.old ≡ Open → IfErr result (IsStepFault (step_count self.old) step.now) }
         ensures due { IfErr result (λ fault. fault ≡ WriteFault.Write → has_failed_in W.has_failed self.new ≡ true) }
@@ -173,7 +173,7 @@ impl<'w, W: TrackedWrite> StepWriter<'w, W> {
         ensures kept { Keeps (contents_of W.contents self.old) (contents_of W.contents self.new) }
         ensures ok { OnOk result ((stage_of self.new ≡ Open) × (step_count self.new ≡ step_count self.old)) }
         ensures same_stream { stream_of W.stream self.new ≡ stream_of W.stream self.old }
-        ensures same_writer { (out_name self.new ≡ out_name self.old) × (version_of self.new ≡ version_of self.old) }
+        ensures same_writer { (cert_name self.new ≡ cert_name self.old) × (version_of self.new ≡ version_of self.old) }
         ensures fault { stage_of self.old ≡ Open → IfErr result (λ fault. fault ≡ WriteFault.Write) }
         ensures due { IfErr result (λ fault. fault ≡ WriteFault.Write → has_failed_in W.has_failed self.new ≡ true) }
         ensures failed { ¬ (stage_of self.old ≡ Open) → result ≡ Err WriteFault.Failed }
@@ -194,7 +194,7 @@ impl<'w, W: TrackedWrite> StepWriter<'w, W> {
     pub fn finish(&mut self, closed: bool) -> Result<(), WriteFault>
         ensures ok { OnOk result (Appends (contents_of W.contents self.old) (contents_of W.contents self.new) (end_line closed)) }
         ensures same_stream { stream_of W.stream self.new ≡ stream_of W.stream self.old }
-        ensures same_writer { out_name self.new ≡ out_name self.old }
+        ensures same_writer { cert_name self.new ≡ cert_name self.old }
         ensures err { IfErr result (Leaves (end_line closed) (contents_of W.contents self.old) (contents_of W.contents self.new)) }
         ensures fault { stage_of self.old ≡ Open → IfErr result (λ fault. fault ≡ WriteFault.Write) }
         ensures due { IfErr result (λ fault. fault ≡ WriteFault.Write → has_failed_in W.has_failed self.new ≡ true) }
@@ -214,7 +214,7 @@ impl<'w, W: TrackedWrite> StepWriter<'w, W> {
         ensures err { IfErr result (λ fault. fault ≡ WriteFault.Failed × ¬ (stage_of self.old ≡ Open)) }
         ensures same { contents_of W.contents self.new ≡ contents_of W.contents self.old }
         ensures same_stream { stream_of W.stream self.new ≡ stream_of W.stream self.old }
-        ensures same_writer { (out_name self.new ≡ out_name self.old) × (version_of self.new ≡ version_of self.old) }
+        ensures same_writer { (cert_name self.new ≡ cert_name self.old) × (version_of self.new ≡ version_of self.old) }
         ensures same_steps { step_count self.new ≡ step_count self.old }
         ensures shut { stage_of self.new ≡ Shut }
     {

@@ -9,7 +9,7 @@ use Rattle.fzn_cert.specs.declared.fault.CertFault.{CertFault}
 use Rattle.fzn_cert.specs.declared.header.Header.{Header}
 use Rattle.fzn_cert.specs.declared.step.Step.{Step}
 use Rattle.fzn_cert.specs.Spelling.{step_line, end_line, header_lines}
-use Rattle.fzn_cert.specs.Stream.{IsFaultOf, After, line_of}
+use Rattle.fzn_cert.specs.Stream.{IsFaultOf, After, line_of_fault}
 use Rattle.fzn_cert.proofs.CallerLemmas.{some_is}
 use Rattle.fzn_cert_reader.specs.Reader.{Progress, IsAtStart, IsNextFault, GivesStep, Ends, FindsFault, HasRead, lines_read, text_of, certificate_text}
 use Rattle.fzn_cert_reader.proofs.ReadLaws.{Consumes-then, Consumes_nothing}
@@ -71,7 +71,7 @@ HasRead-end text old new steps so_far ends same =
 
 -- a fault behind the first two lines stands after these steps
 pub HasRead-fault : (bytes : Option (List ℕ)) (old new : Progress) (steps : List Step) (fault : CertFault) (header : Header) → HasRead bytes old steps → FindsFault old new fault → new.header ≡ Some header → (IsSome old.header → new.header ≡ old.header)
-    → (fault.line ≡ line_of fault.kind (length steps)) × After bytes (text_of (Some header) steps) (λ rest. IsFaultOf header.version (length steps) rest fault.kind)
+    → (fault.line ≡ line_of_fault fault.kind (length steps)) × After bytes (text_of (Some header) steps) (λ rest. IsFaultOf header.version (length steps) rest fault.kind)
 HasRead-fault bytes old new steps fault header so_far finds is same =
     let next = subst (λ (h : Option Header). IsNextFault old h new.closing fault) is finds.is_next in
     let count = so_far.counted in

@@ -13,8 +13,8 @@ use Rattle.fzn_cert.specs.declared.step.Step.TheVariants.{Infer, Resolve, Soluti
 use Rattle.fzn_rules.specs.declared.rule.Rule.{Rule}
 use Rattle.fzn_rules.specs.declared.rule.Rule.TheVariants.{Lin, Rows, Box, Fixed, Enum, Hall, Load, Energy, Cut, Pair}
 use Rattle.fzn_cert.specs.Spelling.{rule_name, hints, literal_text, step_words, IsNumber, IsValue, IsHint, IsLiteral, IsRule, Rises, IdsRise, IsSpelled}
-use Rattle.fzn_cert.specs.Words.{◌>>=◌, number_of, hint_of, is_value, literal_of, items_of, items_before_mark}
-use Rattle.fzn_cert.specs.Reading.{rises, ids_rise, short_rule_of, rule_of, infer_of, resolve_of, solution_of, delete_of, is_deletion, step_of_words}
+use Rattle.fzn_cert.specs.Words.{◌>>=◌, positive_of, hint_of, is_value, literal_of, items_of, items_before_mark}
+use Rattle.fzn_cert.specs.Reading.{rises, ids_rise, short_rule_of, rule_spelled, infer_of, resolve_of, solution_of, delete_of, is_deletion, step_of_words}
 use Rattle.fzn_cert.proofs.CallerLemmas.{and_true, some_is}
 use Rattle.fzn_cert_reader.proofs.OptionLaws.{bind_some, guard_some, chosen}
 use Rattle.fzn_cert_reader.proofs.WordLaws.{number_takes, hint_takes, literal_takes, items_take, marked_take}
@@ -83,8 +83,8 @@ short_rule_takes name (a ∷ b ∷ []) rule fit e =
     ]
 short_rule_takes name (a ∷ b ∷ c ∷ rest) rule fit e = absurd cc
 
-pub rule_takes : (name : List ℕ) (hs : List ℤ) (rule : Rule) → AllByRecursion IsHint hs → rule_of name hs ≡ Some rule → NamesRule name hs rule
-unfolding rule_of
+pub rule_takes : (name : List ℕ) (hs : List ℤ) (rule : Rule) → AllByRecursion IsHint hs → rule_spelled name hs ≡ Some rule → NamesRule name hs rule
+unfolding rule_spelled
 rule_takes name hs rule fit e =
     elim (chosen (bytes_eq name (codes "cut")) (cond (rises hs) (Some (Cut hs)) None) (short_rule_of name hs) rule e) [
       | inl h ↦
@@ -105,9 +105,9 @@ unfolding infer_of
 infer_takes v [] step e = absurd cc
 infer_takes v (number ∷ []) step e = absurd cc
 infer_takes v (number ∷ name ∷ words) step e =
-    let a = bind_some (number_of number) (λ constraint. items_before_mark hint_of words >>= λ hs. rule_of name hs.0 >>= λ rule. items_of literal_of hs.1 >>= λ clause. Some (Infer constraint rule clause)) step e in
-    let b = bind_some (items_before_mark hint_of words) (λ hs. rule_of name hs.0 >>= λ rule. items_of literal_of hs.1 >>= λ clause. Some (Infer a.0 rule clause)) step a.2 in
-    let r = bind_some (rule_of name b.0.0) (λ rule. items_of literal_of b.0.1 >>= λ clause. Some (Infer a.0 rule clause)) step b.2 in
+    let a = bind_some (positive_of number) (λ constraint. items_before_mark hint_of words >>= λ hs. rule_spelled name hs.0 >>= λ rule. items_of literal_of hs.1 >>= λ clause. Some (Infer constraint rule clause)) step e in
+    let b = bind_some (items_before_mark hint_of words) (λ hs. rule_spelled name hs.0 >>= λ rule. items_of literal_of hs.1 >>= λ clause. Some (Infer a.0 rule clause)) step a.2 in
+    let r = bind_some (rule_spelled name b.0.0) (λ rule. items_of literal_of b.0.1 >>= λ clause. Some (Infer a.0 rule clause)) step b.2 in
     let l = bind_some (items_of literal_of b.0.1) (λ clause. Some (Infer a.0 r.0 clause)) step r.2 in
     let n = number_takes number a.0 a.1 in
     let hs = marked_take hint_of signed_decimal IsHint hint_takes words b.0 b.1 in
@@ -127,10 +127,10 @@ infer_takes v (number ∷ name ∷ words) step e =
 resolve_takes : (v : Version) (words : List (List ℕ)) (step : Step) → resolve_of words ≡ Some step → Spells v (codes "r" ∷ words) step
 unfolding resolve_of
 resolve_takes v words step e =
-    let a = bind_some (items_before_mark literal_of words) (λ clause. items_of number_of clause.1 >>= λ ids. Some (Resolve clause.0 ids)) step e in
-    let b = bind_some (items_of number_of a.0.1) (λ ids. Some (Resolve a.0.0 ids)) step a.2 in
+    let a = bind_some (items_before_mark literal_of words) (λ clause. items_of positive_of clause.1 >>= λ ids. Some (Resolve clause.0 ids)) step e in
+    let b = bind_some (items_of positive_of a.0.1) (λ ids. Some (Resolve a.0.0 ids)) step a.2 in
     let clause = marked_take literal_of literal_text IsLiteral literal_takes words a.0 a.1 in
-    let ids = items_take number_of decimal IsNumber number_takes a.0.1 b.0 b.1 in
+    let ids = items_take positive_of decimal IsNumber number_takes a.0.1 b.0 b.1 in
     let made : Step = Resolve a.0.0 b.0 in
     subst (λ (s : Step). Spells v (codes "r" ∷ words) s) (some_is made step b.2) (record {
       words_are = ap (λ (ws : List (List ℕ)). codes "r" ∷ ws) (clause.0 ∙ ap (λ (ws : List (List ℕ)). map literal_text a.0.0 ++ codes ";" ∷ ws) ids.0);
@@ -158,8 +158,8 @@ delete_takes : (v : Version) (words : List (List ℕ)) (step : Step) → delete_
 unfolding delete_of
 delete_takes One words step e = absurd cc
 delete_takes Two words step e =
-    let a = bind_some (items_of number_of words) (λ ids. cond (is_deletion ids) (Some (Delete ids)) None) step e in
-    let ids = items_take number_of decimal IsNumber number_takes words a.0 a.1 in
+    let a = bind_some (items_of positive_of words) (λ ids. cond (is_deletion ids) (Some (Delete ids)) None) step e in
+    let ids = items_take positive_of decimal IsNumber number_takes words a.0 a.1 in
     let g = guard_some (is_deletion a.0) (Delete a.0) step a.2 in
     let t = and_true (not (eqb (length a.0) 0)) (ids_rise a.0) g.0 in
     let some : 0 < length a.0 = grind (arith, t.0) in

@@ -11,16 +11,16 @@ use Rattle.std.proofs.lemmas.Slice.Eq.{bytes_eq-Decides}
 use Rattle.fzn_domain.specs.declared.literal.Op.{Op}
 use Rattle.fzn_domain.specs.declared.literal.Op.TheVariants.{AtMost, AtLeast, Equal, NotEqual}
 use Rattle.fzn_domain.specs.declared.literal.Lit.{Lit}
-use Rattle.fzn_cert.specs.Spelling.{op_text, literal_text, IsIn, IsNumber, IsValue, IsHint, IsLiteral}
-use Rattle.fzn_cert.specs.Words.{◌>>=◌, natural_of, number_of, integer_of, is_within, integer_within, value_of, hint_of, op_at, digits_len, literal_of, items_of, items_before_mark}
+use Rattle.fzn_cert.specs.Spelling.{op_text, literal_text, IsBetween, IsNumber, IsValue, IsHint, IsLiteral}
+use Rattle.fzn_cert.specs.Words.{◌>>=◌, natural_of, positive_of, integer_of, is_between, integer_within, value_spelled, hint_of, op_at, digits_len, literal_of, items_of, items_before_mark}
 use Rattle.fzn_cert.proofs.CallerLemmas.{some_is}
 use Rattle.fzn_cert_reader.proofs.OptionLaws.{bind_some, guard_some, guard_none, chosen}
 use Rattle.fzn_cert_reader.proofs.NumberLaws.{natural_takes}
 
 -- ---- numbers
 
-pub number_takes : (word : List ℕ) (n : ℕ) → number_of word ≡ Some n → (word ≡ decimal n) × IsNumber n
-unfolding number_of
+pub number_takes : (word : List ℕ) (n : ℕ) → positive_of word ≡ Some n → (word ≡ decimal n) × IsNumber n
+unfolding positive_of
 number_takes word n e =
     let a = bind_some (natural_of word) (λ m. cond (eqb m 0) None (Some m)) n e in
     let g = guard_none (eqb a.0 0) a.0 n a.2 in
@@ -39,9 +39,9 @@ negated_text (suc n) h = refl
 pub integer_takes : (word : List ℕ) (z : ℤ) → integer_of word ≡ Some z → word ≡ signed_decimal z
 unfolding integer_of
 integer_takes word z e =
-    elim (chosen (eqb (get_or word 0 0) 45) (number_of (drop 1 word) >>= λ n. Some (neg_ℤ (pos n))) (natural_of word >>= λ n. Some (pos n)) z e) [
+    elim (chosen (eqb (get_or word 0 0) 45) (positive_of (drop 1 word) >>= λ n. Some (neg_ℤ (pos n))) (natural_of word >>= λ n. Some (pos n)) z e) [
       | inl h ↦
-          let a = bind_some (number_of (drop 1 word)) (λ n. Some (neg_ℤ (pos n))) z h.1 in
+          let a = bind_some (positive_of (drop 1 word)) (λ n. Some (neg_ℤ (pos n))) z h.1 in
           let t = number_takes (drop 1 word) a.0 a.1 in
           signed_again word (eqb-true (get_or word 0 0) 45 h.0) ∙ ap (λ (ds : List ℕ). 45 ∷ ds) t.0 ∙ negated_text a.0 t.1.0 ∙ ap signed_decimal (some_is (neg_ℤ (pos a.0)) z a.2)
       | inr h ↦
@@ -49,18 +49,18 @@ integer_takes word z e =
           (natural_takes word a.0 a.1).0 ∙ ap signed_decimal (some_is (pos a.0) z a.2)
     ]
 
-pub within_takes : (low high : ℤ) (word : List ℕ) (z : ℤ) → integer_within low high word ≡ Some z → (word ≡ signed_decimal z) × IsIn low high z
+pub within_takes : (low high : ℤ) (word : List ℕ) (z : ℤ) → integer_within low high word ≡ Some z → (word ≡ signed_decimal z) × IsBetween low high z
 unfolding integer_within
 within_takes low high word z e =
-    let a = bind_some (integer_of word) (λ y. cond (is_within low high y) (Some y) None) z e in
-    let g = guard_some (is_within low high a.0) a.0 z a.2 in
+    let a = bind_some (integer_of word) (λ y. cond (is_between low high y) (Some y) None) z e in
+    let g = guard_some (is_between low high a.0) a.0 z a.2 in
     let t = integer_takes word a.0 a.1 in
-    subst (λ (y : ℤ). (word ≡ signed_decimal y) × IsIn low high y) g.1 (t, grind (arith, ints, g.0))
+    subst (λ (y : ℤ). (word ≡ signed_decimal y) × IsBetween low high y) g.1 (t, grind (arith, ints, g.0))
 
 pub hint_takes : (word : List ℕ) (z : ℤ) → hint_of word ≡ Some z → (word ≡ signed_decimal z) × IsHint z
 hint_takes word z e = within_takes (negsuc 3999999999) (pos 4000000000) word z e
 
-pub value_takes : (word : List ℕ) (z : ℤ) → value_of word ≡ Some z → (word ≡ signed_decimal z) × IsValue z
+pub value_takes : (word : List ℕ) (z : ℤ) → value_spelled word ≡ Some z → (word ≡ signed_decimal z) × IsValue z
 value_takes word z e = within_takes (negsuc 1000000000) (pos 1000000001) word z e
 
 -- ---- literals
@@ -90,9 +90,9 @@ pub literal_takes : (word : List ℕ) (lit : Lit) → literal_of word ≡ Some l
 unfolding literal_of
 literal_takes word lit e =
     let k = digits_len word in
-    let a = bind_some (number_of (take k word)) (λ var. op_at (drop k word) >>= λ op. value_of op.1 >>= λ value. Some (record { var = record { 0 = var }; op = op.0; value = value })) lit e in
-    let b = bind_some (op_at (drop k word)) (λ op. value_of op.1 >>= λ value. Some (record { var = record { 0 = a.0 }; op = op.0; value = value })) lit a.2 in
-    let d = bind_some (value_of b.0.1) (λ value. Some (record { var = record { 0 = a.0 }; op = b.0.0; value = value })) lit b.2 in
+    let a = bind_some (positive_of (take k word)) (λ var. op_at (drop k word) >>= λ op. value_spelled op.1 >>= λ value. Some (record { var = record { 0 = var }; op = op.0; value = value })) lit e in
+    let b = bind_some (op_at (drop k word)) (λ op. value_spelled op.1 >>= λ value. Some (record { var = record { 0 = a.0 }; op = op.0; value = value })) lit a.2 in
+    let d = bind_some (value_spelled b.0.1) (λ value. Some (record { var = record { 0 = a.0 }; op = b.0.0; value = value })) lit b.2 in
     let made : Lit = record { var = record { 0 = a.0 }; op = b.0.0; value = d.0 } in
     let n = number_takes (take k word) a.0 a.1 in
     let o = op_takes (drop k word) b.0 b.1 in

@@ -10,7 +10,7 @@ use Rattle.fzn_cert_reader.specs.declared.stream.StepReader.{StepReader}
 use Rattle.fzn_cert.specs.Spelling.{step_line, end_line, header_lines, HasLine}
 use Rattle.fzn_cert_reader.specs.Input.{left_in}
 use Rattle.fzn_cert_reader.specs.Told.{TakesNoHeader, TakesEnd}
-use Rattle.fzn_cert.specs.Stream.{IsFaultOf, IsHeaderFault, IsTrailedBy, After, line_of}
+use Rattle.fzn_cert.specs.Stream.{IsFaultOf, IsHeaderFault, IsTrailedBy, After, line_of_fault}
 
 -- how far a certificate was read
 pub record Progress : Type 0 where
@@ -80,7 +80,7 @@ pub record Ends (old new : Progress) : Type 0 where
 abbrev pub IsNextFault : Progress → Option Header → Option Bool → CertFault → Type 0
 IsNextFault old None closing fault = IsHeaderFault old.left fault
 IsNextFault old (Some header) closing fault =
-    (fault.line ≡ line_of fault.kind old.steps)
+    (fault.line ≡ line_of_fault fault.kind old.steps)
     × After old.left (lines_read old.header (Some header)) (λ rest. IsFaultOf header.version old.steps rest fault.kind × (fault.kind ≡ Trailing → IsTrailedBy rest closing))
 
 -- the call found this fault

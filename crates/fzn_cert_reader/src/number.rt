@@ -2,7 +2,7 @@ ghost use Rattle.std.specs.Prelude.{◌≡◌, ◌==◌, ◌<◌, ◌≤◌, ◌
 ghost use Rattle.std.specs.List.{list_all};
 ghost use Rattle.std.specs.Char.{is_ascii_digit};
 ghost use Rattle.std.specs.Str.Parse.{digits_value};
-ghost use Rattle.fzn_cert.specs.Words.{is_sized, natural_of, number_of, integer_of, is_within, hint_of, value_of, is_value};
+ghost use Rattle.fzn_cert.specs.Words.{is_sized, natural_of, positive_of, integer_of, is_between, hint_of, value_spelled, is_value};
 
 use crate::words::Item;
 use fzn_domain::{GREATEST_BOUND, LEAST_BOUND};
@@ -22,9 +22,9 @@ pub fn natural_of(word: &[u8]) -> Option<u64>
 }
 
 /// The number, at least 1, that a word spells.
-#[tactic(auto, unfolding(fzn_cert::specs::Words::number_of))]
+#[tactic(auto, unfolding(fzn_cert::specs::Words::positive_of))]
 pub fn number_of(word: &[u8]) -> Option<u64>
-    ensures value { result ≡ number_of word.now }
+    ensures value { result ≡ positive_of word.now }
     ensures short { IfSome result (λ number. number < 10 ^ 18) }
 {
     match natural_of(word) {
@@ -63,7 +63,7 @@ pub fn is_value(number: i64) -> bool
 /// The number of a literal or of a solution that a word spells.
 #[tactic(auto, unfolding(fzn_cert::specs::Words::integer_within))]
 pub fn value_of(word: &[u8]) -> Option<i64>
-    ensures { result ≡ value_of word.now }
+    ensures { result ≡ value_spelled word.now }
 {
     match integer_of(word) {
         Some(number) if is_value(number) => Some(number),
@@ -86,9 +86,9 @@ impl Item for i64 {
 }
 
 impl Item for u64 {
-    ghost use Rattle.fzn_cert.specs.Words.{number_of};
+    ghost use Rattle.fzn_cert.specs.Words.{positive_of};
 
-    ghost item_of = { number_of };
+    ghost item_of = { positive_of };
 
     fn of_word(word: &[u8]) -> Option<u64> {
         number_of(word)

@@ -1,15 +1,15 @@
 // The rule of a name and hints.
 ghost use Rattle.std.specs.Prelude.{◌≡◌, [], ◌∷◌, not, int_le};
 ghost use Rattle.std.specs.Option.{option_map};
-ghost use Rattle.fzn_cert.specs.Reading.{rises, short_rule_of, rule_of};
+ghost use Rattle.fzn_cert.specs.Reading.{rises, short_rule_of, rule_spelled};
 
 use fzn_list::Items;
 use fzn_rules::Rule;
 
 /// The rule of this name with these hints.
-#[tactic(auto, unfolding(fzn_cert::specs::Reading::rule_of))]
+#[tactic(auto, unfolding(fzn_cert::specs::Reading::rule_spelled))]
 pub fn rule_of(name: &[u8], hints: Items<i64>) -> Option<Rule>
-    ensures { result ≡ rule_of name.now hints }
+    ensures { result ≡ rule_spelled name.now hints }
 {
     if name == b"cut".as_slice() {
         if rises(hints.as_slice()) {

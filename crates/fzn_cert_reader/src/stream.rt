@@ -5,7 +5,7 @@ ghost use Rattle.std.specs.Io.KnownBytes.{Consumes};
 ghost use Rattle.fzn_cert.specs.Spelling.{IsHeader};
 ghost use Rattle.fzn_cert_reader.specs.Input.{left_in};
 ghost use Rattle.fzn_cert_reader.specs.Told.{TakesNoHeader};
-ghost use Rattle.fzn_cert.specs.Stream.{IsHeaderFault, line_of};
+ghost use Rattle.fzn_cert.specs.Stream.{IsHeaderFault, line_of_fault};
 
 use crate::reader::StepLines;
 use fzn_cert::{CertFault, FaultKind, Header, Step};
@@ -149,7 +149,7 @@ impl<R: TrackedRead + Drop> StepReader<R> {
 /// behind the last line.
 pub fn line_of(kind: FaultKind, steps: u64) -> u64
     requires { steps < 10 ^ 18 }
-    ensures { result ≡ line_of kind steps }
+    ensures { result ≡ line_of_fault kind steps }
 {
     match kind {
         FaultKind::Trailing => steps + 4,

@@ -12,8 +12,8 @@ use Rattle.fzn_cert.specs.declared.refusal.Refusal.TheVariants as refusals
 use Rattle.fzn_cert.specs.declared.step.Step.{Step}
 use Rattle.fzn_cert.specs.declared.step.Version.{Version}
 use Rattle.fzn_cert.specs.Spelling.{step_line, end_line, IsHeader}
-use Rattle.fzn_cert.specs.Stream.{After, IsFaultOf, IsHeaderFault, IsTrailedBy, line_of}
-use Rattle.fzn_cert.specs.Past.{Past}
+use Rattle.fzn_cert.specs.Stream.{After, IsFaultOf, IsHeaderFault, IsTrailedBy, line_of_fault}
+use Rattle.fzn_cert.specs.Past.{StepsPast}
 use Rattle.fzn_cert_reader.specs.Reader.{Progress, lines_read, GivesStep, Ends, IsNextFault, FindsFault}
 use Rattle.fzn_cert.specs.Verdict.{Outcome, accepted, refused, BeginsWith, VerdictFrom, VerdictOn}
 use Rattle.fzn_cert.proofs.VerdictLaws.{verdict-ends}
@@ -48,7 +48,7 @@ header-fault model left _ line closing is_refuted (inl f) = absurd f.1
 header-fault model left _ line closing is_refuted (inr f) = absurd f.1.1.2
 
 -- a later line
-line-fault : (model : Model) (version : Version) (past : Past) (count : ℕ) (left : Option (List ℕ)) (kind : FaultKind) (closing : Option Bool) → IsFaultOf version count left kind → (kind ≡ faults.Trailing → IsTrailedBy left closing) → IsFaultWhere (VerdictFrom model version past count left) (fault_of_kind kind (line_of kind count) closing past.refuted)
+line-fault : (model : Model) (version : Version) (past : StepsPast) (count : ℕ) (left : Option (List ℕ)) (kind : FaultKind) (closing : Option Bool) → IsFaultOf version count left kind → (kind ≡ faults.Trailing → IsTrailedBy left closing) → IsFaultWhere (VerdictFrom model version past count left) (fault_of_kind kind (line_of_fault kind count) closing past.refuted)
 line-fault model version past count left faults.Spelling closing f trailed = verdict-ends model version past count left (refused (count + 3) refusals.Spelling) (refl, f)
 line-fault model version past count left faults.Truncated closing f trailed = verdict-ends model version past count left (refused (count + 3) refusals.Truncated) (refl, f)
 line-fault model version past count left faults.LineTooLong closing f trailed = verdict-ends model version past count left (refused (count + 3) refusals.LineTooLong) (refl, f)
@@ -70,7 +70,7 @@ line-fault model version past count left faults.Read closing f trailed = tt
 line-fault model version past count left _ closing f trailed = absurd f
 
 -- the reader finds a fault
-pub finds-fault : (model : Model) (past : Past) (old new : Progress) (fault : CertFault) → IsMidway model past old → (IsSome old.header → new.header ≡ old.header) → IfSome new.header (HasCounts model) → FindsFault old new fault → IsFaultWhere (ComesTo model past old) (fault_after fault new.closing past.refuted)
+pub finds-fault : (model : Model) (past : StepsPast) (old new : Progress) (fault : CertFault) → IsMidway model past old → (IsSome old.header → new.header ≡ old.header) → IfSome new.header (HasCounts model) → FindsFault old new fault → IsFaultWhere (ComesTo model past old) (fault_after fault new.closing past.refuted)
 finds-fault model past old new fault midway same counts finds = by_header new.header refl counts finds.is_next
   where
     none_before : (before : Option Header) → old.header ≡ before → new.header ≡ None → old.header ≡ None
@@ -100,7 +100,7 @@ lines_taken old new (Err fault) header told gives ends finds =
     let next : IsNextFault old (Some header) new.closing fault = subst (λ o. IsNextFault old o new.closing fault) told finds.is_next in
     (next.1.0, subst (λ o. Consumes old.left next.1.0 (lines_read old.header o)) (sym told) next.1.1, tt)
 
-pub counts-refused : (model : Model) (past : Past) (old new : Progress) (next : Result (Option Step) CertFault) → IsMidway model past old → (IsSome old.header → new.header ≡ old.header) → IfSome new.header IsHeader → (IfSome new.header (HasCounts model) → ⊥) → IfOk next (λ found. IfSome found (GivesStep old new)) → IfOk next (λ found. IfNone found (Ends old new)) → IfErr next (FindsFault old new) → ComesTo model past old (refused 2 refusals.Counts)
+pub counts-refused : (model : Model) (past : StepsPast) (old new : Progress) (next : Result (Option Step) CertFault) → IsMidway model past old → (IsSome old.header → new.header ≡ old.header) → IfSome new.header IsHeader → (IfSome new.header (HasCounts model) → ⊥) → IfOk next (λ found. IfSome found (GivesStep old new)) → IfOk next (λ found. IfNone found (Ends old new)) → IfErr next (FindsFault old new) → ComesTo model past old (refused 2 refusals.Counts)
 counts-refused model past old new next midway same sized other gives ends finds = by_header new.header refl
   where
     by_header : (header : Option Header) → new.header ≡ header → ComesTo model past old (refused 2 refusals.Counts)
@@ -113,14 +113,14 @@ counts-refused model past old new next midway same sized other gives ends finds 
 -- ---- the whole certificate
 
 -- what the ending says
-pub found-accepted : (model : Model) (left : Option (List ℕ)) (past : Past) (old new : Progress) (closed : Bool) → ((outcome : Outcome) → ComesTo model past old outcome → VerdictOn model left outcome) → Accepts model past old new → closed ≡ unwrap_or new.closing false → VerdictOn model left (accepted past.solutions closed)
+pub found-accepted : (model : Model) (left : Option (List ℕ)) (past : StepsPast) (old new : Progress) (closed : Bool) → ((outcome : Outcome) → ComesTo model past old outcome → VerdictOn model left outcome) → Accepts model past old new → closed ≡ unwrap_or new.closing false → VerdictOn model left (accepted past.solutions closed)
 found-accepted model left past old new closed goes_on (said, is, may_say, standing) closed_is =
     subst (λ b. VerdictOn model left (accepted past.solutions b)) (sym (closed_is ∙ ap (λ o. unwrap_or o false) is)) (goes_on (accepted past.solutions said) standing)
 
 -- a closed one comes after the empty clause
-pub found-refuted : (model : Model) (past : Past) (old new : Progress) (closed : Bool) → Accepts model past old new → closed ≡ unwrap_or new.closing false → closed ≡ true → past.refuted ≡ true
+pub found-refuted : (model : Model) (past : StepsPast) (old new : Progress) (closed : Bool) → Accepts model past old new → closed ≡ unwrap_or new.closing false → closed ≡ true → past.refuted ≡ true
 found-refuted model past old new closed (said, is, may_say, standing) closed_is is_closed = may_say (sym (closed_is ∙ ap (λ o. unwrap_or o false) is) ∙ is_closed)
 
 -- a fault found on the way
-pub fault-found : (model : Model) (left : Option (List ℕ)) (past : Past) (now : Progress) (fault : CheckFault) → ((outcome : Outcome) → ComesTo model past now outcome → VerdictOn model left outcome) → IsFaultWhere (ComesTo model past now) fault → IsFaultWhere (VerdictOn model left) fault
+pub fault-found : (model : Model) (left : Option (List ℕ)) (past : StepsPast) (now : Progress) (fault : CheckFault) → ((outcome : Outcome) → ComesTo model past now outcome → VerdictOn model left outcome) → IsFaultWhere (ComesTo model past now) fault → IsFaultWhere (VerdictOn model left) fault
 fault-found model left past now fault goes_on h = fault-weaker (ComesTo model past now) (VerdictOn model left) fault goes_on h

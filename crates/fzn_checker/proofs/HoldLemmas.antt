@@ -8,8 +8,8 @@ use Rattle.fzn_cert.specs.declared.step.Step.TheVariants.{Infer, Resolve, Soluti
 use Rattle.fzn_cert.specs.declared.step.Version.{Version}
 use Rattle.fzn_cert.specs.declared.step.Version.TheVariants.{Two}
 use Rattle.fzn_cert.specs.Spelling.{step_line, end_line, IsSized, IsSpelled, HasLine}
-use Rattle.fzn_cert.specs.Past.{Past, start}
-use Rattle.fzn_cert.specs.Accepted.{IsAccepted, AllAcceptedAfter, AllAccepted, after, past_of}
+use Rattle.fzn_cert.specs.Past.{StepsPast, no_past}
+use Rattle.fzn_cert.specs.Accepted.{IsAccepted, AllAcceptedAfter, AllAccepted, after_step, past_after}
 use Rattle.fzn_cert.specs.Verdict.{accepted, lines_of, AllHaveLines, MayEnd, VerdictOn}
 use Rattle.fzn_cert.proofs.CallerLemmas.{some_is}
 use Rattle.fzn_cert.proofs.SoundLaws.{sound-after}
@@ -26,16 +26,16 @@ use Rattle.fzn_checker.proofs.StandingLaws.{header_is}
 
 -- ---- one step more
 
-past-more : (model : Model) (past : Past) (steps : List Step) (step : Step) → fold (after model) past (steps ++ step ∷ []) ≡ after model (fold (after model) past steps) step
+past-more : (model : Model) (past : StepsPast) (steps : List Step) (step : Step) → fold (after_step model) past (steps ++ step ∷ []) ≡ after_step model (fold (after_step model) past steps) step
 past-more model past [] step = refl
-past-more model past (head ∷ steps) step = past-more model (after model past head) steps step
+past-more model past (head ∷ steps) step = past-more model (after_step model past head) steps step
 
-accepted-more : (model : Model) (past : Past) (steps : List Step) (step : Step) → AllAcceptedAfter model past steps → IsAccepted model (fold (after model) past steps) step → AllAcceptedAfter model past (steps ++ step ∷ [])
+accepted-more : (model : Model) (past : StepsPast) (steps : List Step) (step : Step) → AllAcceptedAfter model past steps → IsAccepted model (fold (after_step model) past steps) step → AllAcceptedAfter model past (steps ++ step ∷ [])
 accepted-more model past [] step h k = (k, tt)
-accepted-more model past (head ∷ steps) step h k = (h.0, accepted-more model (after model past head) steps step h.1 k)
+accepted-more model past (head ∷ steps) step h k = (h.0, accepted-more model (after_step model past head) steps step h.1 k)
 
 -- the step after an accepted one can be judged
-pub take-more : (model : Model) (old new : Taken) (step : Step) → MayTake model old → IsAccepted model old.history step → new.history ≡ after model old.history step → AreGiven model new.history.solutions new.given
+pub take-more : (model : Model) (old new : Taken) (step : Step) → MayTake model old → IsAccepted model old.history step → new.history ≡ after_step model old.history step → AreGiven model new.history.solutions new.given
     → new.sets ≡ old.sets → new.has_empty ≡ old.has_empty → MayTake model new
 take-more model old new step may is_accepted history given sets empty = record {
   ready = record {
@@ -47,12 +47,12 @@ take-more model old new step may is_accepted history given sets empty = record {
   given = given;
 }
 
-pub taken-more : (model : Model) (old new : Taken) (step : Step) → IsAccepted model old.history step → new.history ≡ after model old.history step → MayTake model new
+pub taken-more : (model : Model) (old new : Taken) (step : Step) → IsAccepted model old.history step → new.history ≡ after_step model old.history step → MayTake model new
     → (steps : List Step) → HasTaken model steps old → HasTaken model (steps ++ step ∷ []) new
 taken-more model old new step is_accepted history ready steps taken = record {
   ready = ready;
-  past = history ∙ ap (λ (p : Past). after model p step) taken.past ∙ sym (past-more model start steps step);
-  accepted = accepted-more model start steps step taken.accepted (subst (λ (p : Past). IsAccepted model p step) taken.past is_accepted);
+  past = history ∙ ap (λ (p : StepsPast). after_step model p step) taken.past ∙ sym (past-more model no_past steps step);
+  accepted = accepted-more model no_past steps step taken.accepted (subst (λ (p : StepsPast). IsAccepted model p step) taken.past is_accepted);
 }
 
 -- ---- their lines
@@ -120,21 +120,21 @@ pub held-end : (model : Model) (bytes : Option (List ℕ)) (steps : List Step) (
 held-end model bytes steps taken old new held has_taken read spelled accepts ends counts same held_steps solutions closed =
     let fits : HasCounts model ends.header = subst (λ (o : Option Header). IfSome o (HasCounts model)) ends.told counts in
     let said : ends.closed ≡ held.closed = sym (closed ∙ ap (λ (o : Option Bool). unwrap_or o false) ends.closing) in
-    let past : taken.history ≡ past_of model held.steps = has_taken.past ∙ ap (past_of model) (sym held_steps) in
+    let past : taken.history ≡ past_after model held.steps = has_taken.past ∙ ap (past_after model) (sym held_steps) in
     record {
       version = ends.header.version;
       certificate = subst (λ (b : Bool). IsCertificate model ends.header.version bytes held.steps b) said
           (subst (λ (all : List Step). IsCertificate model ends.header.version bytes all ends.closed) (sym held_steps) (certificate-read model bytes old new steps read spelled ends fits same));
       stands = record {
         accepted = subst (AllAccepted model) (sym held_steps) has_taken.accepted;
-        found = solutions ∙ ap (λ (p : Past). p.solutions) past;
-        may_end = subst (λ (p : Past). MayEnd p held.closed) past (found-refuted model taken.history old new held.closed accepts closed);
+        found = solutions ∙ ap (λ (p : StepsPast). p.solutions) past;
+        may_end = subst (λ (p : StepsPast). MayEnd p held.closed) past (found-refuted model taken.history old new held.closed accepts closed);
       };
     }
 
 -- it is accepted where its steps are
-pub certificate-accepted : (model : Model) (version : Version) (left : Option (List ℕ)) (steps : List Step) (closed : Bool) → IsCertificate model version left steps closed → AllAccepted model steps → MayEnd (past_of model steps) closed
-    → VerdictOn model left (accepted (past_of model steps).solutions closed)
+pub certificate-accepted : (model : Model) (version : Version) (left : Option (List ℕ)) (steps : List Step) (closed : Bool) → IsCertificate model version left steps closed → AllAccepted model steps → MayEnd (past_after model steps) closed
+    → VerdictOn model left (accepted (past_after model steps).solutions closed)
 certificate-accepted model version None steps closed certificate all may_end = inr (version, certificate.sized, (None, tt, (steps, certificate.spelled, all, (None, tt, ((None, tt, tt), may_end, refl)))))
 certificate-accepted model version (Some bytes) steps closed certificate all may_end =
     inr (version, certificate.sized, (Some (lines_of steps ++ end_line closed), certificate.text, (steps, certificate.spelled, all, (Some (end_line closed), refl, ((Some [], sym (append-nil (end_line closed)), refl), may_end, refl)))))

@@ -14,7 +14,7 @@ use Rattle.fzn_meaning.specs.WellFormed.{IsWellFormed}
 use Rattle.fzn_rules.specs.declared.rule.Rule.{Rule}
 use Rattle.fzn_rules.specs.Rules.{IsMet, IsAcceptedBy}
 use Rattle.fzn_sets.specs.Sets.{Narrowed, start}
-use Rattle.fzn_cert.specs.Accepted.{denying, IsTrivial, IsJustifiedBy}
+use Rattle.fzn_cert.specs.Accepted.{denying, IsTrivial, IsInferredBy}
 
 -- the present sets that began with the declared ones, after a clause was denied
 pub denied_from : (model : Model) (old : Narrowed) (new : List IntSet) (clause : List Lit) → old ≡ start (declared_sets model.vars) → new ≡ denied old.present clause → new ≡ denying model clause
@@ -36,7 +36,7 @@ constraint_fits model new clause k constraint wf is below at =
     (subst (IsWellFormedConstraint (length model.vars)) (sym at) (wf.constraints k constraint below))
 
 -- a rule that is met on what is left justifies the clause
-pub rule_justifies : (model : Model) (new : List IntSet) (c : ℕ) (rule : Rule) (clause : List Lit) (constraint : Constraint) → new ≡ denying model clause → c - 1 < length model.constraints → constraint ≡ get_or model.constraints (c - 1) constraint → IsMet constraint new rule → IsJustifiedBy model c rule clause
+pub rule_justifies : (model : Model) (new : List IntSet) (c : ℕ) (rule : Rule) (clause : List Lit) (constraint : Constraint) → new ≡ denying model clause → c - 1 < length model.constraints → constraint ≡ get_or model.constraints (c - 1) constraint → IsMet constraint new rule → IsInferredBy model c rule clause
 rule_justifies model new c rule clause constraint is below at met = elim (slice_get_cases model.constraints (c - 1)).1 [
   | inl (found, within, got, here) ↦
       let same : constraint ≡ found = at ∙ get_or_default model.constraints (c - 1) constraint found within ∙ here in
@@ -46,7 +46,7 @@ rule_justifies model new c rule clause constraint is below at met = elim (slice_
 ]
 
 -- one that is not justifies none, but for a trivial one
-pub rule_fails : (model : Model) (new : List IntSet) (c : ℕ) (rule : Rule) (clause : List Lit) (constraint : Constraint) → new ≡ denying model clause → c - 1 < length model.constraints → constraint ≡ get_or model.constraints (c - 1) constraint → (IsTrivial model clause → ⊥) → (IsMet constraint new rule → ⊥) → IsJustifiedBy model c rule clause → ⊥
+pub rule_fails : (model : Model) (new : List IntSet) (c : ℕ) (rule : Rule) (clause : List Lit) (constraint : Constraint) → new ≡ denying model clause → c - 1 < length model.constraints → constraint ≡ get_or model.constraints (c - 1) constraint → (IsTrivial model clause → ⊥) → (IsMet constraint new rule → ⊥) → IsInferredBy model c rule clause → ⊥
 rule_fails model new c rule clause constraint is below at not_trivial not_met justified = elim (slice_get_cases model.constraints (c - 1)).1 [
   | inl (found, within, got, here) ↦
       let same : constraint ≡ found = at ∙ get_or_default model.constraints (c - 1) constraint found within ∙ here in

@@ -14,7 +14,7 @@ use Rattle.fzn_cert.specs.declared.step.Step.{Step}
 use Rattle.fzn_cert.specs.declared.step.Version.{Version}
 use Rattle.fzn_cert.specs.declared.step.Version.TheVariants.{One, Two}
 use Rattle.fzn_cert.specs.Spelling.{step_line, end_line, HasLine, IsSized}
-use Rattle.fzn_cert.specs.Stream.{After, IsFaultOf, IsHeaderFaultOf, IsVersionText, IsCountsText, line_of}
+use Rattle.fzn_cert.specs.Stream.{After, IsFaultOf, IsHeaderFaultOf, IsVersionText, IsCountsText, line_of_fault}
 use Rattle.fzn_cert.specs.Verdict.{lines_of, AllHaveLines, BeginsWith, line_after}
 use Rattle.fzn_checker.specs.declared.fault.CheckFault.{CheckFault}
 use Rattle.fzn_checker.specs.declared.fault.CheckFault.TheVariants.{File, Refused, NotVersionOne, Memory, Read, WriteOutput, WriteCert}
@@ -40,7 +40,7 @@ counts-fault left before after faults.Memory kept f = kept
 counts-fault left before after faults.Read kept f = kept
 counts-fault left before after _ kept f = absurd f
 
-pub line-fault : (count : ℕ) (left before after : Option (List ℕ)) (kind : FaultKind) → Keeps before after → IsFaultOf One count left kind → IsLineCopyFault count left before after (fault_of_kind kind (line_of kind count) None true)
+pub line-fault : (count : ℕ) (left before after : Option (List ℕ)) (kind : FaultKind) → Keeps before after → IsFaultOf One count left kind → IsLineCopyFault count left before after (fault_of_kind kind (line_of_fault kind count) None true)
 line-fault count left before after faults.Spelling kept f = ((refl, f), kept)
 line-fault count left before after faults.Truncated kept f = ((refl, f), kept)
 line-fault count left before after faults.LineTooLong kept f = ((refl, f), kept)

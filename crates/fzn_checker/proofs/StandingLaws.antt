@@ -16,8 +16,8 @@ use Rattle.fzn_cert.specs.declared.step.Step.TheVariants.{Infer, Resolve, Soluti
 use Rattle.fzn_cert.specs.declared.step.Version.{Version}
 use Rattle.fzn_cert.specs.Spelling.{step_line, end_line, version_text, counts_text, header_text, header_lines, IsSized, IsHeader, IsLiteral, IsSpelled, HasLine}
 use Rattle.fzn_cert.specs.Stream.{After}
-use Rattle.fzn_cert.specs.Past.{Past, start}
-use Rattle.fzn_cert.specs.Accepted.{HasFault, after}
+use Rattle.fzn_cert.specs.Past.{StepsPast, no_past}
+use Rattle.fzn_cert.specs.Accepted.{HasFault, after_step}
 use Rattle.fzn_cert_reader.specs.Reader.{Progress, lines_read, GivesStep, Ends}
 use Rattle.fzn_cert.specs.Verdict.{Outcome, accepted, refused, lines_of, MayEnd, EndsIn, VerdictFrom, header_of, VerdictOn}
 use Rattle.fzn_cert.proofs.VerdictLaws.{verdict-ends, verdict-step}
@@ -33,7 +33,7 @@ Consumes-split None c x y h = (None, tt, tt)
 Consumes-split (Some p) None x y h = absurd h
 Consumes-split (Some p) (Some q) x y h = (Some (y ++ q), h ∙ append_assoc x y q, refl)
 
-verdict-kept : (model : Model) (version : Version) (past : Past) (count : ℕ) (left rest : Option (List ℕ)) (outcome : Outcome) → Consumes left rest [] → VerdictFrom model version past count rest outcome → VerdictFrom model version past count left outcome
+verdict-kept : (model : Model) (version : Version) (past : StepsPast) (count : ℕ) (left rest : Option (List ℕ)) (outcome : Outcome) → Consumes left rest [] → VerdictFrom model version past count rest outcome → VerdictFrom model version past count left outcome
 verdict-kept model version past count left rest outcome nothing (later, lines, all, (last, taken, ends)) =
     (later, lines, all, (last, Consumes-trans left rest last [] (lines_of later) nothing taken, ends))
 
@@ -49,7 +49,7 @@ pub none_is : {A : Type 0} (a : A) → None ≡ Some a → ⊥
 none_is a h = cc
 
 -- after the first two lines, where this call read them or not
-pub standing-from : (model : Model) (past : Past) (left : Option (List ℕ)) (old new : Option Header) (steps : ℕ) (header : Header) (outcome : Outcome) → new ≡ Some header → HasCounts model header → (IsSome old → new ≡ old) → (old ≡ None → (past ≡ start) × (steps ≡ 0)) → After left (lines_read old new) (λ rest. VerdictFrom model header.version past steps rest outcome) → MatchOption old (VerdictOn model left outcome) (λ h. VerdictFrom model h.version past steps left outcome)
+pub standing-from : (model : Model) (past : StepsPast) (left : Option (List ℕ)) (old new : Option Header) (steps : ℕ) (header : Header) (outcome : Outcome) → new ≡ Some header → HasCounts model header → (IsSome old → new ≡ old) → (old ≡ None → (past ≡ no_past) × (steps ≡ 0)) → After left (lines_read old new) (λ rest. VerdictFrom model header.version past steps rest outcome) → MatchOption old (VerdictOn model left outcome) (λ h. VerdictFrom model h.version past steps left outcome)
 standing-from model past left None None steps header outcome told counts same fresh (rest, taken, verdict) = absurd (none_is header told)
 standing-from model past left None (Some found) steps header outcome told counts same fresh (rest, taken, verdict) =
     let found_is : found ≡ header = some_is found header told in
@@ -69,7 +69,7 @@ standing-from model past left (Some before) (Some found) steps header outcome to
     subst (λ (h : Header). VerdictFrom model h.version past steps left outcome) before_is (verdict-kept model header.version past steps left rest outcome taken verdict)
 
 -- they tell other counts
-pub other-counts : (model : Model) (past : Past) (left : Option (List ℕ)) (old new : Option Header) (steps : ℕ) (header : Header) → new ≡ Some header → IsHeader header → (HasCounts model header → ⊥) → IfSome old (HasCounts model) → (IsSome old → new ≡ old) → After left (lines_read old new) (λ _. Unit {0}) → MatchOption old (VerdictOn model left (refused 2 refusals.Counts)) (λ h. VerdictFrom model h.version past steps left (refused 2 refusals.Counts))
+pub other-counts : (model : Model) (past : StepsPast) (left : Option (List ℕ)) (old new : Option Header) (steps : ℕ) (header : Header) → new ≡ Some header → IsHeader header → (HasCounts model header → ⊥) → IfSome old (HasCounts model) → (IsSome old → new ≡ old) → After left (lines_read old new) (λ _. Unit {0}) → MatchOption old (VerdictOn model left (refused 2 refusals.Counts)) (λ h. VerdictFrom model h.version past steps left (refused 2 refusals.Counts))
 other-counts model past left None None steps header told sized other counts same (rest, taken, _) = absurd (none_is header told)
 other-counts model past left None (Some found) steps header told sized other counts same (rest, taken, _) =
     let text : header_lines found ≡ (version_text header.version ++ 10 ∷ []) ++ (counts_text header.variables header.constraints ++ 10 ∷ []) =
@@ -93,7 +93,7 @@ bounds-spelled version (Solution values) h = tt
 bounds-spelled version (Delete ids) h = tt
 
 -- its line, and its fault
-refused-step : (model : Model) (version : Version) (past : Past) (count : ℕ) (left next : Option (List ℕ)) (step : Step) (refusal : Refusal) → HasLine version count step → Consumes left next (step_line step) → HasFault model past step refusal → EndsIn model version past count left (refused (count + 3) refusal)
+refused-step : (model : Model) (version : Version) (past : StepsPast) (count : ℕ) (left next : Option (List ℕ)) (step : Step) (refusal : Refusal) → HasLine version count step → Consumes left next (step_line step) → HasFault model past step refusal → EndsIn model version past count left (refused (count + 3) refusal)
 refused-step model version past count left next (Infer c rule clause) refusals.NoSuchVariable line taken f = (refl, (Infer c rule clause, line, (next, taken, tt), f))
 refused-step model version past count left next (Infer c rule clause) refusals.NoSuchConstraint line taken f = (refl, (Infer c rule clause, line, (next, taken, tt), f))
 refused-step model version past count left next (Infer c rule clause) refusals.RuleFails line taken f = (refl, (Infer c rule clause, line, (next, taken, tt), f))
@@ -109,13 +109,13 @@ refused-step model version past count left next (Solution values) _ line taken f
 refused-step model version past count left next (Delete ids) refusals.NoSuchClause line taken f = (refl, (Delete ids, line, (next, taken, tt), f))
 refused-step model version past count left next (Delete ids) _ line taken f = absurd f
 
-standing-told : (model : Model) (past : Past) (now : Progress) (header : Header) (steps : ℕ) (outcome : Outcome) → now.header ≡ Some header → now.steps ≡ steps → ComesTo model past now outcome → VerdictFrom model header.version past steps now.left outcome
+standing-told : (model : Model) (past : StepsPast) (now : Progress) (header : Header) (steps : ℕ) (outcome : Outcome) → now.header ≡ Some header → now.steps ≡ steps → ComesTo model past now outcome → VerdictFrom model header.version past steps now.left outcome
 standing-told model past now header steps outcome told counted h =
     subst (λ n. VerdictFrom model header.version past n now.left outcome) counted
     (subst (λ o. MatchOption o (VerdictOn model now.left outcome) (λ (k : Header). VerdictFrom model k.version past now.steps now.left outcome)) told h)
 
 -- the reader gives a step
-pub gives-offers : (model : Model) (past : Past) (old new : Progress) (step : Step) → IsMidway model past old → (IsSome old.header → new.header ≡ old.header) → IfSome new.header (HasCounts model) → GivesStep old new step → Offers model past old new step
+pub gives-offers : (model : Model) (past : StepsPast) (old new : Progress) (step : Step) → IsMidway model past old → (IsSome old.header → new.header ≡ old.header) → IfSome new.header (HasCounts model) → GivesStep old new step → Offers model past old new step
 gives-offers model past old new step midway same counts gives =
     let header = gives.header in
     let fits : HasCounts model header = subst (λ o. IfSome o (HasCounts model)) gives.told counts in
@@ -134,7 +134,7 @@ gives-offers model past old new step midway same counts gives =
             split.0,
             split.1,
             verdict-step model header.version past old.steps split.0 new.left step outcome gives.has_line is_accepted split.2
-                (standing-told model (after model past step) new header (old.steps + 1) outcome gives.told gives.counted h),
+                (standing-told model (after_step model past step) new header (old.steps + 1) outcome gives.told gives.counted h),
           );
       refuses = λ refusal f.
           standing-from model past old.left old.header new.header old.steps header (refused (old.steps + 3) refusal) gives.told fits same midway.fresh (
@@ -151,7 +151,7 @@ may : (closed is_refuted : Bool) → may_end (Some closed) is_refuted ≡ true �
 may true is_refuted h e = h
 may false is_refuted h e = absurd (false≢true e)
 
-pub ends-accepted : (model : Model) (past : Past) (old new : Progress) → IsMidway model past old → (IsSome old.header → new.header ≡ old.header) → IfSome new.header (HasCounts model) → Ends old new → may_end new.closing past.refuted ≡ true → Accepts model past old new
+pub ends-accepted : (model : Model) (past : StepsPast) (old new : Progress) → IsMidway model past old → (IsSome old.header → new.header ≡ old.header) → IfSome new.header (HasCounts model) → Ends old new → may_end new.closing past.refuted ≡ true → Accepts model past old new
 ends-accepted model past old new midway same counts ends may_be =
     let header = ends.header in
     let fits : HasCounts model header = subst (λ o. IfSome o (HasCounts model)) ends.told counts in
@@ -168,7 +168,7 @@ may_not : (closed is_refuted : Bool) → may_end (Some closed) is_refuted ≡ fa
 may_not true is_refuted h = (refl, h)
 may_not false is_refuted h = absurd (true≢false h)
 
-pub ends-not_closed : (model : Model) (past : Past) (old new : Progress) → IsMidway model past old → (IsSome old.header → new.header ≡ old.header) → IfSome new.header (HasCounts model) → Ends old new → may_end new.closing past.refuted ≡ false → ComesTo model past old (refused (old.steps + 3) refusals.NotClosed)
+pub ends-not_closed : (model : Model) (past : StepsPast) (old new : Progress) → IsMidway model past old → (IsSome old.header → new.header ≡ old.header) → IfSome new.header (HasCounts model) → Ends old new → may_end new.closing past.refuted ≡ false → ComesTo model past old (refused (old.steps + 3) refusals.NotClosed)
 ends-not_closed model past old new midway same counts ends may_not_be =
     let header = ends.header in
     let fits : HasCounts model header = subst (λ o. IfSome o (HasCounts model)) ends.told counts in

@@ -16,8 +16,8 @@ use Rattle.fzn_cert.specs.declared.step.Version.TheVariants.{One, Two}
 use Rattle.fzn_cert.specs.Spelling.{step_text, step_line, end_line, version_text, counts_text, header_lines, IsSpelled, HasLine, IsSized}
 use Rattle.fzn_cert.specs.Stream.{BeginsWithLine, IsMisspelled}
 use Rattle.fzn_cert.specs.Reading.{step_of_words, step_of}
-use Rattle.fzn_cert.specs.Past.{Past, start}
-use Rattle.fzn_cert.specs.Accepted.{AllAcceptedAfter, after}
+use Rattle.fzn_cert.specs.Past.{StepsPast, no_past}
+use Rattle.fzn_cert.specs.Accepted.{AllAcceptedAfter, after_step}
 use Rattle.fzn_cert.specs.Verdict.{Outcome, accepted, refused, lines_of, AllHaveLines, IsRefusedNext, EndsIn, VerdictFrom, header_of, IsFirstRefused, IsSecondRefused, VerdictOn, Verdict}
 use Rattle.fzn_cert.proofs.CallerLemmas.{and_true, text_again}
 use Rattle.fzn_cert.proofs.LineLaws.{is_inside, IsInside, inside_word, plain_decimal, text_is_inside, same_lines, one_line_lem}
@@ -106,7 +106,7 @@ module _ (count : ℕ) (closed : Bool) where
 
   -- ---- the end
 
-  module _ (model : Model) (v w : Version) (past : Past) (all : List Step) (bytes : List ℕ) where
+  module _ (model : Model) (v w : Version) (past : StepsPast) (all : List Step) (bytes : List ℕ) where
     same_step_fault : (a : Refusal) (step : Step) → AllHaveLines One count all → bytes ≡ lines_of all ++ end_line closed → HasLine v count step → (rest : Option (List ℕ)) → Consumes (Some bytes) rest (step_line step) → HasLine w count step
     same_step_fault a step spelled is has None taken = absurd taken
     same_step_fault a step spelled is has (Some rest) taken = any_line w count step (step_is v all step rest has spelled (sym taken ∙ is)).has
@@ -133,8 +133,8 @@ module _ (count : ℕ) (closed : Bool) where
 -- ---- step after step
 
 module _ (model : Model) (v w : Version) (closed : Bool) where
-  same_from : (past : Past) (count : ℕ) (all : List Step) (bytes last : List ℕ) (x : Outcome) (later : List Step) → AllHaveLines One count all → bytes ≡ lines_of all ++ end_line closed
-      → AllHaveLines v count later → AllAcceptedAfter model past later → bytes ≡ lines_of later ++ last → EndsIn model v (fold (after model) past later) (count + length later) (Some last) x → VerdictFrom model w past count (Some bytes) x
+  same_from : (past : StepsPast) (count : ℕ) (all : List Step) (bytes last : List ℕ) (x : Outcome) (later : List Step) → AllHaveLines One count all → bytes ≡ lines_of all ++ end_line closed
+      → AllHaveLines v count later → AllAcceptedAfter model past later → bytes ≡ lines_of later ++ last → EndsIn model v (fold (after_step model) past later) (count + length later) (Some last) x → VerdictFrom model w past count (Some bytes) x
   same_from past count all bytes last x [] spelled is lines all_accepted e ends =
       verdict-ends model w past count (Some bytes) x
       (same_end count closed model v w past all bytes x spelled is
@@ -144,13 +144,13 @@ module _ (model : Model) (v w : Version) (closed : Bool) where
       let front : bytes ≡ step_line step ++ rest = e ∙ append_assoc (step_line step) (lines_of later) last in
       let next = step_is count closed v all step rest lines.0 spelled (sym front ∙ is) in
       verdict-step model w past count (Some bytes) (Some rest) step x (any_line w count step next.has) all_accepted.0 front
-      (same_from (after model past step) (count + 1) next.more rest last x later next.spelled next.is lines.1 all_accepted.1 refl
-      (subst (λ (n : ℕ). EndsIn model v (fold (after model) (after model past step) later) n (Some last) x) (shift count (length later)) ends))
+      (same_from (after_step model past step) (count + 1) next.more rest last x later next.spelled next.is lines.1 all_accepted.1 refl
+      (subst (λ (n : ℕ). EndsIn model v (fold (after_step model) (after_step model past step) later) n (Some last) x) (shift count (length later)) ends))
     where
       shift : (m n : ℕ) → m + suc n ≡ m + 1 + n
       shift m n = omega arith
 
-  same_verdict_from : (past : Past) (count : ℕ) (all : List Step) (bytes : List ℕ) (x : Outcome) → AllHaveLines One count all → bytes ≡ lines_of all ++ end_line closed → VerdictFrom model v past count (Some bytes) x → VerdictFrom model w past count (Some bytes) x
+  same_verdict_from : (past : StepsPast) (count : ℕ) (all : List Step) (bytes : List ℕ) (x : Outcome) → AllHaveLines One count all → bytes ≡ lines_of all ++ end_line closed → VerdictFrom model v past count (Some bytes) x → VerdictFrom model w past count (Some bytes) x
   same_verdict_from past count all bytes x spelled is (later, lines, all_accepted, (None, taken, ends)) = absurd taken
   same_verdict_from past count all bytes x spelled is (later, lines, all_accepted, (Some last, taken, ends)) = same_from past count all bytes last x later spelled is lines all_accepted taken ends
 
@@ -240,11 +240,11 @@ header_is model v rest =
 module _ (v w : Version) (n m : ℕ) (steps : List Step) (closed : Bool) (body : List ℕ) (hn : IsSized n) (hm : IsSized m) (spelled : AllHaveLines One 0 steps)
     (text : body ≡ second_line n m ++ (lines_of steps ++ end_line closed)) (model : Model) where
   same_steps : (x : Outcome) (u : Version) (hv : IsSized (length model.vars)) (hc : IsSized (length model.constraints)) (rest : List ℕ) → first_line v ++ body ≡ header_lines (header_of model u) ++ rest
-      → VerdictFrom model u start 0 (Some rest) x → (first_line w ++ body ≡ header_lines (header_of model w) ++ rest) × VerdictFrom model w start 0 (Some rest) x
+      → VerdictFrom model u no_past 0 (Some rest) x → (first_line w ++ body ≡ header_lines (header_of model w) ++ rest) × VerdictFrom model w no_past 0 (Some rest) x
   same_steps x u hv hc rest taken h =
       let behind : body ≡ second_line (length model.vars) (length model.constraints) ++ rest = after_first v u _ _ (taken ∙ header_is model u rest) in
       let lines : rest ≡ lines_of steps ++ end_line closed = sym (after_second n m (length model.vars) (length model.constraints) (lines_of steps ++ end_line closed) rest hn hm hv hc (sym text ∙ behind)) in
-      (ap (λ (t : List ℕ). first_line w ++ t) behind ∙ sym (header_is model w rest), same_verdict_from model u w closed start 0 steps rest x spelled lines h)
+      (ap (λ (t : List ℕ). first_line w ++ t) behind ∙ sym (header_is model w rest), same_verdict_from model u w closed no_past 0 steps rest x spelled lines h)
 
   same_one_way : (x : Outcome) → VerdictOn model (Some (first_line v ++ body)) x → VerdictOn model (Some (first_line w ++ body)) x
   same_one_way (accepted found told) (inl h) = absurd h

@@ -6,8 +6,8 @@ use Rattle.fzn_cert.specs.declared.limits.TheConstants.{LAST_STEP}
 use Rattle.fzn_cert.specs.declared.refusal.Refusal.{Refusal}
 use Rattle.fzn_cert.specs.declared.step.Step.{Step}
 use Rattle.fzn_cert.specs.Spelling.{IsHeader}
-use Rattle.fzn_cert.specs.Past.{Past, start}
-use Rattle.fzn_cert.specs.Accepted.{IsAccepted, HasFault, after}
+use Rattle.fzn_cert.specs.Past.{StepsPast, no_past}
+use Rattle.fzn_cert.specs.Accepted.{IsAccepted, HasFault, after_step}
 use Rattle.fzn_cert_reader.specs.Reader.{Progress, MayGoOn, IsAtStart}
 use Rattle.fzn_cert.specs.Verdict.{Outcome, accepted, refused, MayEnd, VerdictOn, VerdictFrom}
 use Rattle.fzn_checker.specs.declared.fault.CheckFault.{CheckFault}
@@ -34,25 +34,25 @@ abbrev pub HasCounts : Model → Header → Type 0
 HasCounts model header = (header.variables ≡ length model.vars) × (header.constraints ≡ length model.constraints) × IsHeader header
 
 -- what the lines that are still to be read come to
-abbrev pub ComesTo : Model → Past → Progress → Outcome → Type 0
+abbrev pub ComesTo : Model → StepsPast → Progress → Outcome → Type 0
 ComesTo model past now outcome =
     MatchOption now.header (VerdictOn model now.left outcome) (λ header. VerdictFrom model header.version past now.steps now.left outcome)
 
 -- between two lines: nothing was read, or the first two lines and the lines of steps
-pub record IsMidway (model : Model) (past : Past) (now : Progress) : Type 0 where
+pub record IsMidway (model : Model) (past : StepsPast) (now : Progress) : Type 0 where
   pub reading : MayGoOn now
   pub counts : IfSome now.header (HasCounts model)
-  pub fresh : now.header ≡ None → (past ≡ start) × (now.steps ≡ 0)
+  pub fresh : now.header ≡ None → (past ≡ no_past) × (now.steps ≡ 0)
 
 -- the next line is that of a step: what comes after it decides where it is accepted
-pub record Offers (model : Model) (past : Past) (old new : Progress) (step : Step) : Type 0 where
+pub record Offers (model : Model) (past : StepsPast) (old new : Progress) (step : Step) : Type 0 where
   pub bounds : HasLitsInRange step
   pub counted : new.steps ≡ old.steps + 1
   pub below : old.steps < LAST_STEP
-  pub midway : IsMidway model (after model past step) new
-  pub goes_on : IsAccepted model past step → (outcome : Outcome) → ComesTo model (after model past step) new outcome → ComesTo model past old outcome
+  pub midway : IsMidway model (after_step model past step) new
+  pub goes_on : IsAccepted model past step → (outcome : Outcome) → ComesTo model (after_step model past step) new outcome → ComesTo model past old outcome
   pub refuses : (refusal : Refusal) → HasFault model past step refusal → ComesTo model past old (refused (old.steps + 3) refusal)
 
 -- the next line is an ending that is right, and nothing follows it
-abbrev pub Accepts : Model → Past → Progress → Progress → Type 0
+abbrev pub Accepts : Model → StepsPast → Progress → Progress → Type 0
 Accepts model past old new = (closed : Bool) × (new.closing ≡ Some closed) × MayEnd past closed × ComesTo model past old (accepted past.solutions closed)

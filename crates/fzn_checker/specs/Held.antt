@@ -4,8 +4,8 @@ use Rattle.fzn_meaning.specs.declared.model.Model.{Model}
 use Rattle.fzn_cert.specs.declared.step.Step.{Step}
 use Rattle.fzn_cert.specs.declared.step.Version.{Version}
 use Rattle.fzn_cert.specs.Spelling.{end_line, header_lines, IsHeader}
-use Rattle.fzn_cert.specs.Past.{Past}
-use Rattle.fzn_cert.specs.Accepted.{AllAccepted, past_of}
+use Rattle.fzn_cert.specs.Past.{StepsPast}
+use Rattle.fzn_cert.specs.Accepted.{AllAccepted, past_after}
 use Rattle.fzn_cert.specs.Verdict.{lines_of, AllHaveLines, MayEnd, header_of}
 use Rattle.fzn_checker.specs.declared.hold.Held.{Held}
 use Rattle.fzn_checker.specs.declared.hold.Taken.{Taken}
@@ -13,7 +13,7 @@ use Rattle.fzn_checker.specs.Given.{AreGiven}
 use Rattle.fzn_checker.specs.Judged.{IsJudgedOn}
 
 -- what the steps leave for later ones
-abbrev pub past_in : Taken → Past
+abbrev pub past_in : Taken → StepsPast
 past_in taken = taken.history
 
 -- the next step can be judged
@@ -24,14 +24,14 @@ pub record MayTake (model : Model) (taken : Taken) : Type 0 where
 -- these steps are accepted one after the other, and the next one can be judged
 pub record HasTaken (model : Model) (steps : List Step) (taken : Taken) : Type 0 where
   pub ready : MayTake model taken
-  pub past : taken.history ≡ past_of model steps
+  pub past : taken.history ≡ past_after model steps
   pub accepted : AllAccepted model steps
 
 -- the steps are accepted one after the other, these are their solutions, and they may end so
 pub record Stands (model : Model) (held : Held) : Type 0 where
   pub accepted : AllAccepted model held.steps
-  pub found : held.solutions.items ≡ (past_of model held.steps).solutions
-  pub may_end : MayEnd (past_of model held.steps) held.closed
+  pub found : held.solutions.items ≡ (past_after model held.steps).solutions
+  pub may_end : MayEnd (past_after model held.steps) held.closed
 
 -- the bytes of a certificate with these steps and this ending
 abbrev pub certificate_of : Model → Version → List Step → Bool → List ℕ

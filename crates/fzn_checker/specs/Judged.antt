@@ -11,11 +11,11 @@ use Rattle.fzn_cert.specs.declared.step.Step.{Step}
 use Rattle.fzn_cert.specs.declared.step.Step.TheVariants.{Infer, Resolve, Solution, Delete}
 use Rattle.fzn_cert.specs.declared.refusal.Refusal.{Refusal}
 use Rattle.fzn_cert.specs.declared.refusal.Refusal.TheVariants.{NotUnit, NoConflict}
-use Rattle.fzn_cert.specs.Past.{Past}
+use Rattle.fzn_cert.specs.Past.{StepsPast}
 use Rattle.fzn_cert.specs.Sound.{IsSound}
 
 -- What a step is judged on: a model, what sound steps left, the declared sets, and whether one of them is empty.
-pub record IsJudgedOn (model : Model) (past : Past) (sets : Narrowed) (has_empty : Bool) : Type 0 where
+pub record IsJudgedOn (model : Model) (past : StepsPast) (sets : Narrowed) (has_empty : Bool) : Type 0 where
   pub well_formed : IsWellFormed model
   pub sound : IsSound model past
   pub fresh : sets ≡ start (declared_sets model.vars)

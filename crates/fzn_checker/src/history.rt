@@ -2,7 +2,7 @@
 ghost use Rattle.std.specs.Prelude.{◌≡◌, ◌≤◌, ◌↔◌, IsTrue, OnOk, length};
 ghost use Rattle.std.specs.List.{All};
 ghost use Rattle.std.specs.Option.{option_copied};
-ghost use Rattle.fzn_cert.specs.Past.{Past, start, clause_held, IsHeld, without, after_clause, after_solution, after_deletion};
+ghost use Rattle.fzn_cert.specs.Past.{StepsPast, no_past, clause_held, IsClauseHeld, without, after_clause, after_solution, after_deletion};
 
 use fzn_domain::{Lit, Memory};
 use fzn_list::Items;
@@ -18,7 +18,7 @@ pub struct History {
 }
 
 impl Model for History {
-    ghost Value = { Past };
+    ghost Value = { StepsPast };
 
     ghost view = { λ h. record { clauses = h.clauses.items; solutions = h.solutions.items; refuted = h.refuted } };
 }
@@ -26,7 +26,7 @@ impl Model for History {
 impl History {
     /// Before the first step.
     pub fn new(alloc: Global) -> History
-        ensures { result ≡ start }
+        ensures { result ≡ no_past }
     {
         History {
             clauses: Vec::new(alloc),
@@ -46,7 +46,7 @@ impl History {
     }
 
     pub fn is_held(&self, id: u64) -> bool
-        ensures { IsTrue result ↔ IsHeld self.now id }
+        ensures { IsTrue result ↔ IsClauseHeld self.now id }
     {
         self.clause(id).is_some()
     }
@@ -93,7 +93,7 @@ impl History {
 
     /// Gives up the clauses with these numbers.
     pub fn delete(&mut self, ids: &[u64]) -> Result<(), Memory>
-        requires { All (IsHeld self.old) ids.now }
+        requires { All (IsClauseHeld self.old) ids.now }
         ensures { OnOk result (self.new ≡ after_deletion self.old ids.now) }
     {
         forget(&mut self.clauses, ids);

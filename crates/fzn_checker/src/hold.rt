@@ -4,7 +4,7 @@ ghost use Rattle.fzn_meaning.specs.WellFormed.{IsWellFormed};
 ghost use Rattle.fzn_cert.specs.declared.step.Step.{Step};
 ghost use Rattle.fzn_cert.specs.declared.step.Version.TheVariants.{Two};
 ghost use Rattle.fzn_cert.specs.Spelling.{IsSpelled};
-ghost use Rattle.fzn_cert.specs.Accepted.{IsJudged, after};
+ghost use Rattle.fzn_cert.specs.Accepted.{IsJudged, after_step};
 ghost use Rattle.fzn_cert.specs.Verdict.{VerdictOn};
 ghost use Rattle.fzn_cert_reader.specs.Reader.{progress, reader_below, GivesStep, Ends};
 ghost use Rattle.fzn_checker.specs.Checked.{IsUnread, IsFaultWhere, IsReadDue, HasCounts, ComesTo, IsMidway, Offers, Accepts};
@@ -100,7 +100,7 @@ impl Taken {
         ensures judged { IfOk result (IsJudged model.now (past_in self.old) step) }
         ensures ready { IfOk result (λ fault. fault ≡ None → MayTake model.now self.new) }
         ensures taken { IfOk result (λ fault. fault ≡ None → (steps : List Step) → HasTaken model.now steps self.old → HasTaken model.now (steps ++ step ∷ []) self.new) }
-        ensures after { IfOk result (λ fault. fault ≡ None → past_in self.new ≡ after model.now (past_in self.old) step) }
+        ensures after { IfOk result (λ fault. fault ≡ None → past_in self.new ≡ after_step model.now (past_in self.old) step) }
     {
         let fault = fault_of(
             alloc,

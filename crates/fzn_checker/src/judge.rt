@@ -7,7 +7,7 @@ ghost use Rattle.fzn_meaning.specs.Solutions.{declared_sets};
 ghost use Rattle.fzn_meaning.specs.WellFormed.{IsWellFormed};
 ghost use Rattle.fzn_sets.specs.Sets.{start};
 ghost use Rattle.fzn_cert.specs.declared.step.Step.TheVariants.{Infer, Resolve, Solution, Delete};
-ghost use Rattle.fzn_cert.specs.Past.{Past};
+ghost use Rattle.fzn_cert.specs.Past.{StepsPast};
 ghost use Rattle.fzn_cert.specs.Accepted.{IsJudged};
 ghost use Rattle.fzn_cert.specs.Sound.{IsSound};
 ghost use Rattle.fzn_checker.specs.Given.{AreGiven};
@@ -94,7 +94,7 @@ fn judge_infer(
     requires sets { sets.old ≡ start (declared_sets model.now.vars) }
     requires empty { has_empty ≡ is_some_empty (declared_sets model.now.vars) }
     requires bounds { All IsBound clause.now }
-    ensures judged { IfOk result (λ fault. (past : Past) → IsJudged model.now past (Infer constraint rule.now clause.now) fault) }
+    ensures judged { IfOk result (λ fault. (past : StepsPast) → IsJudged model.now past (Infer constraint rule.now clause.now) fault) }
     ensures declared { sets.new.declared ≡ sets.old.declared }
 {
     if !has_variables(model.vars.len(), clause) {

@@ -1,7 +1,7 @@
 // The steps of a certificate, taken one after another.
 ghost use Rattle.std.specs.Prelude.{◌≡◌, None, IfOk, OnOk};
 ghost use Rattle.fzn_meaning.specs.WellFormed.{IsWellFormed};
-ghost use Rattle.fzn_cert.specs.Accepted.{IsAccepted, IsJudged, after};
+ghost use Rattle.fzn_cert.specs.Accepted.{IsAccepted, IsJudged, after_step};
 ghost use Rattle.fzn_cert.specs.Sound.{IsSound};
 ghost use Rattle.fzn_checker.specs.Given.{AreGiven};
 ghost use Rattle.fzn_checker.specs.Judged.{IsJudgedOn, HasLitsInRange};
@@ -31,7 +31,7 @@ pub fn take_step(
     requires given { AreGiven model.now history.old.solutions given.old }
     requires bounds { HasLitsInRange step }
     ensures judged { IfOk result (IsJudged model.now history.old step) }
-    ensures after { IfOk result (λ fault. fault ≡ None → history.new ≡ after model.now history.old step) }
+    ensures after { IfOk result (λ fault. fault ≡ None → history.new ≡ after_step model.now history.old step) }
     ensures sound { IfOk result (λ fault. fault ≡ None → IsSound model.now history.new) }
     ensures given { IfOk result (λ fault. fault ≡ None → AreGiven model.now history.new.solutions given.new) }
     ensures same { sets.new ≡ sets.old }
@@ -54,7 +54,7 @@ pub fn accept(
     requires model { IsWellFormed model.now }
     requires accepted { IsAccepted model.now history.old step }
     requires given { AreGiven model.now history.old.solutions given.old }
-    ensures after { OnOk result (history.new ≡ after model.now history.old step) }
+    ensures after { OnOk result (history.new ≡ after_step model.now history.old step) }
     ensures given { OnOk result (AreGiven model.now history.new.solutions given.new) }
 {
     match step {

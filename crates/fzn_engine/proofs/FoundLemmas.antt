@@ -11,7 +11,7 @@ use Rattle.fzn_meaning.specs.WellFormed.{IsWellFormed}
 use Rattle.fzn_meaning.proofs.CutLemmas.{cut_of-variables}
 use Rattle.fzn_cert.specs.declared.step.Step.{Step}
 use Rattle.fzn_cert.specs.declared.step.Step.TheVariants.{Solution}
-use Rattle.fzn_cert.specs.Accepted.{IsAccepted, past_of}
+use Rattle.fzn_cert.specs.Accepted.{IsAccepted, past_after}
 use Rattle.fzn_trail.specs.declared.trail.ClauseId.{ClauseId}
 use Rattle.fzn_trail.specs.Levels.{Levels}
 use Rattle.fzn_clauses.specs.Held.{AllHeld}
@@ -58,19 +58,19 @@ module _ {model : Model} {learn : Learn} {stock : Stock} {steps : List Step} {tr
         subst O (sym sizes) (cut_of-variables model values good)
 
     -- the cut of an accepted solution is held, and flagged
-    pub solution-state : (number : ℕ) (flags : List Bool) (id : ClauseId) → id.0 ≡ length stock.held → is_cut flags id ≡ true → ((other : ClauseId) → other.0 ≢ id.0 → is_cut flags other ≡ is_cut stock.cuts other) → number ≡ length steps + 1 → IsAccepted model (past_of model steps) (Solution values) → StateOf model learn (with_cuts flags (with_held (cut_of model values) number stock)) (steps ++ Solution values ∷ []) trail nodes
+    pub solution-state : (number : ℕ) (flags : List Bool) (id : ClauseId) → id.0 ≡ length stock.held → is_cut flags id ≡ true → ((other : ClauseId) → other.0 ≢ id.0 → is_cut flags other ≡ is_cut stock.cuts other) → number ≡ length steps + 1 → IsAccepted model (past_after model steps) (Solution values) → StateOf model learn (with_cuts flags (with_held (cut_of model values) number stock)) (steps ++ Solution values ∷ []) trail nodes
     solution-state number flags id newest flagged others next accepted =
         State-found h values number flags id newest flagged others next accepted cut-over (IsReasoned-grown (known_in stock) (Some (cut_of model values) ∷ []) trail h.core.reasoned)
 
   module _ (good : IsWellFormed model) (values : List ℤ) (fixed : AllFixed trail.sets) (within : IsWithin trail.sets values) where
     -- the values are an accepted step
-    pub solution-accepted : AllHeld (λ clause. possible_in trail.sets clause ≢ []) stock.held → All (λ constraint. Meets constraint values) model.constraints → IsAccepted model (past_of model steps) (Solution values)
+    pub solution-accepted : AllHeld (λ clause. possible_in trail.sets clause ≢ []) stock.held → All (λ constraint. Meets constraint values) model.constraints → IsAccepted model (past_after model steps) (Solution values)
     solution-accepted quiet meets =
         let same = State-length h in
         let D : List IntSet → Type 0 = λ d. IsWithin d values in
         let H : ℕ → Type 0 = λ n. AllHeld (IsClauseOver n) stock.held in (
           (subst D h.core.declared (IsWithin-larger trail.sets trail.declared values same (State-within h) within), meets),
-          passes-held trail.sets values fixed within model stock.held stock.cuts (past_of model steps).solutions (subst H (sym same) h.core.held_over) quiet h.core.cuts_held,
+          passes-held trail.sets values fixed within model stock.held stock.cuts (past_after model steps).solutions (subst H (sym same) h.core.held_over) quiet h.core.cuts_held,
         )
 
     -- the cut is false there

@@ -11,7 +11,7 @@ use Rattle.fzn_meaning.specs.declared.model.Goal.TheVariants.{Satisfy, Minimize,
 use Rattle.fzn_meaning.specs.declared.model.Model.{Model}
 use Rattle.fzn_meaning.specs.Solutions.{PassesCuts, cut_of}
 use Rattle.fzn_cert.specs.declared.step.Step.{Step}
-use Rattle.fzn_cert.specs.Accepted.{past_of}
+use Rattle.fzn_cert.specs.Accepted.{past_after}
 use Rattle.fzn_trail.specs.declared.trail.ClauseId.{ClauseId}
 use Rattle.fzn_trail.specs.Levels.{Levels}
 use Rattle.fzn_clauses.specs.Held.{AllHeld}
@@ -37,12 +37,12 @@ module _ {model : Model} {solver : Solver} {steps : List Step} (h : IsAfter mode
       subst O sizes h.state.core.held_over
 
   -- the cut of each solution is held, so the values make it true
-  pub cuts-passed : (values : List ℤ) → AreCutsTrue (held_by solver.clauses) solver.cuts values → PassesCuts model (past_of model steps).solutions values
+  pub cuts-passed : (values : List ℤ) → AreCutsTrue (held_by solver.clauses) solver.cuts values → PassesCuts model (past_after model steps).solutions values
   cuts-passed values here =
       All-weaker (λ a. IsHeldCut (held_by solver.clauses) solver.cuts (cut_of model a)) (λ a. is_clause_true values (cut_of model a) ≡ true)
       (λ a cut.
       let T : List Lit → Type 0 = λ clause. is_clause_true values clause ≡ true in
-      subst T (ap (λ (o : Option (List Lit)). unwrap_or o []) cut.2) (here cut.0 cut.1 (subst IsSome (sym cut.2) refl))) (past_of model steps).solutions h.state.core.cuts_held
+      subst T (ap (λ (o : Option (List Lit)). unwrap_or o []) cut.2) (here cut.0 cut.1 (subst IsSome (sym cut.2) refl))) (past_after model steps).solutions h.state.core.cuts_held
 
   -- nothing was taken
   pub none-taken : (limits : Limits) → IsWithinLimits model limits solver → HasTakenHints model limits solver solver steps

@@ -11,8 +11,8 @@ use Rattle.fzn_meaning.specs.WellFormed.{IsWellFormed}
 use Rattle.fzn_cert.specs.declared.step.Step.{Step}
 use Rattle.fzn_cert.specs.declared.step.Step.TheVariants.{Resolve, Solution}
 use Rattle.fzn_cert.specs.declared.step.Version.TheVariants.{Two}
-use Rattle.fzn_cert.specs.Past.{start, IsHeld}
-use Rattle.fzn_cert.specs.Accepted.{IsAccepted, AllAccepted, past_of}
+use Rattle.fzn_cert.specs.Past.{no_past, IsClauseHeld}
+use Rattle.fzn_cert.specs.Accepted.{IsAccepted, AllAccepted, past_after}
 use Rattle.fzn_cert.proofs.SoundLaws.{accepted-proper, closed-exhausted}
 use Rattle.fzn_cert.specs.Spelling.{IsSpelled}
 use Rattle.fzn_trail.specs.declared.trail.ClauseId.{ClauseId}
@@ -149,7 +149,7 @@ solution-limit {model = model} limits old {new = new} {steps = steps} state tall
 -- ---- a solution
 
 -- one that passes the cuts of those before it
-module _ {model : Model} (good : IsWellFormed model) {old : Solver} {before : List Step} (h : IsAfter model old before) {values : List ℤ} (accepted : IsAccepted model (past_of model before) (Solution values)) where
+module _ {model : Model} (good : IsWellFormed model) {old : Solver} {before : List Step} (h : IsAfter model old before) {values : List ℤ} (accepted : IsAccepted model (past_after model before) (Solution values)) where
   pub written-limits : All IsInLimits values
   written-limits = values-limited model values good accepted.0.0
 
@@ -183,7 +183,7 @@ module _ {model : Model} (good : IsWellFormed model) {old : Solver} {before : Li
 
 -- that of the fixed variables
 module _ {model : Model} (good : IsWellFormed model) {old : Solver} {before : List Step} (h : IsAfter model old before) (complete : IsComplete model old) {values : List ℤ} (within : IsWithin old.trail.sets values) where
-  pub record-accepted : IsAccepted model (past_of model before) (Solution values)
+  pub record-accepted : IsAccepted model (past_after model before) (Solution values)
   record-accepted = solution-accepted h.state good values complete.fixed within complete.quiet (complete.meets complete.fixed values within)
 
   -- its cut is false
@@ -201,8 +201,8 @@ module _ {model : Model} (good : IsWellFormed model) {old : Solver} {before : Li
 -- ---- an empty declared set
 
 -- where a declared set is empty the empty clause is accepted at once
-pub empty-accepted : (model : Model) → is_some_empty (declared_sets model.vars) ≡ true → IsAccepted model start (Resolve [] [])
-empty-accepted model empty = (All-nil (λ (lit : Lit). IsVariable (length model.vars) lit.var), All-nil (IsHeld start), inl empty)
+pub empty-accepted : (model : Model) → is_some_empty (declared_sets model.vars) ≡ true → IsAccepted model no_past (Resolve [] [])
+empty-accepted model empty = (All-nil (λ (lit : Lit). IsVariable (length model.vars) lit.var), All-nil (IsClauseHeld no_past), inl empty)
 
 pub empty-ended : (model : Model) (learn : Learn) (limits : Limits) → is_some_empty (declared_sets model.vars) ≡ true → (now : List Step) → now ≡ Resolve [] [] ∷ [] → IsEnded model learn limits now 0 Unsatisfiable × (count model now ≡ 0)
 empty-ended model learn limits empty now is =
@@ -230,7 +230,7 @@ never-limited model learn limits steps nodes Unsatisfiable h in_plain enough = �
 never-limited model learn limits steps nodes NodeLimit h in_plain enough = λ e. let reached = h.truly.0 in let fewer = h.truly.1 in_plain in absurd (omega arith)
 never-limited model learn limits steps nodes SolutionLimit h in_plain enough = λ e. cc
 
-exhausted-if : (model : Model) (learn : Learn) (limits : Limits) (steps : List Step) (nodes : ℕ) (ending : Ending) → IsWellFormed model → IsEnded model learn limits steps nodes ending → is_closed ending ≡ true → IsExhausted model (past_of model steps).solutions
+exhausted-if : (model : Model) (learn : Learn) (limits : Limits) (steps : List Step) (nodes : ℕ) (ending : Ending) → IsWellFormed model → IsEnded model learn limits steps nodes ending → is_closed ending ≡ true → IsExhausted model (past_after model steps).solutions
 exhausted-if model learn limits steps nodes Complete good h closed = closed-exhausted model steps good h.certified.accepted h.truly.0
 exhausted-if model learn limits steps nodes Unsatisfiable good h closed = closed-exhausted model steps good h.certified.accepted h.truly.0
 exhausted-if model learn limits steps nodes NodeLimit good h closed = cc

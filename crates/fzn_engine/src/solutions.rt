@@ -3,7 +3,7 @@ ghost use Rattle.std.specs.Prelude.{◌≡◌, ◌+◌, ◌<◌, IfOk, MatchBool
 ghost use Rattle.fzn_meaning.specs.declared.model.Model.{Model};
 ghost use Rattle.fzn_meaning.specs.Solutions.{IsSolution, PassesCuts};
 ghost use Rattle.fzn_cert.specs.declared.step.Step.{Step};
-ghost use Rattle.fzn_cert.specs.Accepted.{past_of};
+ghost use Rattle.fzn_cert.specs.Accepted.{past_after};
 ghost use Rattle.fzn_engine.specs.Outcome.{IsReached};
 ghost use Rattle.fzn_engine.specs.Loop.{HasWritten, IsRecorded, IsComplete};
 ghost use Rattle.fzn_state.specs.Search.{IsReady, IsLeft};
@@ -26,7 +26,7 @@ pub(crate) fn write_solution<S: Sink>(
 ) -> Result<ClauseId, Fault>
     requires ready { IsReady model.now solver.old (S.written sink.old) (S.keeps model.now sink.old) }
     requires solution { IsSolution model.now values }
-    requires passes { PassesCuts model.now (past_of model.now (S.written sink.old)).solutions values }
+    requires passes { PassesCuts model.now (past_after model.now (S.written sink.old)).solutions values }
     ensures written { IfOk result (HasWritten model.now values solver.old solver.new (S.written sink.new)) }
     ensures left { IsLeft model.now (S.written sink.new) (S.keeps model.now sink.new) (S.origin sink.new ≡ S.origin sink.old) }
 {

@@ -5,7 +5,7 @@ use Rattle.fzn_meaning.specs.declared.model.Model.{Model}
 use Rattle.fzn_meaning.specs.Meaning.{Meets}
 use Rattle.fzn_cert.specs.declared.step.Step.TheVariants.{Infer}
 use Rattle.fzn_cert.specs.declared.step.Version.TheVariants.{One}
-use Rattle.fzn_cert.specs.Accepted.{IsConstraintNumber, IsJustifiedBy}
+use Rattle.fzn_cert.specs.Accepted.{IsConstraintNumber, IsInferredBy}
 use Rattle.fzn_cert.specs.Spelling.{IsSpelled}
 use Rattle.fzn_domain.specs.Narrow.{AllFixed, IsClauseOver, IsWithin}
 use Rattle.fzn_trail.specs.Levels.{Levels}
@@ -16,7 +16,7 @@ use Rattle.fzn_propagator.specs.declared.propagator.Inference.{Inference}
 pub record IsJustified (model : Model) (inference : Inference) : Type 0 where
   pub over : IsClauseOver (length model.vars) inference.clause
   pub numbered : IsConstraintNumber model inference.constraint
-  pub justified : IsJustifiedBy model inference.constraint inference.rule inference.clause
+  pub justified : IsInferredBy model inference.constraint inference.rule inference.clause
   pub spelled : IsSpelled One (Infer inference.constraint inference.rule inference.clause)
 
 -- and is false or forces one literal on the trail

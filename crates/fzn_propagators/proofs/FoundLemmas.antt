@@ -13,7 +13,7 @@ use Rattle.fzn_meaning.specs.Meaning.{HasBooleanSets}
 use Rattle.fzn_meaning.specs.Solutions.{declared_sets}
 use Rattle.fzn_rules.specs.declared.rule.Rule.{Rule}
 use Rattle.fzn_rules.specs.Rules.{IsAcceptedBy}
-use Rattle.fzn_cert.specs.Accepted.{IsJustifiedBy}
+use Rattle.fzn_cert.specs.Accepted.{IsInferredBy}
 use Rattle.fzn_trail.specs.Levels.{Levels, IsNarrower}
 use Rattle.fzn_kinds.specs.declared.kinds.AnyPropagator.{AnyPropagator}
 use Rattle.fzn_propagator.specs.declared.propagator.Inference.{Inference}
@@ -33,7 +33,7 @@ module _ (model : Model) (trail : Levels) (declared : trail.declared ≡ declare
   as-many = ap length declared ∙ length-map model.vars (λ (var : Var). var.domain)
 
   -- it is justified from the constraint at place k, whose number is k + 1
-  justified-at : (k : ℕ) (constraint : Constraint) (c : ℕ) (rule : Rule) (clause : List Lit) → k < length model.constraints → c ≡ k + 1 → IsAcceptedBy (get_or model.constraints k constraint) rule trail.declared clause → IsJustifiedBy model c rule clause
+  justified-at : (k : ℕ) (constraint : Constraint) (c : ℕ) (rule : Rule) (clause : List Lit) → k < length model.constraints → c ≡ k + 1 → IsAcceptedBy (get_or model.constraints k constraint) rule trail.declared clause → IsInferredBy model c rule clause
   justified-at k constraint c rule clause inside is accepted =
       let A : List IntSet → Type 0 = λ sets. IsAcceptedBy (get_or model.constraints k constraint) rule sets clause in
       let P : Option Constraint → Type 0 = λ o. IfSome o (λ (x : Constraint). IsAcceptedBy x rule (declared_sets model.vars) clause) in

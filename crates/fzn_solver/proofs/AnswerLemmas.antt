@@ -10,7 +10,7 @@ use Rattle.fzn_meaning.specs.Solutions.{declared_sets}
 use Rattle.fzn_meaning.specs.WellFormed.{IsWellFormed}
 use Rattle.fzn_cert.specs.declared.step.Step.{Step}
 use Rattle.fzn_cert.specs.declared.step.Version.TheVariants.{Two}
-use Rattle.fzn_cert.specs.Accepted.{AllAccepted, past_of}
+use Rattle.fzn_cert.specs.Accepted.{AllAccepted, past_after}
 use Rattle.fzn_cert.specs.Spelling.{header_lines, end_line}
 use Rattle.fzn_cert.specs.Verdict.{Verdict, accepted, header_of, lines_of, AllHaveLines}
 use Rattle.fzn_cert.specs.Writer.{contents_of as cert_contents}
@@ -32,7 +32,7 @@ use Rattle.fzn_options.specs.declared.solve.Options.{Options}
 
 -- ---- the verdict on the certificate
 
-pub certificate-verdict : (model : Model) (steps : List Step) (closed : Bool) → IsWellFormed model → AllAccepted model steps → AllHaveLines Two 0 steps → (closed ≡ true → (past_of model steps).refuted ≡ true)
+pub certificate-verdict : (model : Model) (steps : List Step) (closed : Bool) → IsWellFormed model → AllAccepted model steps → AllHaveLines Two 0 steps → (closed ≡ true → (past_after model steps).refuted ≡ true)
     → Verdict model (certificate model steps closed) (accepted (found_by model steps) closed)
 certificate-verdict model steps closed formed all_accepted have_lines refuted =
     let few_vars = formed.few_vars in
@@ -82,7 +82,7 @@ ends-truly model options learn limits steps nodes SolutionLimit limit_is most tr
     let R : Option ℕ → Type 0 = λ m. IsReached model.goal m (length (found_by model steps)) in
     subst R most truly
 
-pub closed-refuted : (model : Model) (learn : Learn) (limits : Limits) (steps : List Step) (nodes : ℕ) (ending : Ending) → EndsTrulyThere model learn limits steps nodes ending → is_closed ending ≡ true → (past_of model steps).refuted ≡ true
+pub closed-refuted : (model : Model) (learn : Learn) (limits : Limits) (steps : List Step) (nodes : ℕ) (ending : Ending) → EndsTrulyThere model learn limits steps nodes ending → is_closed ending ≡ true → (past_after model steps).refuted ≡ true
 closed-refuted model learn limits steps nodes Complete truly closed = truly.0
 closed-refuted model learn limits steps nodes Unsatisfiable truly closed = truly.0
 closed-refuted model learn limits steps nodes NodeLimit truly closed = cc

@@ -7,7 +7,7 @@ use Rattle.fzn_cert.specs.declared.write_fault.WriteFault.TheVariants as faults
 use Rattle.fzn_cert.specs.declared.step.Step.{Step}
 use Rattle.fzn_cert.specs.declared.writer.StepWriter.{StepWriter}
 use Rattle.fzn_cert.specs.Accepted.{AllAccepted}
-use Rattle.fzn_cert.specs.Spelling.{HasRoom}
+use Rattle.fzn_cert.specs.Spelling.{HasLineRoom}
 use Rattle.fzn_cert.specs.Writer.{IsLineFault, IsStepFault, step_count, has_failed_in as cert_failed}
 use Rattle.fzn_state.specs.declared.fault.Fault.{Fault}
 use Rattle.fzn_state.specs.declared.fault.Fault.TheVariants as engine
@@ -46,7 +46,7 @@ module _ {W C P : Type 0} (outs : W → Bool) (certs : C → Bool) (model : Mode
   step-cause step steps count now engine.WriteOutput accepted counted same cause = absurd cause
   step-cause step steps count now engine.WriteCert accepted counted same cause = cause
   step-cause step steps count now engine.StepTooLong accepted counted same cause =
-      subst (IsTooLong model) (sym same) (record { step = step; accepted = accepted; long = subst (λ (n : ℕ). ¬ HasRoom n step) counted cause })
+      subst (IsTooLong model) (sym same) (record { step = step; accepted = accepted; long = subst (λ (n : ℕ). ¬ HasLineRoom n step) counted cause })
 
   -- as a fault of the run
   pub run-cause : (now : Writers W C P) (fault : Fault) (cert_old cert_new : Option (List ℕ)) → HasLines model (taken now) cert_old cert_new → IsCause outs certs model now fault

@@ -12,9 +12,9 @@ use Rattle.fzn_meaning.specs.declared.model.Model.{Model}
 use Rattle.fzn_cert.specs.declared.step.Step.{Step}
 use Rattle.fzn_cert.specs.declared.step.Step.TheVariants.{Infer, Resolve, Solution, Delete}
 use Rattle.fzn_cert.specs.declared.step.Version.TheVariants.{Two}
-use Rattle.fzn_cert.specs.Past.{Past, start}
-use Rattle.fzn_cert.specs.Accepted.{IsAccepted, AllAcceptedAfter, after, past_of}
-use Rattle.fzn_cert.specs.Spelling.{step_line, header_lines, IsSpelled, HasRoom, HasLine}
+use Rattle.fzn_cert.specs.Past.{StepsPast, no_past}
+use Rattle.fzn_cert.specs.Accepted.{IsAccepted, AllAcceptedAfter, after_step, past_after}
+use Rattle.fzn_cert.specs.Spelling.{step_line, header_lines, IsSpelled, HasLineRoom, HasLine}
 use Rattle.fzn_cert.specs.Verdict.{header_of, lines_of, AllHaveLines}
 use Rattle.fzn_printer.specs.Shown.{shown}
 use Rattle.fzn_solver.specs.Standing.{found_by, early, begun_certificate, shown_all, IsStanding, IsCertInStep, IsOutInStep}
@@ -40,9 +40,9 @@ begun-push model steps step =
     ap (λ (t : List ℕ). header_lines (header_of model Two) ++ t) (lines_of-push steps step)
     ∙ sym (append_assoc (header_lines (header_of model Two)) (lines_of steps) (step_line step))
 
-pub cert-push : (model : Model) (steps : List Step) (step : Step) (first old new : Option (List ℕ)) (written : ℕ) → IsCertInStep model steps first old written → IsSpelled Two step → HasRoom written step → Appends old new (step_line step) → IsCertInStep model (steps ++ step ∷ []) first new (written + 1)
+pub cert-push : (model : Model) (steps : List Step) (step : Step) (first old new : Option (List ℕ)) (written : ℕ) → IsCertInStep model steps first old written → IsSpelled Two step → HasLineRoom written step → Appends old new (step_line step) → IsCertInStep model (steps ++ step ∷ []) first new (written + 1)
 cert-push model steps step first old new written in_step spelled room line =
-    let H : ℕ → Type 0 = λ n. HasRoom n step in
+    let H : ℕ → Type 0 = λ n. HasLineRoom n step in
     let count : written ≡ 0 + length steps = omega (arith, in_step.counted) in record {
       lines = rw (begun-push model steps step) (Appends-then first old new (begun_certificate model steps) (step_line step) in_step.lines line);
       have_lines = have-push 0 steps step in_step.have_lines (spelled, subst H count room);
@@ -64,20 +64,20 @@ cert-kept model steps first old new written in_step kept = record {
 
 -- ---- the solutions
 
-pub last-accepted : (model : Model) (past : Past) (steps : List Step) (step : Step) → AllAcceptedAfter model past (steps ++ step ∷ []) → IsAccepted model (fold (after model) past steps) step
+pub last-accepted : (model : Model) (past : StepsPast) (steps : List Step) (step : Step) → AllAcceptedAfter model past (steps ++ step ∷ []) → IsAccepted model (fold (after_step model) past steps) step
 last-accepted model past [] step accepted = accepted.0
-last-accepted model past (first ∷ steps) step accepted = last-accepted model (after model past first) steps step accepted.1
+last-accepted model past (first ∷ steps) step accepted = last-accepted model (after_step model past first) steps step accepted.1
 
-past_of-push : (model : Model) (steps : List Step) (step : Step) → past_of model (steps ++ step ∷ []) ≡ after model (past_of model steps) step
-past_of-push model steps step = fold-append (after model) start steps (step ∷ [])
+past_after-push : (model : Model) (steps : List Step) (step : Step) → past_after model (steps ++ step ∷ []) ≡ after_step model (past_after model steps) step
+past_after-push model steps step = fold-append (after_step model) no_past steps (step ∷ [])
 
 pub found-solution : (model : Model) (steps : List Step) (values : List ℤ) → found_by model (steps ++ Solution values ∷ []) ≡ found_by model steps ++ values ∷ []
-found-solution model steps values = ap (λ (p : Past). p.solutions) (past_of-push model steps (Solution values))
+found-solution model steps values = ap (λ (p : StepsPast). p.solutions) (past_after-push model steps (Solution values))
 
 pub found-infer : (model : Model) (steps : List Step) (step : Step) → ((values : List ℤ) → step ≢ Solution values) → found_by model (steps ++ step ∷ []) ≡ found_by model steps
-found-infer model steps step other = ap (λ (p : Past). p.solutions) (past_of-push model steps step) ∙ same step other
+found-infer model steps step other = ap (λ (p : StepsPast). p.solutions) (past_after-push model steps step) ∙ same step other
   where
-    same : (s : Step) → ((values : List ℤ) → s ≢ Solution values) → (after model (past_of model steps) s).solutions ≡ (past_of model steps).solutions
+    same : (s : Step) → ((values : List ℤ) → s ≢ Solution values) → (after_step model (past_after model steps) s).solutions ≡ (past_after model steps).solutions
     same (Infer c rule clause) h = refl
     same (Resolve clause ids) h = refl
     same (Solution values) h = absurd (h values refl)

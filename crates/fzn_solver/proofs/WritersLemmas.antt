@@ -15,11 +15,11 @@ use Rattle.fzn_cert.specs.declared.step.Step.TheVariants.{Solution}
 use Rattle.fzn_cert.specs.declared.step.Version.TheVariants.{Two}
 use Rattle.fzn_cert.specs.declared.writer.Stage.TheVariants.{Open, Shut}
 use Rattle.fzn_cert.specs.declared.writer.StepWriter.{StepWriter}
-use Rattle.fzn_cert.specs.Past.{start}
+use Rattle.fzn_cert.specs.Past.{no_past}
 use Rattle.fzn_cert.specs.Accepted.{AllAccepted}
-use Rattle.fzn_cert.specs.Spelling.{step_line, header_text, header_lines, IsSpelled, HasRoom}
+use Rattle.fzn_cert.specs.Spelling.{step_line, header_text, header_lines, IsSpelled, HasLineRoom}
 use Rattle.fzn_cert.specs.Verdict.{header_of}
-use Rattle.fzn_cert.specs.Writer.{contents_of as cert_contents, out_name as cert_name, stage_of, step_count, version_of}
+use Rattle.fzn_cert.specs.Writer.{contents_of as cert_contents, cert_name, stage_of, step_count, version_of}
 use Rattle.fzn_printer.specs.declared.printer.Printer.{Printer}
 use Rattle.fzn_printer.specs.Printer.{out_contents, out_name, is_open, has_printed}
 use Rattle.fzn_printer.specs.Shown.{shown}
@@ -88,7 +88,7 @@ module _ {W C : Type 0} (outs : W → Option (List ℕ)) (certs : C → Option (
 
   -- the line of a step that is no solution
   pub kept-line : (old new : StepWriter C) (out : Printer W) (alone : Bool) (last : Option (List ℤ)) (steps : List Step) (first : W × C) (step : Step) → IsKeptBy outs certs model old out alone last steps first → ((values : List ℤ) → step ≢ Solution values) → IsSpelled Two step
-      → version_of new ≡ version_of old → stage_of old ≡ Open → step_count new ≡ step_count old + 1 → HasRoom (step_count old) step → Appends (cert_contents certs old) (cert_contents certs new) (step_line step)
+      → version_of new ≡ version_of old → stage_of old ≡ Open → step_count new ≡ step_count old + 1 → HasLineRoom (step_count old) step → Appends (cert_contents certs old) (cert_contents certs new) (step_line step)
       → IsKeptBy outs certs model new out alone last (steps ++ step ∷ []) first
   kept-line old new out alone last steps first step kept other spelled version was_open counted room line =
       let N : ℕ → Type 0 = λ n. IsCertInStep model (steps ++ step ∷ []) (certs first.1) (cert_contents certs new) n in
@@ -106,7 +106,7 @@ module _ {W C : Type 0} (outs : W → Option (List ℕ)) (certs : C → Option (
 
   -- The line of a solution, flushed. The output follows behind it: `front` and `goes` say what is known of it then.
   pub kept-solution : (old new : StepWriter C) (out after : Printer W) (alone : Bool) (last waiting : Option (List ℤ)) (steps : List Step) (first : W × C) (values : List ℤ) → IsKeptBy outs certs model old out alone last steps first → IsSpelled Two (Solution values)
-      → version_of new ≡ version_of old → stage_of old ≡ Open → (stage_of new ≡ Open → step_count new ≡ step_count old + 1) → HasRoom (step_count old) (Solution values) → Appends (cert_contents certs old) (cert_contents certs new) (step_line (Solution values))
+      → version_of new ≡ version_of old → stage_of old ≡ Open → (stage_of new ≡ Open → step_count new ≡ step_count old + 1) → HasLineRoom (step_count old) (Solution values) → Appends (cert_contents certs old) (cert_contents certs new) (step_line (Solution values))
       → IfSome waiting (IsAssignment model)
       → ((o : Option (List ℕ)) → AppendsFront o (out_contents outs out) (shown_all model (early alone (found_by model steps))) → (is_open out ≡ true → Appends o (out_contents outs out) (shown_all model (early alone (found_by model steps)))) → AppendsFront o (out_contents outs after) (shown_all model (early alone (found_by model steps ++ values ∷ []))))
       → ((o : Option (List ℕ)) → stage_of new ≡ Open → is_open after ≡ true → (is_open out ≡ true → IsOutInStep model alone (found_by model steps) o (out_contents outs out) (has_printed out) last) → IsOutInStep model alone (found_by model steps ++ values ∷ []) o (out_contents outs after) (has_printed after) waiting)
@@ -137,7 +137,7 @@ module _ {W C : Type 0} (outs : W → Option (List ℕ)) (certs : C → Option (
       subst F (sym i) (subst S (sym h) (subst L (sym g) (subst A (sym f) (subst O (sym e) kept))))
 
   pub assignment-of : (steps : List Step) (values : List ℤ) → AllAccepted model (steps ++ Solution values ∷ []) → IsAssignment model values
-  assignment-of steps values accepted = (last-accepted model start steps (Solution values) accepted).0.0
+  assignment-of steps values accepted = (last-accepted model no_past steps (Solution values) accepted).0.0
 
   -- nothing was printed yet, and nothing more is
   pub IsPrinted-none : (values : List ℤ) (goes : Type 0) (old new : Printer W) → new ≡ old → (goes → ⊥) → IsPrinted outs model values goes old new

@@ -5,7 +5,7 @@ use Rattle.fzn_cert.specs.declared.step.Step.{Step}
 use Rattle.fzn_cert.specs.declared.writer.Stage.TheVariants.{Open}
 use Rattle.fzn_cert.specs.declared.writer.StepWriter.{StepWriter}
 use Rattle.fzn_cert.specs.Accepted.{AllAccepted}
-use Rattle.fzn_cert.specs.Spelling.{HasRoom}
+use Rattle.fzn_cert.specs.Spelling.{HasLineRoom}
 use Rattle.fzn_cert.specs.Writer.{stage_of, stream_of as cert_stream, has_failed_in as cert_failed}
 use Rattle.fzn_state.specs.declared.fault.Fault.{Fault}
 use Rattle.fzn_state.specs.declared.fault.Fault.TheVariants as engine
@@ -20,7 +20,7 @@ use Rattle.fzn_solver.specs.Writers.{taken, at_first}
 pub record IsTooLong (model : Model) (steps : List Step) : Type 0 where
   pub step : Step
   pub accepted : AllAccepted model (steps ++ step ∷ [])
-  pub long : ¬ HasRoom (length steps) step
+  pub long : ¬ HasLineRoom (length steps) step
 
 -- A fault that came once the model was read: a write or a flush of the output failed, one of the certificate did, or the line of a step
 -- that follows those on the certificate would be too long.
@@ -43,7 +43,7 @@ abbrev pub IsLineCause : {C : Type 0} → (C → Bool) → Step → ℕ → Step
 IsLineCause certs step count cert engine.Memory = Unit {0}
 IsLineCause certs step count cert engine.WriteOutput = ⊥
 IsLineCause certs step count cert engine.WriteCert = cert_failed certs cert ≡ true
-IsLineCause certs step count cert engine.StepTooLong = ¬ HasRoom count step
+IsLineCause certs step count cert engine.StepTooLong = ¬ HasLineRoom count step
 
 -- both writers can go on
 abbrev pub AreOpen : {W C P : Type 0} → Writers W C P → Type 0

@@ -9,14 +9,14 @@ use Rattle.fzn_meaning.specs.declared.model.Goal.TheVariants.{Satisfy, Minimize,
 use Rattle.fzn_meaning.specs.declared.model.Model.{Model}
 use Rattle.fzn_cert.specs.declared.step.Step.{Step}
 use Rattle.fzn_cert.specs.declared.step.Version.TheVariants.{Two}
-use Rattle.fzn_cert.specs.Accepted.{past_of}
+use Rattle.fzn_cert.specs.Accepted.{past_after}
 use Rattle.fzn_cert.specs.Spelling.{header_lines, end_line}
 use Rattle.fzn_cert.specs.Verdict.{header_of, lines_of, AllHaveLines}
 use Rattle.fzn_printer.specs.Shown.{shown}
 
 -- the solutions among the steps, in order
 abbrev pub found_by : Model → List Step → List (List ℤ)
-found_by model steps = (past_of model steps).solutions
+found_by model steps = (past_after model steps).solutions
 
 -- whether the last solution alone is printed: in an optimisation, but for a wish to see all
 abbrev pub is_alone : Goal → Bool → Bool

@@ -11,8 +11,8 @@ use Rattle.fzn_cert.specs.declared.step.Version.TheVariants.{Two}
 use Rattle.fzn_cert.specs.declared.writer.Stage.TheVariants.{Fresh, Open, Shut}
 use Rattle.fzn_cert.specs.declared.writer.StepWriter.{StepWriter}
 use Rattle.fzn_cert.specs.Verdict.{AllHaveLines}
-use Rattle.fzn_cert.specs.Spelling.{step_line, header_text, end_line, HasRoom}
-use Rattle.fzn_cert.specs.Writer.{contents_of as cert_contents, out_name as cert_name, stage_of, step_count, version_of}
+use Rattle.fzn_cert.specs.Spelling.{step_line, header_text, end_line, HasLineRoom}
+use Rattle.fzn_cert.specs.Writer.{contents_of as cert_contents, cert_name, stage_of, step_count, version_of}
 use Rattle.fzn_state.specs.declared.fault.Fault.{Fault}
 use Rattle.fzn_state.specs.declared.fault.Fault.TheVariants.{WriteOutput}
 use Rattle.fzn_printer.specs.declared.printer.Printer.{Printer}
@@ -75,7 +75,7 @@ pub record IsRestSame {W C P : Type 0} (old new : Writers W C P) : Type 0 where
 pub record IsLineTaken {W C P : Type 0} (certs : C → Option (List ℕ)) (step : Step) (old new : Writers W C P) : Type 0 where
   pub taken : taken new ≡ taken old ++ step ∷ []
   pub line : Appends (cert_contents certs old.cert) (cert_contents certs new.cert) (step_line step)
-  pub room : HasRoom (step_count old.cert) step
+  pub room : HasLineRoom (step_count old.cert) step
   pub counted : step_count new.cert ≡ step_count old.cert + 1
   pub was_open : stage_of old.cert ≡ Open
   pub stays_open : stage_of new.cert ≡ Open

@@ -1,7 +1,7 @@
 // From the bytes of a file to its answer and its certificate.
 ghost use Rattle.std.specs.Prelude.{◌≡◌, false, IfOk, IfErr};
 ghost use Rattle.fzn_meaning.specs.WellFormed.{IsWellFormed};
-ghost use Rattle.fzn_cert.specs.Writer.{contents_of as cert_contents, out_name as cert_name, has_failed_in as cert_failed};
+ghost use Rattle.fzn_cert.specs.Writer.{contents_of as cert_contents, cert_name, has_failed_in as cert_failed};
 ghost use Rattle.fzn_printer.specs.Printer.{out_contents, out_name, out_failed};
 ghost use Rattle.fzn_propagators.specs.Propagators.{StandFor};
 ghost use Rattle.fzn_solver.specs.Answer.{wanted, IsAnswer};

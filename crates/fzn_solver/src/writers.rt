@@ -4,7 +4,7 @@ ghost use Rattle.fzn_meaning.specs.Solutions.{IsAssignment};
 ghost use Rattle.fzn_meaning.specs.WellFormed.{IsWellFormed};
 ghost use Rattle.fzn_cert.specs.Accepted.{AllAccepted};
 ghost use Rattle.fzn_cert.specs.Spelling.{IsSpelled};
-ghost use Rattle.fzn_cert.specs.Writer.{contents_of as cert_contents, out_name as cert_name, stream_of as cert_stream, has_failed_in as cert_failed, version_of, stage_of, step_count};
+ghost use Rattle.fzn_cert.specs.Writer.{contents_of as cert_contents, cert_name, stream_of as cert_stream, has_failed_in as cert_failed, version_of, stage_of, step_count};
 ghost use Rattle.fzn_cert.specs.declared.step.Step.TheVariants.{Solution};
 ghost use Rattle.fzn_cert.specs.declared.writer.Stage.TheVariants.{Open, Shut};
 ghost use Rattle.std.specs.Io.KnownBytes.{Keeps};

@@ -11,8 +11,8 @@ use Rattle.fzn_meaning.specs.declared.model.Model.{Model}
 use Rattle.fzn_meaning.specs.Solutions.{declared_sets, cut_of}
 use Rattle.fzn_cert.specs.declared.step.Step.{Step}
 use Rattle.fzn_cert.specs.declared.step.Step.TheVariants.{Resolve, Solution}
-use Rattle.fzn_cert.specs.Past.{Past}
-use Rattle.fzn_cert.specs.Accepted.{IsAccepted, AllAccepted, past_of}
+use Rattle.fzn_cert.specs.Past.{StepsPast}
+use Rattle.fzn_cert.specs.Accepted.{IsAccepted, AllAccepted, past_after}
 use Rattle.fzn_propagator.specs.declared.inferences.Inferred.{Inferred}
 use Rattle.fzn_trail.specs.declared.trail.ClauseId.{ClauseId}
 use Rattle.fzn_trail.specs.declared.trail.Entry.{Entry}
@@ -31,7 +31,7 @@ use Rattle.fzn_state.specs.Learned.{resolved, FreshAfter, negations}
 use Rattle.fzn_state.specs.State.{Stock, known_in, with_held, with_cuts, with_inference, with_stack, IsHeldCut, IsJustified, CoreOf, PlainOf, StateOf}
 use Rattle.fzn_state.specs.Search.{work}
 use Rattle.fzn_state.specs.Certified.{IsCertified, IsRefuted}
-use Rattle.fzn_state.proofs.AcceptedLemmas.{past_of-push, AllAccepted-push, resolved-append}
+use Rattle.fzn_state.proofs.AcceptedLemmas.{past_after-push, AllAccepted-push, resolved-append}
 use Rattle.fzn_state.proofs.HeldCutLemmas.{IsHeldCut-grown, IsHeldCut-flagged}
 use Rattle.fzn_state.proofs.VolumeLemmas.{volume-narrowed_le, slack-narrowed_le, slack-narrowed_lt, work-less, work-lower, spread-filled}
 use Rattle.fzn_state.proofs.WithinLemmas.{Within, Within-narrowed}
@@ -65,7 +65,7 @@ module _ {model : Model} {stock : Stock} {steps : List Step} {trail : Levels} {n
       omega arith
 
   -- on any trail over the declared sets
-  pub Core-resolved : (clause : List Lit) (ids : List ℕ) (number : ℕ) → number ≡ length steps + 1 → IsAccepted model (past_of model steps) (Resolve clause ids) → (new : Levels) → new.declared ≡ trail.declared → slack new.sets ≤ slack trail.declared → IsReasoned (known_in (with_held clause number stock)) new → CoreOf model (with_held clause number stock) (steps ++ Resolve clause ids ∷ []) new nodes
+  pub Core-resolved : (clause : List Lit) (ids : List ℕ) (number : ℕ) → number ≡ length steps + 1 → IsAccepted model (past_after model steps) (Resolve clause ids) → (new : Levels) → new.declared ≡ trail.declared → slack new.sets ≤ slack trail.declared → IsReasoned (known_in (with_held clause number stock)) new → CoreOf model (with_held clause number stock) (steps ++ Resolve clause ids ∷ []) new nodes
   Core-resolved clause ids number newest accepted new declared less reasoned =
       let O : ℕ → Type 0 = λ n. IsClauseOver n clause in
       let sizes : length trail.declared ≡ length model.vars = ap length h.declared ∙ length-map model.vars (λ var. var.domain) in
@@ -142,7 +142,7 @@ module _ {model : Model} {learn : Learn} {stock : Stock} {steps : List Step} {tr
 
   -- ---- inferences
 
-  pub State-stacked : (it : Inferred) → IsJustified model (past_of model steps) it → StateOf model learn (with_inference it stock) steps trail nodes
+  pub State-stacked : (it : Inferred) → IsJustified model (past_after model steps) it → StateOf model learn (with_inference it stock) steps trail nodes
   State-stacked it justified = record { core = Core-stacked h.core it justified; plain = h.plain }
 
   pub State-cut : (count : ℕ) → All (λ (entry : Entry). IsBelow count entry.reason) trail.entries → StateOf model learn (with_stack count stock) steps trail nodes
@@ -150,15 +150,15 @@ module _ {model : Model} {learn : Learn} {stock : Stock} {steps : List Step} {tr
 
   -- ---- a solution, with its cut
 
-  pub State-found : (values : List ℤ) (number : ℕ) (flags : List Bool) (id : ClauseId) → id.0 ≡ length stock.held → is_cut flags id ≡ true → ((other : ClauseId) → other.0 ≢ id.0 → is_cut flags other ≡ is_cut stock.cuts other) → number ≡ length steps + 1 → IsAccepted model (past_of model steps) (Solution values) → IsClauseOver (length trail.declared) (cut_of model values) → IsReasoned (known_in (with_held (cut_of model values) number stock)) trail → StateOf model learn (with_cuts flags (with_held (cut_of model values) number stock)) (steps ++ Solution values ∷ []) trail nodes
+  pub State-found : (values : List ℤ) (number : ℕ) (flags : List Bool) (id : ClauseId) → id.0 ≡ length stock.held → is_cut flags id ≡ true → ((other : ClauseId) → other.0 ≢ id.0 → is_cut flags other ≡ is_cut stock.cuts other) → number ≡ length steps + 1 → IsAccepted model (past_after model steps) (Solution values) → IsClauseOver (length trail.declared) (cut_of model values) → IsReasoned (known_in (with_held (cut_of model values) number stock)) trail → StateOf model learn (with_cuts flags (with_held (cut_of model values) number stock)) (steps ++ Solution values ∷ []) trail nodes
   State-found values number flags id there flagged others newest accepted over reasoned =
       let same : resolved (steps ++ Solution values ∷ []) ≡ resolved steps = resolved-append steps (Solution values ∷ []) ∙ append-nil (resolved steps) in
       let N : List (List Lit) → Type 0 = λ cs. nodes + slack trail.sets ≤ (length cs + 1) * slack trail.declared in
       let P : List (List Lit) → Type 0 = λ cs. PlainOf trail.declared trail.sets (opens trail.declared trail.entries) cs nodes in
       let Cut : List ℤ → Type 0 = λ a. IsHeldCut (stock.held ++ Some (cut_of model values) ∷ []) flags (cut_of model a) in
       let before = All-weaker (λ a. IsHeldCut stock.held stock.cuts (cut_of model a)) Cut
-      (λ a cut. IsHeldCut-grown stock.held flags (cut_of model a) (IsHeldCut-flagged stock.held stock.cuts (cut_of model a) cut flags id (omega arith) others) (Some (cut_of model values) ∷ [])) (past_of model steps).solutions h.core.cuts_held in
-      let cuts = All-push Cut (past_of model steps).solutions values before (id, flagged, at_number-newest stock.held (cut_of model values) id there) in
+      (λ a cut. IsHeldCut-grown stock.held flags (cut_of model a) (IsHeldCut-flagged stock.held stock.cuts (cut_of model a) cut flags id (omega arith) others) (Some (cut_of model values) ∷ [])) (past_after model steps).solutions h.core.cuts_held in
+      let cuts = All-push Cut (past_after model steps).solutions values before (id, flagged, at_number-newest stock.held (cut_of model values) id there) in
       record {
         core = Core-step h.core (Solution values) (cut_of model values) number flags newest accepted refl cuts over trail refl reasoned (subst N (sym same) h.core.nodes_by_conflicts);
         plain = λ in_plain. subst P (sym same) (h.plain in_plain);
@@ -218,7 +218,7 @@ module _ {model : Model} {learn : Learn} {stock : Stock} {steps : List Step} {tr
   State-certified = let conflicts = h.core.nodes_by_conflicts in certified_by steps h.core.accepted (λ in_plain. (h.plain in_plain).fresh) (omega arith)
 
   -- an empty clause was learned
-  pub State-closed : (learn ≡ Plain → [] ≡ negations (opens trail.declared trail.entries)) → (ids : List ℕ) → IsAccepted model (past_of model steps) (Resolve [] ids) → IsCertified model learn (steps ++ Resolve [] ids ∷ []) nodes × IsRefuted model (steps ++ Resolve [] ids ∷ [])
+  pub State-closed : (learn ≡ Plain → [] ≡ negations (opens trail.declared trail.entries)) → (ids : List ℕ) → IsAccepted model (past_after model steps) (Resolve [] ids) → IsCertified model learn (steps ++ Resolve [] ids ∷ []) nodes × IsRefuted model (steps ++ Resolve [] ids ∷ [])
   State-closed clause_is ids accepted =
       let F : List Lit → Type 0 = λ c. FreshAfter trail.declared [] (resolved steps ++ c ∷ []) in
       let G : List (List Lit) → Type 0 = λ cs. FreshAfter trail.declared [] cs in
@@ -227,8 +227,8 @@ module _ {model : Model} {learn : Learn} {stock : Stock} {steps : List Step} {tr
       let conflicts = h.core.nodes_by_conflicts in
       let N : List (List Lit) → Type 0 = λ cs. nodes ≤ (length cs + 1) * slack trail.declared in
       let M : ℕ → Type 0 = λ n. nodes ≤ (n + 1) * slack trail.declared in
-      let past = past_of-push model steps (Resolve [] ids) in (
+      let past = past_after-push model steps (Resolve [] ids) in (
         certified_by (steps ++ Resolve [] ids ∷ []) (AllAccepted-push model steps (Resolve [] ids) h.core.accepted accepted) (λ in_plain. subst G (sym is) (subst F (sym (clause_is in_plain)) (State-fresh in_plain)))
             (subst N (sym is) (subst M (sym one) (omega arith))),
-        ap (λ (p : Past). p.refuted) past ∙ or_right (past_of model steps).refuted true refl,
+        ap (λ (p : StepsPast). p.refuted) past ∙ or_right (past_after model steps).refuted true refl,
       )

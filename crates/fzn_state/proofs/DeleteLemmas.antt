@@ -8,8 +8,8 @@ use Rattle.fzn_meaning.specs.declared.model.Model.{Model}
 use Rattle.fzn_cert.specs.declared.step.Step.{Step}
 use Rattle.fzn_cert.specs.declared.step.Step.TheVariants.{Delete}
 use Rattle.fzn_cert.specs.declared.step.Version.TheVariants.{Two}
-use Rattle.fzn_cert.specs.Past.{Past, clause_held, IsHeld as IsGiven, without, after_deletion}
-use Rattle.fzn_cert.specs.Accepted.{IsAccepted, AllAccepted, past_of}
+use Rattle.fzn_cert.specs.Past.{StepsPast, clause_held, IsClauseHeld as IsGiven, without, after_deletion}
+use Rattle.fzn_cert.specs.Accepted.{IsAccepted, AllAccepted, past_after}
 use Rattle.fzn_cert.specs.Spelling.{IsNumber, IdsRise, IsSpelled}
 use Rattle.fzn_propagator.specs.Inferences.{inference_at}
 use Rattle.fzn_trail.specs.Levels.{Levels}
@@ -40,11 +40,11 @@ without-other clauses (id ∷ ids) k apart =
     without-other (set clauses (id - 1) None) ids k (All-tail (λ (i : ℕ). i - 1 ≢ k) id ids apart)
     ∙ get_or-set_other clauses (id - 1) k None None (λ e. head (sym e))
 
-module _ (past : Past) (ids : List ℕ) (ones : All (λ (id : ℕ). 1 ≤ id) ids) where
+module _ (past : StepsPast) (ids : List ℕ) (ones : All (λ (id : ℕ). 1 ≤ id) ids) where
   -- a step that is not deleted gives its clause
   clause_held-left : (n : ℕ) (clause : List Lit) → All (λ (id : ℕ). id ≢ n) ids → clause_held past n ≡ Some clause → clause_held (after_deletion past ids) n ≡ Some clause
   clause_held-left n clause apart gives =
-      let mid : Past = record { clauses = without past.clauses ids; solutions = past.solutions; refuted = past.refuted } in
+      let mid : StepsPast = record { clauses = without past.clauses ids; solutions = past.solutions; refuted = past.refuted } in
       let one = number-of past n clause gives in
       let places : All (λ (id : ℕ). id - 1 ≢ n - 1) ids =
       All-from_get_or (λ (id : ℕ). id - 1 ≢ n - 1) ids 0 (λ i below. place_apart (get_or ids i 0) n (All-get_or (λ (id : ℕ). 1 ≤ id) ids i 0 below ones) one.0 (All-get_or (λ (id : ℕ). id ≢ n) ids i 0 below apart)) in
@@ -56,13 +56,13 @@ module _ (past : Past) (ids : List ℕ) (ones : All (λ (id : ℕ). 1 ≤ id) id
 -- ---- the search that is left
 
 module _ {model : Model} {stock : Stock} {steps : List Step} {trail : Levels} {nodes : ℕ} (core : CoreOf model stock steps trail nodes) (ids : List ℕ) (alive : All (Contains stock.alive) ids) (idle : (n : ℕ) → IsInUse stock.held stock.numbers stock.stack n → Contains ids n → ⊥) where
-  abbrev past : Past
-  past = past_of model steps
+  abbrev past : StepsPast
+  past = past_after model steps
 
-  abbrev now : Past
+  abbrev now : StepsPast
   now = after_deletion past ids
 
-  given : All (IsGiven (past_of model steps)) ids
+  given : All (IsGiven (past_after model steps)) ids
   given = All-weaker (Contains stock.alive) (IsGiven past) (λ n in_alive. in_list n in_alive) ids alive
     where
       in_list : (n : ℕ) → Contains stock.alive n → IsGiven past n
@@ -106,7 +106,7 @@ module _ {model : Model} {stock : Stock} {steps : List Step} {trail : Levels} {n
       let W : Option ℕ → Type 0 = λ o. IfSome o (λ k. clause_held now k ≡ Some it.clause) in
       ap is_some (subst W h.2 j.written)
 
-  pub delete-accepted : IsAccepted model (past_of model steps) (Delete ids)
+  pub delete-accepted : IsAccepted model (past_after model steps) (Delete ids)
   delete-accepted = given
 
   pub same_learned : resolved (steps ++ Delete ids ∷ []) ≡ resolved steps

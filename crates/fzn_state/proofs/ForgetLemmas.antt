@@ -12,7 +12,7 @@ use Rattle.fzn_meaning.specs.Solutions.{declared_sets, cut_of}
 use Rattle.fzn_sets.specs.Sets.{Narrowed, start}
 use Rattle.fzn_cert.specs.declared.step.Step.{Step}
 use Rattle.fzn_cert.specs.Past.{clause_held}
-use Rattle.fzn_cert.specs.Accepted.{past_of}
+use Rattle.fzn_cert.specs.Accepted.{past_after}
 use Rattle.fzn_trail.specs.declared.trail.ClauseId.{ClauseId}
 use Rattle.fzn_trail.specs.declared.trail.Entry.{Entry}
 use Rattle.fzn_trail.specs.declared.trail.Reason.{Reason}
@@ -58,7 +58,7 @@ module _ {model : Model} {old : Solver} {steps : List Step} (h : IsAfter model o
   nothing-reduced notes = noted-reduced old.scratch h.scratch notes
 
   -- other clauses are held, under numbers of steps that give them
-  pub restocked-reduced : (clauses : Clauses) → KeepsWatching old.clauses clauses → (held : Held) → held_by clauses ≡ held → (numbers : List ℕ) → IsStocked model (past_of model steps) (length old.trail.declared) (record (stock_of old) { held = held; numbers = numbers }) → IsReasoned (record (known_in (stock_of old)) { held = held }) old.trail → (notes : Notes) → IsReduced model old (record old { clauses = clauses; numbers = numbers; notes = notes }) steps
+  pub restocked-reduced : (clauses : Clauses) → KeepsWatching old.clauses clauses → (held : Held) → held_by clauses ≡ held → (numbers : List ℕ) → IsStocked model (past_after model steps) (length old.trail.declared) (record (stock_of old) { held = held; numbers = numbers }) → IsReasoned (record (known_in (stock_of old)) { held = held }) old.trail → (notes : Notes) → IsReduced model old (record old { clauses = clauses; numbers = numbers; notes = notes }) steps
   restocked-reduced clauses keeps held held_is numbers stocked reasoned notes =
       let S : Held → Type 0 = λ cs. StateOf model old.learn (record (stock_of old) { held = cs; numbers = numbers }) steps old.trail old.search.nodes in
       let state : S held = record { core = Core-restocked h.state.core (record (stock_of old) { held = held; numbers = numbers }) stocked reasoned; plain = h.state.plain } in
@@ -116,7 +116,7 @@ module _ {model : Model} {old : Solver} {steps : List Step} (h : IsAfter model o
           alive = core.alive;
           cuts_held = All-weaker (λ values. IsHeldCut held old.cuts (cut_of model values)) (λ values. IsHeldCut left old.cuts (cut_of model values))
               (λ values cut. IsHeldCut-left held old.cuts (cut_of model values) cut left
-              (λ id was flag. at_left id (λ gone. false≢true (sym (forgotten.gone id was gone).no_cut ∙ flag)))) (past_of model steps).solutions core.cuts_held;
+              (λ id was flag. at_left id (λ gone. false≢true (sym (forgotten.gone id was gone).no_cut ∙ flag)))) (past_after model steps).solutions core.cuts_held;
           held_over = λ id is. subst (IsClauseOver (length old.trail.declared)) (sym (clause_left id is)) (core.held_over id (was_held id is));
         })
         (IsReasoned-still (known_in (stock_of old)) left old.trail (still-each old.trail.entries (λ id was gone. (forgotten.gone id was gone).no_reason)) core.reasoned) notes
@@ -131,11 +131,11 @@ module _ {model : Model} {old : Solver} {steps : List Step} (h : IsAfter model o
     abbrev it : Given
     it = given_at old.written place
 
-    is_given : IsGivenBy model (past_of model steps) (given_at old.written place)
-    is_given = All-get_or (IsGivenBy model (past_of model steps)) old.written place _ within h.state.core.written
+    is_given : IsGivenBy model (past_after model steps) (given_at old.written place)
+    is_given = All-get_or (IsGivenBy model (past_after model steps)) old.written place _ within h.state.core.written
 
     -- the step of its number gives it
-    pub written-given : clause_held (past_of model steps) (given_at old.written place).number ≡ Some (given_at old.written place).clause
+    pub written-given : clause_held (past_after model steps) (given_at old.written place).number ≡ Some (given_at old.written place).clause
     written-given = is_given.1
 
     pub written-over : IsClauseOver (length old.trail.declared) (given_at old.written place).clause
@@ -151,7 +151,7 @@ module _ {model : Model} {old : Solver} {steps : List Step} (h : IsAfter model o
         let held = held_by old.clauses in
         restocked-reduced clauses keeps (held ++ Some it.clause ∷ []) held_is (old.numbers ++ it.number ∷ [])
         (record {
-          numbered = AreNumbered-push (past_of model steps) old.numbers held it.number it.clause core.numbered written-given;
+          numbered = AreNumbered-push (past_after model steps) old.numbers held it.number it.clause core.numbered written-given;
           justified = core.justified;
           written = core.written;
           alive = core.alive;

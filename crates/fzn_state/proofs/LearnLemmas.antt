@@ -8,7 +8,7 @@ use Rattle.fzn_meaning.specs.declared.model.Model.{Model}
 use Rattle.fzn_meaning.specs.Solutions.{declared_sets}
 use Rattle.fzn_cert.specs.declared.step.Step.{Step}
 use Rattle.fzn_cert.specs.declared.step.Step.TheVariants.{Resolve}
-use Rattle.fzn_cert.specs.Accepted.{IsAccepted, past_of}
+use Rattle.fzn_cert.specs.Accepted.{IsAccepted, past_after}
 use Rattle.fzn_trail.specs.declared.trail.Reason.{Reason}
 use Rattle.fzn_trail.specs.declared.trail.ClauseId.{ClauseId}
 use Rattle.fzn_trail.specs.declared.trail.Reason.TheVariants.{Clause}
@@ -44,25 +44,25 @@ module _ {model : Model} {learn : Learn} {stock : Stock} {steps : List Step} {tr
       work-asserted limit nodes trail lit reason var (forced-possible trail.sets (clause_of (known_in stock) reason) lit forced.0) forced.1
 
 -- a clause that follows from its antecedents is an accepted step
-module _ {model : Model} {learn : Learn} {stock : Stock} {steps : List Step} {trail : Levels} {nodes : ℕ} (h : StateOf model learn stock steps trail nodes) (clause : List Lit) (antecedents : List Reason) (over : IsClauseOver (length trail.declared) clause) (follows : IsAcceptedFrom trail.declared clause (map (clause_of (known_in stock)) antecedents)) (numbers : List ℕ) (give : GiveAntecedents (past_of model steps) (known_in stock) numbers antecedents) where
-  pub derived-accepted : IsAccepted model (past_of model steps) (Resolve clause numbers)
+module _ {model : Model} {learn : Learn} {stock : Stock} {steps : List Step} {trail : Levels} {nodes : ℕ} (h : StateOf model learn stock steps trail nodes) (clause : List Lit) (antecedents : List Reason) (over : IsClauseOver (length trail.declared) clause) (follows : IsAcceptedFrom trail.declared clause (map (clause_of (known_in stock)) antecedents)) (numbers : List ℕ) (give : GiveAntecedents (past_after model steps) (known_in stock) numbers antecedents) where
+  pub derived-accepted : IsAccepted model (past_after model steps) (Resolve clause numbers)
   derived-accepted =
       let e = h.core.declared in
       let sizes : length trail.declared ≡ length model.vars = ap length e ∙ length-map model.vars (λ var. var.domain) in
       let O : ℕ → Type 0 = λ n. IsClauseOver n clause in
       let A : List IntSet → Type 0 = λ d. IsAcceptedFrom d clause (map (clause_of (known_in stock)) antecedents) in
-      let chain = Give-chain (past_of model steps) numbers (map (clause_of (known_in stock)) antecedents) give in
+      let chain = Give-chain (past_after model steps) numbers (map (clause_of (known_in stock)) antecedents) give in
       (subst O sizes over, chain.0, subst (IsAcceptedFrom (declared_sets model.vars) clause) (sym chain.1) (subst A e follows))
 
-module _ {model : Model} {learn : Learn} {stock : Stock} {steps : List Step} {trail : Levels} {nodes : ℕ} (h : StateOf model learn stock steps trail nodes) (learned : Learned) (conflict : Reason) (is : IsLearned (known_in stock) trail learned) (plain : learn ≡ Plain → IsPlain trail conflict learned) (numbers : List ℕ) (give : GiveAntecedents (past_of model steps) (known_in stock) numbers learned.antecedents) where
+module _ {model : Model} {learn : Learn} {stock : Stock} {steps : List Step} {trail : Levels} {nodes : ℕ} (h : StateOf model learn stock steps trail nodes) (learned : Learned) (conflict : Reason) (is : IsLearned (known_in stock) trail learned) (plain : learn ≡ Plain → IsPlain trail conflict learned) (numbers : List ℕ) (give : GiveAntecedents (past_after model steps) (known_in stock) numbers learned.antecedents) where
   -- the learned clause is an accepted step
-  pub learned-accepted : IsAccepted model (past_of model steps) (Resolve learned.clause numbers)
+  pub learned-accepted : IsAccepted model (past_after model steps) (Resolve learned.clause numbers)
   learned-accepted = derived-accepted h learned.clause learned.antecedents is.over is.accepted numbers give
 
   -- where it is empty nothing is left
   pub learned-closed : learned.clause ≡ [] → IsCertified model learn (steps ++ Resolve learned.clause numbers ∷ []) nodes × IsRefuted model (steps ++ Resolve learned.clause numbers ∷ [])
   learned-closed none =
-      let A : List Lit → Type 0 = λ c. IsAccepted model (past_of model steps) (Resolve c numbers) in
+      let A : List Lit → Type 0 = λ c. IsAccepted model (past_after model steps) (Resolve c numbers) in
       let C : List Lit → Type 0 = λ c. IsCertified model learn (steps ++ Resolve c numbers ∷ []) nodes × IsRefuted model (steps ++ Resolve c numbers ∷ []) in
       subst C (sym none) (State-closed h (λ in_plain. sym none ∙ (plain in_plain).clause) numbers (subst A none learned-accepted))
 

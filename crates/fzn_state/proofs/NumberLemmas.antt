@@ -6,7 +6,7 @@ use Rattle.std.proofs.lemmas.Bool.Decides.{nat_tests}
 use Rattle.std.proofs.lemmas.List.{map-append, length_push, get_or_append_left, get_or_push, get_or_past}
 use Rattle.std.proofs.lemmas.List.Elements.{All-nil, All-cons, All-push, All-weaker}
 use Rattle.fzn_domain.specs.declared.literal.Lit.{Lit}
-use Rattle.fzn_cert.specs.Past.{Past, clause_held, IsHeld, clauses_held}
+use Rattle.fzn_cert.specs.Past.{StepsPast, clause_held, IsClauseHeld, clauses_held}
 use Rattle.fzn_meaning.specs.declared.model.Model.{Model}
 use Rattle.fzn_propagator.specs.declared.inferences.Inferred.{Inferred}
 use Rattle.fzn_clauses.specs.Held.{Held, clause_of}
@@ -15,7 +15,7 @@ use Rattle.fzn_reduction.specs.declared.written.Given.{Given}
 use Rattle.fzn_state.specs.State.{Give, AreNumbered, IsJustified, IsGivenBy}
 
 -- a past with one more entry among the clauses
-abbrev pub Grows : Past → Past → Option (List Lit) → Type 0
+abbrev pub Grows : StepsPast → StepsPast → Option (List Lit) → Type 0
 Grows old new entry = new.clauses ≡ old.clauses ++ entry ∷ []
 
 by_number : (clauses : List (Option (List Lit))) (n : ℕ) → Option (List Lit)
@@ -25,7 +25,7 @@ none_is : {X : Type 0} (x : X) → None ≡ Some x → ⊥
 none_is x e = cc
 
 -- a step that gives a clause still gives it behind later ones
-pub clause_held-grown : (old new : Past) (entry : Option (List Lit)) (n : ℕ) (clause : List Lit) → Grows old new entry → clause_held old n ≡ Some clause → clause_held new n ≡ Some clause
+pub clause_held-grown : (old new : StepsPast) (entry : Option (List Lit)) (n : ℕ) (clause : List Lit) → Grows old new entry → clause_held old n ≡ Some clause → clause_held new n ≡ Some clause
 clause_held-grown old new entry n clause grows is = by_zero (n == 0) refl
   where
     there : (n - 1) < length old.clauses → get_or new.clauses (n - 1) None ≡ get_or old.clauses (n - 1) None
@@ -45,7 +45,7 @@ clause_held-grown old new entry n clause grows is = by_zero (n == 0) refl
         ]
 
 -- the newest step gives its clause
-pub clause_held-newest : (old new : Past) (clause : List Lit) → Grows old new (Some clause) → clause_held new (length old.clauses + 1) ≡ Some clause
+pub clause_held-newest : (old new : StepsPast) (clause : List Lit) → Grows old new (Some clause) → clause_held new (length old.clauses + 1) ≡ Some clause
 clause_held-newest old new clause grows =
     ap (λ (b : Bool). cond b None (get_or new.clauses (length old.clauses + 1 - 1) None)) (not_zero (length old.clauses))
     ∙ ap₂ (λ (cs : List (Option (List Lit))) (k : ℕ). get_or cs k None) grows (less_one (length old.clauses))
@@ -58,7 +58,7 @@ clause_held-newest old new clause grows =
     less_one k = omega arith
 
 -- a number that gives a clause is one of a step
-pub number-of : (past : Past) (n : ℕ) (clause : List Lit) → clause_held past n ≡ Some clause → (1 ≤ n) × (n ≤ length past.clauses)
+pub number-of : (past : StepsPast) (n : ℕ) (clause : List Lit) → clause_held past n ≡ Some clause → (1 ≤ n) × (n ≤ length past.clauses)
 number-of past n clause is = by_zero (n == 0) refl
   where
     above : (n == 0) ≡ false → 1 ≤ n
@@ -75,28 +75,28 @@ number-of past n clause is = by_zero (n == 0) refl
         ]
 
 -- lists of numbers
-pub Give-push : (past : Past) (numbers : List ℕ) (clauses : List (List Lit)) (n : ℕ) (clause : List Lit) → Give past numbers clauses → clause_held past n ≡ Some clause → Give past (numbers ++ n ∷ []) (clauses ++ clause ∷ [])
+pub Give-push : (past : StepsPast) (numbers : List ℕ) (clauses : List (List Lit)) (n : ℕ) (clause : List Lit) → Give past numbers clauses → clause_held past n ≡ Some clause → Give past (numbers ++ n ∷ []) (clauses ++ clause ∷ [])
 Give-push past numbers clauses n clause h one =
     map-append (clause_held past) numbers (n ∷ []) ∙ ap₂ (λ (xs ys : List (Option (List Lit))). xs ++ ys) h (ap (λ (o : Option (List Lit)). o ∷ []) one) ∙ sym (map-append Some clauses (clause ∷ []))
 
 -- what a chain of steps rests on
-pub Give-chain : (past : Past) (numbers : List ℕ) (clauses : List (List Lit)) → Give past numbers clauses → All (IsHeld past) numbers × (clauses_held past numbers ≡ clauses)
-Give-chain past [] [] h = (All-nil (IsHeld past), refl)
+pub Give-chain : (past : StepsPast) (numbers : List ℕ) (clauses : List (List Lit)) → Give past numbers clauses → All (IsClauseHeld past) numbers × (clauses_held past numbers ≡ clauses)
+Give-chain past [] [] h = (All-nil (IsClauseHeld past), refl)
 Give-chain past [] (clause ∷ clauses) h = cc
 Give-chain past (n ∷ numbers) [] h = cc
 Give-chain past (n ∷ numbers) (clause ∷ clauses) h =
     let one : clause_held past n ≡ Some clause = cc in
     let rest = Give-chain past numbers clauses cc in
-    (All-cons (IsHeld past) n numbers (ap is_some one) rest.0, ap₂ (λ (c : List Lit) (cs : List (List Lit)). c ∷ cs) (ap (λ (o : Option (List Lit)). unwrap_or o []) one) rest.1)
+    (All-cons (IsClauseHeld past) n numbers (ap is_some one) rest.0, ap₂ (λ (c : List Lit) (cs : List (List Lit)). c ∷ cs) (ap (λ (o : Option (List Lit)). unwrap_or o []) one) rest.1)
 
 -- so with the numbers of held clauses
-pub AreNumbered-grown : (old new : Past) (entry : Option (List Lit)) (numbers : List ℕ) (held : Held) → Grows old new entry → AreNumbered old numbers held → AreNumbered new numbers held
+pub AreNumbered-grown : (old new : StepsPast) (entry : Option (List Lit)) (numbers : List ℕ) (held : Held) → Grows old new entry → AreNumbered old numbers held → AreNumbered new numbers held
 AreNumbered-grown old new entry numbers held grows h = record {
   one_each = h.one_each;
   gives = λ id is. clause_held-grown old new entry (get_or numbers id.0 0) (clause_of held id) grows (h.gives id is);
 }
 
-pub AreNumbered-push : (past : Past) (numbers : List ℕ) (held : Held) (n : ℕ) (clause : List Lit) → AreNumbered past numbers held → clause_held past n ≡ Some clause → AreNumbered past (numbers ++ n ∷ []) (held ++ Some clause ∷ [])
+pub AreNumbered-push : (past : StepsPast) (numbers : List ℕ) (held : Held) (n : ℕ) (clause : List Lit) → AreNumbered past numbers held → clause_held past n ≡ Some clause → AreNumbered past (numbers ++ n ∷ []) (held ++ Some clause ∷ [])
 AreNumbered-push past numbers held n clause h one = record {
   one_each = length_push numbers n ∙ ap (λ (k : ℕ). k + 1) h.one_each ∙ sym (length_push held (Some clause));
   gives = λ id is. elim (IsHeld-cases held clause id is) [
@@ -108,7 +108,7 @@ AreNumbered-push past numbers held n clause h one = record {
 }
 
 -- an inference stays justified
-pub IsJustified-grown : (model : Model) (old new : Past) (entry : Option (List Lit)) (it : Inferred) → Grows old new entry → IsJustified model old it → IsJustified model new it
+pub IsJustified-grown : (model : Model) (old new : StepsPast) (entry : Option (List Lit)) (it : Inferred) → Grows old new entry → IsJustified model old it → IsJustified model new it
 IsJustified-grown model old new entry it grows h = record {
   over = h.over;
   numbered = h.numbered;
@@ -122,13 +122,13 @@ IsJustified-grown model old new entry it grows h = record {
     still (Some n) w = clause_held-grown old new entry n it.clause grows w
 
 -- the clauses of written inferences stay given
-pub AreGivenBy-grown : (model : Model) (old new : Past) (entry : Option (List Lit)) (written : List Given) → Grows old new entry → All (IsGivenBy model old) written → All (IsGivenBy model new) written
+pub AreGivenBy-grown : (model : Model) (old new : StepsPast) (entry : Option (List Lit)) (written : List Given) → Grows old new entry → All (IsGivenBy model old) written → All (IsGivenBy model new) written
 AreGivenBy-grown model old new entry written grows all =
     All-weaker (IsGivenBy model old) (IsGivenBy model new) (λ it h. (h.0, clause_held-grown old new entry it.number it.clause grows h.1)) written all
 
 -- ---- steps that may be deleted
 
-pub given-clause : (past : Past) (n : ℕ) → IsHeld past n → (clause : List Lit) × (clause_held past n ≡ Some clause)
+pub given-clause : (past : StepsPast) (n : ℕ) → IsClauseHeld past n → (clause : List Lit) × (clause_held past n ≡ Some clause)
 given-clause past n is = by_clause (clause_held past n) refl
   where
     by_clause : (o : Option (List Lit)) → clause_held past n ≡ o → (clause : List Lit) × (clause_held past n ≡ Some clause)
@@ -136,8 +136,8 @@ given-clause past n is = by_clause (clause_held past n) refl
     by_clause (Some clause) e = (clause, e)
 
 -- one more step, and its number
-pub AreGiven-push : (old new : Past) (numbers : List ℕ) (n : ℕ) (clause : List Lit) → Grows old new (Some clause) → All (IsHeld old) numbers → clause_held new n ≡ Some clause → All (IsHeld new) (numbers ++ n ∷ [])
+pub AreGiven-push : (old new : StepsPast) (numbers : List ℕ) (n : ℕ) (clause : List Lit) → Grows old new (Some clause) → All (IsClauseHeld old) numbers → clause_held new n ≡ Some clause → All (IsClauseHeld new) (numbers ++ n ∷ [])
 AreGiven-push old new numbers n clause grows all one =
-    All-push (IsHeld new) numbers n
-    (All-weaker (IsHeld old) (IsHeld new) (λ k is. let given = given-clause old k is in ap is_some (clause_held-grown old new (Some clause) k given.0 grows given.1)) numbers all)
+    All-push (IsClauseHeld new) numbers n
+    (All-weaker (IsClauseHeld old) (IsClauseHeld new) (λ k is. let given = given-clause old k is in ap is_some (clause_held-grown old new (Some clause) k given.0 grows given.1)) numbers all)
     (ap is_some one)

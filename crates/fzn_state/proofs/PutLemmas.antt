@@ -10,8 +10,8 @@ use Rattle.fzn_domain.specs.Narrow.{IsClauseOver}
 use Rattle.fzn_meaning.specs.declared.model.Model.{Model}
 use Rattle.fzn_meaning.specs.Solutions.{cut_of}
 use Rattle.fzn_cert.specs.declared.step.Step.{Step}
-use Rattle.fzn_cert.specs.Past.{Past, clause_held}
-use Rattle.fzn_cert.specs.Accepted.{past_of}
+use Rattle.fzn_cert.specs.Past.{StepsPast, clause_held}
+use Rattle.fzn_cert.specs.Accepted.{past_after}
 use Rattle.fzn_trail.specs.declared.trail.ClauseId.{ClauseId}
 use Rattle.fzn_trail.specs.declared.trail.Entry.{Entry}
 use Rattle.fzn_trail.specs.declared.trail.Reason.{Reason}
@@ -59,7 +59,7 @@ module _ (held : Held) (id : ClauseId) (clause : List Lit) (free : IsHeld held i
       | inr apart ↦ subst P (sym (clause_still other apart)) (all other (subst IsSome (at_other other apart) is))
     ]
 
-    pub AreNumbered-put : (past : Past) (numbers : List ℕ) (number : ℕ) → AreNumbered past numbers held → clause_held past number ≡ Some clause → AreNumbered past (set numbers id.0 number) now
+    pub AreNumbered-put : (past : StepsPast) (numbers : List ℕ) (number : ℕ) → AreNumbered past numbers held → clause_held past number ≡ Some clause → AreNumbered past (set numbers id.0 number) now
     AreNumbered-put past numbers number h one = record {
       one_each = length-set numbers id.0 number ∙ h.one_each ∙ sym (length-set held id.0 (Some clause));
       gives = λ other is. elim (cases_eq other.0 id.0) [
@@ -98,12 +98,12 @@ put-reduced {model = model} {old = old} {steps = steps} h place within_written c
     let put = set (held_by old.clauses) id.0 (Some (given_at old.written place).clause) in
     restocked-reduced h clauses keeps put held_is (set old.numbers id.0 number)
     (record {
-      numbered = AreNumbered-put held id clause free within (past_of model steps) old.numbers number core.numbered (written-given h place within_written);
+      numbered = AreNumbered-put held id clause free within (past_after model steps) old.numbers number core.numbered (written-given h place within_written);
       justified = core.justified;
       written = core.written;
       alive = core.alive;
       cuts_held = All-weaker (λ values. IsHeldCut held old.cuts (cut_of model values)) (λ values. IsHeldCut put old.cuts (cut_of model values))
-          (λ values cut. IsHeldCut-put held old.cuts (cut_of model values) cut id clause free) (past_of model steps).solutions core.cuts_held;
+          (λ values cut. IsHeldCut-put held old.cuts (cut_of model values) cut id clause free) (past_after model steps).solutions core.cuts_held;
       held_over = AllHeld-put held id clause free within (IsClauseOver (length old.trail.declared)) core.held_over (written-over h place within_written);
     })
     (IsReasoned-put held id clause free (known_in (stock_of old)).stacked old.trail core.reasoned) notes

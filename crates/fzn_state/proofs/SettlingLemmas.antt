@@ -9,8 +9,8 @@ use Rattle.fzn_meaning.specs.declared.model.Model.{Model}
 use Rattle.fzn_meaning.specs.Solutions.{cut_of}
 use Rattle.fzn_cert.specs.declared.step.Step.{Step}
 use Rattle.fzn_cert.specs.declared.step.Step.TheVariants.{Resolve}
-use Rattle.fzn_cert.specs.Past.{Past, clause_held}
-use Rattle.fzn_cert.specs.Accepted.{IsAccepted, after, past_of}
+use Rattle.fzn_cert.specs.Past.{StepsPast, clause_held}
+use Rattle.fzn_cert.specs.Accepted.{IsAccepted, after_step, past_after}
 use Rattle.fzn_trail.specs.declared.trail.ClauseId.{ClauseId}
 use Rattle.fzn_trail.specs.declared.trail.Entry.{Entry}
 use Rattle.fzn_trail.specs.declared.trail.Reason.TheVariants.{Clause}
@@ -137,7 +137,7 @@ dropped-reduced {model = model} {old = old} {new = new} {steps = steps} h cut =
 
 -- ---- the clause of the next step
 
-module _ {model : Model} {old : Solver} {steps : List Step} (h : IsAfter model old steps) (first : old.learn ≡ First) (clause : List Lit) (ids : List ℕ) (accepted : IsAccepted model (past_of model steps) (Resolve clause ids)) (few : length steps + 1 < 10 ^ 18) where
+module _ {model : Model} {old : Solver} {steps : List Step} (h : IsAfter model old steps) (first : old.learn ≡ First) (clause : List Lit) (ids : List ℕ) (accepted : IsAccepted model (past_after model steps) (Resolve clause ids)) (few : length steps + 1 < 10 ^ 18) where
   abbrev later : List Step
   later = steps ++ Resolve clause ids ∷ []
 
@@ -178,11 +178,11 @@ module _ {model : Model} {old : Solver} {steps : List Step} (h : IsAfter model o
     abbrev put : Stock
     put = record (stock_of old) { held = set (held_by old.clauses) id.0 (Some clause); numbers = set old.numbers id.0 (old.steps + 1); alive = old.alive ++ (old.steps + 1) ∷ [] }
 
-    abbrev past : Past
-    past = past_of model steps
+    abbrev past : StepsPast
+    past = past_after model steps
 
-    abbrev now : Past
-    now = after model (past_of model steps) (Resolve clause ids)
+    abbrev now : StepsPast
+    now = after_step model (past_after model steps) (Resolve clause ids)
 
     gives : clause_held now (old.steps + 1) ≡ Some clause
     gives =
@@ -205,7 +205,7 @@ module _ {model : Model} {old : Solver} {steps : List Step} (h : IsAfter model o
           written = AreGivenBy-grown model past now (Some clause) old.written refl core.written;
           alive = AreGiven-push past now old.alive (old.steps + 1) clause refl core.alive gives;
           cuts_held = All-weaker (λ values. IsHeldCut held old.cuts (cut_of model values)) Cut
-              (λ values cut. IsHeldCut-put held old.cuts (cut_of model values) cut id clause free) (past_of model steps).solutions core.cuts_held;
+              (λ values cut. IsHeldCut-put held old.cuts (cut_of model values) cut id clause free) (past_after model steps).solutions core.cuts_held;
           held_over = AllHeld-put held id clause free within (IsClauseOver (length old.trail.declared)) core.held_over over;
         }
 

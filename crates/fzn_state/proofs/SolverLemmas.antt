@@ -6,8 +6,8 @@ use Rattle.fzn_domain.specs.declared.literal.Lit.{Lit}
 use Rattle.fzn_domain.specs.Narrow.{IsClauseOver}
 use Rattle.fzn_meaning.specs.declared.model.Model.{Model}
 use Rattle.fzn_cert.specs.declared.step.Step.{Step}
-use Rattle.fzn_cert.specs.Past.{Past}
-use Rattle.fzn_cert.specs.Accepted.{after, past_of}
+use Rattle.fzn_cert.specs.Past.{StepsPast}
+use Rattle.fzn_cert.specs.Accepted.{after_step, past_after}
 use Rattle.fzn_sets.specs.Sets.{Narrowed}
 use Rattle.fzn_propagator.specs.declared.inferences.Inferred.{Inferred}
 use Rattle.fzn_search.specs.Fixed.{Searching}
@@ -24,7 +24,7 @@ use Rattle.fzn_state.specs.Certified.{count, IsCertified}
 use Rattle.fzn_state.specs.Changes.{IsClosed, IsKeptBy, Holds}
 use Rattle.fzn_state.specs.Search.{IsInOrder, IsAfter, stock_of, Tally, tally_of}
 use Rattle.fzn_state.specs.State.{Stock, known_in, IsJustified, StateOf}
-use Rattle.fzn_state.proofs.AcceptedLemmas.{past_of-push}
+use Rattle.fzn_state.proofs.AcceptedLemmas.{past_after-push}
 use Rattle.fzn_state.proofs.PropagationLemmas.{State-propagated}
 
 -- a search of which these parts are known
@@ -36,13 +36,13 @@ holds-tally holds = λ i. record { nodes = (holds.search i).nodes; found = holds
 
 -- one more step, which is no solution
 module _ {model : Model} {tested : Narrowed} {variables solutions number : ℕ} {before : List Step} (h : IsInOrder model tested variables solutions number before) {now : List Step} (step : Step) (now_is : now ≡ before ++ step ∷ []) (few : length now < 10 ^ 18) where
-  count-after : count model now ≡ length (after model (past_of model before) step).solutions
-  count-after = ap (λ (s : List Step). length (past_of model s).solutions) now_is ∙ ap (λ (p : Past). length p.solutions) (past_of-push model before step)
+  count-after : count model now ≡ length (after_step model (past_after model before) step).solutions
+  count-after = ap (λ (s : List Step). length (past_after model s).solutions) now_is ∙ ap (λ (p : StepsPast). length p.solutions) (past_after-push model before step)
 
   lengths : length now ≡ length before + 1
   lengths = ap length now_is ∙ length_push before step
 
-  pub order-step : (after model (past_of model before) step).solutions ≡ (past_of model before).solutions → (next : ℕ) → next ≡ number + 1 → IsInOrder model tested variables solutions next now
+  pub order-step : (after_step model (past_after model before) step).solutions ≡ (past_after model before).solutions → (next : ℕ) → next ≡ number + 1 → IsInOrder model tested variables solutions next now
   order-step same next next_is = record {
     scratch = h.scratch;
     vars = h.vars;
@@ -53,11 +53,11 @@ module _ {model : Model} {tested : Narrowed} {variables solutions number : ℕ} 
   }
 
   -- or is one
-  pub order-found : (values : List ℤ) → (after model (past_of model before) step).solutions ≡ (past_of model before).solutions ++ values ∷ [] → IsInOrder model tested variables (solutions + 1) (number + 1) now
+  pub order-found : (values : List ℤ) → (after_step model (past_after model before) step).solutions ≡ (past_after model before).solutions ++ values ∷ [] → IsInOrder model tested variables (solutions + 1) (number + 1) now
   order-found values more = record {
     scratch = h.scratch;
     vars = h.vars;
-    found_is = ap (λ (n : ℕ). n + 1) h.found_is ∙ sym (count-after ∙ ap length more ∙ length_push (past_of model before).solutions values);
+    found_is = ap (λ (n : ℕ). n + 1) h.found_is ∙ sym (count-after ∙ ap length more ∙ length_push (past_after model before).solutions values);
     found_few = omega (arith, h.found_few, lengths);
     steps_are = ap (λ (n : ℕ). n + 1) h.steps_are ∙ sym lengths;
     few_steps = few;
@@ -78,7 +78,7 @@ known-over {model = model} {solver = solver} {steps = steps} h =
     record {
       held = h.state.core.held_over;
       stacked = subst O (sym sizes) (All-map (IsClauseOver (length model.vars)) (λ (it : Inferred). it.clause) solver.inferences
-          (All-weaker (IsJustified model (past_of model steps)) (λ (it : Inferred). IsClauseOver (length model.vars) it.clause) (λ it j. j.over) solver.inferences h.state.core.justified));
+          (All-weaker (IsJustified model (past_after model steps)) (λ (it : Inferred). IsClauseOver (length model.vars) it.clause) (λ it j. j.over) solver.inferences h.state.core.justified));
     }
 
 -- ---- propagation

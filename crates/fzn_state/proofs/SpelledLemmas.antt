@@ -13,7 +13,7 @@ use Rattle.fzn_meaning.specs.WellFormed.{IsWellFormed}
 use Rattle.fzn_cert.specs.declared.step.Step.TheVariants.{Resolve, Solution}
 use Rattle.fzn_cert.specs.declared.step.Version.TheVariants.{Two}
 use Rattle.fzn_cert.specs.Spelling.{IsNumber, IsValue, IsLiteral, IsSpelled}
-use Rattle.fzn_cert.specs.Past.{Past, clause_held}
+use Rattle.fzn_cert.specs.Past.{StepsPast, clause_held}
 use Rattle.fzn_state.specs.State.{Give}
 use Rattle.fzn_state.proofs.NumberLemmas.{number-of}
 
@@ -32,7 +32,7 @@ literals-spelled count (lit ∷ clause) few over limits =
     )
 
 -- numbers that give clauses are those of steps
-numbers-spelled : (past : Past) (numbers : List ℕ) (clauses : List (List Lit)) → length past.clauses < 10 ^ 18 → Give past numbers clauses → AllByRecursion IsNumber numbers
+numbers-spelled : (past : StepsPast) (numbers : List ℕ) (clauses : List (List Lit)) → length past.clauses < 10 ^ 18 → Give past numbers clauses → AllByRecursion IsNumber numbers
 numbers-spelled past [] clauses few give = tt
 numbers-spelled past (n ∷ numbers) [] few give = cc
 numbers-spelled past (n ∷ numbers) (clause ∷ clauses) few give =
@@ -44,7 +44,7 @@ numbers-spelled past (n ∷ numbers) (clause ∷ clauses) few give =
     number : (k count : ℕ) → count < 10 ^ 18 → 1 ≤ k → k ≤ count → IsNumber k
     number k count room least most = (least, omega arith)
 
-pub resolve-spelled : (count : ℕ) (past : Past) (clause : List Lit) (numbers : List ℕ) (clauses : List (List Lit)) → count ≤ 100000 → length past.clauses < 10 ^ 18 → IsClauseOver count clause → All (λ (lit : Lit). IsInLimits lit.value) clause → Give past numbers clauses → IsSpelled Two (Resolve clause numbers)
+pub resolve-spelled : (count : ℕ) (past : StepsPast) (clause : List Lit) (numbers : List ℕ) (clauses : List (List Lit)) → count ≤ 100000 → length past.clauses < 10 ^ 18 → IsClauseOver count clause → All (λ (lit : Lit). IsInLimits lit.value) clause → Give past numbers clauses → IsSpelled Two (Resolve clause numbers)
 resolve-spelled count past clause numbers clauses few room over limits give = (literals-spelled count clause few over limits, numbers-spelled past numbers clauses room give)
 
 values-spelled : (values : List ℤ) → All IsInLimits values → AllByRecursion IsValue values

@@ -9,8 +9,8 @@ use Rattle.fzn_domain.specs.Narrow.{IsVariable, IsClauseOver, IsOpen, NoneEmpty,
 use Rattle.fzn_meaning.specs.declared.model.Model.{Model}
 use Rattle.fzn_meaning.specs.Solutions.{cut_of}
 use Rattle.fzn_cert.specs.declared.step.Step.{Step}
-use Rattle.fzn_cert.specs.Past.{Past, clause_held}
-use Rattle.fzn_cert.specs.Accepted.{IsAccepted, after, past_of}
+use Rattle.fzn_cert.specs.Past.{StepsPast, clause_held}
+use Rattle.fzn_cert.specs.Accepted.{IsAccepted, after_step, past_after}
 use Rattle.fzn_propagator.specs.declared.inferences.Inferred.{Inferred}
 use Rattle.fzn_trail.specs.declared.trail.Entry.{Entry}
 use Rattle.fzn_trail.specs.Levels.{Levels}
@@ -20,7 +20,7 @@ use Rattle.fzn_learned.proofs.CallerLemmas.{IsReasoned-stacked, IsReasoned-cut}
 use Rattle.fzn_state.specs.Volume.{volume, slack}
 use Rattle.fzn_state.specs.Learned.{resolved, FreshAfter, negations, AllCertain, left_open, other_part}
 use Rattle.fzn_state.specs.State.{Stock, known_in, with_held, with_cuts, with_inference, with_stack, IsHeldCut, IsJustified, IsStocked, CoreOf, PlainOf}
-use Rattle.fzn_state.proofs.AcceptedLemmas.{past_of-push, AllAccepted-push, length-past_of}
+use Rattle.fzn_state.proofs.AcceptedLemmas.{past_after-push, AllAccepted-push, length-past_of}
 use Rattle.fzn_state.proofs.HeldCutLemmas.{IsHeldCut-grown}
 use Rattle.fzn_state.proofs.NumberLemmas.{Grows, clause_held-newest, AreGiven-push, AreNumbered-grown, AreNumbered-push, IsJustified-grown, AreGivenBy-grown}
 use Rattle.fzn_state.proofs.VolumeLemmas.{decided-accounts}
@@ -29,9 +29,9 @@ use Rattle.fzn_state.proofs.FreshLemmas.{learned-fresh, LevelsBacked-push, Level
 
 -- ---- the clauses
 
-module _ {model : Model} {past : Past} {variables : ℕ} {stock : Stock} (h : IsStocked model past variables stock) where
+module _ {model : Model} {past : StepsPast} {variables : ℕ} {stock : Stock} (h : IsStocked model past variables stock) where
   -- the clause of the step that is new, with other flags of cuts
-  pub Stocked-held : (now : Past) (clause : List Lit) (number : ℕ) (flags : List Bool) → Grows past now (Some clause) → clause_held now number ≡ Some clause → All (λ values. IsHeldCut (stock.held ++ Some clause ∷ []) flags (cut_of model values)) now.solutions → IsClauseOver variables clause → IsStocked model now variables (with_cuts flags (with_held clause number stock))
+  pub Stocked-held : (now : StepsPast) (clause : List Lit) (number : ℕ) (flags : List Bool) → Grows past now (Some clause) → clause_held now number ≡ Some clause → All (λ values. IsHeldCut (stock.held ++ Some clause ∷ []) flags (cut_of model values)) now.solutions → IsClauseOver variables clause → IsStocked model now variables (with_cuts flags (with_held clause number stock))
   Stocked-held now clause number flags grows gives cuts over = record {
     numbered = AreNumbered-push now stock.numbers stock.held number clause (AreNumbered-grown past now (Some clause) stock.numbers stock.held grows h.numbered) gives;
     justified = All-weaker (IsJustified model past) (IsJustified model now) (λ it j. IsJustified-grown model past now (Some clause) it grows j) stock.stack h.justified;
@@ -60,7 +60,7 @@ module _ {model : Model} {stock : Stock} {steps : List Step} {trail : Levels} {n
       let conflicts = h.nodes_by_conflicts in
       let N : List IntSet → Type 0 = λ s. count + slack new.sets ≤ (length (resolved steps) + 1) * slack s in
       let F : List IntSet → Type 0 = λ s. NoneEmpty s in
-      let K : List IntSet → Type 0 = λ s. IsStocked model (past_of model steps) (length s) stock in
+      let K : List IntSet → Type 0 = λ s. IsStocked model (past_after model steps) (length s) stock in
       record {
         declared = e ∙ h.declared;
         filled = subst F (sym e) h.filled;
@@ -71,45 +71,45 @@ module _ {model : Model} {stock : Stock} {steps : List Step} {trail : Levels} {n
       }
 
   -- a change of the clauses alone
-  pub Core-restocked : (new : Stock) → IsStocked model (past_of model steps) (length trail.declared) new → IsReasoned (known_in new) trail → CoreOf model new steps trail nodes
+  pub Core-restocked : (new : Stock) → IsStocked model (past_after model steps) (length trail.declared) new → IsReasoned (known_in new) trail → CoreOf model new steps trail nodes
   Core-restocked new stocked reasoned = record { declared = h.declared; filled = h.filled; accepted = h.accepted; stocked = stocked; reasoned = reasoned; nodes_by_conflicts = h.nodes_by_conflicts }
 
   -- one more step
-  pub Core-more : (step : Step) → IsAccepted model (past_of model steps) step → (new : Stock) → IsStocked model (after model (past_of model steps) step) (length trail.declared) new → (there : Levels) → there.declared ≡ trail.declared → IsReasoned (known_in new) there → nodes + slack there.sets ≤ (length (resolved (steps ++ step ∷ [])) + 1) * slack trail.declared → CoreOf model new (steps ++ step ∷ []) there nodes
+  pub Core-more : (step : Step) → IsAccepted model (past_after model steps) step → (new : Stock) → IsStocked model (after_step model (past_after model steps) step) (length trail.declared) new → (there : Levels) → there.declared ≡ trail.declared → IsReasoned (known_in new) there → nodes + slack there.sets ≤ (length (resolved (steps ++ step ∷ [])) + 1) * slack trail.declared → CoreOf model new (steps ++ step ∷ []) there nodes
   Core-more step accepted new stocked there e reasoned less =
       let N : List IntSet → Type 0 = λ s. nodes + slack there.sets ≤ (length (resolved (steps ++ step ∷ [])) + 1) * slack s in
       let F : List IntSet → Type 0 = λ s. NoneEmpty s in
-      let K : List IntSet → Type 0 = λ s. IsStocked model (after model (past_of model steps) step) (length s) new in
-      let P : Past → Type 0 = λ p. IsStocked model p (length there.declared) new in
+      let K : List IntSet → Type 0 = λ s. IsStocked model (after_step model (past_after model steps) step) (length s) new in
+      let P : StepsPast → Type 0 = λ p. IsStocked model p (length there.declared) new in
       record {
         declared = e ∙ h.declared;
         filled = subst F (sym e) h.filled;
         accepted = AllAccepted-push model steps step h.accepted accepted;
-        stocked = subst P (sym (past_of-push model steps step)) (subst K (sym e) stocked);
+        stocked = subst P (sym (past_after-push model steps step)) (subst K (sym e) stocked);
         reasoned = reasoned;
         nodes_by_conflicts = subst N (sym e) less;
       }
 
   -- its clause is held, with other flags of cuts
-  pub Core-step : (step : Step) (clause : List Lit) (number : ℕ) (flags : List Bool) → number ≡ length steps + 1 → IsAccepted model (past_of model steps) step → Grows (past_of model steps) (after model (past_of model steps) step) (Some clause) → All (λ values. IsHeldCut (stock.held ++ Some clause ∷ []) flags (cut_of model values)) (after model (past_of model steps) step).solutions → IsClauseOver (length trail.declared) clause → (new : Levels) → new.declared ≡ trail.declared → IsReasoned (known_in (with_held clause number stock)) new → nodes + slack new.sets ≤ (length (resolved (steps ++ step ∷ [])) + 1) * slack trail.declared → CoreOf model (with_cuts flags (with_held clause number stock)) (steps ++ step ∷ []) new nodes
+  pub Core-step : (step : Step) (clause : List Lit) (number : ℕ) (flags : List Bool) → number ≡ length steps + 1 → IsAccepted model (past_after model steps) step → Grows (past_after model steps) (after_step model (past_after model steps) step) (Some clause) → All (λ values. IsHeldCut (stock.held ++ Some clause ∷ []) flags (cut_of model values)) (after_step model (past_after model steps) step).solutions → IsClauseOver (length trail.declared) clause → (new : Levels) → new.declared ≡ trail.declared → IsReasoned (known_in (with_held clause number stock)) new → nodes + slack new.sets ≤ (length (resolved (steps ++ step ∷ [])) + 1) * slack trail.declared → CoreOf model (with_cuts flags (with_held clause number stock)) (steps ++ step ∷ []) new nodes
   Core-step step clause number flags newest accepted grows cuts over new e reasoned less =
-      let now = after model (past_of model steps) step in
+      let now = after_step model (past_after model steps) step in
       let gives : clause_held now number ≡ Some clause =
-      ap (clause_held now) (newest ∙ ap (λ (n : ℕ). n + 1) (sym (length-past_of model steps))) ∙ clause_held-newest (past_of model steps) now clause grows in
+      ap (clause_held now) (newest ∙ ap (λ (n : ℕ). n + 1) (sym (length-past_of model steps))) ∙ clause_held-newest (past_after model steps) now clause grows in
       Core-more step accepted (with_cuts flags (with_held clause number stock)) (Stocked-held h.stocked now clause number flags grows gives cuts over) new e reasoned less
 
   -- one more inference
-  pub Core-stacked : (it : Inferred) → IsJustified model (past_of model steps) it → CoreOf model (with_inference it stock) steps trail nodes
+  pub Core-stacked : (it : Inferred) → IsJustified model (past_after model steps) it → CoreOf model (with_inference it stock) steps trail nodes
   Core-stacked it justified =
       let K : List (List Lit) → Type 0 = λ cs. IsReasoned (record { held = stock.held; stacked = cs }) trail in
-      Core-restocked (with_inference it stock) (Stocked-over h.stocked (stock.stack ++ it ∷ []) (All-push (IsJustified model (past_of model steps)) stock.stack it h.justified justified))
+      Core-restocked (with_inference it stock) (Stocked-over h.stocked (stock.stack ++ it ∷ []) (All-push (IsJustified model (past_after model steps)) stock.stack it h.justified justified))
       (subst K (sym (map-append (λ (i : Inferred). i.clause) stock.stack (it ∷ []))) (IsReasoned-stacked (known_in stock) (it.clause ∷ []) trail h.reasoned))
 
   -- fewer inferences, where no entry rests on the others
   pub Core-cut : (count : ℕ) → All (λ (entry : Entry). IsBelow count entry.reason) trail.entries → CoreOf model (with_stack count stock) steps trail nodes
   Core-cut count enough =
       let K : List (List Lit) → Type 0 = λ cs. IsReasoned (record { held = stock.held; stacked = cs }) trail in
-      Core-restocked (with_stack count stock) (Stocked-over h.stocked (take count stock.stack) (All-take (IsJustified model (past_of model steps)) count stock.stack h.justified))
+      Core-restocked (with_stack count stock) (Stocked-over h.stocked (take count stock.stack) (All-take (IsJustified model (past_after model steps)) count stock.stack h.justified))
       (subst K (take-map (λ (i : Inferred). i.clause) count stock.stack) (IsReasoned-cut (known_in stock) count trail enough h.reasoned))
 
 -- ---- plain learning

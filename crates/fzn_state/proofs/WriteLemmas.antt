@@ -7,8 +7,8 @@ use Rattle.fzn_domain.specs.declared.literal.Lit.{Lit}
 use Rattle.fzn_meaning.specs.declared.model.Model.{Model}
 use Rattle.fzn_cert.specs.declared.step.Step.{Step}
 use Rattle.fzn_cert.specs.declared.step.Step.TheVariants.{Infer}
-use Rattle.fzn_cert.specs.Past.{Past, clause_held}
-use Rattle.fzn_cert.specs.Accepted.{IsAccepted, after, past_of}
+use Rattle.fzn_cert.specs.Past.{StepsPast, clause_held}
+use Rattle.fzn_cert.specs.Accepted.{IsAccepted, after_step, past_after}
 use Rattle.fzn_propagator.specs.declared.inferences.Inferred.{Inferred}
 use Rattle.fzn_propagator.specs.Inferences.{inference_at, with_number}
 use Rattle.fzn_trail.specs.Levels.{Levels}
@@ -16,7 +16,7 @@ use Rattle.fzn_learned.specs.Reasoned.{Known, IsReasoned}
 use Rattle.fzn_state.specs.Volume.{slack}
 use Rattle.fzn_state.specs.Learned.{resolved}
 use Rattle.fzn_state.specs.State.{Stock, known_in, with_given, with_step, IsGivenBy, IsJustified, CoreOf}
-use Rattle.fzn_state.proofs.AcceptedLemmas.{past_of-push, resolved-append, length-past_of}
+use Rattle.fzn_state.proofs.AcceptedLemmas.{past_after-push, resolved-append, length-past_of}
 use Rattle.fzn_state.proofs.StateLemmas.{Core-more, Core-restocked, Stocked-over}
 use Rattle.fzn_state.proofs.NumberLemmas.{clause_held-grown, clause_held-newest, AreGiven-push, AreNumbered-grown, IsJustified-grown, AreGivenBy-grown}
 
@@ -27,10 +27,10 @@ module _ {model : Model} {stock : Stock} {steps : List Step} {trail : Levels} {n
   abbrev pub step : Step
   step = Infer it.constraint it.rule it.clause
 
-  is_justified : IsJustified model (past_of model steps) it
-  is_justified = All-get_or (IsJustified model (past_of model steps)) stock.stack place _ stacked core.justified
+  is_justified : IsJustified model (past_after model steps) it
+  is_justified = All-get_or (IsJustified model (past_after model steps)) stock.stack place _ stacked core.justified
 
-  pub infer-accepted : IsAccepted model (past_of model steps) step
+  pub infer-accepted : IsAccepted model (past_after model steps) step
   infer-accepted = (is_justified.over, is_justified.numbered, is_justified.justified)
 
   pub same_resolved : resolved (steps ++ step ∷ []) ≡ resolved steps
@@ -42,47 +42,47 @@ module _ {model : Model} {stock : Stock} {steps : List Step} {trail : Levels} {n
       (map-set_same (λ (i : Inferred). i.clause) stock.stack place (with_number number it) _ refl)
 
   -- the step after these gives its clause
-  gives-now : (number : ℕ) → number ≡ length steps + 1 → clause_held (after model (past_of model steps) step) number ≡ Some it.clause
+  gives-now : (number : ℕ) → number ≡ length steps + 1 → clause_held (after_step model (past_after model steps) step) number ≡ Some it.clause
   gives-now number e =
-      ap (clause_held (after model (past_of model steps) step)) (e ∙ ap (λ (n : ℕ). n + 1) (sym (length-past_of model steps)))
-      ∙ clause_held-newest (past_of model steps) (after model (past_of model steps) step) it.clause refl
+      ap (clause_held (after_step model (past_after model steps) step)) (e ∙ ap (λ (n : ℕ). n + 1) (sym (length-past_of model steps)))
+      ∙ clause_held-newest (past_after model steps) (after_step model (past_after model steps) step) it.clause refl
 
-  pub written-there : (number : ℕ) → number ≡ length steps + 1 → clause_held (past_of model (steps ++ step ∷ [])) number ≡ Some it.clause
-  written-there number e = ap (λ (p : Past). clause_held p number) (past_of-push model steps step) ∙ gives-now number e
+  pub written-there : (number : ℕ) → number ≡ length steps + 1 → clause_held (past_after model (steps ++ step ∷ [])) number ≡ Some it.clause
+  written-there number e = ap (λ (p : StepsPast). clause_held p number) (past_after-push model steps step) ∙ gives-now number e
 
   -- and those before it still give theirs
-  pub still-gives : (n : ℕ) (clause : List Lit) → clause_held (past_of model steps) n ≡ Some clause → clause_held (past_of model (steps ++ step ∷ [])) n ≡ Some clause
+  pub still-gives : (n : ℕ) (clause : List Lit) → clause_held (past_after model steps) n ≡ Some clause → clause_held (past_after model (steps ++ step ∷ [])) n ≡ Some clause
   still-gives n clause gives =
-      ap (λ (p : Past). clause_held p n) (past_of-push model steps step) ∙ clause_held-grown (past_of model steps) (after model (past_of model steps) step) (Some it.clause) n clause refl gives
+      ap (λ (p : StepsPast). clause_held p n) (past_after-push model steps step) ∙ clause_held-grown (past_after model steps) (after_step model (past_after model steps) step) (Some it.clause) n clause refl gives
 
-  newest : (number : ℕ) → number ≡ length steps + 1 → IsJustified model (after model (past_of model steps) step) (with_number number it)
+  newest : (number : ℕ) → number ≡ length steps + 1 → IsJustified model (after_step model (past_after model steps) step) (with_number number it)
   newest number e =
-      let later = IsJustified-grown model (past_of model steps) (after model (past_of model steps) step) (Some it.clause) it refl is_justified in
+      let later = IsJustified-grown model (past_after model steps) (after_step model (past_after model steps) step) (Some it.clause) it refl is_justified in
       record { over = later.over; numbered = later.numbered; justified = later.justified; spelled = later.spelled; written = gives-now number e }
 
   pub Core-written : (number : ℕ) → number ≡ length steps + 1 → CoreOf model (with_step place number stock) (steps ++ step ∷ []) trail nodes
   Core-written number e =
-      let now = after model (past_of model steps) step in
+      let now = after_step model (past_after model steps) step in
       let J : Inferred → Type 0 = IsJustified model now in
       let N : List (List Lit) → Type 0 = λ cs. nodes + slack trail.sets ≤ (length cs + 1) * slack trail.declared in
       let R : Known → Type 0 = λ k. IsReasoned k trail in
       Core-more core step infer-accepted (with_step place number stock)
       (record {
-        numbered = AreNumbered-grown (past_of model steps) now (Some it.clause) stock.numbers stock.held refl core.numbered;
+        numbered = AreNumbered-grown (past_after model steps) now (Some it.clause) stock.numbers stock.held refl core.numbered;
         justified = All-set J stock.stack place (with_number number it) (newest number e)
-            (All-weaker (IsJustified model (past_of model steps)) J (λ i j. IsJustified-grown model (past_of model steps) now (Some it.clause) i refl j) stock.stack core.justified);
+            (All-weaker (IsJustified model (past_after model steps)) J (λ i j. IsJustified-grown model (past_after model steps) now (Some it.clause) i refl j) stock.stack core.justified);
         written = All-push (IsGivenBy model now) stock.written (record { clause = it.clause; number = number })
-            (AreGivenBy-grown model (past_of model steps) now (Some it.clause) stock.written refl core.written) (is_justified.over, gives-now number e);
-        alive = AreGiven-push (past_of model steps) now stock.alive number it.clause refl core.alive (gives-now number e);
+            (AreGivenBy-grown model (past_after model steps) now (Some it.clause) stock.written refl core.written) (is_justified.over, gives-now number e);
+        alive = AreGiven-push (past_after model steps) now stock.alive number it.clause refl core.alive (gives-now number e);
         cuts_held = core.cuts_held;
         held_over = core.held_over;
       })
       trail refl (subst R (sym (known-written number)) core.reasoned) (subst N (sym same_resolved) core.nodes_by_conflicts)
 
   -- a step that was written before gives its clause
-  pub Core-given : (number : ℕ) → clause_held (past_of model steps) number ≡ Some it.clause → CoreOf model (with_given place number stock) steps trail nodes
+  pub Core-given : (number : ℕ) → clause_held (past_after model steps) number ≡ Some it.clause → CoreOf model (with_given place number stock) steps trail nodes
   Core-given number gives =
-      let J : Inferred → Type 0 = IsJustified model (past_of model steps) in
+      let J : Inferred → Type 0 = IsJustified model (past_after model steps) in
       let R : Known → Type 0 = λ k. IsReasoned k trail in
       let one : J (with_number number it) = record { over = is_justified.over; numbered = is_justified.numbered; justified = is_justified.justified; spelled = is_justified.spelled; written = gives } in
       Core-restocked core (with_given place number stock)

@@ -6,7 +6,7 @@ use Rattle.fzn_meaning.specs.declared.model.Model.{Model}
 use Rattle.fzn_cert.specs.declared.step.Step.{Step}
 use Rattle.fzn_cert.specs.declared.step.Step.TheVariants.{Infer}
 use Rattle.fzn_cert.specs.Past.{clause_held}
-use Rattle.fzn_cert.specs.Accepted.{AllAccepted, past_of}
+use Rattle.fzn_cert.specs.Accepted.{AllAccepted, past_after}
 use Rattle.fzn_propagator.specs.declared.inferences.Inferred.{Inferred}
 use Rattle.fzn_propagator.specs.Inferences.{inference_at, with_number}
 use Rattle.fzn_trail.specs.declared.trail.Reason.{Reason}
@@ -29,24 +29,24 @@ pub written-through : {model : Model} {old mid new : Solver} {first before now :
 written-through a b = record { state = b.state; kept = λ n clause gives. b.kept n clause (a.kept n clause gives); known = b.known ∙ a.known; trail = b.trail ∙ a.trail; tally = b.tally ∙ a.tally }
 
 -- numbers of steps that were written before
-Give-still : (model : Model) (before now : List Step) (numbers : List ℕ) (clauses : List (List Lit)) → StillGive model before now → Give (past_of model before) numbers clauses → Give (past_of model now) numbers clauses
+Give-still : (model : Model) (before now : List Step) (numbers : List ℕ) (clauses : List (List Lit)) → StillGive model before now → Give (past_after model before) numbers clauses → Give (past_after model now) numbers clauses
 Give-still model before now [] [] still h = refl
 Give-still model before now [] (clause ∷ clauses) still h = cc
 Give-still model before now (n ∷ numbers) [] still h = cc
 Give-still model before now (n ∷ numbers) (clause ∷ clauses) still h =
-    let one : clause_held (past_of model before) n ≡ Some clause = cc in
-    let rest : Give (past_of model before) numbers clauses = cc in
+    let one : clause_held (past_after model before) n ≡ Some clause = cc in
+    let rest : Give (past_after model before) numbers clauses = cc in
     ap₂ (λ (o : Option (List Lit)) (os : List (Option (List Lit))). o ∷ os) (still n clause one) (Give-still model before now numbers clauses still rest)
 
 -- one more antecedent has its number
-pub GiveAntecedents-next : (model : Model) (before now : List Step) (known mid : Known) (numbers : List ℕ) (antecedents : List Reason) (i : ℕ) (d : Reason) (number : ℕ) → StillGive model before now → mid ≡ known → GiveAntecedents (past_of model before) known numbers (take i antecedents) → i < length antecedents → clause_held (past_of model now) number ≡ Some (clause_of mid (get_or antecedents i d)) → GiveAntecedents (past_of model now) known (numbers ++ number ∷ []) (take (i + 1) antecedents)
+pub GiveAntecedents-next : (model : Model) (before now : List Step) (known mid : Known) (numbers : List ℕ) (antecedents : List Reason) (i : ℕ) (d : Reason) (number : ℕ) → StillGive model before now → mid ≡ known → GiveAntecedents (past_after model before) known numbers (take i antecedents) → i < length antecedents → clause_held (past_after model now) number ≡ Some (clause_of mid (get_or antecedents i d)) → GiveAntecedents (past_after model now) known (numbers ++ number ∷ []) (take (i + 1) antecedents)
 GiveAntecedents-next model before now known mid numbers antecedents i d number still same give within gives =
-    let C : List (List Lit) → Type 0 = λ cs. Give (past_of model now) (numbers ++ number ∷ []) cs in
+    let C : List (List Lit) → Type 0 = λ cs. Give (past_after model now) (numbers ++ number ∷ []) cs in
     let antecedent = get_or antecedents i d in
     let clauses : map (clause_of known) (take (i + 1) antecedents) ≡ map (clause_of known) (take i antecedents) ++ clause_of known antecedent ∷ [] =
     ap (map (clause_of known)) (take_more antecedents i d within) ∙ map-append (clause_of known) (take i antecedents) (antecedent ∷ []) in
-    let one : clause_held (past_of model now) number ≡ Some (clause_of known antecedent) = gives ∙ ap (λ (k : Known). Some (clause_of k antecedent)) same in
-    subst C (sym clauses) (Give-push (past_of model now) numbers (map (clause_of known) (take i antecedents)) number (clause_of known antecedent) (Give-still model before now numbers (map (clause_of known) (take i antecedents)) still give) one)
+    let one : clause_held (past_after model now) number ≡ Some (clause_of known antecedent) = gives ∙ ap (λ (k : Known). Some (clause_of k antecedent)) same in
+    subst C (sym clauses) (Give-push (past_after model now) numbers (map (clause_of known) (take i antecedents)) number (clause_of known antecedent) (Give-still model before now numbers (map (clause_of known) (take i antecedents)) still give) one)
 
 module _ {model : Model} {old : Solver} {before : List Step} (h : IsAfter model old before) (place : ℕ) (stacked : place < length old.inferences) where
   abbrev pub it : Inferred
@@ -59,7 +59,7 @@ module _ {model : Model} {old : Solver} {before : List Step} (h : IsAfter model 
   infer-logged now log = logged-accepted model before now step h.state.core.accepted (infer-accepted h.state.core place stacked) log
 
   -- a step that was written before gives it
-  pub infer-given : (number : ℕ) → clause_held (past_of model before) number ≡ Some it.clause → (notes : Notes) → IsWritten model before old (record old { inferences = set old.inferences place (with_number number it); notes = notes }) before
+  pub infer-given : (number : ℕ) → clause_held (past_after model before) number ≡ Some it.clause → (notes : Notes) → IsWritten model before old (record old { inferences = set old.inferences place (with_number number it); notes = notes }) before
   infer-given number gives notes = record {
     state = record {
       state = record { core = Core-given h.state.core place stacked number gives; plain = h.state.plain };
@@ -73,9 +73,9 @@ module _ {model : Model} {old : Solver} {before : List Step} (h : IsAfter model 
   }
 
   module _ {now : List Step} (now_is : now ≡ before ++ step ∷ []) (few : length now < 10 ^ 18) where
-    pub infer-number : (number : ℕ) → number ≡ old.steps + 1 → clause_held (past_of model now) number ≡ Some it.clause
+    pub infer-number : (number : ℕ) → number ≡ old.steps + 1 → clause_held (past_after model now) number ≡ Some it.clause
     infer-number number e =
-        let C : List Step → Type 0 = λ s. clause_held (past_of model s) number ≡ Some it.clause in
+        let C : List Step → Type 0 = λ s. clause_held (past_after model s) number ≡ Some it.clause in
         subst C (sym now_is) (written-there h.state.core place stacked number (e ∙ ap (λ (n : ℕ). n + 1) h.steps_are))
 
     pub infer-written : (number : ℕ) → number ≡ old.steps + 1 → (notes : Notes) (new : Solver) → new ≡ record old { inferences = set old.inferences place (with_number number it); written = old.written ++ record { clause = it.clause; number = number } ∷ []; alive = old.alive ++ number ∷ []; notes = notes; steps = number } → IsWritten model before old new now

@@ -3,8 +3,8 @@ use Rattle.std.specs.Prelude.{◌≡◌, ℕ, List, map, Some}
 use Rattle.fzn_domain.specs.declared.literal.Lit.{Lit}
 use Rattle.fzn_meaning.specs.declared.model.Model.{Model}
 use Rattle.fzn_cert.specs.declared.step.Step.{Step}
-use Rattle.fzn_cert.specs.Accepted.{past_of}
-use Rattle.fzn_cert.specs.Past.{Past, clause_held}
+use Rattle.fzn_cert.specs.Accepted.{past_after}
+use Rattle.fzn_cert.specs.Past.{StepsPast, clause_held}
 use Rattle.fzn_strategy.specs.declared.learn.Learn.TheVariants.{Plain}
 use Rattle.fzn_trail.specs.declared.trail.Reason.{Reason}
 use Rattle.fzn_learned.specs.declared.learned.Learned.{Learned}
@@ -15,13 +15,13 @@ use Rattle.fzn_state.specs.declared.solver.Solver.{Solver}
 use Rattle.fzn_state.specs.Search.{stock_of, IsAfter, tally_of}
 
 -- the steps of these numbers give the clauses of these antecedents
-abbrev pub GiveAntecedents : Past → Known → List ℕ → List Reason → Type 0
+abbrev pub GiveAntecedents : StepsPast → Known → List ℕ → List Reason → Type 0
 GiveAntecedents past known numbers antecedents = Give past numbers (map (clause_of known) antecedents)
 
 -- each number that gave a clause after the first steps gives it after the others
 abbrev pub StillGive : Model → List Step → List Step → Type 0
 StillGive model before steps =
-    (n : ℕ) (clause : List Lit) → clause_held (past_of model before) n ≡ Some clause → clause_held (past_of model steps) n ≡ Some clause
+    (n : ℕ) (clause : List Lit) → clause_held (past_after model before) n ≡ Some clause → clause_held (past_after model steps) n ≡ Some clause
 
 -- inferences were written, and nothing else was changed
 pub record IsWritten (model : Model) (before : List Step) (old new : Solver) (steps : List Step) : Type 0 where
@@ -35,7 +35,7 @@ pub record IsWritten (model : Model) (before : List Step) (old new : Solver) (st
 pub record Derives (model : Model) (solver : Solver) (steps : List Step) (learned : Learned) (numbers : List ℕ) : Type 0 where
   pub state : IsAfter model solver steps
   pub derived : IsDerived (known_in (stock_of solver)) solver.trail.declared learned
-  pub give : GiveAntecedents (past_of model steps) (known_in (stock_of solver)) numbers learned.antecedents
+  pub give : GiveAntecedents (past_after model steps) (known_in (stock_of solver)) numbers learned.antecedents
 
 -- and is learned from a conflict
 pub record Learns (model : Model) (solver : Solver) (steps : List Step) (conflict : Reason) (learned : Learned) (numbers : List ℕ) : Type 0 where

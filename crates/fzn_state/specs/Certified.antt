@@ -3,7 +3,7 @@ use Rattle.std.specs.Prelude.{◌≡◌, ℕ, ◌+◌, ◌*◌, ◌<◌, ◌≤�
 use Rattle.fzn_meaning.specs.declared.model.Model.{Model}
 use Rattle.fzn_meaning.specs.Solutions.{declared_sets}
 use Rattle.fzn_cert.specs.declared.step.Step.{Step}
-use Rattle.fzn_cert.specs.Accepted.{AllAccepted, past_of}
+use Rattle.fzn_cert.specs.Accepted.{AllAccepted, past_after}
 use Rattle.fzn_strategy.specs.declared.learn.Learn.{Learn}
 use Rattle.fzn_strategy.specs.declared.learn.Learn.TheVariants.{Plain}
 use Rattle.fzn_state.specs.Volume.{volume, spread}
@@ -11,11 +11,11 @@ use Rattle.fzn_state.specs.Resolved.{resolved, FreshAfter}
 
 -- the solutions among the steps
 abbrev pub count : Model → List Step → ℕ
-count model steps = length (past_of model steps).solutions
+count model steps = length (past_after model steps).solutions
 
 -- some step gave the empty clause
 abbrev pub IsRefuted : Model → List Step → Type 0
-IsRefuted model steps = (past_of model steps).refuted ≡ true
+IsRefuted model steps = (past_after model steps).refuted ≡ true
 
 -- what a run has written at any moment
 pub record IsCertified (model : Model) (learn : Learn) (steps : List Step) (nodes : ℕ) : Type 0 where

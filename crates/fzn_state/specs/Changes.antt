@@ -4,7 +4,7 @@ use Rattle.fzn_domain.specs.declared.literal.Lit.{Lit}
 use Rattle.fzn_meaning.specs.declared.model.Model.{Model}
 use Rattle.fzn_cert.specs.declared.step.Step.{Step}
 use Rattle.fzn_cert.specs.declared.step.Step.TheVariants.{Resolve}
-use Rattle.fzn_cert.specs.Accepted.{IsAccepted, past_of}
+use Rattle.fzn_cert.specs.Accepted.{IsAccepted, past_after}
 use Rattle.fzn_trail.specs.declared.trail.Reason.{Reason}
 use Rattle.fzn_clauses.specs.Watching.{held_by}
 use Rattle.fzn_strategy.specs.declared.learn.Learn.TheVariants.{First}
@@ -82,5 +82,5 @@ pub record IsReduced (model : Model) (old new : Solver) (steps : List Step) : Ty
 -- once the step is written that gives this clause, nothing else was changed
 abbrev pub HoldsNext : Model → List Lit → List Step → Solver → Solver → Type 0
 HoldsNext model clause steps old new =
-    (ids : List ℕ) → old.learn ≡ First → IsAfter model old steps → IsAccepted model (past_of model steps) (Resolve clause ids)
+    (ids : List ℕ) → old.learn ≡ First → IsAfter model old steps → IsAccepted model (past_after model steps) (Resolve clause ids)
     → length steps + 1 < 10 ^ 18 → IsReduced model old new (steps ++ Resolve clause ids ∷ [])

@@ -9,8 +9,8 @@ use Rattle.fzn_meaning.specs.Solutions.{declared_sets, cut_of}
 use Rattle.fzn_cert.specs.declared.step.Step.{Step}
 use Rattle.fzn_cert.specs.declared.step.Step.TheVariants.{Infer}
 use Rattle.fzn_cert.specs.declared.step.Version.TheVariants.{One}
-use Rattle.fzn_cert.specs.Accepted.{IsConstraintNumber, IsJustifiedBy, AllAccepted, past_of}
-use Rattle.fzn_cert.specs.Past.{Past, clause_held, IsHeld as IsGiven}
+use Rattle.fzn_cert.specs.Accepted.{IsConstraintNumber, IsInferredBy, AllAccepted, past_after}
+use Rattle.fzn_cert.specs.Past.{StepsPast, clause_held, IsClauseHeld as IsGiven}
 use Rattle.fzn_cert.specs.Spelling.{IsSpelled}
 use Rattle.fzn_propagator.specs.declared.inferences.Inferred.{Inferred}
 use Rattle.fzn_propagator.specs.Inferences.{inference_at, with_number}
@@ -70,26 +70,26 @@ abbrev pub with_stack : ℕ → Stock → Stock
 with_stack count stock = record stock { stack = take count stock.stack }
 
 -- the steps of these numbers give these clauses
-abbrev pub Give : Past → List ℕ → List (List Lit) → Type 0
+abbrev pub Give : StepsPast → List ℕ → List (List Lit) → Type 0
 Give past numbers clauses = map (clause_held past) numbers ≡ map Some clauses
 
 -- the step of each held clause's number gives it
-pub record AreNumbered (past : Past) (numbers : List ℕ) (held : Held) : Type 0 where
+pub record AreNumbered (past : StepsPast) (numbers : List ℕ) (held : Held) : Type 0 where
   pub one_each : length numbers ≡ length held
   pub gives :
       (id : ClauseId) → IsHeld held id
       → clause_held past (slice_index_or numbers id.0 0) ≡ Some (clause_of held id)
 
 -- the inference's step would be accepted whatever steps stand before it, and where it was written its step gives its clause
-pub record IsJustified (model : Model) (past : Past) (it : Inferred) : Type 0 where
+pub record IsJustified (model : Model) (past : StepsPast) (it : Inferred) : Type 0 where
   pub over : IsClauseOver (length model.vars) it.clause
   pub numbered : IsConstraintNumber model it.constraint
-  pub justified : IsJustifiedBy model it.constraint it.rule it.clause
+  pub justified : IsInferredBy model it.constraint it.rule it.clause
   pub spelled : IsSpelled One (Infer it.constraint it.rule it.clause)
   pub written : IfSome it.number (λ n. clause_held past n ≡ Some it.clause)
 
 -- the step of its number gives the clause of a written inference
-abbrev pub IsGivenBy : Model → Past → Given → Type 0
+abbrev pub IsGivenBy : Model → StepsPast → Given → Type 0
 IsGivenBy model past it = IsClauseOver (length model.vars) it.clause × (clause_held past it.number ≡ Some it.clause)
 
 -- the clause is held under a number that has the flag of cuts
@@ -97,7 +97,7 @@ abbrev pub IsHeldCut : Held → List Bool → List Lit → Type 0
 IsHeldCut held cuts clause = (id : ClauseId) × (is_cut cuts id ≡ true) × (at_number held id ≡ Some clause)
 
 -- what holds of the clauses that a search over this many variables has
-pub record IsStocked (model : Model) (past : Past) (variables : ℕ) (stock : Stock) : Type 0 where
+pub record IsStocked (model : Model) (past : StepsPast) (variables : ℕ) (stock : Stock) : Type 0 where
   -- each held clause has the number of its step, and each inference is justified
   pub numbered : AreNumbered past stock.numbers stock.held
   pub justified : All (IsJustified model past) stock.stack
@@ -114,7 +114,7 @@ pub record CoreOf (model : Model) (stock : Stock) (steps : List Step) (trail : L
   pub declared : trail.declared ≡ declared_sets model.vars
   pub filled : NoneEmpty trail.declared
   pub accepted : AllAccepted model steps
-  pub stocked : IsStocked model (past_of model steps) (length trail.declared) stock
+  pub stocked : IsStocked model (past_after model steps) (length trail.declared) stock
   pub open stocked use *
   -- each entry of the trail has its reason
   pub reasoned : IsReasoned (known_in stock) trail

@@ -3,7 +3,7 @@ ghost use Rattle.std.specs.Prelude.{◌≡◌, ◌+◌, ◌<◌, List, IfOk, Som
 ghost use Rattle.std.specs.List.{All};
 ghost use Rattle.fzn_meaning.specs.declared.model.Model.{Model};
 ghost use Rattle.fzn_cert.specs.declared.step.Step.{Step};
-ghost use Rattle.fzn_cert.specs.Accepted.{past_of};
+ghost use Rattle.fzn_cert.specs.Accepted.{past_after};
 ghost use Rattle.fzn_cert.specs.Past.{clause_held};
 ghost use Rattle.fzn_propagator.specs.Inferences.{IsStacked, inferred_clause};
 ghost use Rattle.fzn_learned.specs.Reasoned.{IsKnown, clause_of};
@@ -36,7 +36,7 @@ impl Solver {
         requires ready { IsReady model.now self.old (S.written sink.old) (S.keeps model.now sink.old) }
         requires known { All (IsKnown (known_in (stock_of self.old))) antecedents.now }
         ensures written { IfOk result (λ _. IsWritten model.now (S.written sink.old) self.old self.new (S.written sink.new)) }
-        ensures numbers { IfOk result (λ numbers. GiveAntecedents (past_of model.now (S.written sink.new)) (known_in (stock_of self.old)) numbers antecedents.now) }
+        ensures numbers { IfOk result (λ numbers. GiveAntecedents (past_after model.now (S.written sink.new)) (known_in (stock_of self.old)) numbers antecedents.now) }
         ensures left { IsLeft model.now (S.written sink.new) (S.keeps model.now sink.new) (S.origin sink.new ≡ S.origin sink.old) }
     {
         let mut numbers = Items::with_capacity(alloc, antecedents.len())?;
@@ -58,7 +58,7 @@ impl Solver {
         requires ready { IsReady model.now self.old (S.written sink.old) (S.keeps model.now sink.old) }
         requires known { IsKnown (known_in (stock_of self.old)) antecedent }
         ensures written { IfOk result (λ _. IsWritten model.now (S.written sink.old) self.old self.new (S.written sink.new)) }
-        ensures number { IfOk result (λ number. clause_held (past_of model.now (S.written sink.new)) number ≡ Some (clause_of (known_in (stock_of self.old)) antecedent)) }
+        ensures number { IfOk result (λ number. clause_held (past_after model.now (S.written sink.new)) number ≡ Some (clause_of (known_in (stock_of self.old)) antecedent)) }
         ensures left { IsLeft model.now (S.written sink.new) (S.keeps model.now sink.new) (S.origin sink.new ≡ S.origin sink.old) }
     {
         match antecedent {
@@ -82,7 +82,7 @@ impl Solver {
         requires ready { IsReady model.now self.old (S.written sink.old) (S.keeps model.now sink.old) }
         requires stacked { IsStacked self.old.inferences place }
         ensures written { IfOk result (λ _. IsWritten model.now (S.written sink.old) self.old self.new (S.written sink.new)) }
-        ensures number { IfOk result (λ number. clause_held (past_of model.now (S.written sink.new)) number ≡ Some (inferred_clause self.old.inferences place)) }
+        ensures number { IfOk result (λ number. clause_held (past_after model.now (S.written sink.new)) number ≡ Some (inferred_clause self.old.inferences place)) }
         ensures left { IsLeft model.now (S.written sink.new) (S.keeps model.now sink.new) (S.origin sink.new ≡ S.origin sink.old) }
     {
         match self
@@ -99,7 +99,7 @@ impl Solver {
         requires stacked { IsStacked self.old.inferences place }
         requires given { IsGivenAt self.old.written known (inferred_clause self.old.inferences place) }
         ensures written { IfOk result (λ _. (model : Model) (steps : List Step) → IsAfter model self.old steps → IsWritten model steps self.old self.new steps) }
-        ensures number { IfOk result (λ number. (model : Model) (steps : List Step) → IsAfter model self.old steps → clause_held (past_of model steps) number ≡ Some (inferred_clause self.old.inferences place)) }
+        ensures number { IfOk result (λ number. (model : Model) (steps : List Step) → IsAfter model self.old steps → clause_held (past_after model steps) number ≡ Some (inferred_clause self.old.inferences place)) }
     {
         let given = self.written.get(known).number;
         self.inferences.set_number(place, given);
@@ -118,7 +118,7 @@ impl Solver {
         requires ready { IsReady model.now self.old (S.written sink.old) (S.keeps model.now sink.old) }
         requires stacked { IsStacked self.old.inferences place }
         ensures written { IfOk result (λ _. IsWritten model.now (S.written sink.old) self.old self.new (S.written sink.new)) }
-        ensures number { IfOk result (λ number. clause_held (past_of model.now (S.written sink.new)) number ≡ Some (inferred_clause self.old.inferences place)) }
+        ensures number { IfOk result (λ number. clause_held (past_after model.now (S.written sink.new)) number ≡ Some (inferred_clause self.old.inferences place)) }
         ensures left { IsLeft model.now (S.written sink.new) (S.keeps model.now sink.new) (S.origin sink.new ≡ S.origin sink.old) }
     {
         let Inferred {

@@ -15,8 +15,8 @@ use Rattle.fzn_rules.specs.declared.rule.Rule.{Rule}
 use Rattle.fzn_rules.specs.Rules.{IsAcceptedBy}
 use Rattle.fzn_cert.specs.declared.step.Step.{Step}
 use Rattle.fzn_cert.specs.declared.step.Step.TheVariants.{Infer, Resolve, Solution, Delete}
-use Rattle.fzn_cert.specs.Past.{Past, start}
-use Rattle.fzn_cert.specs.Accepted.{IsAccepted, IsConstraintNumber, AllAcceptedAfter, AllAccepted, after, past_of}
+use Rattle.fzn_cert.specs.Past.{StepsPast, no_past}
+use Rattle.fzn_cert.specs.Accepted.{IsAccepted, IsConstraintNumber, AllAcceptedAfter, AllAccepted, after_step, past_after}
 use Rattle.fzn_cert.specs.Sound.{IsSound}
 use Rattle.fzn_cert.proofs.SoundLaws.{sound-start, sound-after, exhausted-sound}
 use Rattle.fzn_checker.specs.declared.hold.Held.{Held}
@@ -27,13 +27,13 @@ use Rattle.fzn_trim.proofs.ListLemmas.{picked-all, picked-contains, picked-few}
 -- ---- the numbers
 
 -- accepted steps infer from constraints of the model
-cited-within : (model : Model) (past : Past) (steps : List Step) → AllAcceptedAfter model past steps → All (IsConstraintNumber model) (filter_map inferred_from steps)
+cited-within : (model : Model) (past : StepsPast) (steps : List Step) → AllAcceptedAfter model past steps → All (IsConstraintNumber model) (filter_map inferred_from steps)
 cited-within model past [] accepted = All-nil (IsConstraintNumber model)
 cited-within model past (Infer c rule clause ∷ steps) accepted =
-    All-cons (IsConstraintNumber model) c (filter_map inferred_from steps) accepted.0.1 (cited-within model (after model past (Infer c rule clause)) steps accepted.1)
-cited-within model past (Resolve clause ids ∷ steps) accepted = cited-within model (after model past (Resolve clause ids)) steps accepted.1
-cited-within model past (Solution values ∷ steps) accepted = cited-within model (after model past (Solution values)) steps accepted.1
-cited-within model past (Delete ids ∷ steps) accepted = cited-within model (after model past (Delete ids)) steps accepted.1
+    All-cons (IsConstraintNumber model) c (filter_map inferred_from steps) accepted.0.1 (cited-within model (after_step model past (Infer c rule clause)) steps accepted.1)
+cited-within model past (Resolve clause ids ∷ steps) accepted = cited-within model (after_step model past (Resolve clause ids)) steps accepted.1
+cited-within model past (Solution values ∷ steps) accepted = cited-within model (after_step model past (Solution values)) steps accepted.1
+cited-within model past (Delete ids ∷ steps) accepted = cited-within model (after_step model past (Delete ids)) steps accepted.1
 
 module _ (model : Model) (numbers : List ℕ) (wf : IsWellFormed model) (rising : IsStrictlyIncreasing numbers) (within : All (IsConstraintNumber model) numbers) where
   -- ---- the model with these constraints alone
@@ -52,7 +52,7 @@ module _ (model : Model) (numbers : List ℕ) (wf : IsWellFormed model) (rising 
   }
 
   -- what is inferred from one of them is so too where it has another number
-  infer-alone : (past : Past) (c : ℕ) (rule : Rule) (clause : List Lit) → IsAccepted model past (Infer c rule clause) → Contains numbers c → (k : ℕ) × IsAccepted (only model numbers) past (Infer k rule clause)
+  infer-alone : (past : StepsPast) (c : ℕ) (rule : Rule) (clause : List Lit) → IsAccepted model past (Infer c rule clause) → Contains numbers c → (k : ℕ) × IsAccepted (only model numbers) past (Infer k rule clause)
   infer-alone past c rule clause accepted listed =
       elim (slice_get_cases model.constraints (c - 1)).1 [
         | inl (constraint, inside, is, at) ↦
@@ -67,7 +67,7 @@ module _ (model : Model) (numbers : List ℕ) (wf : IsWellFormed model) (rising 
 
   -- ---- accepted steps are sound for it
 
-  sound-step : (past : Past) (step : Step) → IsSound (only model numbers) past → IsAccepted model past step → All (Contains numbers) (filter_map inferred_from (step ∷ [])) → IsSound (only model numbers) (after model past step)
+  sound-step : (past : StepsPast) (step : Step) → IsSound (only model numbers) past → IsAccepted model past step → All (Contains numbers) (filter_map inferred_from (step ∷ [])) → IsSound (only model numbers) (after_step model past step)
   sound-step past (Infer c rule clause) sound accepted listed =
       let alone = infer-alone past c rule clause accepted (listed 0 c (omega arith)) in
       sound-after (only model numbers) past (Infer alone.0 rule clause) formed sound alone.1
@@ -84,23 +84,23 @@ module _ (model : Model) (numbers : List ℕ) (wf : IsWellFormed model) (rising 
   first-listed (Solution values) steps h = (All-nil (Contains numbers), h)
   first-listed (Delete ids) steps h = (All-nil (Contains numbers), h)
 
-  sound-steps : (past : Past) (steps : List Step) → IsSound (only model numbers) past → AllAcceptedAfter model past steps → All (Contains numbers) (filter_map inferred_from steps) → IsSound (only model numbers) (fold (after model) past steps)
+  sound-steps : (past : StepsPast) (steps : List Step) → IsSound (only model numbers) past → AllAcceptedAfter model past steps → All (Contains numbers) (filter_map inferred_from steps) → IsSound (only model numbers) (fold (after_step model) past steps)
   sound-steps past [] sound accepted listed = sound
   sound-steps past (step ∷ steps) sound accepted listed =
       let parts = first-listed step steps listed in
-      sound-steps (after model past step) steps (sound-step past step sound accepted.0 parts.0) accepted.1 parts.1
+      sound-steps (after_step model past step) steps (sound-step past step sound accepted.0 parts.0) accepted.1 parts.1
 
 -- ---- the core
 
-pub rests-on : (model : Model) (steps : List Step) (found : List (List ℤ)) (numbers : List ℕ) → IsWellFormed model → AllAccepted model steps → (past_of model steps).solutions ≡ found → (past_of model steps).refuted ≡ true
+pub rests-on : (model : Model) (steps : List Step) (found : List (List ℤ)) (numbers : List ℕ) → IsWellFormed model → AllAccepted model steps → (past_after model steps).solutions ≡ found → (past_after model steps).refuted ≡ true
     → ((number : ℕ) → Contains numbers number ↔ Contains (filter_map inferred_from steps) number) → IsStrictlyIncreasing numbers → RestsOn model found numbers
 rests-on model steps found numbers wf accepted found_are refuted cited rising =
     let all_cited = filter_map inferred_from steps in
-    let cited_within : All (IsConstraintNumber model) all_cited = cited-within model start steps accepted in
+    let cited_within : All (IsConstraintNumber model) all_cited = cited-within model no_past steps accepted in
     let within : All (IsConstraintNumber model) numbers =
     λ k d lt. All-contains (IsConstraintNumber model) all_cited (get_or numbers k d) cited_within ((cited (get_or numbers k d)).0 (Contains-get_or numbers k d lt)) in
     let listed : All (Contains numbers) all_cited = λ k d lt. (cited (get_or all_cited k d)).1 (Contains-get_or all_cited k d lt) in
-    let sound : IsSound (only model numbers) (past_of model steps) = sound-steps model numbers wf rising within start steps (sound-start (only model numbers)) accepted listed in
+    let sound : IsSound (only model numbers) (past_after model steps) = sound-steps model numbers wf rising within no_past steps (sound-start (only model numbers)) accepted listed in
     record {
       steps = steps;
       accepted = accepted;
@@ -108,7 +108,7 @@ rests-on model steps found numbers wf accepted found_are refuted cited rising =
       refuted = refuted;
       cited = cited;
       rising = rising;
-      exhausted = subst (IsExhausted (only model numbers)) found_are (exhausted-sound (only model numbers) (past_of model steps) sound refuted);
+      exhausted = subst (IsExhausted (only model numbers)) found_are (exhausted-sound (only model numbers) (past_after model steps) sound refuted);
     }
 
 pub closed-core : (model : Model) (held : Held) (kept : List Step) (numbers : List ℕ) → IsWellFormed model → held.closed ≡ true → IsTrimOf model held kept

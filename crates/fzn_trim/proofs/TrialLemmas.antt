@@ -9,7 +9,7 @@ use Rattle.fzn_cert.specs.declared.step.Step.TheVariants.{Infer, Resolve, Soluti
 use Rattle.fzn_cert.specs.declared.step.Version.TheVariants.{Two}
 use Rattle.fzn_cert.specs.Spelling.{spaced, step_text, IsNumber, IsSpelled, HasLine}
 use Rattle.fzn_cert.specs.Reading.{ids_rise}
-use Rattle.fzn_cert.specs.Past.{Past}
+use Rattle.fzn_cert.specs.Past.{StepsPast}
 use Rattle.fzn_cert.specs.Verdict.{AllHaveLines, MayEnd}
 use Rattle.fzn_cert.proofs.CallerLemmas.{and_true}
 use Rattle.fzn_cert_reader.proofs.CallerLemmas.{IdsRise-from_test}
@@ -63,8 +63,8 @@ pub trim-of_taken : (model : Model) (steps : List Step) (taken : Taken) (held : 
     → length steps ≤ length held.steps → IsTrimOf model held steps
 trim-of_taken model steps taken held has_taken lines found may_end fewer = record {
   accepted = has_taken.accepted;
-  found = ap (λ (p : Past). p.solutions) (sym has_taken.past) ∙ found;
-  may_end = subst (λ (p : Past). MayEnd p held.closed) has_taken.past may_end;
+  found = ap (λ (p : StepsPast). p.solutions) (sym has_taken.past) ∙ found;
+  may_end = subst (λ (p : StepsPast). MayEnd p held.closed) has_taken.past may_end;
   lines = lines;
   fewer = fewer;
 }

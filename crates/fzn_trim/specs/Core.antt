@@ -6,7 +6,7 @@ use Rattle.fzn_meaning.specs.declared.model.Model.{Model}
 use Rattle.fzn_meaning.specs.Solutions.{IsExhausted}
 use Rattle.fzn_cert.specs.declared.step.Step.{Step}
 use Rattle.fzn_cert.specs.declared.step.Step.TheVariants.{Infer}
-use Rattle.fzn_cert.specs.Accepted.{AllAccepted, past_of}
+use Rattle.fzn_cert.specs.Accepted.{AllAccepted, past_after}
 
 -- the same variables, output and goal, and of the constraints those with these numbers alone; constraints are numbered from 1
 abbrev pub only : Model → List ℕ → Model
@@ -22,8 +22,8 @@ inferred_from _ = None
 pub record RestsOn (model : Model) (found : List (List ℤ)) (numbers : List ℕ) : Type 0 where
   pub steps : List Step
   pub accepted : AllAccepted model steps
-  pub solutions : (past_of model steps).solutions ≡ found
-  pub refuted : (past_of model steps).refuted ≡ true
+  pub solutions : (past_after model steps).solutions ≡ found
+  pub refuted : (past_after model steps).refuted ≡ true
   pub cited : (number : ℕ) → Contains numbers number ↔ Contains (filter_map inferred_from steps) number
   pub rising : IsStrictlyIncreasing numbers
   pub exhausted : IsExhausted (only model numbers) found

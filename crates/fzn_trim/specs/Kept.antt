@@ -3,7 +3,7 @@ use Rattle.std.specs.Prelude.{◌≡◌, ◌≤◌, List, length, Option, Some, 
 use Rattle.fzn_meaning.specs.declared.model.Model.{Model}
 use Rattle.fzn_cert.specs.declared.step.Step.{Step}
 use Rattle.fzn_cert.specs.declared.step.Version.TheVariants.{Two}
-use Rattle.fzn_cert.specs.Accepted.{AllAccepted, past_of}
+use Rattle.fzn_cert.specs.Accepted.{AllAccepted, past_after}
 use Rattle.fzn_cert.specs.Verdict.{AllHaveLines, MayEnd}
 use Rattle.fzn_checker.specs.declared.hold.Held.{Held}
 use Rattle.fzn_trim.specs.declared.kept.Kept.{Kept}
@@ -20,7 +20,7 @@ kept_steps kept = kept_by kept.plan kept.held
 
 pub record IsTrimOf (model : Model) (held : Held) (steps : List Step) : Type 0 where
   pub accepted : AllAccepted model steps
-  pub found : (past_of model steps).solutions ≡ held.solutions.items
-  pub may_end : MayEnd (past_of model steps) held.closed
+  pub found : (past_after model steps).solutions ≡ held.solutions.items
+  pub may_end : MayEnd (past_after model steps) held.closed
   pub lines : AllHaveLines Two 0 steps
   pub fewer : length steps ≤ length held.steps

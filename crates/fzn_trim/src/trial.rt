@@ -5,7 +5,7 @@ ghost use Rattle.std.specs.List.{All};
 ghost use Rattle.fzn_meaning.specs.WellFormed.{IsWellFormed};
 ghost use Rattle.fzn_cert.specs.declared.step.Step.{Step};
 ghost use Rattle.fzn_cert.specs.declared.step.Version.TheVariants.{Two};
-ghost use Rattle.fzn_cert.specs.Spelling.{step_text, IsNumber, HasRoom, HasLine};
+ghost use Rattle.fzn_cert.specs.Spelling.{step_text, IsNumber, HasLineRoom, HasLine};
 ghost use Rattle.fzn_cert.specs.Verdict.{AllHaveLines, MayEnd};
 ghost use Rattle.fzn_checker.specs.Held.{past_in, MayTake, HasTaken, Stands};
 ghost use Rattle.fzn_trim.specs.Kept.{kept_steps, IsTrimOf};
@@ -132,7 +132,7 @@ fn spelled_len(alloc: Global, step: &Step) -> Result<usize, Memory>
 
 /// Whether a line of this length may stand behind so many others: it keeps the limit, and there are no more than `LAST_STEP` steps.
 fn has_room(len: usize, before: usize) -> bool
-    ensures { (step : Step) → len ≡ length (step_text step) → IsTrue result → HasRoom before step }
+    ensures { (step : Step) → len ≡ length (step_text step) → IsTrue result → HasLineRoom before step }
 {
     len <= LINE_LIMIT && (before as u64) < LAST_STEP
 }

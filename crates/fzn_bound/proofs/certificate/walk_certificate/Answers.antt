@@ -2,7 +2,7 @@ use Rattle.std.proofs.Common.{◌≡◌, ◌+◌, ap, sym, subst, ◌∙◌, IfS
 use Rattle.std.specs.Prelude.{IfNone}
 use Rattle.std.proofs.lemmas.Result.{err_from_is_err_and}
 use Rattle.fzn_cert.specs.Accepted.{IsAccepted, IsJudged}
-use Rattle.fzn_cert.specs.Past.{Past}
+use Rattle.fzn_cert.specs.Past.{StepsPast}
 use Rattle.fzn_cert.specs.Verdict.{refused, VerdictOn}
 use Rattle.fzn_cert_reader.specs.Reader.{progress, GivesStep, Ends}
 use Rattle.fzn_checker.specs.Checked.{ComesTo, IsMidway, Offers, Accepts}
@@ -67,9 +67,9 @@ loop-taken-preserved g c =
     let line : c.loop-taken.line ≡ old.steps + 3 = c.loop-taken.invariant.line in
     let counted : new.steps ≡ old.steps + 1 = offers.counted in
     record {
-      midway = subst (λ (p : Past). IsMidway model p new) (sym after) offers.midway;
+      midway = subst (λ (p : StepsPast). IsMidway model p new) (sym after) offers.midway;
       line = omega (arith, line, counted);
-      goes_on = λ outcome standing. c.loop-taken.invariant.goes_on outcome (offers.goes_on accepted outcome (subst (λ (p : Past). ComesTo model p new outcome) after standing));
+      goes_on = λ outcome standing. c.loop-taken.invariant.goes_on outcome (offers.goes_on accepted outcome (subst (λ (p : StepsPast). ComesTo model p new outcome) after standing));
       ready = c.in_ok-refusal.ensures.ready none;
       way = subst (IsOnWay model bytes new c.take.new.self) (sym c.bound_after-next_bound.ensures)
           (way-more model bytes old new c.loop-taken.taken c.take.new.self c.loop-taken.bound step c.loop-taken.invariant.way gives c.next_step.ensures.same_header (c.in_ok-refusal.ensures.taken none));

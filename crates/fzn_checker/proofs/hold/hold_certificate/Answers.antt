@@ -3,7 +3,7 @@ use Rattle.std.specs.Prelude.{IfNone}
 use Rattle.std.proofs.lemmas.Result.{err_from_is_err_and}
 use Rattle.fzn_cert.specs.declared.step.Step.{Step}
 use Rattle.fzn_cert.specs.Accepted.{IsAccepted, IsJudged}
-use Rattle.fzn_cert.specs.Past.{Past}
+use Rattle.fzn_cert.specs.Past.{StepsPast}
 use Rattle.fzn_cert.specs.Verdict.{refused, VerdictOn}
 use Rattle.fzn_cert_reader.specs.Reader.{progress, GivesStep, Ends, HasRead}
 use Rattle.fzn_cert_reader.proofs.CallerLemmas.{HasRead-step}
@@ -64,9 +64,9 @@ loop-steps-preserved g c =
     let line : c.loop-steps.line ≡ old.steps + 3 = c.loop-steps.invariant.line in
     let counted : new.steps ≡ old.steps + 1 = offers.counted in
     record {
-      midway = subst (λ (p : Past). IsMidway model p new) (sym after) offers.midway;
+      midway = subst (λ (p : StepsPast). IsMidway model p new) (sym after) offers.midway;
       line = omega (arith, line, counted);
-      goes_on = λ outcome standing. c.loop-steps.invariant.goes_on outcome (offers.goes_on accepted outcome (subst (λ (p : Past). ComesTo model p new outcome) after standing));
+      goes_on = λ outcome standing. c.loop-steps.invariant.goes_on outcome (offers.goes_on accepted outcome (subst (λ (p : StepsPast). ComesTo model p new outcome) after standing));
       taken = subst (λ (all : List Step). HasTaken model all c.take.new.self) (sym more) (c.in_ok-refusal.ensures.taken none steps c.loop-steps.invariant.taken);
       read = subst (λ (all : List Step). HasRead bytes new all) (sym more) (HasRead-step bytes old new steps step c.loop-steps.invariant.read gives c.next_step.ensures.same_header);
       spelled = subst (λ (all : List Step). AreSpelled new all) (sym more) (spelled-more bytes old new steps step c.loop-steps.invariant.read c.loop-steps.invariant.spelled gives c.next_step.ensures.same_header);

@@ -1,6 +1,6 @@
 use Rattle.std.proofs.lemmas.Result.{IfOk-weaker}
 use Rattle.fzn_cert.specs.declared.step.Step.TheVariants.{Infer}
-use Rattle.fzn_cert.specs.Past.{Past}
+use Rattle.fzn_cert.specs.Past.{StepsPast}
 use Rattle.fzn_cert.specs.Accepted.{IsJudged}
 use Rattle.fzn_checker.proofs.judge.judge_on.Goals as goal
 
@@ -8,7 +8,7 @@ pub returns-in-Infer-clause-judged : goal.returns-in-Infer-clause-judged
 returns-in-Infer-clause-judged c =
     rw (c.in-Infer.is, ← c.as_slice.ensures)
     (IfOk-weaker c.judge_infer.result
-    (λ fault. (past : Past) → IsJudged c.args.model.now past (Infer c.in-Infer.constraint c.in-Infer.rule c.as_slice.result.now) fault)
+    (λ fault. (past : StepsPast) → IsJudged c.args.model.now past (Infer c.in-Infer.constraint c.in-Infer.rule c.as_slice.result.now) fault)
     (λ fault. IsJudged c.args.model.now c.args.history.now (Infer c.in-Infer.constraint c.in-Infer.rule c.as_slice.result.now) fault)
     (λ fault h. h c.args.history.now) c.judge_infer.ensures.judged)
 
