@@ -16,7 +16,9 @@ use std::alloc::Global;
 /// The numbers of steps that are deleted, and of those that are left.
 #[derive(Drop)]
 pub struct Deletion {
+    /// The numbers of the steps that are deleted, of which there are some; each is below the next.
     pub ids: Items<u64>,
+    /// The numbers of the steps that are left, which are all that may still be cited.
     pub left: Items<u64>,
 }
 

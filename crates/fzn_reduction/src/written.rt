@@ -15,6 +15,7 @@ use std::marker::Model;
 /// The clause of an inference that was written.
 #[derive(Drop)]
 pub struct Given {
+    /// The literals, in the order in which they were written.
     pub clause: Items<Lit>,
     /// The number of its step, counted from 1.
     pub number: u64,

@@ -17,7 +17,9 @@ use fzn_trail::Trail;
 /// The numbers from one up to another.
 #[derive(Clone, Copy)]
 pub struct Interval {
+    /// The least number.
     pub low: i64,
+    /// The greatest number; where it is below `low` no number is in the interval.
     pub high: i64,
 }
 
