@@ -5,7 +5,7 @@ ghost use Rattle.std.specs.List.{All};
 ghost use Rattle.fzn_meaning.specs.Solutions.{IsAssignment};
 ghost use Rattle.fzn_meaning.specs.WellFormed.{IsWellFormed};
 ghost use Rattle.fzn_printer.specs.Answer.{answer_text};
-ghost use Rattle.fzn_streams.specs.Output.{Puts, IsDue};
+ghost use Rattle.fzn_streams.specs.Output.{Puts, IsStreamDue};
 ghost use Rattle.fzn_bound.specs.Line.{best_text, bound_text, bound_line, objective_name, side_of};
 
 use crate::known::Known;
@@ -29,7 +29,7 @@ pub fn put_known_answer<W: TrackedWrite>(
     requires model { IsWellFormed model.now }
     requires found { All (IsAssignment model.now) found.now }
     ensures text { Puts (W.contents out.old) (W.contents out.new) result (answer_text model.now found.now closed show_all ++ bound_line model.now known.now) }
-    ensures due { IsDue W.stream W.has_failed out.old out.new result }
+    ensures due { IsStreamDue W.stream W.has_failed out.old out.new result }
 {
     put_answer(out, model, found, closed, show_all)?;
     put_line(out, model, known)
@@ -39,7 +39,7 @@ pub fn put_known_answer<W: TrackedWrite>(
 fn put_line<W: TrackedWrite>(out: &mut W, model: &Model, known: &Known) -> Result<(), WriteFailed>
     requires { IsWellFormed model.now }
     ensures text { Puts (W.contents out.old) (W.contents out.new) result (bound_line model.now known.now) }
-    ensures due { IsDue W.stream W.has_failed out.old out.new result }
+    ensures due { IsStreamDue W.stream W.has_failed out.old out.new result }
 {
     put_known(out, model, known)?;
     out.flush_all()
@@ -48,7 +48,7 @@ fn put_line<W: TrackedWrite>(out: &mut W, model: &Model, known: &Known) -> Resul
 fn put_known<W: TrackedWrite>(out: &mut W, model: &Model, known: &Known) -> Result<(), WriteFailed>
     requires { IsWellFormed model.now }
     ensures text { Puts (W.contents out.old) (W.contents out.new) result (bound_line model.now known.now) }
-    ensures due { IsDue W.stream W.has_failed out.old out.new result }
+    ensures due { IsStreamDue W.stream W.has_failed out.old out.new result }
 {
     match known {
         Known::NoObjective => put(out, b"no objective\n"),
@@ -68,7 +68,7 @@ fn put_open<W: TrackedWrite>(
 ) -> Result<(), WriteFailed>
     requires { IsWellFormed model.now }
     ensures text { Puts (W.contents out.old) (W.contents out.new) result (best_text (objective_name model.now) best.now ++ bound_text model.now.goal bound.now) }
-    ensures due { IsDue W.stream W.has_failed out.old out.new result }
+    ensures due { IsStreamDue W.stream W.has_failed out.old out.new result }
 {
     put_best(out, name_of(model), best)?;
     put_bound(out, model.goal, bound)
@@ -78,7 +78,7 @@ fn put_open<W: TrackedWrite>(
 fn put_closed<W: TrackedWrite>(out: &mut W, model: &Model, best: &i64) -> Result<(), WriteFailed>
     requires { IsWellFormed model.now }
     ensures text { Puts (W.contents out.old) (W.contents out.new) result (best_text (objective_name model.now) best.now ++ (codes "the best" ++ 10 ∷ [])) }
-    ensures due { IsDue W.stream W.has_failed out.old out.new result }
+    ensures due { IsStreamDue W.stream W.has_failed out.old out.new result }
 {
     put_best(out, name_of(model), best)?;
     put(out, b"the best\n")
@@ -88,7 +88,7 @@ fn put_closed<W: TrackedWrite>(out: &mut W, model: &Model, best: &i64) -> Result
 #[tactic(auto, using(fzn_streams::proofs::CallerLemmas::puts))]
 fn put_best<W: TrackedWrite>(out: &mut W, name: &[u8], best: &i64) -> Result<(), WriteFailed>
     ensures text { Puts (W.contents out.old) (W.contents out.new) result (best_text name.now best.now) }
-    ensures due { IsDue W.stream W.has_failed out.old out.new result }
+    ensures due { IsStreamDue W.stream W.has_failed out.old out.new result }
 {
     put(out, name)?;
     put(out, b" = ")?;
@@ -100,7 +100,7 @@ fn put_best<W: TrackedWrite>(out: &mut W, name: &[u8], best: &i64) -> Result<(),
 #[tactic(auto, using(fzn_streams::proofs::CallerLemmas::puts))]
 fn put_bound<W: TrackedWrite>(out: &mut W, goal: Goal, bound: &i64) -> Result<(), WriteFailed>
     ensures text { Puts (W.contents out.old) (W.contents out.new) result (bound_text goal bound.now) }
-    ensures due { IsDue W.stream W.has_failed out.old out.new result }
+    ensures due { IsStreamDue W.stream W.has_failed out.old out.new result }
 {
     put(out, side_of(goal))?;
     put_integer(out, bound)?;
@@ -109,7 +109,7 @@ fn put_bound<W: TrackedWrite>(out: &mut W, goal: Goal, bound: &i64) -> Result<()
 
 fn put_integer<W: TrackedWrite>(out: &mut W, value: &i64) -> Result<(), WriteFailed>
     ensures text { Puts (W.contents out.old) (W.contents out.new) result (signed_decimal value.now) }
-    ensures due { IsDue W.stream W.has_failed out.old out.new result }
+    ensures due { IsStreamDue W.stream W.has_failed out.old out.new result }
 {
     put(out, Buffer::new().format(*value).as_bytes())
 }

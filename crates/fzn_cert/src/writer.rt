@@ -1,7 +1,7 @@
 // The writer of a certificate.
 ghost use Rattle.std.specs.Prelude.{◌≡◌, ℕ, ◌+◌, ◌<◌, ◌^◌, Bool, true, string_bytes, OnOk, OnErr, IfOk, IfErr, Err};
 ghost use Rattle.std.specs.Io.KnownBytes.{Appends, Keeps};
-ghost use Rattle.fzn_streams.specs.Output.{Puts, IsDue};
+ghost use Rattle.fzn_streams.specs.Output.{Puts, IsStreamDue};
 ghost use Rattle.fzn_cert.specs.declared.step.Version.TheVariants.{One};
 ghost use Rattle.fzn_cert.specs.declared.writer.Stage.TheVariants.{Fresh, Open, Shut};
 ghost use Rattle.fzn_cert.specs.Spelling.{step_line, IsSpelled, HasLineRoom, version_text, header_text, end_line};
@@ -245,7 +245,7 @@ pub fn header_of(
 #[tactic(auto, using(crate::proofs::WriteLaws::AppendsFront_whole))]
 pub fn put_end<W: TrackedWrite>(out: &mut W, closed: bool) -> Result<(), WriteFailed>
     ensures text { Puts (W.contents out.old) (W.contents out.new) result (end_line closed) }
-    ensures due { IsDue W.stream W.has_failed out.old out.new result }
+    ensures due { IsStreamDue W.stream W.has_failed out.old out.new result }
 {
     put(out, end_line(closed))?;
     out.flush_all()

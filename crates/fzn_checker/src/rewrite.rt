@@ -2,7 +2,7 @@
 ghost use Rattle.std.specs.Prelude.{◌≡◌, ◌≤◌, ◌+◌, ◌++◌, ◌∷◌, [], OnOk, None, true, false, IfOk, IfErr};
 ghost use Rattle.std.specs.Bool.{OnTrue, OnFalse};
 ghost use Rattle.std.specs.Io.KnownBytes.{Consumes, Appends};
-ghost use Rattle.fzn_streams.specs.Output.{AppendsFront, IsDue};
+ghost use Rattle.fzn_streams.specs.Output.{AppendsFront, IsStreamDue};
 ghost use Rattle.fzn_cert_reader.specs.Input.{left_in, reader_in};
 ghost use Rattle.fzn_cert.specs.declared.step.Version.TheVariants.{One};
 ghost use Rattle.fzn_checker.specs.Faults.{fault_of_kind};
@@ -119,7 +119,7 @@ fn copy_line<R: TrackedRead + Drop, W: TrackedWrite>(
 fn put_line<W: TrackedWrite>(out: &mut W, line: &[u8]) -> Result<(), CheckFault>
     ensures ok { OnOk result (Appends (W.contents out.old) (W.contents out.new) (line.now ++ 10 ∷ [])) }
     ensures err { IfErr result (λ fault. (fault ≡ WriteCert) × AppendsFront (W.contents out.old) (W.contents out.new) (line.now ++ 10 ∷ [])) }
-    ensures due { IsDue W.stream W.has_failed out.old out.new result }
+    ensures due { IsStreamDue W.stream W.has_failed out.old out.new result }
 {
     if put(out, line).is_err() {
         return Err(CheckFault::WriteCert);

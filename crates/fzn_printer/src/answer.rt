@@ -1,7 +1,7 @@
 // A whole answer.
 ghost use Rattle.std.specs.Prelude.{◌≡◌, length};
 ghost use Rattle.std.specs.List.{All, flat_map};
-ghost use Rattle.fzn_streams.specs.Output.{Puts, IsDue};
+ghost use Rattle.fzn_streams.specs.Output.{Puts, IsStreamDue};
 ghost use Rattle.fzn_meaning.specs.Solutions.{IsAssignment};
 ghost use Rattle.fzn_printer.specs.Showable.{CanBeShown};
 ghost use Rattle.fzn_printer.specs.Shown.{shown};
@@ -27,7 +27,7 @@ pub fn put_answer<W: TrackedWrite>(
     requires model { CanBeShown model.now }
     requires found { All (IsAssignment model.now) found.now }
     ensures text { Puts (W.contents out.old) (W.contents out.new) result (answer_text model.now found.now closed show_all) }
-    ensures due { IsDue W.stream W.has_failed out.old out.new result }
+    ensures due { IsStreamDue W.stream W.has_failed out.old out.new result }
 {
     let first = first_shown(model.goal, show_all, found.len());
     put_solutions(out, model, &found[first..])?;
@@ -37,7 +37,7 @@ pub fn put_answer<W: TrackedWrite>(
 /// Writes the bytes, and flushes the writer.
 fn put_last<W: TrackedWrite>(out: &mut W, bytes: &[u8]) -> Result<(), WriteFailed>
     ensures text { Puts (W.contents out.old) (W.contents out.new) result bytes.now }
-    ensures due { IsDue W.stream W.has_failed out.old out.new result }
+    ensures due { IsStreamDue W.stream W.has_failed out.old out.new result }
 {
     put(out, bytes)?;
     out.flush_all()
@@ -51,7 +51,7 @@ fn put_solutions<W: TrackedWrite>(
     requires model { CanBeShown model.now }
     requires found { All (IsAssignment model.now) found.now }
     ensures text { Puts (W.contents out.old) (W.contents out.new) result (flat_map (shown model.now) found.now) }
-    ensures due { IsDue W.stream W.has_failed out.old out.new result }
+    ensures due { IsStreamDue W.stream W.has_failed out.old out.new result }
 {
     for values in found {
         put_assignment(out, model, values)?;
@@ -67,7 +67,7 @@ fn put_assignment<W: TrackedWrite>(
     requires model { CanBeShown model.now }
     requires assignment { IsAssignment model.now values.now }
     ensures text { Puts (W.contents out.old) (W.contents out.new) result (shown model.now values.now) }
-    ensures due { IsDue W.stream W.has_failed out.old out.new result }
+    ensures due { IsStreamDue W.stream W.has_failed out.old out.new result }
 {
     put_solution(out, model, values.as_slice())
 }

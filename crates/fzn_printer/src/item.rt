@@ -5,7 +5,7 @@ ghost use Rattle.std.specs.Fmt.{decimal};
 ghost use Rattle.fzn_domain.specs.Narrow.{IsVariable, value_of};
 ghost use Rattle.fzn_meaning.specs.Term.{IsTerm};
 ghost use Rattle.fzn_meaning.specs.WellFormed.{IsOutputItem};
-ghost use Rattle.fzn_streams.specs.Output.{Puts, IsDue};
+ghost use Rattle.fzn_streams.specs.Output.{Puts, IsStreamDue};
 ghost use Rattle.fzn_meaning.specs.declared.model.OutputItem.TheVariants.{Single, Array};
 ghost use Rattle.fzn_printer.specs.Shown.{value_text, range_text, entry_text, entries_text, list_text, item_text, shown};
 
@@ -23,7 +23,7 @@ pub fn put_solution<W: TrackedWrite>(
 ) -> Result<(), WriteFailed>
     requires { All (IsOutputItem (length values.now)) model.now.shown }
     ensures text { Puts (W.contents out.old) (W.contents out.new) result (shown model.now values.now) }
-    ensures due { IsDue W.stream W.has_failed out.old out.new result }
+    ensures due { IsStreamDue W.stream W.has_failed out.old out.new result }
 {
     put_items(out, model.shown.as_slice(), values)?;
     put(out, b"----------\n")
@@ -38,7 +38,7 @@ fn put_items<W: TrackedWrite>(
 ) -> Result<(), WriteFailed>
     requires { All (IsOutputItem (length values.now)) items.now }
     ensures text { Puts (W.contents out.old) (W.contents out.new) result (flat_map (item_text values.now) items.now) }
-    ensures due { IsDue W.stream W.has_failed out.old out.new result }
+    ensures due { IsStreamDue W.stream W.has_failed out.old out.new result }
 {
     for item in items {
         put_item(out, item, values)?;
@@ -54,7 +54,7 @@ fn put_item<W: TrackedWrite>(
 ) -> Result<(), WriteFailed>
     requires { IsOutputItem (length values.now) item.now }
     ensures text { Puts (W.contents out.old) (W.contents out.new) result (item_text values.now item.now) }
-    ensures due { IsDue W.stream W.has_failed out.old out.new result }
+    ensures due { IsStreamDue W.stream W.has_failed out.old out.new result }
 {
     match item {
         OutputItem::Single { name, kind, var } => put_single(out, name, *kind, &values[var.0 - 1]),
@@ -79,7 +79,7 @@ pub fn put_single<W: TrackedWrite>(
     value: &i64,
 ) -> Result<(), WriteFailed>
     ensures text { Puts (W.contents out.old) (W.contents out.new) result (name.now ++ codes " = " ++ value_text kind value.now ++ (codes ";" ++ 10 ∷ [])) }
-    ensures due { IsDue W.stream W.has_failed out.old out.new result }
+    ensures due { IsStreamDue W.stream W.has_failed out.old out.new result }
 {
     put(out, name.as_slice())?;
     put(out, b" = ")?;
@@ -95,7 +95,7 @@ pub fn put_head<W: TrackedWrite>(
     ranges: &[IndexRange],
 ) -> Result<(), WriteFailed>
     ensures text { Puts (W.contents out.old) (W.contents out.new) result (name.now ++ codes " = array" ++ decimal (length ranges.now) ++ codes "d(" ++ flat_map (λ range. range_text range ++ codes ", ") ranges.now) }
-    ensures due { IsDue W.stream W.has_failed out.old out.new result }
+    ensures due { IsStreamDue W.stream W.has_failed out.old out.new result }
 {
     put(out, name.as_slice())?;
     put(out, b" = array")?;
@@ -106,7 +106,7 @@ pub fn put_head<W: TrackedWrite>(
 
 fn put_ranges<W: TrackedWrite>(out: &mut W, ranges: &[IndexRange]) -> Result<(), WriteFailed>
     ensures text { Puts (W.contents out.old) (W.contents out.new) result (flat_map (λ range. range_text range ++ codes ", ") ranges.now) }
-    ensures due { IsDue W.stream W.has_failed out.old out.new result }
+    ensures due { IsStreamDue W.stream W.has_failed out.old out.new result }
 {
     for range in ranges {
         put_indices(out, range)?;
@@ -117,7 +117,7 @@ fn put_ranges<W: TrackedWrite>(out: &mut W, ranges: &[IndexRange]) -> Result<(),
 #[tactic(auto, using(fzn_streams::proofs::CallerLemmas::puts))]
 fn put_indices<W: TrackedWrite>(out: &mut W, range: &IndexRange) -> Result<(), WriteFailed>
     ensures text { Puts (W.contents out.old) (W.contents out.new) result (range_text range.now ++ codes ", ") }
-    ensures due { IsDue W.stream W.has_failed out.old out.new result }
+    ensures due { IsStreamDue W.stream W.has_failed out.old out.new result }
 {
     put_range(out, range)?;
     put(out, b", ")
@@ -132,7 +132,7 @@ pub fn put_list<W: TrackedWrite>(
 ) -> Result<(), WriteFailed>
     requires { All (IsTerm (length values.now)) entries.now }
     ensures text { Puts (W.contents out.old) (W.contents out.new) result (list_text kind values.now entries.now) }
-    ensures due { IsDue W.stream W.has_failed out.old out.new result }
+    ensures due { IsStreamDue W.stream W.has_failed out.old out.new result }
 {
     put(out, b"[")?;
     put_entries(out, kind, entries, values)?;
@@ -147,7 +147,7 @@ fn put_entries<W: TrackedWrite>(
 ) -> Result<(), WriteFailed>
     requires { All (IsTerm (length values.now)) entries.now }
     ensures text { Puts (W.contents out.old) (W.contents out.new) result (entries_text kind values.now entries.now) }
-    ensures due { IsDue W.stream W.has_failed out.old out.new result }
+    ensures due { IsStreamDue W.stream W.has_failed out.old out.new result }
 {
     match entries.split_first() {
         None => Ok(()),
@@ -166,7 +166,7 @@ pub fn put_all<W: TrackedWrite>(
     requires first { IsTerm (length values.now) first }
     requires further { All (IsTerm (length values.now)) further.now }
     ensures text { Puts (W.contents out.old) (W.contents out.new) result (entries_text kind values.now (first ∷ further.now)) }
-    ensures due { IsDue W.stream W.has_failed out.old out.new result }
+    ensures due { IsStreamDue W.stream W.has_failed out.old out.new result }
 {
     put_entry(out, kind, &first, values)?;
     put_further(out, kind, further, values)
@@ -181,7 +181,7 @@ fn put_further<W: TrackedWrite>(
 ) -> Result<(), WriteFailed>
     requires { All (IsTerm (length values.now)) entries.now }
     ensures text { Puts (W.contents out.old) (W.contents out.new) result (flat_map (λ entry. codes ", " ++ entry_text kind values.now entry) entries.now) }
-    ensures due { IsDue W.stream W.has_failed out.old out.new result }
+    ensures due { IsStreamDue W.stream W.has_failed out.old out.new result }
 {
     for entry in entries {
         put_after_comma(out, kind, entry, values)?;
@@ -198,7 +198,7 @@ fn put_after_comma<W: TrackedWrite>(
 ) -> Result<(), WriteFailed>
     requires { IsTerm (length values.now) entry.now }
     ensures text { Puts (W.contents out.old) (W.contents out.new) result (codes ", " ++ entry_text kind values.now entry.now) }
-    ensures due { IsDue W.stream W.has_failed out.old out.new result }
+    ensures due { IsStreamDue W.stream W.has_failed out.old out.new result }
 {
     put(out, b", ")?;
     put_entry(out, kind, entry, values)
@@ -212,7 +212,7 @@ fn put_entry<W: TrackedWrite>(
 ) -> Result<(), WriteFailed>
     requires { IsTerm (length values.now) entry.now }
     ensures text { Puts (W.contents out.old) (W.contents out.new) result (entry_text kind values.now entry.now) }
-    ensures due { IsDue W.stream W.has_failed out.old out.new result }
+    ensures due { IsStreamDue W.stream W.has_failed out.old out.new result }
 {
     put_value(out, kind, &entry.value(values))
 }

@@ -6,5 +6,5 @@ abbrev pub input_of : {R : Type 0} → TrackedReader R → R
 input_of reader = reader.input
 
 -- whether a read failed
-abbrev pub has_failed : {R : Type 0} → TrackedReader R → Bool
-has_failed reader = reader.failed
+abbrev pub read_failed : {R : Type 0} → TrackedReader R → Bool
+read_failed reader = reader.failed

@@ -13,8 +13,8 @@ abbrev pub Puts : {A E : Type 0} → Option (List ℕ) → Option (List ℕ) →
 Puts old new result text = MatchResult result (λ _. Appends old new text) (λ _. AppendsFront old new text)
 
 -- it is the same stream, and after an error a call on it has failed
-abbrev pub IsDue : {W S A E : Type 0} → (W → S) → (W → Bool) → W → W → Result A E → Type 0
-IsDue stream has_failed old new result = (stream new ≡ stream old) × OnErr result (has_failed new ≡ true)
+abbrev pub IsStreamDue : {W S A E : Type 0} → (W → S) → (W → Bool) → W → W → Result A E → Type 0
+IsStreamDue stream has_failed old new result = (stream new ≡ stream old) × OnErr result (has_failed new ≡ true)
 
 -- ---- a writer that remembers a failed call
 
@@ -23,9 +23,9 @@ abbrev pub out_of : {W : Type 0} → TrackedWriter W → W
 out_of writer = writer.out.now
 
 -- by this name a caller knows the writer below
-abbrev pub out_name : {W : Type 0} → TrackedWriter W → GName
-out_name writer = writer.out.ghost_name
+abbrev pub name_below : {W : Type 0} → TrackedWriter W → GName
+name_below writer = writer.out.ghost_name
 
 -- whether a write or a flush failed
-abbrev pub has_failed : {W : Type 0} → TrackedWriter W → Bool
-has_failed writer = writer.failed
+abbrev pub write_failed : {W : Type 0} → TrackedWriter W → Bool
+write_failed writer = writer.failed

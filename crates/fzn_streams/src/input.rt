@@ -31,12 +31,12 @@ pub struct TrackedReader<R> {
 }
 
 impl<R: Read> TrackedReader<R> {
-    ghost use Rattle.fzn_streams.specs.Input.{input_of, has_failed};
+    ghost use Rattle.fzn_streams.specs.Input.{input_of, read_failed};
 
     /// No read has failed.
     pub fn new(input: R) -> TrackedReader<R>
         ensures input { input_of result ≡ input }
-        ensures fresh { has_failed result ≡ false }
+        ensures fresh { read_failed result ≡ false }
     {
         TrackedReader {
             input,
@@ -58,9 +58,9 @@ impl<R: Read> Read for TrackedReader<R> {
 }
 
 impl<R: Read> TrackedRead for TrackedReader<R> {
-    ghost use Rattle.fzn_streams.specs.Input.{has_failed};
+    ghost use Rattle.fzn_streams.specs.Input.{read_failed};
 
-    ghost has_failed = { λ reader. has_failed reader };
+    ghost has_failed = { λ reader. read_failed reader };
 
     fn read_some(&mut self, buffer: &mut [u8]) -> Result<usize, ReadFailed> {
         let result = self.input.read(buffer);

@@ -2,7 +2,7 @@
 ghost use Rattle.std.specs.Prelude.{◌≡◌, ◌≢◌, ℕ, Bool, true, false, [], ◌<◌, ◌≤◌, ◌^◌, take, length, IfOk};
 ghost use Rattle.std.specs.Io.{WritesAtMost};
 ghost use Rattle.std.specs.Io.KnownBytes.{Appends, Keeps, WriteAppends};
-ghost use Rattle.fzn_streams.specs.Output.{Puts, IsDue};
+ghost use Rattle.fzn_streams.specs.Output.{Puts, IsStreamDue};
 
 use std::io;
 use std::io::Write;
@@ -29,12 +29,12 @@ pub trait TrackedWrite: Write {
         ensures bound { WritesAtMost result bytes.now }
         ensures some { IfOk result (λ count. bytes.now ≢ [] → 0 < count) }
         ensures bytes { WriteAppends (Self.contents self.old) (Self.contents self.new) result bytes.now }
-        ensures due { IsDue stream has_failed self.old self.new result };
+        ensures due { IsStreamDue stream has_failed self.old self.new result };
 
     /// Flushes the writer below. It answers `Err` only where the flush below failed.
     fn flush_all(&mut self) -> Result<(), WriteFailed>
         ensures kept { Keeps (Self.contents self.old) (Self.contents self.new) }
-        ensures due { IsDue stream has_failed self.old self.new result };
+        ensures due { IsStreamDue stream has_failed self.old self.new result };
 }
 
 /// A writer of any kind that remembers whether a write or a flush failed. A write that takes none of some bytes counts as failed.
@@ -45,13 +45,13 @@ pub struct TrackedWriter<'w, W: Write> {
 }
 
 impl<'w, W: Write> TrackedWriter<'w, W> {
-    ghost use Rattle.fzn_streams.specs.Output.{out_of, out_name, has_failed};
+    ghost use Rattle.fzn_streams.specs.Output.{out_of, name_below, write_failed};
 
     /// No call has failed.
     pub fn new(out: &'w mut W) -> TrackedWriter<'w, W>
         ensures same { out_of result ≡ out.old }
-        ensures same_writer { out_name result ≡ out.entry.ghost_name }
-        ensures fresh { has_failed result ≡ false }
+        ensures same_writer { name_below result ≡ out.entry.ghost_name }
+        ensures fresh { write_failed result ≡ false }
     {
         TrackedWriter { out, failed: false }
     }
@@ -80,13 +80,13 @@ impl<'w, W: Write> Write for TrackedWriter<'w, W> {
 
 impl<'w, W: Write> TrackedWrite for TrackedWriter<'w, W> {
     ghost use Rattle.std.specs.Borrow.{GName};
-    ghost use Rattle.fzn_streams.specs.Output.{out_name, has_failed};
+    ghost use Rattle.fzn_streams.specs.Output.{name_below, write_failed};
 
     ghost Stream = { GName };
 
-    ghost stream = { λ writer. out_name writer };
+    ghost stream = { λ writer. name_below writer };
 
-    ghost has_failed = { λ writer. has_failed writer };
+    ghost has_failed = { λ writer. write_failed writer };
 
     fn write_some(&mut self, bytes: &[u8]) -> Result<usize, WriteFailed> {
         match self.out.write(bytes) {
@@ -108,7 +108,7 @@ impl<'w, W: Write> TrackedWrite for TrackedWriter<'w, W> {
 /// Writes all the bytes. It answers `Err` only where a write failed or took none of some bytes, and then a beginning of the bytes stands.
 pub fn put<W: TrackedWrite>(out: &mut W, bytes: &[u8]) -> Result<(), WriteFailed>
     ensures text { Puts (W.contents out.old) (W.contents out.new) result bytes.now }
-    ensures due { IsDue W.stream W.has_failed out.old out.new result }
+    ensures due { IsStreamDue W.stream W.has_failed out.old out.new result }
 {
     let mut written = 0;
     while written < bytes.len() {

@@ -2,7 +2,7 @@
 ghost use Rattle.std.specs.Prelude.{◌≡◌, ◌-◌, ◌∷◌, [], ◌++◌, codes, length, slice_get, slice_range};
 ghost use Rattle.std.specs.List.{flat_map};
 ghost use Rattle.std.specs.Fmt.{decimal};
-ghost use Rattle.fzn_streams.specs.Output.{Puts, IsDue};
+ghost use Rattle.fzn_streams.specs.Output.{Puts, IsStreamDue};
 ghost use Rattle.fzn_trim.specs.Listing.{core_text, share_text, share_ended, open_mark, item_line, labelled, listed_line, number_line, position_label};
 
 use fzn_lexer::{Position, Span};
@@ -20,7 +20,7 @@ pub fn put_core<W: TrackedWrite>(
     closed: bool,
 ) -> Result<(), WriteFailed>
     ensures text { Puts (W.contents out.old) (W.contents out.new) result (core_text bytes.now sources.now numbers.now closed) }
-    ensures due { IsDue W.stream W.has_failed out.old out.new result }
+    ensures due { IsStreamDue W.stream W.has_failed out.old out.new result }
 {
     put_lines(out, bytes, sources, numbers)?;
     put_count(out, numbers.len(), sources.len(), closed)
@@ -33,7 +33,7 @@ fn put_lines<W: TrackedWrite>(
     numbers: &[u64],
 ) -> Result<(), WriteFailed>
     ensures text { Puts (W.contents out.old) (W.contents out.new) result (flat_map (number_line bytes.now sources.now) numbers.now) }
-    ensures due { IsDue W.stream W.has_failed out.old out.new result }
+    ensures due { IsStreamDue W.stream W.has_failed out.old out.new result }
 {
     for number in numbers {
         put_number_line(out, bytes, sources, *number)?;
@@ -48,7 +48,7 @@ fn put_number_line<W: TrackedWrite>(
     number: u64,
 ) -> Result<(), WriteFailed>
     ensures text { Puts (W.contents out.old) (W.contents out.new) result (number_line bytes.now sources.now number) }
-    ensures due { IsDue W.stream W.has_failed out.old out.new result }
+    ensures due { IsStreamDue W.stream W.has_failed out.old out.new result }
 {
     match sources.get(number.saturating_sub(1) as usize) {
         None => Ok(()),
@@ -65,7 +65,7 @@ fn put_line<W: TrackedWrite>(
     item: Span,
 ) -> Result<(), WriteFailed>
     ensures text { Puts (W.contents out.old) (W.contents out.new) result (listed_line bytes.now number item) }
-    ensures due { IsDue W.stream W.has_failed out.old out.new result }
+    ensures due { IsStreamDue W.stream W.has_failed out.old out.new result }
 {
     put_number(out, number)?;
     put_position(out, item.position)?;
@@ -75,7 +75,7 @@ fn put_line<W: TrackedWrite>(
 #[tactic(auto, using(fzn_streams::proofs::CallerLemmas::puts))]
 fn put_position<W: TrackedWrite>(out: &mut W, position: Position) -> Result<(), WriteFailed>
     ensures text { Puts (W.contents out.old) (W.contents out.new) result (position_label position) }
-    ensures due { IsDue W.stream W.has_failed out.old out.new result }
+    ensures due { IsStreamDue W.stream W.has_failed out.old out.new result }
 {
     put_labelled(out, b" line ", position.line as u64)?;
     put_labelled(out, b" column ", position.column as u64)?;
@@ -85,7 +85,7 @@ fn put_position<W: TrackedWrite>(out: &mut W, position: Position) -> Result<(), 
 #[tactic(auto, using(fzn_streams::proofs::CallerLemmas::puts))]
 fn put_labelled<W: TrackedWrite>(out: &mut W, label: &[u8], number: u64) -> Result<(), WriteFailed>
     ensures text { Puts (W.contents out.old) (W.contents out.new) result (labelled label.now number) }
-    ensures due { IsDue W.stream W.has_failed out.old out.new result }
+    ensures due { IsStreamDue W.stream W.has_failed out.old out.new result }
 {
     put(out, label)?;
     put_number(out, number)
@@ -94,7 +94,7 @@ fn put_labelled<W: TrackedWrite>(out: &mut W, label: &[u8], number: u64) -> Resu
 /// The bytes of the item, and a line feed.
 fn put_item<W: TrackedWrite>(out: &mut W, bytes: &[u8], item: Span) -> Result<(), WriteFailed>
     ensures text { Puts (W.contents out.old) (W.contents out.new) result (item_line bytes.now item) }
-    ensures due { IsDue W.stream W.has_failed out.old out.new result }
+    ensures due { IsStreamDue W.stream W.has_failed out.old out.new result }
 {
     put_ended(out, text_of(bytes, item))
 }
@@ -103,7 +103,7 @@ fn put_item<W: TrackedWrite>(out: &mut W, bytes: &[u8], item: Span) -> Result<()
 #[tactic(auto, using(fzn_streams::proofs::CallerLemmas::puts))]
 fn put_ended<W: TrackedWrite>(out: &mut W, text: &[u8]) -> Result<(), WriteFailed>
     ensures text { Puts (W.contents out.old) (W.contents out.new) result (text.now ++ 10 ∷ []) }
-    ensures due { IsDue W.stream W.has_failed out.old out.new result }
+    ensures due { IsStreamDue W.stream W.has_failed out.old out.new result }
 {
     put(out, text)?;
     put(out, b"\n")
@@ -126,7 +126,7 @@ fn put_count<W: TrackedWrite>(
     closed: bool,
 ) -> Result<(), WriteFailed>
     ensures text { Puts (W.contents out.old) (W.contents out.new) result (share_text listed constraints closed) }
-    ensures due { IsDue W.stream W.has_failed out.old out.new result }
+    ensures due { IsStreamDue W.stream W.has_failed out.old out.new result }
 {
     put_counts(out, listed, constraints, ending(closed))
 }
@@ -140,7 +140,7 @@ fn put_counts<W: TrackedWrite>(
     ending: &[u8],
 ) -> Result<(), WriteFailed>
     ensures text { Puts (W.contents out.old) (W.contents out.new) result (share_ended listed constraints ending.now) }
-    ensures due { IsDue W.stream W.has_failed out.old out.new result }
+    ensures due { IsStreamDue W.stream W.has_failed out.old out.new result }
 {
     put_number(out, listed as u64)?;
     put(out, b" of ")?;
@@ -151,7 +151,7 @@ fn put_counts<W: TrackedWrite>(
 /// Writes the bytes, and flushes the writer.
 fn put_last<W: TrackedWrite>(out: &mut W, bytes: &[u8]) -> Result<(), WriteFailed>
     ensures text { Puts (W.contents out.old) (W.contents out.new) result bytes.now }
-    ensures due { IsDue W.stream W.has_failed out.old out.new result }
+    ensures due { IsStreamDue W.stream W.has_failed out.old out.new result }
 {
     put(out, bytes)?;
     out.flush_all()
@@ -165,7 +165,7 @@ fn ending(closed: bool) -> &'static [u8]
 
 fn put_number<W: TrackedWrite>(out: &mut W, number: u64) -> Result<(), WriteFailed>
     ensures text { Puts (W.contents out.old) (W.contents out.new) result (decimal number) }
-    ensures due { IsDue W.stream W.has_failed out.old out.new result }
+    ensures due { IsStreamDue W.stream W.has_failed out.old out.new result }
 {
     put(out, Buffer::new().format(number).as_bytes())
 }
