@@ -15,7 +15,7 @@ use Rattle.fzn_tree.specs.Piece.{Piece, ◌and◌, sign, placed, marked}
 use Rattle.fzn_tree.specs.Grammar.Limits.{most}
 use Rattle.fzn_tree.specs.Grammar.Values.{listed, name, literal, basic, array}
 use Rattle.fzn_tree.specs.Grammar.Annotations.{anns}
-use Rattle.fzn_tree.specs.Grammar.Types.{base, array_length, array_of}
+use Rattle.fzn_tree.specs.Grammar.Types.{base, array_of}
 use Rattle.fzn_tree.specs.declared.tree.ParamBase.TheVariants as param_bases
 use Rattle.fzn_tree.specs.declared.tree.ParamValue.TheVariants as param_values
 use Rattle.fzn_tree.specs.declared.tree.Var.TheVariants as vars
