@@ -4,3 +4,4 @@ pub use Rattle.fzn_cert.proofs.NumberLaws.{AreDigits, own_digits}
 pub use Rattle.fzn_cert.proofs.WordLaws.{some_is}
 pub use Rattle.fzn_cert.proofs.LineLaws.{and_true, text_again}
 pub use Rattle.fzn_cert.proofs.HeaderLaws.{counts_words, counts_text_is, counts_again}
+pub use Rattle.fzn_cert.proofs.DerivationLaws.{derivation_again}

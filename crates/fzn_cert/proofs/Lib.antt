@@ -1,5 +1,6 @@
 mod AcceptedLaws
 pub mod CallerLemmas
+pub mod DerivationLaws
 pub mod HeaderLaws
 pub mod LineLaws
 pub mod NumberLaws

@@ -45,7 +45,7 @@ plain_digits (d ∷ ds) h =
 pub plain_decimal : (n : ℕ) → n < 10 ^ 18 → IsPlain (decimal n)
 plain_decimal n lt = plain_digits (decimal n) (digits_decimal own_digits n (omega arith))
 
-plain_signed : (z : ℤ) → IsShort z → IsPlain (signed_decimal z)
+pub plain_signed : (z : ℤ) → IsShort z → IsPlain (signed_decimal z)
 unfolding IsShort
 plain_signed (pos n) h = plain_decimal n h
 plain_signed (negsuc n) h = rw (plain_decimal (suc n) h) refl
@@ -76,11 +76,11 @@ plain_name (Pair i j) = refl
 abbrev pub ArePlain : List (List ℕ) → Type 0
 ArePlain words = AllByRecursion IsPlain words
 
-plain_map : {A : Type 0} (text : A → List ℕ) (P : A → Type 0) → ((x : A) → P x → IsPlain (text x)) → (xs : List A) → AllByRecursion P xs → ArePlain (map text xs)
+pub plain_map : {A : Type 0} (text : A → List ℕ) (P : A → Type 0) → ((x : A) → P x → IsPlain (text x)) → (xs : List A) → AllByRecursion P xs → ArePlain (map text xs)
 plain_map text P plain [] h = tt
 plain_map text P plain (x ∷ xs) h = (plain x h.0, plain_map text P plain xs h.1)
 
-plain_joined : (xs ys : List (List ℕ)) → ArePlain xs → ArePlain ys → ArePlain (xs ++ ys)
+pub plain_joined : (xs ys : List (List ℕ)) → ArePlain xs → ArePlain ys → ArePlain (xs ++ ys)
 plain_joined [] ys h k = k
 plain_joined (x ∷ xs) ys h k = (h.0, plain_joined xs ys h.1 k)
 
@@ -164,7 +164,7 @@ inside_word (b ∷ word) h =
     let t = and_true (is_plain b) (list_all is_plain word) h in
     rw ((and_true (not (eqb b 32)) (not (eqb b 10)) t.0).1, inside_word word t.1) refl
 
-inside_joined : (words : List (List ℕ)) → ArePlain words → IsInside (join_with_byte 32 words)
+pub inside_joined : (words : List (List ℕ)) → ArePlain words → IsInside (join_with_byte 32 words)
 inside_joined [] h = refl
 inside_joined (word ∷ []) h = inside_word word h.0
 inside_joined (word ∷ next ∷ words) h =

@@ -1,14 +1,17 @@
 -- The text of a step, part after part.
 use Rattle.std.proofs.Common.{◌≡◌, ℕ, List, [], ◌∷◌, ◌++◌, map, sym, ap, ◌∙◌, append_assoc}
 use Rattle.std.specs.Prelude.{codes}
-use Rattle.std.specs.List.{join_with_byte}
+use Rattle.std.specs.List.{join_with_byte, flat_map}
 use Rattle.std.specs.Fmt.{decimal, signed_decimal}
 use Rattle.std.proofs.lemmas.List.{append-nil}
 use Rattle.std.proofs.lemmas.List.Concat.{flat_map-append}
 use Rattle.fzn_cert.specs.declared.step.Step.{Step}
 use Rattle.fzn_cert.specs.declared.step.Step.TheVariants.{Infer, Resolve, Solution, Delete}
+use Rattle.fzn_derive.specs.declared.derivation.Derivation.{Derivation}
+use Rattle.fzn_derive.specs.declared.derivation.Derivation.TheVariants.{Sum, Parity, AllDifferent}
 use Rattle.fzn_cert.specs.Spelling.{rule_name, hints, literal_text, spaced, step_text}
-use Rattle.fzn_cert.specs.Parts.{after_space, after_spaces, step_parts}
+use Rattle.fzn_cert.specs.Derivations.{multiple_words, variable_text, derivation_text}
+use Rattle.fzn_cert.specs.Parts.{after_space, after_spaces, step_parts, derivation_parts}
 
 joined : (word : List ℕ) (words : List (List ℕ)) → join_with_byte 32 (word ∷ words) ≡ word ++ after_spaces words
 joined word [] = sym (append-nil word)
@@ -38,3 +41,11 @@ step_text_is (Resolve clause ids) =
     ∙ simp append_assoc
 step_text_is (Solution values) = spaced-cons (codes "s") (map signed_decimal values)
 step_text_is (Delete ids) = spaced-cons (codes "d") (map decimal ids)
+
+pub derivation_text_is : (derivation : Derivation) → derivation_text derivation ≡ derivation_parts derivation
+derivation_text_is (Sum multiples) = spaced-cons (codes "c") (codes "lin" ∷ codes ";" ∷ flat_map multiple_words multiples)
+derivation_text_is (Parity constraints) = spaced-cons (codes "c") (codes "xor" ∷ codes ";" ∷ map decimal constraints)
+derivation_text_is (AllDifferent variables constraints) =
+    spaced-cons (codes "c") (codes "alldiff" ∷ codes ";" ∷ (map variable_text variables ++ codes ";" ∷ map decimal constraints))
+    ∙ ap (λ (t : List ℕ). codes "c alldiff ;" ++ t) (marked (map variable_text variables) (map decimal constraints))
+    ∙ simp append_assoc

@@ -1,5 +1,6 @@
 pub mod Accepted
 pub mod Begun
+pub mod Derivations
 pub mod Parts
 pub mod Past
 pub mod Reading

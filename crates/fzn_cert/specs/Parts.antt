@@ -1,10 +1,13 @@
--- The text of a step, part after part.
+-- The text of a step and of a derivation, part after part.
 use Rattle.std.specs.Prelude.{ℕ, List, ◌∷◌, ◌++◌, map, codes}
 use Rattle.std.specs.List.{flat_map}
 use Rattle.std.specs.Fmt.{decimal, signed_decimal}
 use Rattle.fzn_cert.specs.declared.step.Step.{Step}
 use Rattle.fzn_cert.specs.declared.step.Step.TheVariants.{Infer, Resolve, Solution, Delete}
+use Rattle.fzn_derive.specs.declared.derivation.Derivation.{Derivation}
+use Rattle.fzn_derive.specs.declared.derivation.Derivation.TheVariants.{Sum, Parity, AllDifferent}
 use Rattle.fzn_cert.specs.Spelling.{rule_name, hints, literal_text}
+use Rattle.fzn_cert.specs.Derivations.{multiple_words, variable_text}
 
 abbrev pub after_space : List ℕ → List ℕ
 after_space word = 32 ∷ word
@@ -18,3 +21,8 @@ step_parts (Infer constraint rule clause) = codes "i " ++ decimal constraint ++ 
 step_parts (Resolve clause ids) = codes "r" ++ after_spaces (map literal_text clause) ++ codes " ;" ++ after_spaces (map decimal ids)
 step_parts (Solution values) = codes "s" ++ after_spaces (map signed_decimal values)
 step_parts (Delete ids) = codes "d" ++ after_spaces (map decimal ids)
+
+abbrev pub derivation_parts : Derivation → List ℕ
+derivation_parts (Sum multiples) = codes "c lin ;" ++ after_spaces (flat_map multiple_words multiples)
+derivation_parts (Parity constraints) = codes "c xor ;" ++ after_spaces (map decimal constraints)
+derivation_parts (AllDifferent variables constraints) = codes "c alldiff ;" ++ (after_spaces (map variable_text variables) ++ codes " ;" ++ after_spaces (map decimal constraints))

@@ -5,9 +5,10 @@
 //! `specs/Verdict.antt` what that makes of a whole certificate: solver and checker cite these.
 #![tactic(auto)]
 
+pub use derivations::push_derivation;
 pub use fault::{CertFault, FaultKind};
 pub use header::Header;
-pub use law::{one_line, one_verdict};
+pub use law::{one_derivation, one_line, one_verdict};
 pub use limits::{LAST_STEP, LINE_LIMIT};
 pub use line::push_step;
 pub use refusal::Refusal;
@@ -15,6 +16,7 @@ pub use step::{Step, Version};
 pub use write_fault::WriteFault;
 pub use writer::{NotBegun, Stage, StepWriter, header_of, put_end};
 
+mod derivations;
 mod fault;
 mod header;
 mod law;

@@ -113,7 +113,7 @@ fn push_integers(text: &mut String, integers: &[i64]) -> Result<(), Memory>
     Ok(())
 }
 
-fn push_ids(text: &mut String, ids: &[u64]) -> Result<(), Memory>
+pub(crate) fn push_ids(text: &mut String, ids: &[u64]) -> Result<(), Memory>
     ensures { OnOk result (string_bytes text.new ≡ string_bytes text.old ++ after_spaces (map decimal ids.now)) }
 {
     for id in ids {

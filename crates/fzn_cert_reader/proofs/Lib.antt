@@ -1,4 +1,5 @@
 pub mod CallerLemmas
+mod DerivationLaws
 mod HeaderLaws
 mod LineLaws
 mod LoopLaws

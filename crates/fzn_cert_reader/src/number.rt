@@ -35,7 +35,7 @@ pub fn number_of(word: &[u8]) -> Option<u64>
 
 /// The whole number that a word spells.
 #[tactic(auto, unfolding(fzn_cert::specs::Words::integer_of))]
-fn integer_of(word: &[u8]) -> Option<i64>
+pub(crate) fn integer_of(word: &[u8]) -> Option<i64>
     ensures { result ≡ integer_of word.now }
 {
     if is_negative(word) {

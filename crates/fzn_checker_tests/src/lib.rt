@@ -12,6 +12,8 @@ pub use flawed::{Calls, Flaw, Sink, Source, put_at};
 mod certificates;
 #[cfg(test)]
 mod checker;
+#[cfg(test)]
+mod derivations;
 mod flawed;
 #[cfg(test)]
 mod printer;

@@ -1,0 +1,8 @@
+pub mod Apart
+pub mod Cited
+pub mod Derived
+pub mod Given
+pub mod Merged
+pub mod Parity
+pub mod Room
+pub mod Summed

@@ -1,0 +1,96 @@
+// Constraints added up.
+ghost use Rattle.std.specs.Prelude.{◌≡◌, ◌↔◌, ◌⊎◌, ◌≤◌, unsigned_abs, IsTrue, IfOk, IfErr};
+ghost use Rattle.std.specs.List.{All};
+ghost use Rattle.fzn_meaning.specs.Meaning.{IsWellFormed};
+ghost use Rattle.fzn_builtin_rules.specs.Borrowed.{form_in};
+ghost use Rattle.fzn_derive.specs.declared.fault.DeriveFault.TheVariants.{Memory};
+ghost use Rattle.fzn_derive.specs.Summed.{IsUsable, MayMultiply, IsFirstFault};
+ghost use Rattle.fzn_derive.specs.Room.{variables_in, IsClear, IsListed, AreWithinLimit, IsWithinLimit, IsUsableForm, IsUnusable, IsMultipleAdded, IsMultipleFault, AreSummedUp};
+
+use crate::derivation::Multiple;
+use crate::deriver::Deriver;
+use crate::fault::DeriveFault;
+use fzn_builtin_rules::{Form, form_of};
+use fzn_meaning::{Comparison, Constraint};
+
+/// How far from 0 a multiplier lies at the most: 10^12.
+const GREATEST_MULTIPLIER: i64 = 1_000_000_000_000;
+
+impl Deriver {
+    /// Adds up the forms, each times its multiplier, and answers what the constants leave of the bound.
+    pub(crate) fn add_all(
+        &mut self,
+        given: &[Constraint],
+        multiples: &[Multiple],
+    ) -> Result<i128, DeriveFault>
+        requires clear { IsClear (variables_in self.old) self.old }
+        requires given { All (IsWellFormed (variables_in self.old)) given.now }
+        ensures listed { IsListed self.new }
+        ensures variables { variables_in self.new ≡ variables_in self.old }
+        ensures added { IfOk result (AreSummedUp given.now self.new multiples.now) }
+        ensures fault { IfErr result (λ fault. (fault ≡ Memory) ⊎ IsFirstFault given.now multiples.now fault) }
+    {
+        let mut bound: i128 = 0;
+        for multiple in multiples {
+            bound = self.add_multiple(given, *multiple, bound)?;
+        }
+        Ok(bound)
+    }
+
+    /// Adds one of them, and answers the bound so far.
+    fn add_multiple(
+        &mut self,
+        given: &[Constraint],
+        multiple: Multiple,
+        bound: i128,
+    ) -> Result<i128, DeriveFault>
+        requires listed { IsListed self.old }
+        requires given { All (IsWellFormed (variables_in self.old)) given.now }
+        requires sums { AreWithinLimit self.old }
+        requires bound { IsWithinLimit bound }
+        ensures listed { IsListed self.new }
+        ensures variables { variables_in self.new ≡ variables_in self.old }
+        ensures added { IfOk result (IsMultipleAdded given.now self.old self.new bound multiple) }
+        ensures fault { IfErr result (λ fault. (fault ≡ Memory) ⊎ IsMultipleFault given.now self.old bound multiple fault) }
+    {
+        let form = usable_form(given, multiple)?;
+        self.add_form(multiple.multiplier, &form, bound)
+    }
+}
+
+/// The form of a constraint, where it may be multiplied so.
+fn usable_form<'a>(given: &'a [Constraint], multiple: Multiple) -> Result<Form<'a>, DeriveFault>
+    ensures found { IfOk result (λ found. IsUsableForm given.now multiple (form_in found)) }
+    ensures fault { IfErr result (IsUnusable given.now multiple) }
+{
+    if multiple.constraint == 0 || (given.len() as u64) < multiple.constraint {
+        return Err(DeriveFault::NoSuchConstraint);
+    }
+    match form_of(&given[(multiple.constraint - 1) as usize]) {
+        None => Err(DeriveFault::NotDerived),
+        Some(form) => if is_usable(multiple.multiplier, &form) {
+            Ok(form)
+        } else {
+            Err(DeriveFault::NotDerived)
+        },
+    }
+}
+
+/// Whether the form may be multiplied so.
+fn is_usable(multiplier: i64, form: &Form<'_>) -> bool
+    ensures { IsTrue result ↔ IsUsable multiplier (form_in form.now) }
+{
+    form.switch.is_none() && is_multiplier(form.comparison, multiplier)
+}
+
+/// Whether a number within the limits keeps such a comparison.
+fn is_multiplier(comparison: Comparison, multiplier: i64) -> bool
+    ensures { IsTrue result ↔ MayMultiply comparison multiplier × (unsigned_abs multiplier ≤ 1000000000000) }
+{
+    let within = -GREATEST_MULTIPLIER <= multiplier && multiplier <= GREATEST_MULTIPLIER;
+    match comparison {
+        Comparison::AtMost => within && 1 <= multiplier,
+        Comparison::Equal => within && multiplier != 0,
+        Comparison::NotEqual => false,
+    }
+}
