@@ -7,8 +7,9 @@ ghost use Rattle.fzn_strategy.specs.declared.learn.Learn.TheVariants.{Plain};
 ghost use Rattle.fzn_learned.specs.Learned.{IsConflicting, IsDerived, IsLearned, IsPlain};
 ghost use Rattle.fzn_learned.specs.Reasoned.{known_of, AreOver, IsReasoned};
 
-use crate::first_uip::{first_uip, want_root, wanted_clause};
+use crate::first_uip::first_uip;
 use crate::marks::{Marks, Wanted};
+use crate::units::{want_root, wanted_clause};
 use fzn_clauses::Clauses;
 use fzn_domain::Memory;
 use fzn_explanation::Implications;
@@ -70,7 +71,7 @@ fn first_or_plain(
         inferences,
         vars: sets.len(),
     };
-    let found = first_uip(alloc, graph, marks, conflict)?;
+    let found = first_uip(alloc, &graph, marks, conflict)?;
     if is_sound(trail, clauses, inferences, sets, &found)? {
         return Ok(found);
     }
@@ -100,7 +101,7 @@ pub fn unit_of(
         inferences,
         vars: sets.len(),
     };
-    let Some(unit) = wanted_clause(alloc, graph, marks, wanted)? else {
+    let Some(unit) = wanted_clause(alloc, &graph, marks, wanted)? else {
         return Ok(None);
     };
     if is_derived(trail, clauses, inferences, sets, &unit)? {
@@ -128,5 +129,5 @@ pub fn want_unit(
         inferences,
         vars: sets.len(),
     };
-    want_root(alloc, graph, marks, place)
+    want_root(&graph, marks, place)
 }

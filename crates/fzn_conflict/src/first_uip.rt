@@ -1,105 +1,78 @@
 // The clause of the first unique implication point (Zhang, Madigan, Moskewicz, Malik, Efficient Conflict Driven Learning, 2001).
 // Nothing is promised of it: what is learned is tested.
-use crate::marks::{Marks, Wanted};
+use crate::marks::Marks;
+use crate::outcome::Outcome;
 use fzn_domain::{Clause, Lit, Memory};
-use fzn_explanation::{Cause, Implications, canonical, implies, opposite};
+use fzn_explanation::{Implications, canonical, opposite};
 use fzn_learned::Learned;
 use fzn_list::Items;
 use fzn_trail::{ClauseId, Reason};
 use std::alloc::Global;
 
-/// For how many entries an analysis has room at once; few need more.
-const USUAL: usize = 128;
-
 /// A clause with the antecedents that it follows from, if it does.
 pub fn first_uip(
     alloc: Global,
-    graph: Implications,
+    graph: &Implications,
     marks: &mut Marks,
     conflict: Reason,
 ) -> Result<Learned, Memory> {
     marks.begin(graph)?;
     marks.explain(graph, conflict)?;
-    let level = marks.find_level(graph);
-    let mut replaced = Vec::with_capacity(alloc, USUAL)?;
-    let mut kept = Vec::with_capacity(alloc, USUAL)?;
-    if level > 0 {
-        if let Some(point) = narrow_down(graph, marks, level, &mut replaced)? {
-            kept.push(point)?;
-        }
-        minimise(graph, marks, level, &mut kept, &mut replaced)?;
+    if marks.find_level(graph)? > 0 {
+        narrow_down(graph, marks)?;
+        minimise(graph, marks)?;
     }
-    let mut units = Items::new(alloc);
-    replace_level_0(graph, marks, &mut replaced, &mut units)?;
-    let clause = widest(alloc, graph, marks, &kept)?;
+    replace_level_0(graph, marks)?;
+    marks.settle()?;
+    told(alloc, graph, marks, conflict)
+}
+
+/// The clause that denies the kept entries, with all that is told of it.
+fn told(
+    alloc: Global,
+    graph: &Implications,
+    marks: &Marks,
+    conflict: Reason,
+) -> Result<Learned, Memory> {
+    let places = marks.outcome.denied.as_slice();
     Ok(Learned {
-        clause: denied(alloc, graph, marks, &clause)?,
-        antecedents: antecedents_of(
-            alloc,
-            graph,
-            units.as_slice(),
-            &replaced,
-            marks.cited_gaps(),
-            conflict,
-        )?,
-        level: second_level(graph, &clause),
-        block_distance: block_distance_of(graph, &clause),
-        marked: marked_literals(alloc, graph, marks)?,
+        clause: denied(alloc, graph, marks, places)?,
+        antecedents: antecedents_of(alloc, graph, &marks.outcome, conflict)?,
+        level: second_level(graph, places),
+        block_distance: block_distance_of(graph, places),
+        marked: marked_literals(alloc, marks)?,
     })
 }
 
-/// Replaces the newest marked entries of the level until one is left, which is given.
-fn narrow_down(
-    graph: Implications,
-    marks: &mut Marks,
-    level: usize,
-    replaced: &mut Vec<usize>,
-) -> Result<Option<usize>, Memory> {
-    let newest = newest_of(marks.places());
-    for back in 0..newest.saturating_add(1) {
-        let place = newest.saturating_sub(back);
-        if marks.need(place).is_some()
-            && let Some(entry) = graph.entry(place)
-            && entry.level == level
-        {
-            if entry.reason == Reason::Decision || marks.open() <= 1 {
-                return Ok(Some(place));
-            }
-            replaced.push(place)?;
-            marks.replace(graph, place, entry.lit, entry.reason)?;
+/// Replaces the newest marked entries of the conflict's level until one is left, which is kept.
+fn narrow_down(graph: &Implications, marks: &mut Marks) -> Result<(), Memory> {
+    for _ in 0..graph.trail.len() {
+        let Some(place) = marks.open.take_last() else {
+            return Ok(());
+        };
+        let Some(entry) = graph.entry(place) else {
+            return Ok(());
+        };
+        if entry.reason == Reason::Decision || marks.open.is_empty() {
+            marks.outcome.kept.insert(place);
+            return Ok(());
         }
+        marks.outcome.replaced.insert(place);
+        marks.replace(graph, place, entry)?;
     }
-    Ok(None)
+    Ok(())
 }
 
-fn newest_of(places: &[usize]) -> usize {
-    let mut newest = 0;
-    for place in places {
-        newest = newest.max(*place);
-    }
-    newest
-}
-
-/// Sorts the marked entries between level 0 and this level: those that follow from others are replaced, the others kept.
-fn minimise(
-    graph: Implications,
-    marks: &mut Marks,
-    level: usize,
-    kept: &mut Vec<usize>,
-    replaced: &mut Vec<usize>,
-) -> Result<(), Memory> {
-    for i in 0..marks.places().len() {
-        if let Some(place) = marks.marked_at(i)
+/// Sorts the marked entries between level 0 and that of the conflict: those that follow from others are replaced, the others kept.
+fn minimise(graph: &Implications, marks: &mut Marks) -> Result<(), Memory> {
+    for i in 0..marks.lower.len() {
+        if let Some(place) = marks.lower.get(i).copied()
             && let Some(entry) = graph.entry(place)
-            && 0 < entry.level
-            && entry.level < level
         {
-            if entry.reason != Reason::Decision
-                && marks.is_redundant(graph, place, entry.lit, entry.reason)?
-            {
-                replaced.push(place)?;
+            if entry.reason != Reason::Decision && marks.is_redundant(graph, place, entry)? {
+                marks.outcome.replaced.insert(place);
             } else {
-                kept.push(place)?;
+                marks.outcome.kept.insert(place);
             }
         }
     }
@@ -108,76 +81,23 @@ fn minimise(
 
 /// Replaces all marked entries of level 0: by clauses that stand for them, or by their reasons and those that they rest on. A chain
 /// begins at the declared sets.
-fn replace_level_0(
-    graph: Implications,
-    marks: &mut Marks,
-    replaced: &mut Vec<usize>,
-    units: &mut Items<Reason>,
-) -> Result<(), Memory> {
+pub fn replace_level_0(graph: &Implications, marks: &mut Marks) -> Result<(), Memory> {
     for i in 0..graph.trail.len() {
-        let Some(place) = marks.marked_at(i) else {
+        let Some(place) = marks.rooted.get(i).copied() else {
             return Ok(());
         };
-        if let Some(entry) = graph.entry(place)
-            && entry.level == 0
-        {
-            match marks.replace_root(graph, place, entry.lit, entry.reason)? {
-                Some(id) => units.push(Reason::Clause(id))?,
-                None => replaced.push(place)?,
+        if let Some(entry) = graph.entry(place) {
+            match marks.replace_root(graph, place, entry)? {
+                Some(id) => marks.outcome.units.push(Reason::Clause(id))?,
+                None => marks.outcome.replaced.insert(place),
             }
         }
     }
     Ok(())
 }
 
-/// The kept entries, newest first, without those on whose variable a newer one says more.
-fn widest(
-    alloc: Global,
-    graph: Implications,
-    marks: &Marks,
-    kept: &[usize],
-) -> Result<Vec<usize>, Memory> {
-    let mut by_variable = Vec::with_capacity(alloc, kept.len())?;
-    for place in kept {
-        if let Some(entry) = graph.entry(*place) {
-            by_variable.push((entry.lit.var.0, *place))?;
-        }
-    }
-    by_variable.sort_unstable();
-    let mut clause = Vec::with_capacity(alloc, kept.len())?;
-    for i in 0..by_variable.len() {
-        if !says_less(marks, &by_variable[i..]) {
-            clause.push(by_variable[i].1)?;
-        }
-    }
-    clause.sort_unstable();
-    clause.reverse();
-    Ok(clause)
-}
-
-/// Whether what is needed of the first entry follows from what is needed of a later one of its variable.
-fn says_less(marks: &Marks, by_variable: &[(usize, usize)]) -> bool {
-    let Some(((var, place), later)) = by_variable.split_first() else {
-        return false;
-    };
-    let Some(need) = marks.need(*place) else {
-        return true;
-    };
-    for (other, newer) in later {
-        if other != var {
-            return false;
-        }
-        if let Some(stronger) = marks.need(*newer)
-            && implies(stronger, need)
-        {
-            return true;
-        }
-    }
-    false
-}
-
 /// The level of the second newest of the entries.
-fn second_level(graph: Implications, clause: &[usize]) -> usize {
+fn second_level(graph: &Implications, clause: &[usize]) -> usize {
     match clause.get(1) {
         Some(place) => match graph.entry(*place) {
             Some(entry) => entry.level,
@@ -188,7 +108,7 @@ fn second_level(graph: Implications, clause: &[usize]) -> usize {
 }
 
 /// The literal block distance: how many levels the entries, newest first, stand on.
-fn block_distance_of(graph: Implications, clause: &[usize]) -> usize {
+fn block_distance_of(graph: &Implications, clause: &[usize]) -> usize {
     let mut count: usize = 0;
     let mut last = None;
     for place in clause {
@@ -205,7 +125,7 @@ fn block_distance_of(graph: Implications, clause: &[usize]) -> usize {
 /// The clause that denies what is needed of one of the entries.
 fn denied(
     alloc: Global,
-    graph: Implications,
+    graph: &Implications,
     marks: &Marks,
     places: &[usize],
 ) -> Result<Clause, Memory> {
@@ -224,135 +144,55 @@ fn denied(
 /// the gaps that it moved a bound over, then the conflict.
 fn antecedents_of(
     alloc: Global,
-    graph: Implications,
-    units: &[Reason],
-    replaced: &[usize],
-    gaps: &[(usize, ClauseId)],
+    graph: &Implications,
+    outcome: &Outcome,
     conflict: Reason,
 ) -> Result<Items<Reason>, Memory> {
-    let mut ordered = Vec::with_capacity(alloc, replaced.len().saturating_add(gaps.len()))?;
-    for place in replaced {
-        ordered.push((*place, 0, 0))?;
-    }
-    for i in 0..gaps.len() {
-        let (place, id) = gaps[i];
-        ordered.push((place, i.saturating_add(1), id.0))?;
-    }
-    ordered.sort_unstable();
-    let count = units.len().saturating_add(ordered.len()).saturating_add(1);
-    let mut antecedents = Items::with_capacity(alloc, count)?;
-    for unit in units {
-        antecedents.push(*unit)?;
-    }
-    for (place, order, id) in &ordered {
-        if *order > 0 {
-            antecedents.push(Reason::Clause(ClauseId(*id)))?;
-        } else if let Some(entry) = graph.entry(*place) {
+    let places = outcome.places();
+    let gaps = outcome.gaps();
+    let count = places.len().saturating_add(outcome.units.len());
+    let room = count.saturating_add(gaps.len()).saturating_add(1);
+    let mut antecedents = Vec::with_capacity(alloc, room)?;
+    antecedents.extend_from_slice(outcome.units.as_slice())?;
+    let mut cited = 0;
+    for back in 0..places.len() {
+        let place = places[places.len() - 1 - back];
+        cited = cite_gaps(gaps, cited, place, &mut antecedents)?;
+        if let Some(entry) = graph.entry(place) {
             antecedents.push(entry.reason)?;
         }
     }
+    cite_gaps(gaps, cited, usize::MAX, &mut antecedents)?;
     antecedents.push(conflict)?;
-    Ok(antecedents)
+    Ok(Items::from_vec(antecedents))
+}
+
+/// Adds the clauses of the gaps, but for the first so many, that entries before this one moved over, and gives how many are added then.
+fn cite_gaps(
+    gaps: &[(usize, usize, u64)],
+    cited: usize,
+    place: usize,
+    antecedents: &mut Vec<Reason>,
+) -> Result<usize, Memory> {
+    for i in cited..gaps.len() {
+        let (at, _, id) = gaps[i];
+        if at >= place {
+            return Ok(i);
+        }
+        antecedents.push(Reason::Clause(ClauseId(id)))?;
+    }
+    Ok(gaps.len().max(cited))
 }
 
 /// What is needed of the marked entries above level 0, and the equations that clauses need.
-fn marked_literals(
-    alloc: Global,
-    graph: Implications,
-    marks: &Marks,
-) -> Result<Items<Lit>, Memory> {
-    let count = marks.places().len().saturating_add(marks.equations().len());
-    let mut items = Items::with_capacity(alloc, count)?;
-    for place in marks.places() {
-        if let Some(entry) = graph.entry(*place)
-            && 0 < entry.level
-            && let Some(need) = marks.need(*place)
-        {
-            items.push(need)?;
+fn marked_literals(alloc: Global, marks: &Marks) -> Result<Items<Lit>, Memory> {
+    let count = marks.marked.len().saturating_add(marks.equations.len());
+    let mut literals = Vec::with_capacity(alloc, count)?;
+    for place in &marks.marked {
+        if let Some(need) = marks.need(*place) {
+            literals.push(need)?;
         }
     }
-    for equation in marks.equations() {
-        items.push(*equation)?;
-    }
-    Ok(items)
-}
-
-/// Notes that a clause is wanted for the entry of level 0 at this place, and for those that it rests on.
-pub fn want_root(
-    alloc: Global,
-    graph: Implications,
-    marks: &mut Marks,
-    place: usize,
-) -> Result<(), Memory> {
-    let Some(entry) = graph.entry(place) else {
-        return Ok(());
-    };
-    marks.begin(graph)?;
-    let need = entry.lit;
-    marks.mark(graph, Cause { place, need })?;
-    let mut replaced = Vec::new(alloc);
-    let mut units = Items::new(alloc);
-    replace_level_0(graph, marks, &mut replaced, &mut units)?;
-    marks.want(place)
-}
-
-/// The clause for what it is wanted for: the literal of an entry of level 0, or what stands for a gap.
-pub fn wanted_clause(
-    alloc: Global,
-    graph: Implications,
-    marks: &mut Marks,
-    wanted: Wanted,
-) -> Result<Option<Learned>, Memory> {
-    match wanted {
-        Wanted::Entry(place) => unit_clause(alloc, graph, marks, place),
-        Wanted::Gap(number) => gap_clause(alloc, graph, marks, number),
-    }
-}
-
-/// The clause that stands for the gap of this number.
-fn gap_clause(
-    alloc: Global,
-    graph: Implications,
-    marks: &Marks,
-    number: usize,
-) -> Result<Option<Learned>, Memory> {
-    let Some(gap) = marks.gap(number) else {
-        return Ok(None);
-    };
-    let (low, high) = gap.literals();
-    let antecedents = marks.gap_antecedents(alloc, graph, gap)?;
-    Ok(Some(at_level_0(alloc, [low, high].as_slice(), antecedents)?))
-}
-
-/// The literal of an entry of level 0 as a clause of its own.
-fn unit_clause(
-    alloc: Global,
-    graph: Implications,
-    marks: &mut Marks,
-    place: usize,
-) -> Result<Option<Learned>, Memory> {
-    let Some(entry) = graph.entry(place) else {
-        return Ok(None);
-    };
-    let Some(declared) = graph.declared(entry.lit.var) else {
-        return Ok(None);
-    };
-    let lit = canonical(entry.lit, declared);
-    let antecedents = marks.root_antecedents(alloc, graph, entry)?;
-    Ok(Some(at_level_0(alloc, [lit].as_slice(), antecedents)?))
-}
-
-/// A clause that holds at level 0, with the antecedents that it follows from.
-fn at_level_0(
-    alloc: Global,
-    clause: &[Lit],
-    antecedents: Items<Reason>,
-) -> Result<Learned, Memory> {
-    Ok(Learned {
-        clause: Clause::from_slice(alloc, clause)?,
-        antecedents,
-        level: 0,
-        block_distance: 1,
-        marked: Items::new(alloc),
-    })
+    literals.extend_from_slice(marks.equations.as_slice())?;
+    Ok(Items::from_vec(literals))
 }

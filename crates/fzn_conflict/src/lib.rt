@@ -11,4 +11,7 @@ pub use marks::{Marks, Wanted};
 mod analysis;
 mod first_uip;
 mod marks;
+mod outcome;
+mod places;
 mod roots;
+mod units;

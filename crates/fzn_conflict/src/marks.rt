@@ -1,4 +1,6 @@
 // Which entries of a trail a conflict rests on.
+use crate::outcome::Outcome;
+use crate::places::Places;
 use crate::roots::Roots;
 use fzn_domain::{Lit, Memory, Op, VarId};
 use fzn_explanation::{Cause, Causes, Gap, Implications, canonical, implies, opposite};
@@ -16,23 +18,39 @@ pub enum Wanted {
 }
 
 /// What an analysis notes of the entries of a trail, by their places from 0. It is kept from one analysis to the next, so that each costs
-/// what it touches. Each call that answers `Err` does so where memory runs out, and nothing is said then of what is marked until `begin`.
+/// what it touches, and no list is made anew. Each call that answers `Err` does so where memory runs out, and nothing is said then of what
+/// is marked until `begin`.
 #[derive(Drop)]
 pub struct Marks {
-    /// The literal that is needed of each marked entry.
-    needs: Vec<Option<Lit>>,
-    /// The places of the marked entries, in the order in which they were marked.
-    marked: Vec<usize>,
+    /// The literal that is needed of each marked entry, and no literal of the others.
+    needs: Vec<Lit>,
+    /// The marked entries above level 0, in the order in which they were marked.
+    pub(crate) marked: Vec<usize>,
+    /// Those of them that stand below the conflict's level.
+    pub(crate) lower: Vec<usize>,
+    /// Those that stand at that level and are not replaced.
+    pub(crate) open: Places,
+    /// The marked entries of level 0, in that order.
+    pub(crate) rooted: Vec<usize>,
     /// The equations that the clauses of the analysis need, once for each clause.
-    equations: Vec<Lit>,
+    pub(crate) equations: Vec<Lit>,
+    /// What is made of the marked entries.
+    pub(crate) outcome: Outcome,
     causes: Causes,
     /// What is known of the entries of level 0.
     roots: Roots,
-    /// The highest level of an entry that the conflict rests on, once it is known.
-    level: Option<usize>,
-    /// How many entries of that level are marked and not replaced.
-    open: usize,
+    /// How many entries stand at level 0.
+    root_count: usize,
+    /// How many stand below the highest level of an entry that the conflict rests on, once it is known.
+    start: usize,
 }
+
+/// What is needed of an entry that is not marked.
+const NO_LITERAL: Lit = Lit {
+    var: VarId(0),
+    op: Op::AtMost,
+    value: 0,
+};
 
 impl Marks {
     /// Nothing is marked.
@@ -40,28 +58,33 @@ impl Marks {
         Marks {
             needs: Vec::new(alloc),
             marked: Vec::new(alloc),
+            lower: Vec::new(alloc),
+            open: Places::new(alloc),
+            rooted: Vec::new(alloc),
             equations: Vec::new(alloc),
+            outcome: Outcome::new(alloc),
             causes: Causes::new(alloc),
             roots: Roots::new(alloc),
-            level: None,
-            open: 0,
+            root_count: 0,
+            start: usize::MAX,
         }
     }
 
     /// Takes all marks away, and makes room for the entries.
-    pub fn begin(&mut self, graph: Implications) -> Result<(), Memory> {
-        for i in 0..self.marked.len() {
-            if let Some(place) = self.marked_at(i) {
-                self.set_need(place, None);
-            }
-        }
+    pub fn begin(&mut self, graph: &Implications) -> Result<(), Memory> {
+        clear_at(&mut self.needs, &self.marked);
+        clear_at(&mut self.needs, &self.rooted);
         self.marked.clear();
+        self.lower.clear();
+        self.rooted.clear();
         self.equations.clear();
+        self.open.begin(graph.trail.len())?;
+        self.outcome.begin(graph)?;
         self.causes.begin(graph)?;
-        self.level = None;
-        self.open = 0;
+        self.root_count = graph.root_count();
+        self.start = usize::MAX;
         for _ in self.needs.len()..graph.trail.len() {
-            self.needs.push(None)?;
+            self.needs.push(NO_LITERAL)?;
         }
         Ok(())
     }
@@ -74,160 +97,232 @@ impl Marks {
     /// The literal that is needed of a marked entry.
     pub fn need(&self, place: usize) -> Option<Lit> {
         match self.needs.get(place) {
-            Some(need) => *need,
-            None => None,
+            Some(need) if need.var.0 > 0 => Some(*need),
+            _ => None,
         }
     }
 
-    fn set_need(&mut self, place: usize, need: Option<Lit>) {
-        if place < self.needs.len() {
-            self.needs[place] = need;
-        }
-    }
-
-    /// The places of the marked entries, in the order in which they were marked.
-    pub fn places(&self) -> &[usize] {
-        self.marked.as_slice()
-    }
-
-    /// The entry that was marked after so many others.
-    pub fn marked_at(&self, i: usize) -> Option<usize> {
-        match self.marked.get(i) {
-            Some(place) => Some(*place),
-            None => None,
-        }
-    }
-
-    /// How many entries of the highest level are marked and not replaced.
-    pub fn open(&self) -> usize {
-        self.open
-    }
-
-    /// Finds the highest level of a marked entry.
-    pub fn find_level(&mut self, graph: Implications) -> usize {
-        let mut level = 0;
-        let mut open: usize = 0;
+    /// Finds the highest level of a marked entry, and which of them stand there.
+    pub fn find_level(&mut self, graph: &Implications) -> Result<usize, Memory> {
+        let mut newest = 0;
         for place in &self.marked {
-            if let Some(entry) = graph.entry(*place) {
-                if entry.level > level {
-                    level = entry.level;
-                    open = 0;
-                }
-                if entry.level == level {
-                    open = open.saturating_add(1);
-                }
+            newest = newest.max(*place);
+        }
+        let Some(entry) = graph.entry(newest) else {
+            return Ok(0);
+        };
+        if self.marked.is_empty() {
+            return Ok(0);
+        }
+        self.start = graph.first_at(entry.level);
+        self.lower.clear();
+        for place in &self.marked {
+            if *place < self.start {
+                self.lower.push(*place)?;
+            } else {
+                self.open.insert(*place);
             }
         }
-        self.level = Some(level);
-        self.open = open;
-        level
+        Ok(entry.level)
     }
 
     /// Marks an entry. Of one that is marked already the stronger of both literals is needed, or its own.
     #[inline(always)]
-    pub fn mark(&mut self, graph: Implications, cause: Cause) -> Result<(), Memory> {
-        let Some(entry) = graph.entry(cause.place) else {
+    pub fn mark(&mut self, graph: &Implications, cause: Cause) -> Result<(), Memory> {
+        let Cause { place, need } = cause;
+        if place >= self.needs.len() {
             return Ok(());
-        };
-        match self.need(cause.place) {
-            None => {
-                self.marked.push(cause.place)?;
-                self.set_need(cause.place, Some(cause.need));
-                if self.level == Some(entry.level) {
-                    self.open = self.open.saturating_add(1);
-                }
-            }
-            Some(need) if implies(need, cause.need) => {}
-            Some(need) => {
-                if implies(cause.need, need) {
-                    self.set_need(cause.place, Some(cause.need));
-                } else if let Some(declared) = graph.declared(entry.lit.var) {
-                    self.set_need(cause.place, Some(canonical(entry.lit, declared)));
-                }
-            }
+        }
+        let known = self.needs[place];
+        if known.var.0 == 0 {
+            self.needs[place] = need;
+            return self.note(place);
+        }
+        if known != need {
+            self.needs[place] = stronger(graph, place, known, need);
+        }
+        Ok(())
+    }
+
+    /// Notes an entry that was not marked before.
+    #[inline(always)]
+    fn note(&mut self, place: usize) -> Result<(), Memory> {
+        if place < self.root_count {
+            self.rooted.push(place)?;
+            return Ok(());
+        }
+        self.marked.push(place)?;
+        if place < self.start {
+            self.lower.push(place)?;
+        } else {
+            self.open.insert(place);
         }
         Ok(())
     }
 
     /// Marks what made the literals of the conflict's clause false.
-    pub fn explain(&mut self, graph: Implications, conflict: Reason) -> Result<(), Memory> {
-        self.note_equations(graph, conflict, None)?;
-        graph.find_causes(&mut self.causes, conflict, None)?;
-        self.mark_causes(graph)
+    pub fn explain(&mut self, graph: &Implications, conflict: Reason) -> Result<(), Memory> {
+        self.visit(graph, conflict, NO_LITERAL)?;
+        self.causes.note_marked()
     }
 
     /// Marks what an entry rests on.
     pub fn replace(
         &mut self,
-        graph: Implications,
+        graph: &Implications,
         place: usize,
-        forced: Lit,
-        reason: Reason,
+        entry: Entry,
     ) -> Result<(), Memory> {
-        self.note_equations(graph, reason, Some(forced))?;
-        self.rest_on(graph, place, forced, reason)
+        self.visit(graph, entry.reason, entry.lit)?;
+        self.add_behind(graph, place, entry.lit)?;
+        self.mark_found(graph)?;
+        self.causes.note_marked()
     }
 
-    fn rest_on(
-        &mut self,
-        graph: Implications,
-        place: usize,
-        forced: Lit,
-        reason: Reason,
-    ) -> Result<(), Memory> {
-        self.open = self.open.saturating_sub(1);
-        graph.find_causes(&mut self.causes, reason, Some(forced))?;
-        self.add_behind(graph, place)?;
-        self.mark_causes(graph)
-    }
-
-    /// Adds what stands behind a marked entry to the causes.
+    /// Marks what made the literals of the reason's clause false, but for the one that it forced, and notes the equations among them.
     #[inline(always)]
-    fn add_behind(&mut self, graph: Implications, place: usize) -> Result<(), Memory> {
-        match self.need(place) {
-            Some(need) => self.causes.add_behind(graph, Cause { place, need }),
-            None => Ok(()),
-        }
-    }
-
-    /// Notes the equations that make literals of the reason's clause false, but for the one that it forced.
-    #[inline(always)]
-    fn note_equations(
-        &mut self,
-        graph: Implications,
-        reason: Reason,
-        forced: Option<Lit>,
-    ) -> Result<(), Memory> {
+    fn visit(&mut self, graph: &Implications, reason: Reason, forced: Lit) -> Result<(), Memory> {
         for lit in graph.clause(reason) {
-            if lit.op == Op::NotEqual && Some(*lit) != forced {
-                self.equations.push(opposite(*lit))?;
+            if *lit != forced {
+                if lit.op == Op::NotEqual {
+                    self.equations.push(opposite(*lit))?;
+                }
+                self.mark_causes(graph, *lit)?;
             }
         }
         Ok(())
     }
 
-    /// The equations that were needed, once for each clause of the analysis that names one.
-    pub fn equations(&self) -> &[Lit] {
-        self.equations.as_slice()
+    /// Marks what made the literal false.
+    #[inline(always)]
+    fn mark_causes(&mut self, graph: &Implications, lit: Lit) -> Result<(), Memory> {
+        match self.causes.sole(graph, lit) {
+            Some(cause) if self.is_whole(graph, cause) => self.mark(graph, cause),
+            _ => {
+                self.causes.add(graph, lit)?;
+                self.mark_found(graph)
+            }
+        }
+    }
+
+    /// Whether nothing stands behind a cause that has to be told with it, or all of it is told: at level 0 what stands behind a literal is
+    /// marked with it.
+    #[inline(always)]
+    fn is_whole(&self, graph: &Implications, cause: Cause) -> bool {
+        self.root_count <= cause.place
+            || self.needs.get(cause.place) == Some(&cause.need)
+            || graph.is_at(cause.place, cause.need)
+    }
+
+    /// Marks all causes that were found.
+    fn mark_found(&mut self, graph: &Implications) -> Result<(), Memory> {
+        for i in 0..self.causes.len() {
+            if let Some(cause) = self.causes.get(i) {
+                self.mark(graph, cause)?;
+            }
+        }
+        self.causes.take_found();
+        Ok(())
+    }
+
+    /// Adds what stands behind a marked entry to the causes, where more than its own literal is needed.
+    #[inline(always)]
+    fn add_behind(&mut self, graph: &Implications, place: usize, own: Lit) -> Result<(), Memory> {
+        match self.needs.get(place) {
+            Some(need) if *need != own => {
+                let need = *need;
+                self.causes.add_behind(graph, Cause { place, need })
+            }
+            _ => Ok(()),
+        }
     }
 
     /// The clause that stands for a marked entry of level 0, where there is one. Else marks what it rests on, and notes that a clause
     /// is wanted for it, unless its reason says as much.
     pub fn replace_root(
         &mut self,
-        graph: Implications,
+        graph: &Implications,
         place: usize,
-        forced: Lit,
-        reason: Reason,
+        entry: Entry,
     ) -> Result<Option<ClauseId>, Memory> {
         if let Some(id) = self.roots.unit(place) {
             return Ok(Some(id));
         }
-        self.rest_on(graph, place, forced, reason)?;
-        if self.causes.len() > 0 {
+        graph.find_causes(&mut self.causes, entry.reason, entry.lit)?;
+        let is_reason_alone = self.causes.len() == 0;
+        self.mark_found(graph)?;
+        self.causes.note_marked()?;
+        if !is_reason_alone {
             self.roots.want(place)?;
         }
         Ok(None)
+    }
+
+    /// Whether what is needed of an entry follows from what is needed of other marked entries, and from entries of level 0, which are
+    /// marked then.
+    pub fn is_redundant(
+        &mut self,
+        graph: &Implications,
+        place: usize,
+        entry: Entry,
+    ) -> Result<bool, Memory> {
+        self.causes.clear();
+        for lit in graph.clause(entry.reason) {
+            if *lit != entry.lit && !self.are_kept_for(graph, *lit)? {
+                return Ok(false);
+            }
+        }
+        let count = self.causes.len();
+        self.add_behind(graph, place, entry.lit)?;
+        if !self.are_kept_from(count) {
+            return Ok(false);
+        }
+        self.mark_found(graph)?;
+        self.causes.note_marked()?;
+        Ok(true)
+    }
+
+    /// Whether all that made the literal false is kept. What may have to be marked is added to the causes.
+    #[inline(always)]
+    fn are_kept_for(&mut self, graph: &Implications, lit: Lit) -> Result<bool, Memory> {
+        if let Some(cause) = self.causes.sole(graph, lit)
+            && self.root_count <= cause.place
+        {
+            return Ok(self.is_kept(cause));
+        }
+        let count = self.causes.len();
+        self.causes.add(graph, lit)?;
+        Ok(self.are_kept_from(count))
+    }
+
+    /// Whether the causes after the first so many are kept.
+    fn are_kept_from(&self, count: usize) -> bool {
+        for i in count..self.causes.len() {
+            if let Some(cause) = self.causes.get(i)
+                && !self.is_kept(cause)
+            {
+                return false;
+            }
+        }
+        true
+    }
+
+    /// Whether it stands at level 0, or follows from what is needed of its entry.
+    #[inline(always)]
+    fn is_kept(&self, cause: Cause) -> bool {
+        if cause.place < self.root_count {
+            return true;
+        }
+        match self.needs.get(cause.place) {
+            Some(need) if need.var.0 > 0 => *need == cause.need || implies(*need, cause.need),
+            _ => false,
+        }
+    }
+
+    /// Puts in order what is kept and what is replaced.
+    pub fn settle(&mut self) -> Result<(), Memory> {
+        self.outcome.deny_kept(self.needs.as_slice())?;
+        self.outcome.put_in_order(self.causes.cited())
     }
 
     /// The clause that stands for the entry of level 0 at this place, where there is one.
@@ -275,16 +370,11 @@ impl Marks {
         self.causes.gaps.gap(number)
     }
 
-    /// The clauses of gaps that the marked entries moved over, each with the place of its entry.
-    pub fn cited_gaps(&self) -> &[(usize, ClauseId)] {
-        self.causes.cited()
-    }
-
     /// What the values of a gap were taken out by: what stands for these entries.
     pub fn gap_antecedents(
         &self,
         alloc: Global,
-        graph: Implications,
+        graph: &Implications,
         gap: Gap,
     ) -> Result<Items<Reason>, Memory> {
         let mut places = Vec::new(alloc);
@@ -312,11 +402,11 @@ impl Marks {
     pub fn root_antecedents(
         &mut self,
         alloc: Global,
-        graph: Implications,
+        graph: &Implications,
         entry: Entry,
     ) -> Result<Items<Reason>, Memory> {
         self.causes.begin(graph)?;
-        graph.find_causes(&mut self.causes, entry.reason, Some(entry.lit))?;
+        graph.find_causes(&mut self.causes, entry.reason, entry.lit)?;
         let mut places = Vec::with_capacity(alloc, self.causes.len())?;
         for i in 0..self.causes.len() {
             if let Some(cause) = self.causes.get(i) {
@@ -332,7 +422,7 @@ impl Marks {
     fn all_cited(
         &self,
         alloc: Global,
-        graph: Implications,
+        graph: &Implications,
         mut places: Vec<usize>,
     ) -> Result<Items<Reason>, Memory> {
         places.sort_unstable();
@@ -346,75 +436,33 @@ impl Marks {
     }
 
     /// What stands for an entry of level 0, or its reason.
-    fn cited(&self, graph: Implications, place: usize) -> Option<Reason> {
+    fn cited(&self, graph: &Implications, place: usize) -> Option<Reason> {
         match self.roots.unit(place) {
             Some(id) => Some(Reason::Clause(id)),
             None => Some(graph.entry(place)?.reason),
         }
     }
+}
 
-    #[inline(always)]
-    fn mark_causes(&mut self, graph: Implications) -> Result<(), Memory> {
-        for i in 0..self.causes.len() {
-            if let Some(cause) = self.causes.get(i) {
-                self.mark(graph, cause)?;
-            }
+/// Takes the marks away at these places.
+fn clear_at(needs: &mut Vec<Lit>, places: &[usize]) {
+    for place in places {
+        if *place < needs.len() {
+            needs[*place] = NO_LITERAL;
         }
-        self.causes.note_marked()
     }
+}
 
-    /// Whether what is needed of an entry follows from what is needed of other marked entries, and from entries of level 0, which are
-    /// marked then.
-    pub fn is_redundant(
-        &mut self,
-        graph: Implications,
-        place: usize,
-        forced: Lit,
-        reason: Reason,
-    ) -> Result<bool, Memory> {
-        self.causes.clear();
-        for lit in graph.clause(reason) {
-            if *lit != forced && !self.are_kept_for(graph, *lit)? {
-                return Ok(false);
-            }
-        }
-        let count = self.causes.len();
-        self.add_behind(graph, place)?;
-        if !self.are_kept_from(graph, count) {
-            return Ok(false);
-        }
-        self.mark_causes(graph)?;
-        Ok(true)
+/// The stronger of two literals that are needed of an entry, or its own where neither says all.
+fn stronger(graph: &Implications, place: usize, known: Lit, need: Lit) -> Lit {
+    if implies(known, need) {
+        return known;
     }
-
-    /// Adds what made the literal false to the causes, and answers whether all of it is kept.
-    fn are_kept_for(&mut self, graph: Implications, lit: Lit) -> Result<bool, Memory> {
-        let count = self.causes.len();
-        self.causes.add(graph, lit)?;
-        Ok(self.are_kept_from(graph, count))
+    if implies(need, known) {
+        return need;
     }
-
-    /// Whether the causes after the first so many are kept.
-    #[inline(always)]
-    fn are_kept_from(&self, graph: Implications, count: usize) -> bool {
-        for i in count..self.causes.len() {
-            if let Some(cause) = self.causes.get(i)
-                && !self.is_kept(graph, cause)
-            {
-                return false;
-            }
-        }
-        true
-    }
-
-    /// Whether it stands at level 0, or follows from what is needed of its entry.
-    fn is_kept(&self, graph: Implications, cause: Cause) -> bool {
-        match graph.entry(cause.place) {
-            Some(entry) if entry.level == 0 => true,
-            _ => match self.need(cause.place) {
-                Some(need) => implies(need, cause.need),
-                None => false,
-            },
-        }
+    match (graph.entry(place), graph.declared(known.var)) {
+        (Some(entry), Some(declared)) => canonical(entry.lit, declared),
+        _ => known,
     }
 }

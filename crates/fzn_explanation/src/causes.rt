@@ -2,7 +2,7 @@
 
 use crate::gaps::{Gap, Gaps};
 use crate::implications::Implications;
-use crate::implied::{canonical, implies, is_true_on, opposite};
+use crate::implied::{canonical, implies, opposite};
 use crate::orders::{NEAR, Orders};
 use fzn_domain::{Domain, Lit, Memory, Op};
 use fzn_trail::ClauseId;
@@ -37,6 +37,8 @@ pub struct Causes {
     crossings: Vec<Option<Crossing>>,
     /// The places that have one.
     places: Vec<usize>,
+    /// How many entries stood at level 0 when the analysis began.
+    roots: usize,
     /// The crossings whose causes were found and are not marked yet.
     fresh: Vec<(usize, Crossing)>,
     /// What is known of the entries on each variable.
@@ -58,6 +60,7 @@ impl Causes {
             found: Vec::new(alloc),
             crossings: Vec::new(alloc),
             places: Vec::new(alloc),
+            roots: 0,
             fresh: Vec::new(alloc),
             orders: Orders::new(alloc),
             gaps: Gaps::new(alloc),
@@ -68,7 +71,7 @@ impl Causes {
     }
 
     /// Begins an analysis: nothing is found, and nothing is marked. It answers `Err` where memory runs out, and may be asked all the same.
-    pub fn begin(&mut self, graph: Implications) -> Result<(), Memory> {
+    pub fn begin(&mut self, graph: &Implications) -> Result<(), Memory> {
         for place in &self.places {
             if *place < self.crossings.len() {
                 self.crossings[*place] = None;
@@ -77,6 +80,7 @@ impl Causes {
         self.places.clear();
         self.cited.clear();
         self.clear();
+        self.roots = graph.root_count();
         self.orders.take_in(graph)
     }
 
@@ -102,6 +106,12 @@ impl Causes {
         self.cited.as_slice()
     }
 
+    /// What was found is marked, or not wanted; the crossings stay as they are.
+    #[inline(always)]
+    pub fn take_found(&mut self) {
+        self.found.clear();
+    }
+
     /// How many were found.
     pub fn len(&self) -> usize {
         self.found.len()
@@ -115,6 +125,13 @@ impl Causes {
     /// Notes that all that were found are marked. It answers `Err` where memory runs out, and nothing is said then of what is marked.
     #[inline(always)]
     pub fn note_marked(&mut self) -> Result<(), Memory> {
+        if self.fresh.is_empty() && self.passed.is_empty() {
+            return Ok(());
+        }
+        self.note_crossed()
+    }
+
+    fn note_crossed(&mut self) -> Result<(), Memory> {
         for (place, crossing) in &self.fresh {
             for _ in self.crossings.len()..place.saturating_add(1) {
                 self.crossings.push(None)?;
@@ -125,26 +142,48 @@ impl Causes {
             }
         }
         self.fresh.clear();
-        for cited in &self.passed {
-            self.cited.push(*cited)?;
-        }
+        self.cited.extend_from_slice(self.passed.as_slice())?;
         self.passed.clear();
         Ok(())
     }
 
+    /// The entry that made a literal false, with the bound that is needed of it, where both are found on a short way. What
+    /// stands behind an entry of level 0 is not told.
+    #[inline(always)]
+    pub fn sole(&self, graph: &Implications, lit: Lit) -> Option<Cause> {
+        let declared = graph.declared(lit.var)?;
+        let need = bound_against(lit, declared)?;
+        let last = graph.last_of(lit.var)?;
+        let place = self.orders.soon_true(need, last)?;
+        Some(Cause { place, need })
+    }
+
     /// Adds the entries that made the literal false. None is added where it is false on the declared set. It answers `Err` where memory
     /// runs out, and some may be added then.
-    #[inline(always)]
-    pub fn add(&mut self, graph: Implications, lit: Lit) -> Result<(), Memory> {
+    pub fn add(&mut self, graph: &Implications, lit: Lit) -> Result<(), Memory> {
         let Some(declared) = graph.declared(lit.var) else {
             return Ok(());
         };
         let truth = canonical(opposite(lit), declared);
         let last = graph.last_of(truth.var);
-        if truth.op != Op::Equal {
-            let place = self.first_true(graph, declared, truth, last)?;
-            return self.add_from(graph, declared, truth, place);
+        if truth.op == Op::Equal {
+            return self.add_equation(graph, declared, truth, last);
         }
+        if truth.op == Op::NotEqual && !declared.contains(truth.value) {
+            return Ok(());
+        }
+        let place = self.orders.first_true(graph, truth, last)?;
+        self.add_from(graph, declared, truth, place)
+    }
+
+    /// Adds the entry that made an equation true, or those that moved both bounds to its number.
+    fn add_equation(
+        &mut self,
+        graph: &Implications,
+        declared: &Domain,
+        truth: Lit,
+        last: Option<usize>,
+    ) -> Result<(), Memory> {
         let least = Lit {
             op: Op::AtLeast,
             ..truth
@@ -153,8 +192,8 @@ impl Causes {
             op: Op::AtMost,
             ..truth
         };
-        let lower = self.first_true(graph, declared, least, last)?;
-        let upper = self.first_true(graph, declared, greatest, last)?;
+        let lower = self.orders.first_true(graph, least, last)?;
+        let upper = self.orders.first_true(graph, greatest, last)?;
         if let Some(place) = lower
             && lower == upper
             && graph.is_at(place, truth)
@@ -166,48 +205,40 @@ impl Causes {
         self.add_from(graph, declared, greatest, upper)
     }
 
-    /// The earliest of the entries on a variable, from this one down, after which the literal is true; none where it always was.
-    #[inline(always)]
-    fn first_true(
-        &mut self,
-        graph: Implications,
-        declared: &Domain,
-        truth: Lit,
-        last: Option<usize>,
-    ) -> Result<Option<usize>, Memory> {
-        if is_true_on(declared, truth) {
-            return Ok(None);
-        }
-        if let Some(place) = last
-            && graph.before(place).is_none()
-        {
-            return Ok(Some(place)); // It is the only one.
-        }
-        self.orders.first_true(graph, truth, last)
-    }
-
     /// Adds the entry after which a literal that is no equation is true, where there is one; at level 0 also what stands behind it.
     #[inline(always)]
     fn add_from(
         &mut self,
-        graph: Implications,
+        graph: &Implications,
         declared: &Domain,
         truth: Lit,
         first: Option<usize>,
     ) -> Result<(), Memory> {
+        let Some(place) = first else {
+            return Ok(());
+        };
+        self.found.push(Cause { place, need: truth })?;
+        if place < self.roots {
+            self.add_behind_root(graph, declared, truth, place)
+        } else {
+            Ok(())
+        }
+    }
+
+    /// Adds what stands behind an entry of level 0 after which the literal is true.
+    fn add_behind_root(
+        &mut self,
+        graph: &Implications,
+        declared: &Domain,
+        truth: Lit,
+        place: usize,
+    ) -> Result<(), Memory> {
         let mut truth = truth;
-        let mut first = first;
+        let mut place = place;
         for _ in 0..graph.trail.len() {
-            let Some(place) = first else {
-                return Ok(());
-            };
             let Some(entry) = graph.entry(place) else {
                 return Ok(());
             };
-            self.found.push(Cause { place, need: truth })?;
-            if entry.level > 0 {
-                return Ok(());
-            }
             let lit = canonical(entry.lit, declared);
             if implies(lit, truth) {
                 return Ok(());
@@ -216,7 +247,12 @@ impl Causes {
                 return Ok(());
             };
             truth = older;
-            first = self.first_true(graph, declared, truth, graph.before(place))?;
+            let before = graph.before(place);
+            let Some(first) = self.orders.first_true(graph, truth, before)? else {
+                return Ok(());
+            };
+            place = first;
+            self.found.push(Cause { place, need: truth })?;
         }
         Ok(())
     }
@@ -224,7 +260,7 @@ impl Causes {
     /// Adds what stands behind an entry above level 0 of which a bound is needed that says more than its literal: the entries that took
     /// out the values that the bound moved over, and behind an inequality the bound before it. It answers `Err` where memory runs out, and
     /// some may be added then.
-    pub fn add_behind(&mut self, graph: Implications, cause: Cause) -> Result<(), Memory> {
+    pub fn add_behind(&mut self, graph: &Implications, cause: Cause) -> Result<(), Memory> {
         let Cause { place, need } = cause;
         let Some(entry) = graph.entry(place) else {
             return Ok(());
@@ -242,7 +278,7 @@ impl Causes {
         let Some(older) = self.add_crossed(graph, declared, place, lit, need)? else {
             return Ok(());
         };
-        let first = self.first_true(graph, declared, older, graph.before(place))?;
+        let first = self.orders.first_true(graph, older, graph.before(place))?;
         self.add_from(graph, declared, older, first)
     }
 
@@ -251,7 +287,7 @@ impl Causes {
     #[inline(always)]
     fn add_crossed(
         &mut self,
-        graph: Implications,
+        graph: &Implications,
         declared: &Domain,
         place: usize,
         lit: Lit,
@@ -292,7 +328,7 @@ impl Causes {
     /// values that were crossed. Answers false, and adds nothing, where there is no gap, or one has no clause: then one is wanted.
     fn pass_gaps(
         &mut self,
-        graph: Implications,
+        graph: &Implications,
         declared: &Domain,
         place: usize,
         crossing: Crossing,
@@ -345,7 +381,7 @@ impl Causes {
     /// members alone. The newest stand first.
     fn add_taken_out(
         &mut self,
-        graph: Implications,
+        graph: &Implications,
         declared: &Domain,
         place: usize,
         crossing: Crossing,
@@ -372,7 +408,7 @@ impl Causes {
     /// are missing were found, or no entry is left.
     fn walk_taken_out(
         &mut self,
-        graph: Implications,
+        graph: &Implications,
         members: &Domain,
         place: usize,
         crossing: Crossing,
@@ -405,7 +441,7 @@ impl Causes {
     /// Adds the entries before this one that took out a member that was crossed, each found by halves.
     fn find_taken_out(
         &mut self,
-        graph: Implications,
+        graph: &Implications,
         members: &Domain,
         place: usize,
         crossing: Crossing,
@@ -446,6 +482,43 @@ impl Causes {
         }
         Ok(())
     }
+}
+
+/// The bound that is true, over the declared set, where the literal is false, if it names the literal's number or one next to it, and that
+/// is a member.
+#[inline(always)]
+fn bound_against(lit: Lit, declared: &Domain) -> Option<Lit> {
+    let (is_lower, step) = match lit.op {
+        Op::Equal | Op::NotEqual => end_against(lit, declared)?,
+        _ => (lit.op == Op::AtMost, 1),
+    };
+    let number = if is_lower {
+        lit.value.saturating_add(step)
+    } else {
+        lit.value.saturating_sub(step)
+    };
+    if !declared.contains(number) {
+        return None;
+    }
+    Some(Lit {
+        var: lit.var,
+        op: if is_lower { Op::AtLeast } else { Op::AtMost },
+        value: number,
+    })
+}
+
+/// The same of an equation or an inequality at an end of the set: whether the bound is a lower one, and how far away it is.
+#[inline(always)]
+fn end_against(lit: Lit, declared: &Domain) -> Option<(bool, i64)> {
+    if declared.is_empty() {
+        return None;
+    }
+    let is_first = lit.value <= declared.min();
+    if !is_first && lit.value < declared.max() {
+        return None;
+    }
+    let is_equation = lit.op == Op::Equal;
+    Some((is_first == is_equation, if is_equation { 1 } else { 0 }))
 }
 
 /// Whether the literal takes out a member that was crossed.

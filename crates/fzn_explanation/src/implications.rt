@@ -24,7 +24,7 @@ pub struct Implications<'a> {
 
 impl<'a> Implications<'a> {
     /// The entry at this place, counted from 0, where there is one.
-    pub fn entry(self, place: usize) -> Option<Entry> {
+    pub fn entry(&self, place: usize) -> Option<Entry> {
         if place < self.trail.len() {
             Some(self.trail.entry(place))
         } else {
@@ -33,7 +33,7 @@ impl<'a> Implications<'a> {
     }
 
     /// Whether the entry at this place asserts the literal.
-    pub fn is_at(self, place: usize, lit: Lit) -> bool {
+    pub fn is_at(&self, place: usize, lit: Lit) -> bool {
         match self.entry(place) {
             Some(entry) => entry.lit == lit,
             None => false,
@@ -41,12 +41,21 @@ impl<'a> Implications<'a> {
     }
 
     /// How many entries stand at level 0.
-    pub(crate) fn root_count(self) -> usize {
+    pub fn root_count(&self) -> usize {
         self.trail.count_at(0)
     }
 
+    /// The place of the first entry of this level or a higher one, or that of the next entry where there is none.
+    pub fn first_at(&self, level: usize) -> usize {
+        match level.checked_sub(1) {
+            Some(below) if below <= self.trail.level() => self.trail.count_at(below),
+            Some(_) => self.trail.len(),
+            None => 0,
+        }
+    }
+
     /// The set of the entry's variable just before it, where there is such an entry.
-    pub(crate) fn domain_before(self, place: usize) -> Option<&'a Domain> {
+    pub(crate) fn domain_before(&self, place: usize) -> Option<&'a Domain> {
         if place < self.trail.len() {
             Some(self.trail.domain_before(place))
         } else {
@@ -55,7 +64,7 @@ impl<'a> Implications<'a> {
     }
 
     /// The declared set of a variable.
-    pub fn declared(self, var: VarId) -> Option<&'a Domain> {
+    pub fn declared(&self, var: VarId) -> Option<&'a Domain> {
         if 1 <= var.0 && var.0 <= self.vars {
             Some(self.trail.declared(var))
         } else {
@@ -64,7 +73,7 @@ impl<'a> Implications<'a> {
     }
 
     /// The last entry before this one on the same variable.
-    pub fn before(self, place: usize) -> Option<usize> {
+    pub fn before(&self, place: usize) -> Option<usize> {
         if place < self.trail.len() {
             self.trail.before(place)
         } else {
@@ -73,7 +82,7 @@ impl<'a> Implications<'a> {
     }
 
     /// The last entry on a variable.
-    pub fn last_of(self, var: VarId) -> Option<usize> {
+    pub fn last_of(&self, var: VarId) -> Option<usize> {
         if 1 <= var.0 && var.0 <= self.vars {
             self.trail.last_of(var)
         } else {
@@ -83,16 +92,15 @@ impl<'a> Implications<'a> {
 
     /// Finds what made the literals of the reason's clause false, but for the one that it forced. It answers `Err` where memory runs out,
     /// and some may be found then.
-    #[inline(always)]
     pub fn find_causes(
-        self,
+        &self,
         causes: &mut Causes,
         reason: Reason,
-        forced: Option<Lit>,
+        forced: Lit,
     ) -> Result<(), Memory> {
         causes.clear();
         for lit in self.clause(reason) {
-            if Some(*lit) != forced {
+            if *lit != forced {
                 causes.add(self, *lit)?;
             }
         }
@@ -100,7 +108,7 @@ impl<'a> Implications<'a> {
     }
 
     /// The clause of a reason, without literals where there is none.
-    pub fn clause(self, reason: Reason) -> &'a [Lit] {
+    pub fn clause(&self, reason: Reason) -> &'a [Lit] {
         if is_known(self.clauses, self.inferences, reason) {
             clause_of(self.clauses, self.inferences, reason)
         } else {

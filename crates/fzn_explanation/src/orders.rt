@@ -1,7 +1,7 @@
 // The entries on each variable in order. The one that made a literal true is found on a way back over those that moved its bound, and by
 // halves among all where that way is long.
 
-use crate::bounds::AllBounds;
+use crate::bounds::{AllBounds, End, Walk};
 use crate::implications::Implications;
 use crate::implied::is_true_on;
 use fzn_domain::{Domain, Lit, Memory, Op, VarId};
@@ -9,15 +9,6 @@ use std::alloc::Global;
 
 /// How many entries a way back visits at most before the search by halves.
 pub const NEAR: usize = 128;
-
-/// Where a way back over the entries on a variable ended.
-#[derive(Clone, Copy, Debug)]
-enum Walk {
-    /// At the earliest that is looked for, or at none, where none is.
-    Found(Option<usize>),
-    /// At one behind which the earliest may stand.
-    Open(usize),
-}
 
 /// By variable: the places of its entries, rising, as they stood when one of them was last asked for. What is found among them is compared
 /// with the trail.
@@ -53,114 +44,88 @@ impl Orders {
     }
 
     /// Takes in the entries that are new. It answers `Err` where memory runs out, and what is known stays fit for use.
-    pub fn take_in(&mut self, graph: Implications) -> Result<(), Memory> {
+    pub fn take_in(&mut self, graph: &Implications) -> Result<(), Memory> {
         self.bounds.follow(graph)
+    }
+
+    /// The entry that made a bound true, from this one on its variable down, where that is found on a short way.
+    #[inline(always)]
+    pub fn soon_true(&self, bound: Lit, last: usize) -> Option<usize> {
+        match self.bounds.walk_to(End::of(bound), last, NEAR) {
+            Walk::Found(found) => found,
+            Walk::Open(_) => None,
+        }
     }
 
     /// The earliest of the entries on the literal's variable, from this one down, after which the literal is true, as it is after this
     /// one; none where it always was. It answers `Err` where memory runs out, and what is known stays fit for use.
+    #[inline(always)]
     pub fn first_true(
         &mut self,
-        graph: Implications,
+        graph: &Implications,
         truth: Lit,
         last: Option<usize>,
     ) -> Result<Option<usize>, Memory> {
         let Some(last) = last else {
             return Ok(None);
         };
-        let mut near = last;
-        let mut most = NEAR;
-        for _ in 0..2 {
-            match self.walk_back(graph, truth, near, most) {
-                Walk::Found(found) => return Ok(found),
-                Walk::Open(at) => near = at,
-            }
-            if let Some(place) = self.first_by_halves(graph, truth, near)? {
-                return Ok(Some(place));
-            }
-            most = graph.trail.len();
+        match self.walk_back(graph, truth, last, NEAR) {
+            Walk::Found(found) => Ok(found),
+            Walk::Open(near) => self.far_true(graph, truth, near),
         }
-        Ok(Some(near))
+    }
+
+    /// The same where the way is long.
+    fn far_true(
+        &mut self,
+        graph: &Implications,
+        truth: Lit,
+        near: usize,
+    ) -> Result<Option<usize>, Memory> {
+        if let Some(place) = self.first_by_halves(graph, truth, near)? {
+            return Ok(Some(place));
+        }
+        match self.walk_back(graph, truth, near, graph.trail.len()) {
+            Walk::Found(found) => Ok(found),
+            Walk::Open(at) => match self.first_by_halves(graph, truth, at)? {
+                Some(place) => Ok(Some(place)),
+                None => Ok(Some(at)),
+            },
+        }
     }
 
     /// Goes back over the entries on a variable, in at most so many steps, to the earliest after which the literal is true. The way to a
     /// bound leads over the entries that moved it alone.
     #[inline(always)]
-    fn walk_back(&self, graph: Implications, truth: Lit, last: usize, most: usize) -> Walk {
+    fn walk_back(&self, graph: &Implications, truth: Lit, last: usize, most: usize) -> Walk {
         match truth.op {
-            Op::AtLeast => self.walk_down_to(truth.value, last, most),
-            Op::AtMost => self.walk_up_to(truth.value, last, most),
-            Op::NotEqual => self.walk_from_bounds(graph, truth, last, most),
+            Op::AtLeast | Op::AtMost => self.bounds.walk_to(End::of(truth), last, most),
+            Op::NotEqual => self.walk_to_inequality(graph, truth, last, most),
             Op::Equal => Walk::Open(last), // It is asked as two bounds.
         }
     }
 
-    /// To the entry that raised the least value to this one.
-    #[inline(always)]
-    fn walk_down_to(&self, value: i64, last: usize, most: usize) -> Walk {
-        let mut at = last;
-        for _ in 0..most {
-            let Some(bounds) = self.bounds.before(at) else {
-                return Walk::Open(at);
-            };
-            if bounds.least < value {
-                return Walk::Found(Some(at));
-            }
-            match bounds.raised_by() {
-                Some(older) => at = older,
-                None => return Walk::Found(None),
-            }
-        }
-        Walk::Open(at)
-    }
-
-    /// To the entry that lowered the greatest value to this one.
-    #[inline(always)]
-    fn walk_up_to(&self, value: i64, last: usize, most: usize) -> Walk {
-        let mut at = last;
-        for _ in 0..most {
-            let Some(bounds) = self.bounds.before(at) else {
-                return Walk::Open(at);
-            };
-            if value < bounds.greatest {
-                return Walk::Found(Some(at));
-            }
-            match bounds.lowered_by() {
-                Some(older) => at = older,
-                None => return Walk::Found(None),
-            }
-        }
-        Walk::Open(at)
-    }
-
     /// To the entry that took out the value of the literal, or moved a bound over it.
-    fn walk_from_bounds(&self, graph: Implications, truth: Lit, last: usize, most: usize) -> Walk {
-        let mut at = last;
-        for _ in 0..most {
-            let Some(bounds) = self.bounds.before(at) else {
-                return Walk::Open(at);
-            };
-            let moved_by = if truth.value < bounds.least {
-                bounds.raised_by()
-            } else if bounds.greatest < truth.value {
-                bounds.lowered_by()
-            } else if is_true_before(graph, at, truth) {
-                return walk_to(graph, truth, at, most);
-            } else {
-                return Walk::Found(Some(at));
-            };
-            match moved_by {
-                Some(older) => at = older,
-                None => return Walk::Found(None),
+    #[inline(always)]
+    fn walk_to_inequality(
+        &self,
+        graph: &Implications,
+        truth: Lit,
+        last: usize,
+        most: usize,
+    ) -> Walk {
+        match self.bounds.walk_within(truth.value, last, most) {
+            Walk::Found(Some(at)) if is_true_before(graph, at, truth) => {
+                walk_to(graph, truth, at, most)
             }
+            ended => ended,
         }
-        Walk::Open(at)
     }
 
     /// The same by halves alone; none too where it isn't found in that way.
     pub fn first_by_halves(
         &mut self,
-        graph: Implications,
+        graph: &Implications,
         truth: Lit,
         last: usize,
     ) -> Result<Option<usize>, Memory> {
@@ -172,7 +137,7 @@ impl Orders {
     /// use.
     pub fn root_domain<'a>(
         &mut self,
-        graph: Implications<'a>,
+        graph: &Implications<'a>,
         place: usize,
     ) -> Result<Option<&'a Domain>, Memory> {
         let Some(entry) = graph.entry(place) else {
@@ -194,7 +159,7 @@ impl Orders {
     /// The earliest entry on the variable above level 0, which is not behind this one.
     fn first_above_root(
         &mut self,
-        graph: Implications,
+        graph: &Implications,
         var: VarId,
         near: usize,
     ) -> Result<usize, Memory> {
@@ -218,7 +183,7 @@ impl Orders {
     }
 
     /// Brings the places of the variable's entries up to date.
-    fn follow(&mut self, graph: Implications, var: VarId) -> Result<(), Memory> {
+    fn follow(&mut self, graph: &Implications, var: VarId) -> Result<(), Memory> {
         for _ in self.orders.len()..var.0.saturating_add(1) {
             self.orders.push(Vec::new(self.alloc))?;
         }
@@ -236,7 +201,7 @@ impl Orders {
 fn find_fresh(
     order: &[usize],
     fresh: &mut Vec<usize>,
-    graph: Implications,
+    graph: &Implications,
     var: VarId,
 ) -> Result<usize, Memory> {
     fresh.clear();
@@ -283,7 +248,7 @@ fn ends_in(order: &[usize], known: usize, place: usize, before: Option<usize>) -
 }
 
 /// Goes back over the entries on a variable, at most so many, to the one that took out the value of the literal.
-fn walk_to(graph: Implications, truth: Lit, last: usize, most: usize) -> Walk {
+fn walk_to(graph: &Implications, truth: Lit, last: usize, most: usize) -> Walk {
     let mut at = last;
     for _ in 0..most {
         match graph.before(at) {
@@ -298,7 +263,7 @@ fn walk_to(graph: Implications, truth: Lit, last: usize, most: usize) -> Walk {
 }
 
 /// Goes back over the entries on a variable above level 0, at most so many, to the earliest.
-fn walk_to_root(graph: Implications, last: usize, most: usize) -> Walk {
+fn walk_to_root(graph: &Implications, last: usize, most: usize) -> Walk {
     let count = graph.root_count();
     let mut at = last;
     for _ in 0..most {
@@ -311,7 +276,7 @@ fn walk_to_root(graph: Implications, last: usize, most: usize) -> Walk {
 }
 
 /// The earliest of the entries, from this one down, after which the literal is true, if it is found among these places.
-fn first_true_in(order: &[usize], graph: Implications, truth: Lit, near: usize) -> Option<usize> {
+fn first_true_in(order: &[usize], graph: &Implications, truth: Lit, near: usize) -> Option<usize> {
     let last = index_of(order, near)?;
     let mut from = 0;
     let mut until = last;
@@ -339,7 +304,7 @@ fn first_true_in(order: &[usize], graph: Implications, truth: Lit, near: usize) 
 }
 
 /// Whether the literal is seen to be true after the entry at this place of the order, after whose last one it is.
-fn is_true_after(order: &[usize], graph: Implications, truth: Lit, i: usize, last: usize) -> bool {
+fn is_true_after(order: &[usize], graph: &Implications, truth: Lit, i: usize, last: usize) -> bool {
     if i >= last {
         return i == last;
     }
@@ -379,7 +344,7 @@ fn count_below(order: &[usize], number: usize) -> usize {
 }
 
 /// The first of the variable's entries above level 0, if it is found among these places.
-fn first_from(order: &[usize], graph: Implications, var: VarId) -> Option<usize> {
+fn first_from(order: &[usize], graph: &Implications, var: VarId) -> Option<usize> {
     let count = graph.root_count();
     let first = *order.get(count_below(order, count))?;
     if graph.entry(first)?.lit.var != var {
@@ -392,7 +357,7 @@ fn first_from(order: &[usize], graph: Implications, var: VarId) -> Option<usize>
 }
 
 /// Whether the literal was true before the entry, where there is one.
-fn is_true_before(graph: Implications, place: usize, truth: Lit) -> bool {
+fn is_true_before(graph: &Implications, place: usize, truth: Lit) -> bool {
     match graph.domain_before(place) {
         Some(domain) => is_true_on(domain, truth),
         None => false,
