@@ -12,7 +12,7 @@ use Rattle.fzn_derive.specs.declared.derivation.Derivation.TheVariants.{Sum, Par
 use Rattle.fzn_cert.specs.Spelling.{spaced, IsNumber}
 use Rattle.fzn_cert.specs.Words.{positive_of}
 use Rattle.fzn_cert.specs.Reading.{words_of}
-use Rattle.fzn_cert.specs.Derivations.{variable_text, multiple_words, derivation_words, derivation_text, IsMultiplier, IsMultiple, IsNamed, IsDerivation, multiplier_of, variable_of, multiples_of, named_derivation, derivation_of_words, derivation_of}
+use Rattle.fzn_cert.specs.Derivations.{var_text, multiple_words, derivation_words, derivation_text, IsMultiplier, IsMultiple, IsVariableNumber, IsDerivation, multiplier_of, variable_of, multiples_of, named_derivation, derivation_of_words, derivation_of}
 use Rattle.fzn_cert.proofs.WordLaws.{IsShort, number_again, within_again, items_again, marked_again, first_digit, apart_from_mark}
 use Rattle.fzn_cert.proofs.LineLaws.{IsPlain, ArePlain, plain_decimal, plain_signed, plain_map, plain_joined, words_of-spaced, IsInside, inside_joined, same_lines}
 
@@ -24,10 +24,10 @@ multiplier_is_short (negsuc n) h = omega (arith, ints, h.0, h.1)
 multiplier_again : (k : ℤ) → IsMultiplier k → multiplier_of (signed_decimal k) ≡ Some k
 multiplier_again k h = within_again (negsuc 999999999999) (pos 1000000000000) k h (multiplier_is_short k h)
 
-variable_again : (var : VarId) → IsNamed var → variable_of (variable_text var) ≡ Some var
+variable_again : (var : VarId) → IsVariableNumber var → variable_of (var_text var) ≡ Some var
 variable_again var h = rw (number_again var.0 h) refl
 
-variable_apart : (var : VarId) → IsNamed var → bytes_eq (variable_text var) (codes ";") ≡ false
+variable_apart : (var : VarId) → IsVariableNumber var → bytes_eq (var_text var) (codes ";") ≡ false
 variable_apart var h = apart_from_mark (decimal var.0) (let w = first_digit var.0 h.1 in omega (arith, w))
 
 multiples_again : (multiples : List Multiple) → AllByRecursion IsMultiple multiples → multiples_of (flat_map multiple_words multiples) ≡ Some multiples
@@ -42,7 +42,7 @@ words_again (Sum multiples) h = rw (multiples_again multiples h) refl
 words_again (Parity constraints) h = rw (items_again positive_of decimal IsNumber number_again constraints h) refl
 words_again (AllDifferent variables constraints) h =
     rw (
-      marked_again variable_of variable_text IsNamed variable_again variable_apart variables (map decimal constraints) h.0,
+      marked_again variable_of var_text IsVariableNumber variable_again variable_apart variables (map decimal constraints) h.0,
       items_again positive_of decimal IsNumber number_again constraints h.1,
     ) refl
 
@@ -64,8 +64,8 @@ words_are_plain (AllDifferent variables constraints) h = (
     refl,
     (
       refl,
-      plain_joined (map variable_text variables) (codes ";" ∷ map decimal constraints)
-          (plain_map variable_text IsNamed (λ var k. plain_decimal var.0 k.1) variables h.0)
+      plain_joined (map var_text variables) (codes ";" ∷ map decimal constraints)
+          (plain_map var_text IsVariableNumber (λ var k. plain_decimal var.0 k.1) variables h.0)
           (refl, plain_map decimal IsNumber (λ n k. plain_decimal n k.1) constraints h.1),
     ),
   ),

@@ -10,7 +10,7 @@ use Rattle.fzn_cert.specs.declared.step.Step.TheVariants.{Infer, Resolve, Soluti
 use Rattle.fzn_derive.specs.declared.derivation.Derivation.{Derivation}
 use Rattle.fzn_derive.specs.declared.derivation.Derivation.TheVariants.{Sum, Parity, AllDifferent}
 use Rattle.fzn_cert.specs.Spelling.{rule_name, hints, literal_text, spaced, step_text}
-use Rattle.fzn_cert.specs.Derivations.{multiple_words, variable_text, derivation_text}
+use Rattle.fzn_cert.specs.Derivations.{multiple_words, var_text, derivation_text}
 use Rattle.fzn_cert.specs.Parts.{after_space, after_spaces, step_parts, derivation_parts}
 
 joined : (word : List ℕ) (words : List (List ℕ)) → join_with_byte 32 (word ∷ words) ≡ word ++ after_spaces words
@@ -46,6 +46,6 @@ pub derivation_text_is : (derivation : Derivation) → derivation_text derivatio
 derivation_text_is (Sum multiples) = spaced-cons (codes "c") (codes "lin" ∷ codes ";" ∷ flat_map multiple_words multiples)
 derivation_text_is (Parity constraints) = spaced-cons (codes "c") (codes "xor" ∷ codes ";" ∷ map decimal constraints)
 derivation_text_is (AllDifferent variables constraints) =
-    spaced-cons (codes "c") (codes "alldiff" ∷ codes ";" ∷ (map variable_text variables ++ codes ";" ∷ map decimal constraints))
-    ∙ ap (λ (t : List ℕ). codes "c alldiff ;" ++ t) (marked (map variable_text variables) (map decimal constraints))
+    spaced-cons (codes "c") (codes "alldiff" ∷ codes ";" ∷ (map var_text variables ++ codes ";" ∷ map decimal constraints))
+    ∙ ap (λ (t : List ℕ). codes "c alldiff ;" ++ t) (marked (map var_text variables) (map decimal constraints))
     ∙ simp append_assoc

@@ -14,8 +14,8 @@ use Rattle.fzn_cert.specs.Reading.{words_of}
 
 -- ---- the text
 
-abbrev pub variable_text : VarId → List ℕ
-variable_text var = decimal var.0
+abbrev pub var_text : VarId → List ℕ
+var_text var = decimal var.0
 
 abbrev pub multiple_words : Multiple → List (List ℕ)
 multiple_words multiple = signed_decimal multiple.multiplier ∷ decimal multiple.constraint ∷ []
@@ -24,7 +24,7 @@ multiple_words multiple = signed_decimal multiple.multiplier ∷ decimal multipl
 abbrev pub derivation_words : Derivation → List (List ℕ)
 derivation_words (Sum multiples) = codes "c" ∷ codes "lin" ∷ codes ";" ∷ flat_map multiple_words multiples
 derivation_words (Parity constraints) = codes "c" ∷ codes "xor" ∷ codes ";" ∷ map decimal constraints
-derivation_words (AllDifferent variables constraints) = codes "c" ∷ codes "alldiff" ∷ codes ";" ∷ (map variable_text variables ++ codes ";" ∷ map decimal constraints)
+derivation_words (AllDifferent variables constraints) = codes "c" ∷ codes "alldiff" ∷ codes ";" ∷ (map var_text variables ++ codes ";" ∷ map decimal constraints)
 
 abbrev pub derivation_text : Derivation → List ℕ
 derivation_text derivation = spaced (derivation_words derivation)
@@ -38,14 +38,14 @@ IsMultiplier k = IsBetween (negsuc 999999999999) (pos 1000000000000) k
 abbrev pub IsMultiple : Multiple → Type 0
 IsMultiple multiple = IsMultiplier multiple.multiplier × IsNumber multiple.constraint
 
-abbrev pub IsNamed : VarId → Type 0
-IsNamed var = IsNumber var.0
+abbrev pub IsVariableNumber : VarId → Type 0
+IsVariableNumber var = IsNumber var.0
 
 -- the numbers have a spelling
 abbrev pub IsDerivation : Derivation → Type 0
 IsDerivation (Sum multiples) = AllByRecursion IsMultiple multiples
 IsDerivation (Parity constraints) = AllByRecursion IsNumber constraints
-IsDerivation (AllDifferent variables constraints) = AllByRecursion IsNamed variables × AllByRecursion IsNumber constraints
+IsDerivation (AllDifferent variables constraints) = AllByRecursion IsVariableNumber variables × AllByRecursion IsNumber constraints
 
 -- ---- reading
 

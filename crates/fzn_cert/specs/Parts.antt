@@ -7,7 +7,7 @@ use Rattle.fzn_cert.specs.declared.step.Step.TheVariants.{Infer, Resolve, Soluti
 use Rattle.fzn_derive.specs.declared.derivation.Derivation.{Derivation}
 use Rattle.fzn_derive.specs.declared.derivation.Derivation.TheVariants.{Sum, Parity, AllDifferent}
 use Rattle.fzn_cert.specs.Spelling.{rule_name, hints, literal_text}
-use Rattle.fzn_cert.specs.Derivations.{multiple_words, variable_text}
+use Rattle.fzn_cert.specs.Derivations.{multiple_words, var_text}
 
 abbrev pub after_space : List ℕ → List ℕ
 after_space word = 32 ∷ word
@@ -25,4 +25,4 @@ step_parts (Delete ids) = codes "d" ++ after_spaces (map decimal ids)
 abbrev pub derivation_parts : Derivation → List ℕ
 derivation_parts (Sum multiples) = codes "c lin ;" ++ after_spaces (flat_map multiple_words multiples)
 derivation_parts (Parity constraints) = codes "c xor ;" ++ after_spaces (map decimal constraints)
-derivation_parts (AllDifferent variables constraints) = codes "c alldiff ;" ++ (after_spaces (map variable_text variables) ++ codes " ;" ++ after_spaces (map decimal constraints))
+derivation_parts (AllDifferent variables constraints) = codes "c alldiff ;" ++ (after_spaces (map var_text variables) ++ codes " ;" ++ after_spaces (map decimal constraints))

@@ -2,7 +2,7 @@
 ghost use Rattle.std.specs.Prelude.{◌≡◌, ◌++◌, map, codes, OnOk, string_bytes};
 ghost use Rattle.std.specs.List.{flat_map};
 ghost use Rattle.std.specs.Fmt.{decimal};
-ghost use Rattle.fzn_cert.specs.Derivations.{multiple_words, variable_text, derivation_text};
+ghost use Rattle.fzn_cert.specs.Derivations.{multiple_words, var_text, derivation_text};
 ghost use Rattle.fzn_cert.specs.Parts.{after_spaces, derivation_parts};
 
 use crate::line::push_ids;
@@ -61,7 +61,7 @@ fn push_multiple(text: &mut String, multiple: &Multiple) -> Result<(), Memory>
 
 /// The variables, the mark, and the constraints that tell them apart.
 fn push_apart(text: &mut String, variables: &[VarId], constraints: &[u64]) -> Result<(), Memory>
-    ensures { OnOk result (string_bytes text.new ≡ string_bytes text.old ++ (after_spaces (map variable_text variables.now) ++ codes " ;" ++ after_spaces (map decimal constraints.now))) }
+    ensures { OnOk result (string_bytes text.new ≡ string_bytes text.old ++ (after_spaces (map var_text variables.now) ++ codes " ;" ++ after_spaces (map decimal constraints.now))) }
 {
     push_variables(text, variables)?;
     text.push_str(" ;")?;
@@ -69,7 +69,7 @@ fn push_apart(text: &mut String, variables: &[VarId], constraints: &[u64]) -> Re
 }
 
 fn push_variables(text: &mut String, variables: &[VarId]) -> Result<(), Memory>
-    ensures { OnOk result (string_bytes text.new ≡ string_bytes text.old ++ after_spaces (map variable_text variables.now)) }
+    ensures { OnOk result (string_bytes text.new ≡ string_bytes text.old ++ after_spaces (map var_text variables.now)) }
 {
     for var in variables {
         text.push(' ')?;

@@ -1,8 +1,8 @@
 //! The certificate: its steps, when they are accepted, and the text that is written for them.
 //!
-//! In: the counts of a model, and steps one by one. Out: the bytes of their lines. Proved against `specs/Text.antt` and
-//! `specs/Spelling.antt` (the one line of a step). `specs/Accepted.antt` says which steps are accepted after which, and
-//! `specs/Verdict.antt` what that makes of a whole certificate: solver and checker cite these.
+//! In: the counts of a model, and steps one by one; derivations. Out: the bytes of their lines. Proved against `specs/Text.antt` and
+//! `specs/Spelling.antt` (the one line of a step), and `specs/Derivations.antt` (that of a derivation). `specs/Accepted.antt` says
+//! which steps are accepted after which, and `specs/Verdict.antt` what that makes of a whole certificate: solver and checker cite these.
 #![tactic(auto)]
 
 pub use derivations::push_derivation;

@@ -14,7 +14,7 @@ use Rattle.fzn_derive.specs.declared.derivation.Derivation.TheVariants.{Sum, Par
 use Rattle.fzn_cert.specs.Spelling.{spaced, IsNumber}
 use Rattle.fzn_cert.specs.Words.{◌>>=◌, positive_of, items_of, items_before_mark}
 use Rattle.fzn_cert.specs.Reading.{words_of}
-use Rattle.fzn_cert.specs.Derivations.{variable_text, multiple_words, derivation_words, derivation_text, IsMultiplier, IsMultiple, IsNamed, IsDerivation, multiplier_of, variable_of, multiples_of, named_derivation, derivation_of_words, derivation_of}
+use Rattle.fzn_cert.specs.Derivations.{var_text, multiple_words, derivation_words, derivation_text, IsMultiplier, IsMultiple, IsVariableNumber, IsDerivation, multiplier_of, variable_of, multiples_of, named_derivation, derivation_of_words, derivation_of}
 use Rattle.fzn_cert.proofs.CallerLemmas.{and_true, some_is, derivation_again}
 use Rattle.fzn_cert_reader.proofs.OptionLaws.{bind_some, guard_some, chosen}
 use Rattle.fzn_cert_reader.proofs.WordLaws.{number_takes, within_takes, items_take, marked_take}
@@ -23,12 +23,12 @@ use Rattle.fzn_cert_reader.proofs.LineLaws.{spaced-words_of}
 multiplier_takes : (word : List ℕ) (k : ℤ) → multiplier_of word ≡ Some k → (word ≡ signed_decimal k) × IsMultiplier k
 multiplier_takes word k e = within_takes (negsuc 999999999999) (pos 1000000000000) word k e
 
-variable_takes : (word : List ℕ) (var : VarId) → variable_of word ≡ Some var → (word ≡ variable_text var) × IsNamed var
+variable_takes : (word : List ℕ) (var : VarId) → variable_of word ≡ Some var → (word ≡ var_text var) × IsVariableNumber var
 variable_takes word var e =
     let a = bind_some (positive_of word) (λ n. Some (record { 0 = n })) var e in
     let n = number_takes word a.0 a.1 in
     let made : VarId = record { 0 = a.0 } in
-    subst (λ (v : VarId). (word ≡ variable_text v) × IsNamed v) (some_is made var a.2) n
+    subst (λ (v : VarId). (word ≡ var_text v) × IsVariableNumber v) (some_is made var a.2) n
 
 multiples_take : (words : List (List ℕ)) (multiples : List Multiple) → multiples_of words ≡ Some multiples → (words ≡ flat_map multiple_words multiples) × AllByRecursion IsMultiple multiples
 unfolding multiples_of
@@ -86,11 +86,11 @@ different_takes : (words : List (List ℕ)) (derivation : Derivation)
 different_takes words derivation e =
     let a = bind_some (items_before_mark variable_of words) (λ variables. items_of positive_of variables.1 >>= λ constraints. Some (AllDifferent variables.0 constraints)) derivation e in
     let b = bind_some (items_of positive_of a.0.1) (λ constraints. Some (AllDifferent a.0.0 constraints)) derivation a.2 in
-    let variables = marked_take variable_of variable_text IsNamed variable_takes words a.0 a.1 in
+    let variables = marked_take variable_of var_text IsVariableNumber variable_takes words a.0 a.1 in
     let ids = items_take positive_of decimal IsNumber number_takes a.0.1 b.0 b.1 in
     let made : Derivation = AllDifferent a.0.0 b.0 in
     subst (λ (d : Derivation). SpellsBehind (codes "alldiff") words d) (some_is made derivation b.2) (record {
-      words_are = ap (λ (ws : List (List ℕ)). codes "c" ∷ codes "alldiff" ∷ codes ";" ∷ ws) (variables.0 ∙ ap (λ (ws : List (List ℕ)). map variable_text a.0.0 ++ codes ";" ∷ ws) ids.0);
+      words_are = ap (λ (ws : List (List ℕ)). codes "c" ∷ codes "alldiff" ∷ codes ";" ∷ ws) (variables.0 ∙ ap (λ (ws : List (List ℕ)). map var_text a.0.0 ++ codes ";" ∷ ws) ids.0);
       is_spelled = (variables.1, ids.1);
     })
 

@@ -1,9 +1,10 @@
 //! The reader of a certificate: its bytes, line by line, to the steps that the lines spell.
 //!
 //! In: a reader of bytes. Out: one step at a time, what the first and the last lines say, or the first faulty line and its fault; from
-//! `StepLines` one line at a time, with its bytes. `Script` holds steps as the text of their lines, and `derivation_of_line` reads the line of a derivation. Proved against `specs/Reader.antt` (what
-//! one call takes of the bytes, and what is told of them), `specs/Script.antt`, and `fzn_cert`'s `Spelling` (the one line of a step) and
-//! `Stream` (the fault of a line). Whether a step is accepted is not asked here.
+//! `StepLines` one line at a time, with its bytes. `Script` holds steps as the text of their lines, and `derivation_of_line` reads one
+//! line that derives a constraint. Proved against `specs/Reader.antt` (what one call takes of the bytes, and what is told of them),
+//! `specs/Script.antt`, and `fzn_cert`'s `Spelling` (the one line of a step), `Derivations` (that of a derivation) and `Stream` (the fault
+//! of a line). Whether a step is accepted is not asked here.
 #![tactic(auto)]
 
 pub use derivation::derivation_of_line;

@@ -1,6 +1,5 @@
 -- One multiple more, or one that cannot be added.
-use Rattle.std.proofs.Common.{◌≡◌, ◌⊎◌, ℕ, zero, suc, ◌+◌, ◌-◌, ◌<◌, ◌≤◌, List, [], ◌∷◌, ◌++◌, take, length, get_or, replicate, All, refl, sym, ap, subst, ◌∙◌, inl, inr, arith, ℤ, pos, ◌+ℤ◌, ◌-ℤ◌, ◌*ℤ◌, Option, Some, None, IsSomeAnd, unsigned_abs}
-use Rattle.std.specs.List.{Contains}
+use Rattle.std.proofs.Common.{◌≡◌, ◌⊎◌, ℕ, ◌+◌, ◌-◌, ◌<◌, ◌≤◌, List, [], ◌∷◌, ◌++◌, take, length, get_or, replicate, All, refl, sym, ap, subst, ◌∙◌, inl, inr, arith, ℤ, pos, ◌+ℤ◌, ◌*ℤ◌, Option, Some, None, IsSomeAnd, unsigned_abs}
 use Rattle.std.specs.Option.{option_map_or}
 use Rattle.std.proofs.lemmas.Int.{ints}
 use Rattle.std.proofs.lemmas.Bool.{cases_eq, cases_lt}
@@ -15,8 +14,8 @@ use Rattle.fzn_derive.specs.declared.fault.DeriveFault.{DeriveFault}
 use Rattle.fzn_derive.specs.declared.fault.DeriveFault.TheVariants.{Memory, NoSuchVariable, NoSuchConstraint, NotDerived}
 use Rattle.fzn_derive.specs.Given.{IsGiven}
 use Rattle.fzn_derive.specs.Merged.{coefficient_of, constant_of}
-use Rattle.fzn_derive.specs.Summed.{form_given, times, scaled, scaled_bound, scaled_all, scaled_bounds, bound_left, IsUsable, multiple_at, IsCitedAt, IsAddableAt, AreAddable, IsFaultAt, IsFirstFault}
-use Rattle.fzn_derive.specs.Room.{variables_in, blank, cell_of, IsClear, IsListed, AreCounted, IsWithinLimit, AreWithinLimit, bound_with, IsMultipleAdded, IsMultipleFault, AreSummedUp}
+use Rattle.fzn_derive.specs.Summed.{form_given, times, scaled, scaled_all, scaled_bounds, bound_left, IsUsable, multiple_at, IsCitedAt, IsAddableAt, AreAddable, IsFaultAt, IsFirstSumFault}
+use Rattle.fzn_derive.specs.Room.{variables_in, blank, cell_of, IsClear, ListsTouched, AreCounted, IsWithinLimit, AreWithinLimit, bound_with, IsMultipleAdded, IsMultipleFault, AreSummedUp}
 use Rattle.fzn_derive.proofs.MergedLemmas.{coefficient_of-nil, coefficient_of-append, constant_of-nil, constant_of-append}
 use Rattle.fzn_derive.proofs.SummedLemmas.{scaled_all-nil, scaled_all-push, scaled_bounds-nil, scaled_bounds-push, bound_left-is}
 
@@ -41,7 +40,7 @@ pub clear-variables : (count : ℕ) (room : Deriver) → IsClear count room → 
 clear-variables count room clear = ap (λ (cells : List Cell). length cells) clear.cells ∙ length-replicate count blank
 
 -- a clear room is in order, and nothing has been added in it
-pub clear-listed : (count : ℕ) (room : Deriver) → IsClear count room → IsListed room
+pub clear-listed : (count : ℕ) (room : Deriver) → IsClear count room → ListsTouched room
 clear-listed count room clear = record {
   listed = λ k. inl (clear-blank count room clear k);
   inside = subst (λ (ns : List ℕ). All (λ (n : ℕ). n < length room.cells.items) ns) (sym clear.touched) (λ k d inside. absurd (omega arith));
@@ -163,6 +162,6 @@ module _ (given : List Constraint) (multiples : List Multiple) (i : ℕ) (m : Mu
   )
 
   -- so it is the first fault of all
-  pub fault-first : (room : Deriver) (bound : ℤ) (fault : DeriveFault) → IsSumming given multiples i room bound → (fault ≡ Memory) ⊎ IsMultipleFault given room bound m fault → (fault ≡ Memory) ⊎ IsFirstFault given multiples fault
+  pub fault-first : (room : Deriver) (bound : ℤ) (fault : DeriveFault) → IsSumming given multiples i room bound → (fault ≡ Memory) ⊎ IsMultipleFault given room bound m fault → (fault ≡ Memory) ⊎ IsFirstSumFault given multiples fault
   fault-first room bound fault so_far (inl is) = inl is
   fault-first room bound fault so_far (inr here) = inr (record { place = i; inside = inside; before = so_far.addable; here = fault-here room bound fault so_far here })

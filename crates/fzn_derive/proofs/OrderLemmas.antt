@@ -1,6 +1,6 @@
 -- Numbers in order that leave out none that counts: what is kept of all numbers is kept of them.
-use Rattle.std.proofs.Common.{◌≡◌, ◌⊎◌, ℕ, zero, suc, ◌+◌, ◌<◌, ◌≤◌, Bool, true, false, cond, eqb, List, [], ◌∷◌, map, length, get_or, refl, sym, ap, ap₂, subst, ◌∙◌, inl, inr, arith, All}
-use Rattle.std.specs.List.{filter, range_with_len, AllPairs, AllByRecursion, Contains}
+use Rattle.std.proofs.Common.{◌≡◌, ◌⊎◌, ℕ, zero, suc, ◌+◌, ◌<◌, ◌≤◌, Bool, false, cond, List, [], ◌∷◌, map, length, get_or, refl, sym, ap, ap₂, ◌∙◌, inl, inr, arith, All}
+use Rattle.std.specs.List.{filter, range_with_len, AllPairs, AllByRecursion}
 use Rattle.std.proofs.lemmas.Bool.{cases_eq}
 use Rattle.fzn_meaning.specs.declared.term.Place.{Place}
 use Rattle.fzn_derive.specs.Merged.{has_weight}

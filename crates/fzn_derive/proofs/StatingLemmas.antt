@@ -1,6 +1,6 @@
 -- The sum that is held, as a constraint states it.
-use Rattle.std.proofs.Common.{◌≡◌, ◌⊎◌, ℕ, zero, suc, ◌+◌, ◌<◌, ◌≤◌, Bool, true, false, cond, not, List, [], ◌∷◌, ◌++◌, map, length, get_or, refl, sym, ap, ap₂, subst, ◌∙◌, inl, inr, arith, ℤ, pos, None, All}
-use Rattle.std.specs.List.{filter, range_with_len, AllByRecursion, AllPairs, Contains, zip}
+use Rattle.std.proofs.Common.{◌≡◌, ℕ, zero, suc, ◌+◌, ◌<◌, Bool, true, false, cond, not, List, [], ◌∷◌, ◌++◌, map, length, get_or, refl, sym, ap, ap₂, subst, ◌∙◌, inl, inr, arith, ℤ, pos, None, All}
+use Rattle.std.specs.List.{filter, range_with_len, AllByRecursion}
 use Rattle.std.specs.Ordering.{int_eq}
 use Rattle.std.proofs.lemmas.Bool.{cases_Bool, not-false, false≢true, false_from_ne_true}
 use Rattle.std.proofs.lemmas.Bool.Decides.{Decides-int_eq}
@@ -21,7 +21,7 @@ use Rattle.fzn_derive.specs.declared.fault.DeriveFault.{DeriveFault}
 use Rattle.fzn_derive.specs.declared.fault.DeriveFault.TheVariants.{NotDerived}
 use Rattle.fzn_derive.specs.Merged.{whole, has_weight, merged}
 use Rattle.fzn_derive.specs.Summed.{scaled_all, bound_left, IsStatable, IsSummed, IsUnstatable}
-use Rattle.fzn_derive.specs.Room.{variables_in, blank, cell_of, IsListed, AreCounted, AreSummedUp, sum_place, held, IsInOrder}
+use Rattle.fzn_derive.specs.Room.{variables_in, blank, cell_of, ListsTouched, AreCounted, AreSummedUp, sum_place, held, IsInOrder}
 use Rattle.fzn_derive.proofs.OrderLemmas.{has, rises, same_kept}
 
 module _ (room : Deriver) (places : List Place) (counted : AreCounted room places) where
@@ -49,7 +49,7 @@ kept : (P : Place → Type 0) (xs : List Place) → AllByRecursion P (filter has
 kept P [] all = tt
 kept P (p ∷ xs) all = kept_by P p xs (has_weight p) refl (kept P xs) all
 
-module _ (room : Deriver) (listed : IsListed room) where
+module _ (room : Deriver) (listed : ListsTouched room) where
   abbrev HasSmall : ℕ → Type 0
   HasSmall place = IsSmall (cell_of room place).sum
 

@@ -1,5 +1,5 @@
 -- The sum of constraints: values that meet each of them meet it, it is one that a model may have, and there is but one.
-use Rattle.std.proofs.Common.{◌≡◌, ◌⊎◌, ℕ, zero, suc, ◌-◌, ◌<◌, ◌≤◌, List, [], ◌∷◌, ◌++◌, map, length, refl, sym, ap, subst, ◌∙◌, inl, inr, arith, ℤ, pos, ◌+ℤ◌, ◌-ℤ◌, ◌*ℤ◌, ◌≤ℤ◌, Option, Some, None, IfSome, IsSomeAnd, All, get_or}
+use Rattle.std.proofs.Common.{◌≡◌, ℕ, zero, suc, ◌-◌, ◌≤◌, List, [], ◌∷◌, ◌++◌, map, length, refl, sym, ap, subst, ◌∙◌, inl, inr, arith, ℤ, pos, ◌*ℤ◌, ◌≤ℤ◌, Option, Some, None, IfSome, IsSomeAnd, All}
 use Rattle.std.specs.Prelude.{slice_get}
 use Rattle.std.specs.List.{AllByRecursion, range_with_len}
 use Rattle.std.specs.Option.{option_and_then, option_map_or}
@@ -28,7 +28,7 @@ use Rattle.fzn_derive.specs.declared.derivation.Multiple.{Multiple}
 use Rattle.fzn_derive.specs.declared.fault.DeriveFault.{DeriveFault}
 use Rattle.fzn_derive.specs.declared.fault.DeriveFault.TheVariants.{Memory, NoSuchVariable, NoSuchConstraint, NotDerived}
 use Rattle.fzn_derive.specs.Merged.{whole, has_weight, merged}
-use Rattle.fzn_derive.specs.Summed.{form_given, times, scaled, scaled_all, scaled_bounds, bound_left, sum_left, MayMultiply, IsUsable, IsCitedAt, IsAddableAt, AreAddable, IsStatable, IsSummed, IsFaultAt, IsFirstFault, IsUnstatable, IsSumFault}
+use Rattle.fzn_derive.specs.Summed.{form_given, times, scaled, scaled_all, scaled_bounds, bound_left, sum_left, MayMultiply, IsUsable, IsCitedAt, IsAddableAt, AreAddable, IsStatable, IsSummed, IsFaultAt, IsSumFault}
 use Rattle.fzn_derive.proofs.IntLemmas.{times_plus, times_times, times_le, times_zero}
 use Rattle.fzn_derive.proofs.MergedSound.{IsAmong, sum-merged}
 use Rattle.fzn_derive.proofs.SummedLemmas.{scaled_all-nil, scaled_all-cons, scaled_bounds-nil, scaled_bounds-cons, bound_left-is}

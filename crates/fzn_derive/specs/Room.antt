@@ -32,7 +32,7 @@ pub record IsClear (count : ℕ) (room : Deriver) : Type 0 where
   pub touched : room.touched.items ≡ []
 
 -- whatever is not as in a clear room is listed
-pub record IsListed (room : Deriver) : Type 0 where
+pub record ListsTouched (room : Deriver) : Type 0 where
   pub listed : (place : ℕ) → (cell_of room place ≡ blank) ⊎ Contains room.touched.items place
   pub inside : All (λ place. place < length room.cells.items) room.touched.items
 

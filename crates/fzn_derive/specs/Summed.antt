@@ -1,5 +1,5 @@
 -- Sums of constraints.
-use Rattle.std.specs.Prelude.{◌≡◌, ◌≢◌, ◌⊎◌, ℕ, ◌+◌, ◌<◌, ◌≤◌, ℤ, pos, ◌*ℤ◌, ◌-ℤ◌, ◌+ℤ◌, ◌≤ℤ◌, List, [], map, length, take, unsigned_abs, slice_index_or, Option, Some, None, IsSomeAnd}
+use Rattle.std.specs.Prelude.{◌≡◌, ◌≢◌, ◌⊎◌, ℕ, ◌+◌, ◌<◌, ◌≤◌, ℤ, pos, ◌*ℤ◌, ◌-ℤ◌, ◌+ℤ◌, ◌≤ℤ◌, List, [], map, length, take, unsigned_abs, slice_index_or, Option, None, IsSomeAnd}
 use Rattle.std.specs.List.{All, flat_map, fold}
 use Rattle.std.specs.Option.{option_and_then, option_map_or}
 use Rattle.fzn_domain.specs.Limits.{IsSmall}
@@ -99,7 +99,7 @@ IsFaultAt given multiples i NotDerived = IsCitedAt given multiples i × (IsAddab
 IsFaultAt given multiples i _ = ⊥
 
 -- the first multiple that cannot be added has this fault
-pub record IsFirstFault (given : List Constraint) (multiples : List Multiple) (fault : DeriveFault) : Type 0 where
+pub record IsFirstSumFault (given : List Constraint) (multiples : List Multiple) (fault : DeriveFault) : Type 0 where
   pub place : ℕ
   pub inside : place < length multiples
   pub before : AreAddable given multiples place
@@ -113,4 +113,4 @@ pub record IsUnstatable (given : List Constraint) (count : ℕ) (multiples : Lis
 
 -- why the sum of the forms, each times its multiplier, is no constraint
 abbrev pub IsSumFault : List Constraint → ℕ → List Multiple → DeriveFault → Type 0
-IsSumFault given count multiples fault = IsFirstFault given multiples fault ⊎ IsUnstatable given count multiples fault
+IsSumFault given count multiples fault = IsFirstSumFault given multiples fault ⊎ IsUnstatable given count multiples fault

@@ -4,8 +4,8 @@ ghost use Rattle.std.specs.List.{All};
 ghost use Rattle.fzn_meaning.specs.Meaning.{IsWellFormed};
 ghost use Rattle.fzn_builtin_rules.specs.Borrowed.{form_in};
 ghost use Rattle.fzn_derive.specs.declared.fault.DeriveFault.TheVariants.{Memory};
-ghost use Rattle.fzn_derive.specs.Summed.{IsUsable, MayMultiply, IsFirstFault};
-ghost use Rattle.fzn_derive.specs.Room.{variables_in, IsClear, IsListed, AreWithinLimit, IsWithinLimit, IsUsableForm, IsUnusable, IsMultipleAdded, IsMultipleFault, AreSummedUp};
+ghost use Rattle.fzn_derive.specs.Summed.{IsUsable, MayMultiply, IsFirstSumFault};
+ghost use Rattle.fzn_derive.specs.Room.{variables_in, IsClear, ListsTouched, AreWithinLimit, IsWithinLimit, IsUsableForm, IsUnusable, IsMultipleAdded, IsMultipleFault, AreSummedUp};
 
 use crate::derivation::Multiple;
 use crate::deriver::Deriver;
@@ -25,10 +25,10 @@ impl Deriver {
     ) -> Result<i128, DeriveFault>
         requires clear { IsClear (variables_in self.old) self.old }
         requires given { All (IsWellFormed (variables_in self.old)) given.now }
-        ensures listed { IsListed self.new }
+        ensures listed { ListsTouched self.new }
         ensures variables { variables_in self.new ≡ variables_in self.old }
         ensures added { IfOk result (AreSummedUp given.now self.new multiples.now) }
-        ensures fault { IfErr result (λ fault. (fault ≡ Memory) ⊎ IsFirstFault given.now multiples.now fault) }
+        ensures fault { IfErr result (λ fault. (fault ≡ Memory) ⊎ IsFirstSumFault given.now multiples.now fault) }
     {
         let mut bound: i128 = 0;
         for multiple in multiples {
@@ -44,11 +44,11 @@ impl Deriver {
         multiple: Multiple,
         bound: i128,
     ) -> Result<i128, DeriveFault>
-        requires listed { IsListed self.old }
+        requires listed { ListsTouched self.old }
         requires given { All (IsWellFormed (variables_in self.old)) given.now }
         requires sums { AreWithinLimit self.old }
         requires bound { IsWithinLimit bound }
-        ensures listed { IsListed self.new }
+        ensures listed { ListsTouched self.new }
         ensures variables { variables_in self.new ≡ variables_in self.old }
         ensures added { IfOk result (IsMultipleAdded given.now self.old self.new bound multiple) }
         ensures fault { IfErr result (λ fault. (fault ≡ Memory) ⊎ IsMultipleFault given.now self.old bound multiple fault) }

@@ -6,7 +6,7 @@ ghost use Rattle.fzn_derive.specs.declared.fault.DeriveFault.TheVariants.{Memory
 ghost use Rattle.fzn_meaning.specs.Solutions.{declared_sets};
 ghost use Rattle.fzn_derive.specs.Derived.{IsDerivedBy, IsDeriveFault};
 ghost use Rattle.fzn_derive.specs.Summed.{IsSummed, IsSumFault};
-ghost use Rattle.fzn_derive.specs.Room.{variables_in, IsClear, IsListed};
+ghost use Rattle.fzn_derive.specs.Room.{variables_in, IsClear, ListsTouched};
 
 use crate::apart::derive_apart;
 use crate::derivation::{Derivation, Multiple};
@@ -76,7 +76,7 @@ impl Deriver {
     ) -> Result<Constraint, DeriveFault>
         requires clear { IsClear (variables_in self.old) self.old }
         requires given { All (IsWellFormed (variables_in self.old)) given.now }
-        ensures listed { IsListed self.new }
+        ensures listed { ListsTouched self.new }
         ensures variables { variables_in self.new ≡ variables_in self.old }
         ensures derived { IfOk result (IsSummed given.now (variables_in self.old) multiples.now) }
         ensures fault { IfErr result (λ fault. (fault ≡ Memory) ⊎ IsSumFault given.now (variables_in self.old) multiples.now fault) }

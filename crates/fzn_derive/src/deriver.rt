@@ -9,7 +9,7 @@ ghost use Rattle.fzn_builtin_rules.specs.Form.{Fits};
 ghost use Rattle.fzn_derive.specs.declared.fault.DeriveFault.TheVariants.{Memory, NotDerived};
 ghost use Rattle.fzn_derive.specs.Merged.{own_constant, constant_of};
 ghost use Rattle.fzn_derive.specs.Summed.{times};
-ghost use Rattle.fzn_derive.specs.Room.{variables_in, cell_of, IsClear, IsListed, IsAdded, IsWithinLimit, AreWithinLimit, IsTermWithin, IsFormAdded, IsPastLimit};
+ghost use Rattle.fzn_derive.specs.Room.{variables_in, cell_of, IsClear, ListsTouched, IsAdded, IsWithinLimit, AreWithinLimit, IsTermWithin, IsFormAdded, IsPastLimit};
 
 use crate::fault::DeriveFault;
 use fzn_builtin_rules::{Form, Places};
@@ -56,7 +56,7 @@ impl Deriver {
 
     /// Holds nothing any more.
     pub(crate) fn clear(&mut self)
-        requires { IsListed self.old }
+        requires { ListsTouched self.old }
         ensures { IsClear (variables_in self.old) self.new }
     {
         for i in 0..self.touched.len() {
@@ -72,9 +72,9 @@ impl Deriver {
     /// Lists a variable, where it is not listed yet.
     fn list(&mut self, place: usize) -> Result<(), AllocError>
         requires inside { place < variables_in self.old }
-        requires listed { IsListed self.old }
+        requires listed { ListsTouched self.old }
         ensures cells { self.new.cells.items ≡ self.old.cells.items }
-        ensures listed { IsListed self.new }
+        ensures listed { ListsTouched self.new }
         ensures contains { OnOk result (Contains self.new.touched.items place) }
     {
         if self.cells[place].touched {
@@ -88,10 +88,10 @@ impl Deriver {
     /// Adds to what a variable counts.
     fn add(&mut self, place: usize, amount: i128) -> Result<(), AllocError>
         requires inside { place < variables_in self.old }
-        requires listed { IsListed self.old }
+        requires listed { ListsTouched self.old }
         requires sum { unsigned_abs (cell_of self.old place).sum ≤ 2 ^ 125 }
         requires amount { unsigned_abs amount ≤ 2 ^ 125 }
-        ensures listed { IsListed self.new }
+        ensures listed { ListsTouched self.new }
         ensures len { variables_in self.new ≡ variables_in self.old }
         ensures added { OnOk result ((k : ℕ) → (cell_of self.new k).sum ≡ (cell_of self.old k).sum +ℤ (if nat_eq k place then amount else pos 0)) }
     {
@@ -105,10 +105,10 @@ impl Deriver {
     fn add_place(&mut self, multiplier: i64, place: Place, bound: i128) -> Result<i128, AllocError>
         requires multiplier { unsigned_abs multiplier ≤ 1000000000000 }
         requires fits { IsPlace (variables_in self.old) place }
-        requires listed { IsListed self.old }
+        requires listed { ListsTouched self.old }
         requires sums { (k : ℕ) → unsigned_abs (cell_of self.old k).sum ≤ 2 ^ 124 }
         requires bound { unsigned_abs bound ≤ 2 ^ 125 }
-        ensures listed { IsListed self.new }
+        ensures listed { ListsTouched self.new }
         ensures len { variables_in self.new ≡ variables_in self.old }
         ensures added { OnOk result (IsAdded self.old self.new (times multiplier (place ∷ []))) }
         ensures left { IfOk result (λ left. left ≡ bound -ℤ constant_of (times multiplier (place ∷ []))) }
@@ -133,10 +133,10 @@ impl Deriver {
         requires multiplier { unsigned_abs multiplier ≤ 1000000000000 }
         requires fit { All (IsPlace (variables_in self.old)) (places_in places.now) }
         requires few { length (places_in places.now) ≤ 2 * longest }
-        requires listed { IsListed self.old }
+        requires listed { ListsTouched self.old }
         requires sums { AreWithinLimit self.old }
         requires bound { unsigned_abs bound ≤ 2 ^ 72 }
-        ensures listed { IsListed self.new }
+        ensures listed { ListsTouched self.new }
         ensures len { variables_in self.new ≡ variables_in self.old }
         ensures added { OnOk result (IsAdded self.old self.new (times multiplier (places_in places.now))) }
         ensures left { IfOk result (λ left. left ≡ bound -ℤ constant_of (times multiplier (places_in places.now))) }
@@ -182,10 +182,10 @@ impl Deriver {
     ) -> Result<i128, DeriveFault>
         requires multiplier { unsigned_abs multiplier ≤ 1000000000000 }
         requires form { Fits (variables_in self.old) (form_in form.now) }
-        requires listed { IsListed self.old }
+        requires listed { ListsTouched self.old }
         requires sums { AreWithinLimit self.old }
         requires bound { IsWithinLimit bound }
-        ensures listed { IsListed self.new }
+        ensures listed { ListsTouched self.new }
         ensures len { variables_in self.new ≡ variables_in self.old }
         ensures added { IfOk result (IsFormAdded self.old self.new bound multiplier (form_in form.now)) }
         ensures fault { IfErr result (λ fault. (fault ≡ Memory) ⊎ ((fault ≡ NotDerived) × IsPastLimit self.old bound multiplier (form_in form.now))) }

@@ -8,7 +8,7 @@ ghost use Rattle.fzn_meaning.specs.declared.relation.Comparison.TheVariants.{AtM
 ghost use Rattle.fzn_derive.specs.declared.fault.DeriveFault.TheVariants.{Memory, NotDerived};
 ghost use Rattle.fzn_derive.specs.Merged.{has_weight};
 ghost use Rattle.fzn_derive.specs.Summed.{IsStatable};
-ghost use Rattle.fzn_derive.specs.Room.{variables_in, cell_of, IsListed, sum_place, held};
+ghost use Rattle.fzn_derive.specs.Room.{variables_in, cell_of, ListsTouched, sum_place, held};
 
 use crate::deriver::Deriver;
 use crate::fault::DeriveFault;
@@ -24,7 +24,7 @@ const GREATEST: i128 = 1_000_000_000;
 impl Deriver {
     /// The sum that is held is at most the bound.
     pub(crate) fn state(&self, alloc: Global, bound: i128) -> Result<Constraint, DeriveFault>
-        requires { IsListed self.now }
+        requires { ListsTouched self.now }
         ensures stated { IfOk result (λ constraint. constraint ≡ Linear (held self.now) AtMost bound None) }
         ensures statable { OnOk result (IsStatable (held self.now) bound) }
         ensures fault { IfErr result (λ fault. (fault ≡ Memory) ⊎ ((fault ≡ NotDerived) × (IsStatable (held self.now) bound → ⊥))) }
@@ -50,7 +50,7 @@ impl Deriver {
 
     /// Whether what is held of each listed variable is a coefficient of a constraint.
     fn are_small(&self) -> bool
-        requires { IsListed self.now }
+        requires { ListsTouched self.now }
         ensures { IsTrue result ↔ All (λ place. IsSmall (cell_of self.now place).sum) self.now.touched.items }
     {
         for i in 0..self.touched.len() {

@@ -1,4 +1,4 @@
-use Rattle.std.proofs.Common.{◌≡◌, ◌<◌, ◌≤◌, ◌^◌, ℕ, List, length, get_or, cond, eqb, sym, ap, subst, ◌∙◌, ℤ, pos, ◌+ℤ◌, unsigned_abs}
+use Rattle.std.proofs.Common.{◌<◌, ◌≤◌, ◌^◌, List, length, get_or, cond, eqb, sym, ap, subst, ◌∙◌, ℤ, pos, ◌+ℤ◌, unsigned_abs}
 use Rattle.std.proofs.lemmas.List.{get_or_read, length-set}
 use Rattle.fzn_derive.specs.declared.deriver.Cell.{Cell}
 use Rattle.fzn_derive.specs.Room.{blank}

@@ -1,9 +1,9 @@
-use Rattle.std.proofs.Common.{◌≡◌, ◌<◌, ◌≤◌, length, refl, sym, subst, ◌∙◌, arith, rules, FitsSigned, ℤ}
+use Rattle.std.proofs.Common.{◌<◌, length, refl, ◌∙◌, arith, rules, FitsSigned}
 use Rattle.std.proofs.lemmas.Int.{to_z-of_z}
 use Rattle.std.proofs.lemmas.Result.{err_from_is_err_and}
 use mir.Syntax.{w128}
 use Rattle.fzn_derive.specs.Room.{variables_in}
-use Rattle.fzn_derive.proofs.AddingLemmas.{IsSumming, clear-listed, summing-none, summing-next, fault-first}
+use Rattle.fzn_derive.proofs.AddingLemmas.{clear-listed, summing-none, summing-next, fault-first}
 use Rattle.fzn_derive.proofs.deriver.Deriver.add_all.Goals as goal
 
 pub loop-multiple-init : goal.loop-multiple-init

@@ -1,13 +1,12 @@
-use Rattle.std.proofs.Common.{◌≡◌, ◌≤◌, ℕ, List, refl, sym, ap, subst, ◌∙◌, inl, inr, arith, rules, FitsSigned, ℤ, pos, ◌+ℤ◌, ◌-ℤ◌, ◌*ℤ◌, All}
+use Rattle.std.proofs.Common.{◌≡◌, refl, sym, ap, subst, inr, arith, rules, FitsSigned, ℤ, ◌+ℤ◌, ◌-ℤ◌, ◌*ℤ◌}
 use Rattle.std.proofs.lemmas.Int.{ints, to_z-of_z}
 use Rattle.std.proofs.lemmas.Bool.{both_ways}
 use mir.Syntax.{w64, w128}
 use mir.Val.{to_z, of_z}
-use Rattle.fzn_meaning.specs.declared.term.Place.{Place}
-use Rattle.fzn_builtin_rules.specs.Borrowed.{form_in, places_in}
-use Rattle.fzn_derive.specs.Merged.{coefficient_of, constant_of}
+use Rattle.fzn_builtin_rules.specs.Borrowed.{form_in}
+use Rattle.fzn_derive.specs.Merged.{constant_of}
 use Rattle.fzn_derive.specs.Summed.{times}
-use Rattle.fzn_derive.specs.Room.{variables_in, cell_of, IsAdded, IsWithinLimit, bound_with}
+use Rattle.fzn_derive.specs.Room.{variables_in, IsAdded, IsWithinLimit}
 use Rattle.fzn_derive.proofs.BoundLemmas.{product-plain, small-fits}
 use Rattle.fzn_derive.proofs.RoomLemmas.{all_within, terms_within}
 use Rattle.fzn_derive.proofs.deriver.Deriver.add_form.Goals as goal

@@ -1,4 +1,4 @@
-use Rattle.std.proofs.Common.{◌-◌, subst, Option, IfSome}
+use Rattle.std.proofs.Common.{subst, Option, IfSome}
 use Rattle.fzn_meaning.specs.Meaning.{IsWellFormed}
 use Rattle.fzn_builtin_rules.specs.Form.{Form, Fits}
 use Rattle.fzn_derive.specs.Given.{constraint_given}

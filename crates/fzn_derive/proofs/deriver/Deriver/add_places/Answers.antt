@@ -1,13 +1,13 @@
-use Rattle.std.proofs.Common.{◌≡◌, ◌<◌, ◌≤◌, ◌+◌, List, [], ◌∷◌, ◌++◌, length, take, get_or, refl, sym, ap, subst, ◌∙◌, arith, rules, FitsSigned, ℤ, pos, ◌-ℤ◌, unsigned_abs}
+use Rattle.std.proofs.Common.{◌≡◌, ◌<◌, ◌≤◌, ◌+◌, [], ◌∷◌, ◌++◌, length, take, refl, sym, ap, subst, ◌∙◌, arith, rules, FitsSigned, ℤ, pos, ◌-ℤ◌, unsigned_abs}
 use Rattle.std.proofs.lemmas.Int.{ints, to_z-of_z}
 use mir.Syntax.{w64, w128}
 use mir.Val.{to_z, of_z}
 use Rattle.fzn_meaning.specs.declared.term.Term.TheVariants.{Constant}
 use Rattle.fzn_meaning.specs.declared.term.Place.{Place}
 use Rattle.fzn_builtin_rules.specs.Borrowed.{places_in}
-use Rattle.fzn_derive.specs.Merged.{coefficient_of, constant_of}
+use Rattle.fzn_derive.specs.Merged.{constant_of}
 use Rattle.fzn_derive.specs.Summed.{times}
-use Rattle.fzn_derive.specs.Room.{variables_in, cell_of}
+use Rattle.fzn_derive.specs.Room.{variables_in}
 use Rattle.fzn_derive.proofs.MergedLemmas.{coefficient_of-nil, constant_of-nil}
 use Rattle.fzn_derive.proofs.RoomLemmas.{scaled_place, times-more, added-more, constant-more, sum-bound, left-bound}
 use Rattle.fzn_derive.proofs.deriver.Deriver.add_places.Goals as goal

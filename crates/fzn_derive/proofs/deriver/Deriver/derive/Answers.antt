@@ -1,6 +1,5 @@
 use Rattle.std.proofs.Common.{◌≡◌, ◌⊎◌, ◌∙◌, length, sym, subst, ℕ, List, All, IfOk, IfErr}
 use Rattle.std.proofs.lemmas.List.{length-map}
-use Rattle.fzn_domain.specs.declared.literal.VarId.{VarId}
 use Rattle.fzn_meaning.specs.declared.model.Var.{Var}
 use Rattle.fzn_meaning.specs.Meaning.{IsWellFormed}
 use Rattle.fzn_meaning.specs.Solutions.{declared_sets}
@@ -8,7 +7,7 @@ use Rattle.fzn_derive.specs.declared.fault.DeriveFault.{DeriveFault}
 use Rattle.fzn_derive.specs.declared.fault.DeriveFault.TheVariants.{Memory}
 use Rattle.fzn_derive.specs.Apart.{AreToldApart, IsApartFault}
 use Rattle.fzn_derive.specs.Summed.{IsSummed, IsSumFault}
-use Rattle.fzn_derive.specs.Room.{variables_in, IsClear}
+use Rattle.fzn_derive.specs.Room.{IsClear}
 use Rattle.fzn_derive.proofs.AddingLemmas.{clear-variables}
 use Rattle.fzn_derive.proofs.deriver.Deriver.derive.Goals as goal
 

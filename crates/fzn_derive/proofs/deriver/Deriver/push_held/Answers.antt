@@ -1,4 +1,4 @@
-use Rattle.std.proofs.Common.{◌≡◌, sym, ap, subst, ◌∙◌, arith, ℤ, FitsSigned}
+use Rattle.std.proofs.Common.{sym, ap, subst, ◌∙◌, arith, ℤ, FitsSigned}
 use Rattle.std.proofs.lemmas.Int.{to_z-of_z, fits_signed_from_abs}
 use Rattle.std.proofs.lemmas.List.{get_or_read}
 use mir.Syntax.{w64, w128}
