@@ -1,5 +1,5 @@
 -- Why an explanation refutes.
-use Rattle.std.proofs.Common.{◌≡◌, ◌≢◌, ℕ, ◌+◌, ◌<◌, List, [], ◌∷◌, ◌++◌, length, get_or, sym, ap, subst, ◌∙◌, inl, inr, arith, ℤ, pos, ◌+ℤ◌, ◌*ℤ◌, ◌≤ℤ◌, ◌<ℤ◌, ◌*◌, ◌≤◌, unsigned_abs, FitsSigned, All}
+use Rattle.std.proofs.Common.{◌≡◌, ℕ, ◌<◌, List, [], ◌∷◌, ◌++◌, length, get_or, sym, ap, subst, ◌∙◌, inl, inr, arith, ℤ, pos, ◌+ℤ◌, ◌*ℤ◌, ◌≤ℤ◌, ◌<ℤ◌, ◌*◌, ◌≤◌, unsigned_abs, FitsSigned, All}
 use Rattle.std.specs.Int.{w128}
 use Rattle.std.proofs.lemmas.Int.{ints, fits_signed_from_abs}
 use Rattle.std.proofs.lemmas.Bool.{cases_eq}
@@ -14,13 +14,13 @@ use Rattle.fzn_meaning.specs.Term.{IsTerm, IsPlace, total_by}
 use Rattle.fzn_builtin_rules.specs.Linear.{low_product, least_sum}
 use Rattle.fzn_trail.specs.Levels.{Levels}
 use Rattle.fzn_propagator.specs.Left.{IsLeft}
-use Rattle.fzn_propagator.proofs.CallerLemmas.{left_of_more, last_fails, false_push, forcing_push}
+use Rattle.fzn_propagator.proofs.CallerLemmas.{left_of_more, last_fails, forcing_push}
 use Rattle.fzn_linear.specs.Explained.{IsExplained, IsFloor, IsForced, IsExplanation}
 use Rattle.fzn_linear.specs.Refuted.{IsConflict, IsRefutation}
 use Rattle.fzn_linear.proofs.SumLemmas.{total_le, total_lt_at}
 use Rattle.fzn_meaning.specs.declared.relation.Comparison.TheVariants.{AtMost}
 
--- ---- the loop that explains
+-- ---- what explains a place
 
 pub explained_more : (trail : Levels) (clause more : List Lit) (place : Place) → IsExplained trail clause place → IsExplained trail (clause ++ more) place
 explained_more trail clause more place explained = λ v left. explained v (left_of_more trail.declared clause more place.term v left)
@@ -31,25 +31,6 @@ explained_by_floor trail clause place lit floor = λ v left.
 
 pub variable_of_place : (count : ℕ) (place : Place) (var : VarId) → IsPlace count place → place.term ≡ Variable var → IsVariable count var
 variable_of_place count place var fits of = subst (λ (t : Term). IsTerm count t) of fits.0
-
-pub explanation_same : (trail : Levels) (places : List Place) (i except : ℕ) (clause : List Lit) (d : Place) → i < length places → IsExplanation trail places i except clause → (i ≢ except → IsExplained trail clause (get_or places i d)) → IsExplanation trail places (i + 1) except clause
-explanation_same trail places i except clause d in_places before here = record {
-  still = before.still;
-  explained = λ k e below apart. elim (cases_eq k i) [
-    | inl same ↦
-        let at : get_or places i d ≡ get_or places k e = get_or_default places i d e in_places ∙ ap (λ (n : ℕ). get_or places n e) (sym same) in
-        subst (λ (p : Place). IsExplained trail clause p) at (here (λ i_is. apart (same ∙ i_is)))
-    | inr other ↦ before.explained k e (omega arith) apart
-  ];
-}
-
-pub explanation_push : (trail : Levels) (places : List Place) (i except : ℕ) (clause : List Lit) (d : Place) (lit : Lit) → i < length places → IsPlace (length trail.declared) (get_or places i d) → IsExplanation trail places i except clause → IsFloor trail (get_or places i d) lit → IsExplanation trail places (i + 1) except (clause ++ lit ∷ [])
-explanation_push trail places i except clause d lit in_places fits before floor =
-    let longer : IsExplanation trail places i except (clause ++ lit ∷ []) = record {
-      still = false_push trail clause lit before.still (variable_of_place (length trail.declared) (get_or places i d) lit.var fits floor.of_place) floor.writable floor.impossible;
-      explained = λ k e below apart. explained_more trail clause (lit ∷ []) (get_or places k e) (before.explained k e below apart);
-    } in
-    explanation_same trail places i except (clause ++ lit ∷ []) d in_places longer (λ _. explained_by_floor trail clause (get_or places i d) lit floor)
 
 -- ---- refutations
 

@@ -1,7 +1,7 @@
 -- What a found clause and its absence say of a constraint.
-use Rattle.std.proofs.Common.{◌≡◌, ◌≢◌, ℕ, ◌-◌, Bool, true, false, cond, List, [], ◌∷◌, length, get_or, sym, ap, subst, ◌∙◌, inl, inr, arith, ℤ, pos, ◌-ℤ◌, ◌*ℤ◌, ◌≤ℤ◌, int_lt, All, Option, Some, None, IfSome, IsSomeAnd, MatchOption}
+use Rattle.std.proofs.Common.{◌≡◌, ℕ, ◌-◌, Bool, true, false, cond, List, [], ◌∷◌, length, get_or, refl, sym, ap, subst, ◌∙◌, inl, inr, arith, ℤ, pos, ◌-ℤ◌, ◌*ℤ◌, ◌≤ℤ◌, int_lt, All, Option, Some, None, IfSome, IsSomeAnd}
 use Rattle.std.proofs.lemmas.Int.{ints}
-use Rattle.std.proofs.lemmas.List.Elements.{All-nil, recursion_from_All}
+use Rattle.std.proofs.lemmas.List.Elements.{recursion_from_All}
 use Rattle.fzn_domain.specs.declared.literal.Lit.{Lit}
 use Rattle.fzn_domain.specs.IntSet.{IntSet, contains, size, least, greatest}
 use Rattle.fzn_domain.specs.Narrow.{IsWithin, value_of, set_of}
@@ -26,14 +26,16 @@ use Rattle.fzn_builtin_rules.specs.Form.{Form, form, form_of, IsFormMet, FormHol
 use Rattle.fzn_builtin_rules.proofs.CallerLemmas.{form_meets}
 use Rattle.fzn_rules.specs.Rules.{IsMet}
 use Rattle.fzn_trail.specs.Levels.{Levels}
-use Rattle.fzn_propagator.specs.Inference.{AllFixed, IsHint, IsTight, IsInference, IsExhausted}
+use Rattle.fzn_propagator.specs.Clause.{IsJustified}
+use Rattle.fzn_propagator.specs.Inference.{AllFixed, IsTight, IsExhausted}
 use Rattle.fzn_propagator.specs.Barred.{IsToDiffer, LeavesNoBarred}
-use Rattle.fzn_propagator.proofs.CallerLemmas.{one_end, flat_cond, justified_by, inference_of}
+use Rattle.fzn_propagator.proofs.CallerLemmas.{one_end, flat_cond, justified_by}
 use Rattle.fzn_linear.specs.Opposite.{opposites}
 use Rattle.fzn_linear.specs.Refuted.{LeavesSome, LeavesEach}
 use Rattle.fzn_linear.proofs.CallerLemmas.{total_le, none_barred_opposites, sum_at-opposites, opposites-twice, opposites_fit}
-use Rattle.fzn_linear.specs.OppositeForm.{other_comparison, other_bound, opposite_form}
+use Rattle.fzn_linear.specs.OppositeForm.{other_comparison, other_bound}
 use Rattle.fzn_linear.specs.Sum.{IsFound, IsLeftAlone}
+use Rattle.fzn_linear.specs.Switched.{IsSwitchAt}
 use Rattle.fzn_terms.proofs.OrderLemmas.{ge_same}
 
 -- ---- a clause was found
@@ -42,9 +44,9 @@ met_as : (sets : List IntSet) (constraint : Constraint) (found : Form) → form_
 unfolding IsMet
 met_as sets constraint found same met = subst (λ (f : Option Form). IsSomeAnd f (λ (x : Form). IsFormMet x sets)) (sym same) met
 
-pub sum_found : (trail : Levels) (found : Form) (number : ℕ) (clause : List Lit) (constraint : Constraint) → form_of constraint ≡ Some found → IsFound trail found clause → IsInference number constraint trail (record { constraint = number; rule = Lin; clause = clause })
-sum_found trail found number clause constraint same there =
-    inference_of trail number constraint Lin clause (All-nil IsHint) (justified_by trail constraint Lin clause (IsFormMet found) (λ sets met. met_as sets constraint found same met) there)
+pub justified_found : (trail : Levels) (found : Form) (clause : List Lit) (constraint : Constraint) → form_of constraint ≡ Some found → IsFound trail found clause → IsJustified trail constraint Lin clause
+justified_found trail found clause constraint same there =
+    justified_by trail constraint Lin clause (IsFormMet found) (λ sets met. met_as sets constraint found same met) there
 
 -- ---- all variables fixed
 
@@ -108,19 +110,15 @@ module _ (sets : List IntSet) (values : List ℤ) (fixed : AllFixed sets) (withi
     zero_not_one : (v : ℤ) → v ≡ pos 0 → v ≡ pos 1 → ⊥
     zero_not_one v nought one = omega (arith, ints)
 
-    alone_by : (switch : Option Term) → IsSwitch (length sets) switch → IfSome switch (λ (term : Term). IsBit (term_value values term)) → MatchOption switch (LeavesEach sets comparison places bound) (λ (term : Term). (IsFixedTo sets term (pos 1) → LeavesEach sets comparison places bound) × (IsFixedTo sets term (pos 0) → LeavesEach sets (other_comparison comparison) (opposites places) (other_bound comparison bound))) → IsSwitched (switch_value values switch) (IsLinear comparison (sum_at values places) bound)
-    alone_by None fits bit alone = on_side (some_of_each comparison places bound alone)
+    alone_by : (switch : Option Term) → IsSwitch (length sets) switch → IfSome switch (λ (term : Term). IsBit (term_value values term)) → IsLeftAlone sets (form places comparison bound switch) → IsSwitched (switch_value values switch) (IsLinear comparison (sum_at values places) bound)
+    alone_by None fits bit alone = on_side (some_of_each comparison places bound (alone true refl))
     alone_by (Some term) fits bit alone = elim bit [
       | inl nought ↦ (
         λ one. absurd (zero_not_one (term_value values term) nought one),
-        λ here. absurd (off_side (some_of_each (other_comparison comparison) (opposites places) (other_bound comparison bound) (alone.1 (fixed_to term (pos 0) fits nought))) here),
+        λ here. absurd (off_side (some_of_each (other_comparison comparison) (opposites places) (other_bound comparison bound) (alone false (fixed_to term (pos 0) fits nought))) here),
       )
-      | inr one ↦ (λ _. on_side (some_of_each comparison places bound (alone.0 (fixed_to term (pos 1) fits one))), λ _. one)
+      | inr one ↦ (λ _. on_side (some_of_each comparison places bound (alone true (fixed_to term (pos 1) fits one))), λ _. one)
     ]
-
-  alone_holds : (found other : Form) → other ≡ opposite_form found → All (IsPlace (length sets)) found.places → IsSwitch (length sets) found.switch → IfSome found.switch (λ (term : Term). IsBit (term_value values term)) → IsLeftAlone sets found other → FormHolds found values
-  alone_holds found other same fit fits bit alone =
-      alone_by found.comparison found.places found.bound fit found.switch fits bit (subst (λ (f : Form). IsLeftAlone sets found f) same alone)
 
 abbrev TermIsBit : List ℤ → Term → Type 0
 TermIsBit values term = IsBit (term_value values term)
@@ -133,46 +131,31 @@ switch_bit (constraint.Gated gate inputs result) values bits = (recursion_from_A
 switch_bit (constraint.Arithmetic Plus left right result) values bits = tt
 switch_bit _ values bits = tt
 
-tight_of : (sets : List IntSet) (found other : Form) → IsLeftAlone sets found other → found.comparison ≡ AtMost → found.switch ≡ None → IsTight sets found.places found.bound
-tight_of sets found other alone comparison switch =
-    subst (λ (c : Comparison). LeavesEach sets c found.places found.bound) comparison
-    (subst (λ (s : Option Term). MatchOption s (LeavesEach sets found.comparison found.places found.bound) (λ (term : Term). (IsFixedTo sets term (pos 1) → LeavesEach sets found.comparison found.places found.bound) × (IsFixedTo sets term (pos 0) → LeavesEach sets other.comparison other.places other.bound))) switch alone)
-
--- ---- a switch of several values
-
-both_ends : (a b v : ℤ) → a ≢ b → a ≡ v → b ≡ v → ⊥
-both_ends a b v apart low high = apart (low ∙ sym high)
-
-pub undecided_alone : (sets : List IntSet) (found other : Form) (switch : Term) → found.switch ≡ Some switch → least_value sets switch ≢ greatest_value sets switch → IsLeftAlone sets found other
-undecided_alone sets found other switch is several =
-    subst (λ (s : Option Term). MatchOption s (LeavesEach sets found.comparison found.places found.bound) (λ (term : Term). (IsFixedTo sets term (pos 1) → LeavesEach sets found.comparison found.places found.bound) × (IsFixedTo sets term (pos 0) → LeavesEach sets other.comparison other.places other.bound))) (sym is) (
-      λ on. absurd (both_ends (least_value sets switch) (greatest_value sets switch) (pos 1) several on.0 on.1),
-      λ off. absurd (both_ends (least_value sets switch) (greatest_value sets switch) (pos 0) several off.0 off.1),
-    )
+tight_of : (sets : List IntSet) (found : Form) → IsLeftAlone sets found → found.comparison ≡ AtMost → found.switch ≡ None → IsTight sets found.places found.bound
+tight_of sets found alone comparison switch =
+    subst (λ (c : Comparison). LeavesEach sets c found.places found.bound) comparison (alone true (subst (λ (s : Option Term). IsSwitchAt sets s true) (sym switch) refl))
 
 -- ---- no value that is barred
 
-none_barred_by : (sets : List IntSet) (comparison : Comparison) (places : List Place) (bound : ℤ) (switch : Option Term) → IsToDiffer sets (form places comparison bound switch) → MatchOption switch (LeavesEach sets comparison places bound) (λ (term : Term). (IsFixedTo sets term (pos 1) → LeavesEach sets comparison places bound) × (IsFixedTo sets term (pos 0) → LeavesEach sets (other_comparison comparison) (opposites places) (other_bound comparison bound))) → LeavesNoBarred sets places bound
-none_barred_by sets comparison places bound None differ alone = (subst (λ (c : Comparison). LeavesEach sets c places bound) differ alone).1
-none_barred_by sets comparison places bound (Some term) (inl on) alone = (subst (λ (c : Comparison). LeavesEach sets c places bound) on.1 (alone.0 on.0)).1
+none_barred_by : (sets : List IntSet) (comparison : Comparison) (places : List Place) (bound : ℤ) (switch : Option Term) → IsToDiffer sets (form places comparison bound switch) → IsLeftAlone sets (form places comparison bound switch) → LeavesNoBarred sets places bound
+none_barred_by sets comparison places bound None differ alone = (subst (λ (c : Comparison). LeavesEach sets c places bound) differ (alone true refl)).1
+none_barred_by sets comparison places bound (Some term) (inl on) alone = (subst (λ (c : Comparison). LeavesEach sets c places bound) on.1 (alone true on.0)).1
 none_barred_by sets comparison places bound (Some term) (inr off) alone =
     none_barred_opposites sets places bound
-    (subst (λ (c : Comparison). LeavesEach sets (other_comparison c) (opposites places) (other_bound c bound)) off.1 (alone.1 off.0)).1
+    (subst (λ (c : Comparison). LeavesEach sets (other_comparison c) (opposites places) (other_bound c bound)) off.1 (alone false off.0)).1
 
-none_barred_of : (sets : List IntSet) (found other : Form) → other ≡ opposite_form found → IsLeftAlone sets found other → IsToDiffer sets found → LeavesNoBarred sets found.places found.bound
-none_barred_of sets found other same alone differ =
-    none_barred_by sets found.comparison found.places found.bound found.switch differ (subst (λ (f : Form). IsLeftAlone sets found f) same alone)
-
-pub sum_alone : (trail : Levels) (found other : Form) (constraint : Constraint) → form_of constraint ≡ Some found → HasBooleanSets trail.declared constraint → other ≡ opposite_form found → All (IsPlace (length trail.declared)) found.places → IsSwitch (length trail.declared) found.switch → IsLeftAlone trail.sets found other → IsExhausted constraint trail
-sum_alone trail found other constraint same booleans opposite_is fit fits alone = record {
+pub sum_alone : (trail : Levels) (found : Form) (constraint : Constraint) → form_of constraint ≡ Some found → HasBooleanSets trail.declared constraint → All (IsPlace (length trail.declared)) found.places → IsSwitch (length trail.declared) found.switch → IsLeftAlone trail.sets found → IsExhausted constraint trail
+sum_alone trail found constraint same booleans fit fits alone = record {
   holds = λ fixed values declared within.
       let counts = sym within.one_each ∙ declared.one_each in
       let bits = bits-choice trail.declared values constraint declared booleans in
       let bit = subst (λ (f : Option Form). IfSome f (λ (x : Form). IfSome x.switch (TermIsBit values))) same (switch_bit constraint values bits) in
       let here = subst (λ (n : ℕ). All (IsPlace n) found.places) (sym counts) fit in
       let switch_here = subst (λ (n : ℕ). IsSwitch n found.switch) (sym counts) fits in
-      let holds = alone_holds trail.sets values fixed within found other opposite_is here switch_here bit alone in
+      let holds = alone_by trail.sets values fixed within found.comparison found.places found.bound here found.switch switch_here bit alone in
       form_meets constraint values bits (subst (λ (f : Option Form). IsSomeAnd f (λ (x : Form). FormHolds x values)) (sym same) holds);
-  strong = λ asked is. subst (λ (f : Option Form). IfSome f (λ (x : Form). x.comparison ≡ AtMost → x.switch ≡ None → IsTight trail.sets x.places x.bound)) (sym same ∙ is) (tight_of trail.sets found other alone);
-  none_barred = λ asked is. subst (λ (f : Option Form). IfSome f (λ (x : Form). IsToDiffer trail.sets x → LeavesNoBarred trail.sets x.places x.bound)) (sym same ∙ is) (none_barred_of trail.sets found other opposite_is alone);
+  strong = λ asked is. subst (λ (f : Option Form). IfSome f (λ (x : Form). x.comparison ≡ AtMost → x.switch ≡ None → IsTight trail.sets x.places x.bound)) (sym same ∙ is) (tight_of trail.sets found alone);
+  none_barred = λ asked is.
+      subst (λ (f : Option Form). IfSome f (λ (x : Form). IsToDiffer trail.sets x → LeavesNoBarred trail.sets x.places x.bound)) (sym same ∙ is)
+      (λ differ. none_barred_by trail.sets found.comparison found.places found.bound found.switch differ alone);
 }

@@ -5,15 +5,12 @@ mod EndLemmas
 mod FitLemmas
 mod FloorLemmas
 mod FormLemmas
-mod GuardLemmas
 mod HeardLemmas
-mod MadeLemmas
 pub mod OppositeLemmas
 mod PinLemmas
 mod PlaceLemmas
 pub mod ProductLemmas
 mod RefuteLemmas
 pub mod RefutedLemmas
-mod RestLemmas
+mod PassLemmas
 pub mod SumLemmas
-mod WithinLemmas

@@ -1,8 +1,10 @@
 -- Which constraint a propagator stands for.
 use Rattle.std.specs.Prelude.{◌≡◌, ℕ, Some}
+use Rattle.std.proofs.Props.{props}
 use Rattle.fzn_meaning.specs.declared.constraint.Constraint.{Constraint}
 use Rattle.fzn_meaning.specs.Meaning.{IsSwitch}
 use Rattle.fzn_builtin_rules.specs.Form.{Form, form, form_of}
+use Rattle.fzn_terms.specs.Values.{IsTerm-prop}
 use Rattle.fzn_linear.specs.declared.form.SumForm.{SumForm}
 use Rattle.fzn_linear.specs.OppositeForm.{opposite_form}
 use Rattle.fzn_linear.specs.Sum.{IsSum}
@@ -20,3 +22,6 @@ pub record IsReady (count : ℕ) (sum opposite : SumForm) : Type 0 where
   pub off : IsSum count opposite sum.places
   pub switch_fits : IsSwitch count sum.switch
   pub opposite_is : form_in opposite ≡ opposite_form (form_in sum)
+
+pub IsReady-prop : (count : ℕ) (sum opposite : SumForm) → IsProp (IsReady count sum opposite)
+IsReady-prop count sum opposite = Prim.hlevel (props, IsTerm-prop)

@@ -1,16 +1,16 @@
-// What follows from a sum that is at most a bound.
-ghost use Rattle.std.specs.Prelude.{◌≡◌, ℕ, ◌<◌, ◌≤◌, ◌≤ℤ◌, ◌+ℤ◌, pos, [], length, unsigned_abs, IfOk, IfSome, IfNone, slice_index_or};
+// What each place of a sum gave at least, and what it is forced to where the sum may rise so far above its least.
+ghost use Rattle.std.specs.Prelude.{◌<◌, ◌≤ℤ◌, ◌+ℤ◌, pos, List, [], length, IfOk, IfSome, IfNone, slice_index_or};
 ghost use Rattle.std.specs.List.{All, AllWithin};
 ghost use Rattle.fzn_domain.specs.Narrow.{NoneEmpty};
 ghost use Rattle.fzn_meaning.specs.declared.term.Place.{Place};
 ghost use Rattle.fzn_meaning.specs.Term.{IsPlace};
 ghost use Rattle.fzn_builtin_rules.specs.Linear.{least_sum};
-ghost use Rattle.fzn_propagator.specs.Inference.{IsTight, spread};
+ghost use Rattle.fzn_propagator.specs.Inference.{spread};
+ghost use Rattle.fzn_trail.specs.Levels.{Levels};
 ghost use Rattle.fzn_linear.specs.Explained.{IsExplained, IsFloor, IsForced, IsForcedAt, IsExplanation, AreFloors};
-ghost use Rattle.fzn_linear.specs.Refuted.{IsConflict, IsRefutation};
+ghost use Rattle.fzn_linear.specs.Refuted.{IsRefutation};
 ghost use Rattle.fzn_meaning.specs.declared.relation.Comparison.TheVariants as sum;
 
-use crate::ends::{ends_of, is_within, least_sum, rise_to};
 use fzn_domain::{Lit, Memory, Op};
 use fzn_list::Items;
 use fzn_meaning::{Place, Term};
@@ -115,28 +115,6 @@ pub fn next_forced(trail: &Trail, places: &[Place], slack: u128, from: usize) ->
     None
 }
 
-/// A clause that is false on the trail and says that all places but one gave no less.
-fn explain(
-    alloc: Global,
-    trail: &Trail,
-    places: &[Place],
-    except: usize,
-) -> Result<Items<Lit>, Memory>
-    requires places { All (IsPlace (length trail.now.declared)) places.now }
-    requires filled { NoneEmpty trail.now.sets }
-    ensures { IfOk result (IsExplanation trail.now places.now (length places.now) except) }
-{
-    let mut clause = Items::with_capacity(alloc, places.len().saturating_add(1).min(ROOM))?;
-    for i in 0..places.len() {
-        if i != except {
-            if let Some(lit) = floor(trail, places[i]) {
-                clause.push(lit)?;
-            }
-        }
-    }
-    Ok(clause)
-}
-
 /// The literal that says that the place at this index gave no less.
 #[derive(Clone, Copy)]
 pub struct PlaceFloor {
@@ -163,26 +141,21 @@ pub fn floors_of(
     Ok(floors)
 }
 
-/// A clause that is false on the trail, where the least sum of the at most 200,000 places exceeds the bound, and none elsewhere. `Err` where
-/// memory runs out.
-pub fn conflict_at_most(
+/// A clause that is false on the trail and says that all places but one gave no less.
+pub(crate) fn explain(
     alloc: Global,
-    trail: &Trail,
-    places: &[Place],
-    bound: i64,
-) -> Result<Option<Items<Lit>>, Memory>
-    requires places { All (IsPlace (length trail.now.declared)) places.now }
-    requires short { length places.now ≤ 200000 }
-    requires filled { NoneEmpty trail.now.sets }
-    ensures found { IfOk result (λ found. IfSome found (IsConflict trail.now sum.AtMost places.now bound)) }
-    ensures none { IfOk result (λ found. IfNone found (least_sum trail.now.sets places.now ≤ℤ bound)) }
+    floors: &[PlaceFloor],
+    except: usize,
+) -> Result<Items<Lit>, Memory>
+    ensures { IfOk result (λ clause. (trail : Levels) (places : List Place) → All (IsPlace (length trail.declared)) places → AreFloors trail places (length places) floors.now → IsExplanation trail places (length places) except clause) }
 {
-    let least = least_sum(trail, places);
-    if least <= i128::from(bound) {
-        return Ok(None);
+    let mut clause = Items::with_capacity(alloc, floors.len().saturating_add(1))?;
+    for i in 0..floors.len() {
+        if floors[i].place != except {
+            clause.push(floors[i].lit)?;
+        }
     }
-    let clause = explain(alloc, trail, places, places.len())?;
-    Ok(Some(clause))
+    Ok(clause)
 }
 
 /// A clause that refutes that the sum is at most its least and this slack, where this place is forced, and none elsewhere. `Err` where memory
@@ -205,75 +178,7 @@ pub fn refute_place(
     let Some(lit) = force(trail, places[place], slack) else {
         return Ok(None);
     };
-    let mut clause = Items::with_capacity(alloc, floors.len().saturating_add(1))?;
-    for i in 0..floors.len() {
-        if floors[i].place != place {
-            clause.push(floors[i].lit)?;
-        }
-    }
+    let mut clause = explain(alloc, floors, place)?;
     clause.push(lit)?;
     Ok(Some(clause))
-}
-
-/// A clause that refutes that the sum is at most its least and this slack.
-pub(crate) fn refute_within(
-    alloc: Global,
-    trail: &Trail,
-    places: &[Place],
-    slack: i128,
-) -> Result<Option<Items<Lit>>, Memory>
-    requires places { All (IsPlace (length trail.now.declared)) places.now }
-    requires filled { NoneEmpty trail.now.sets }
-    ensures found { IfOk result (λ found. IfSome found (IsRefutation trail.now sum.AtMost places.now (least_sum trail.now.sets places.now +ℤ slack))) }
-    ensures none { IfOk result (λ found. IfNone found (IsTight trail.now.sets places.now (least_sum trail.now.sets places.now +ℤ slack))) }
-{
-    if slack < 0 {
-        let clause = explain(alloc, trail, places, places.len())?;
-        return Ok(Some(clause));
-    }
-    let Some(forced) = next_forced(trail, places, slack as u128, 0) else {
-        return Ok(None);
-    };
-    let mut clause = explain(alloc, trail, places, forced.place)?;
-    clause.push(forced.lit)?;
-    Ok(Some(clause))
-}
-
-/// How far the sum may rise from its least to the bound, where some place alone may rise further: none where the least sum exceeds the
-/// bound.
-pub fn slack_within(trail: &Trail, places: &[Place], bound: i64) -> Option<u128>
-    requires places { All (IsPlace (length trail.now.declared)) places.now }
-    requires short { length places.now ≤ 200000 }
-    requires filled { NoneEmpty trail.now.sets }
-    ensures found { IfSome result (λ slack. (least_sum trail.now.sets places.now +ℤ pos slack) ≡ bound) }
-    ensures none { IfNone result (least_sum trail.now.sets places.now ≤ℤ bound → IsTight trail.now.sets places.now bound) }
-{
-    let ends = ends_of(trail, places);
-    let slack = rise_to(ends, bound);
-    if slack < 0 || is_within(ends, slack) {
-        return None;
-    }
-    Some(slack as u128)
-}
-
-/// A clause that refutes that the sum is at most the bound, and is false or forces one literal on the trail: none where the sum stays within
-/// the bound with any one place at its other end. `Err` where memory runs out.
-pub fn refute_at_most(
-    alloc: Global,
-    trail: &Trail,
-    places: &[Place],
-    bound: i64,
-) -> Result<Option<Items<Lit>>, Memory>
-    requires places { All (IsPlace (length trail.now.declared)) places.now }
-    requires short { length places.now ≤ 200000 }
-    requires filled { NoneEmpty trail.now.sets }
-    ensures found { IfOk result (λ found. IfSome found (IsRefutation trail.now sum.AtMost places.now bound)) }
-    ensures none { IfOk result (λ found. IfNone found (IsTight trail.now.sets places.now bound)) }
-{
-    let ends = ends_of(trail, places);
-    let slack = rise_to(ends, bound);
-    if is_within(ends, slack) {
-        return Ok(None);
-    }
-    refute_within(alloc, trail, places, slack)
 }

@@ -1,11 +1,14 @@
 // The ends of places and sums on a trail.
-ghost use Rattle.std.specs.Prelude.{◌≡◌, ◌↔◌, ◌*◌, ◌≤◌, ◌≤ℤ◌, ◌-ℤ◌, ℤ, IsTrue, length, unsigned_abs};
+ghost use Rattle.std.specs.Prelude.{◌≡◌, ◌*◌, ◌≤◌, List, length, unsigned_abs};
 ghost use Rattle.std.specs.List.{All};
+ghost use Rattle.fzn_domain.specs.IntSet.{IntSet};
 ghost use Rattle.fzn_domain.specs.Limits.{IsInLimits};
 ghost use Rattle.fzn_domain.specs.Narrow.{NoneEmpty};
+ghost use Rattle.fzn_meaning.specs.declared.term.Place.{Place};
 ghost use Rattle.fzn_meaning.specs.Term.{IsTerm, IsPlace};
 ghost use Rattle.fzn_builtin_rules.specs.Linear.{low_end, low_product, least_sum};
 ghost use Rattle.fzn_linear.specs.Ends.{AreEnds};
+ghost use Rattle.fzn_linear.specs.Opposite.{opposites};
 
 use fzn_builtin_rules::{Ends, products_of};
 use fzn_meaning::Place;
@@ -52,29 +55,6 @@ pub fn least_sum(trail: &Trail, places: &[Place]) -> i128
     sum
 }
 
-/// How far a sum may rise from its least to the bound.
-pub(crate) fn rise_to(ends: Ends, bound: i64) -> i128
-    requires { unsigned_abs ends.least ≤ 200000 * 1000000000000000000 }
-    ensures { result ≡ bound -ℤ ends.least }
-{
-    i128::from(bound) - ends.least
-}
-
-/// How far a sum may fall from its greatest to the bound.
-pub(crate) fn fall_to(ends: Ends, bound: i64) -> i128
-    requires { unsigned_abs ends.greatest ≤ 200000 * 1000000000000000000 }
-    ensures { result ≡ ends.greatest -ℤ bound }
-{
-    ends.greatest - i128::from(bound)
-}
-
-/// Whether no one place gives more above its least than the slack.
-pub(crate) fn is_within(ends: Ends, slack: i128) -> bool
-    ensures { IsTrue result ↔ (ends.widest ≤ℤ slack) }
-{
-    i128::from(ends.widest) <= slack
-}
-
 /// The ends of the sum of at most 200,000 places.
 pub fn ends_of(trail: &Trail, places: &[Place]) -> Ends
     requires places { All (IsPlace (length trail.now.declared)) places.now }
@@ -88,4 +68,17 @@ pub fn ends_of(trail: &Trail, places: &[Place]) -> Ends
         ends = ends.plus(products_of(sets, *place));
     }
     ends
+}
+
+/// The ends of the opposite sum.
+pub(crate) fn turned(ends: Ends) -> Ends
+    requires least { unsigned_abs ends.least ≤ 200000 * 1000000000000000000 }
+    requires greatest { unsigned_abs ends.greatest ≤ 200000 * 1000000000000000000 }
+    ensures { (sets : List IntSet) (places : List Place) → AreEnds sets places ends → AreEnds sets (opposites places) result }
+{
+    Ends {
+        least: -ends.greatest,
+        greatest: -ends.least,
+        widest: ends.widest,
+    }
 }

@@ -1,29 +1,34 @@
-use Rattle.std.proofs.Common.{◌+◌, [], List, length, get_or, sym, subst, ◌∙◌, pos}
-use Rattle.std.proofs.lemmas.List.Elements.{All-get_or}
+use Rattle.std.proofs.Common.{arith, ◌≡◌, ℕ, ◌+◌, List, length, sym, subst, ◌∙◌, pos}
 use Rattle.fzn_domain.specs.declared.literal.Lit.{Lit}
-use Rattle.fzn_meaning.specs.declared.term.Place.{Place}
-use Rattle.fzn_meaning.specs.declared.term.Term.TheVariants.{Constant}
-use Rattle.fzn_meaning.specs.Term.{IsPlace}
-use Rattle.fzn_linear.specs.Explained.{IsExplanation}
-use Rattle.fzn_linear.proofs.ClauseLemmas.{explanation_same, explanation_push, explained_more}
+use Rattle.fzn_domain.specs.declared.literal.Op.TheVariants as op
+use Rattle.fzn_linear.specs.declared.at_most.PlaceFloor.{PlaceFloor}
+use Rattle.fzn_linear.specs.Explained.{HasFloors}
+use Rattle.fzn_linear.proofs.FloorLemmas.{has_none, has_same, has_push, explanation_of}
 use Rattle.fzn_linear.proofs.at_most.explain.Goals as goal
-use Rattle.fzn_linear.proofs.at_most.explain.Goals.{then-i-except+in-Some+in_ok-push, then-i-except+in_default, else-i-except}
+use Rattle.fzn_linear.proofs.at_most.explain.Goals.{then-floors-i+in_ok-push, else-floors-i}
+
+any : PlaceFloor
+any = record { place = 0; lit = record { var = record { 0 = 0 }; op = op.AtMost; value = pos 0 } }
+
+pub loop-i-init : goal.loop-i-init
+loop-i-init c = λ trail places fit are.
+    subst (λ (xs : List Lit). HasFloors trail places c.args.floors.now 0 c.args.except xs) (sym c.in_ok-clause.ensures) (has_none trail places c.args.floors.now c.args.except)
 
 pub loop-i-preserved : goal.loop-i-preserved
-loop-i-preserved c =
-    let at : Place = record { coefficient = pos 0; term = Constant (pos 0) } in
-    elim c.if-i-except.branch [
-      | then-i-except+in-Some+in_ok-push w ↦
-          subst (λ (xs : List Lit). IsExplanation c.args.trail.now c.args.places.now (c.loop-i.i + 1) c.args.except xs)
-          (sym w.in_ok-push.ensures.ok ∙ sym w.clause-is)
-          (explanation_push c.args.trail.now c.args.places.now c.loop-i.i c.args.except c.loop-i.clause at w.in-Some.lit c.loop-i-test.true
-          (All-get_or (IsPlace (length c.args.trail.now.declared)) c.args.places.now c.loop-i.i at c.loop-i-test.true c.requires.places) c.loop-i.invariant w.in-Some.ensures.found)
-      | then-i-except+in_default w ↦
-          subst (λ (xs : List Lit). IsExplanation c.args.trail.now c.args.places.now (c.loop-i.i + 1) c.args.except xs) (sym w.clause-is)
-          (explanation_same c.args.trail.now c.args.places.now c.loop-i.i c.args.except c.loop-i.clause at c.loop-i-test.true c.loop-i.invariant
-          (λ _. explained_more c.args.trail.now [] c.loop-i.clause (get_or c.args.places.now c.loop-i.i at) w.in_default.ensures.none))
-      | else-i-except w ↦
-          subst (λ (xs : List Lit). IsExplanation c.args.trail.now c.args.places.now (c.loop-i.i + 1) c.args.except xs) (sym w.clause-is)
-          (explanation_same c.args.trail.now c.args.places.now c.loop-i.i c.args.except c.loop-i.clause at c.loop-i-test.true c.loop-i.invariant
-          (λ apart. absurd (apart w.if-i-except.false)))
+unfolding any
+loop-i-preserved c = λ trail places fit are.
+    let floors = c.args.floors.now in
+    elim c.if-floors-i.branch [
+      | then-floors-i+in_ok-push w ↦
+          subst (λ (xs : List Lit). HasFloors trail places c.args.floors.now (c.loop-i.i + 1) c.args.except xs) (sym w.in_ok-push.ensures.ok ∙ sym w.clause-is)
+          (has_push trail places floors c.args.except c.loop-i.i c.loop-i.clause any c.loop-i-test.true fit are.each (c.loop-i.invariant trail places fit are))
+      | else-floors-i w ↦
+          subst (λ (xs : List Lit). HasFloors trail places c.args.floors.now (c.loop-i.i + 1) c.args.except xs) (sym w.clause-is)
+          (has_same trail places floors c.args.except c.loop-i.i c.loop-i.clause any c.loop-i-test.true (c.loop-i.invariant trail places fit are) w.if-floors-i.false)
     ]
+
+pub returns : goal.returns
+returns c = λ trail places fit are.
+    let end : c.loop-i.i ≡ length c.args.floors.now = let t = c.loop-i-test.false in let h = c.loop-i.auto.i-end in omega arith in
+    explanation_of trail places c.args.floors.now c.args.except c.loop-i.clause are
+    (subst (λ (n : ℕ). HasFloors trail places c.args.floors.now n c.args.except c.loop-i.clause) end (c.loop-i.invariant trail places fit are))

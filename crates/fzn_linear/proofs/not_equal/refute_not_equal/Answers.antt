@@ -11,7 +11,7 @@ use Rattle.fzn_linear.specs.Pinned.{IsBarring, NoneIsBarred}
 use Rattle.fzn_linear.specs.Refuted.{IsRefutation, LeavesSome, LeavesEach}
 use Rattle.fzn_linear.proofs.PinLemmas.{barring_refutes}
 use Rattle.fzn_linear.proofs.BarredLemmas.{only_open, leaves_open, none_barred_two, none_barred_settled, none_barred_open}
-use Rattle.fzn_linear.proofs.WithinLemmas.{none_then}
+use Rattle.fzn_linear.proofs.PassLemmas.{none_then}
 use Rattle.fzn_linear.proofs.not_equal.refute_not_equal.Goals as goal
 
 pub returns-in_default-clause-none : goal.returns-in_default-clause-none

@@ -1,5 +1,5 @@
 use Rattle.fzn_linear.specs.Equality.{EqualityIsFor}
-use Rattle.fzn_linear.proofs.RestLemmas.{still_inferences}
+use Rattle.fzn_linear.proofs.PassLemmas.{still_inferences}
 use Rattle.fzn_linear.proofs.equality.EqualityPropagatorPropagator.propagate.Goals as goal
 
 pub returns-in_err-infer-clause-found : goal.returns-in_err-infer-clause-found

@@ -1,5 +1,5 @@
 use Rattle.fzn_linear.specs.Kinds.{IsFormOf}
-use Rattle.fzn_linear.proofs.RestLemmas.{still_inferences}
+use Rattle.fzn_linear.proofs.PassLemmas.{still_inferences}
 use Rattle.fzn_linear.proofs.sum.SumPropagatorPropagator.propagate.Goals as goal
 
 pub returns-clause-found : goal.returns-clause-found

@@ -1,0 +1,66 @@
+-- What a pass adds to what was found.
+use Rattle.std.proofs.Common.{◌≡◌, ℕ, ◌+◌, Bool, true, false, List, get_or, refl, sym, subst, inl, inr, arith, Result, Ok, Err, Option, Some, None, IfNone, OnOk}
+use Rattle.std.specs.List.{AllWithin}
+use Rattle.std.proofs.lemmas.Bool.{cases_eq}
+use Rattle.fzn_domain.specs.IntSet.{IntSet}
+use Rattle.fzn_meaning.specs.declared.term.Place.{Place}
+use Rattle.fzn_builtin_rules.specs.Form.{Form}
+use Rattle.fzn_meaning.specs.declared.constraint.Constraint.{Constraint}
+use Rattle.fzn_trail.specs.Levels.{Levels}
+use Rattle.fzn_propagator.specs.declared.propagator.Inference.{Inference}
+use Rattle.fzn_propagator.specs.Inference.{IsInference, AreInferencesOf}
+use Rattle.fzn_builtin_rules.specs.declared.ends.Ends.{Ends}
+use Rattle.fzn_linear.specs.declared.form.SumForm.{SumForm}
+use Rattle.fzn_linear.specs.declared.pass.Pass.{Pass}
+use Rattle.fzn_linear.specs.declared.side.Side.{Side}
+use Rattle.fzn_linear.specs.Ends.{AreEnds}
+use Rattle.fzn_linear.specs.Kinds.{form_in, IsFormOf}
+use Rattle.fzn_linear.specs.Passes.{AddsInferences}
+use Rattle.fzn_linear.specs.Sum.{IsFormLeft, IsLeftAlone}
+use Rattle.fzn_linear.specs.Switched.{form_where, IsSwitchAt}
+
+module _ (number : ℕ) (sum : SumForm) (trail : Levels) where
+  pub adds_none : (xs : List Inference) → AddsInferences number sum trail xs xs
+  adds_none xs = record { still = λ constraint is all. all; kept = λ none. none }
+
+  pub adds_both : (xs ys zs : List Inference) → AddsInferences number sum trail xs ys → AddsInferences number sum trail ys zs → AddsInferences number sum trail xs zs
+  adds_both xs ys zs first second = record {
+    still = λ constraint is all. second.still constraint is (first.still constraint is all);
+    kept = λ none. first.kept (second.kept none);
+  }
+
+  pub still_inferences : (is_for : Constraint → Type 0) → ((constraint : Constraint) → is_for constraint → IsFormOf constraint sum) → (before after : List Inference) → AreInferencesOf number is_for trail before → AddsInferences number sum trail before after → AreInferencesOf number is_for trail after
+  still_inferences is_for by_form before after all adds = λ k d below constraint is.
+      (adds.still constraint (by_form constraint is) (record { all = λ i e inside other same. subst (λ (x : Constraint). IsInference number x trail (get_or before i e)) same (all i e inside constraint is) })).all k d below constraint refl
+
+-- ---- and where nothing is found
+
+pub ok_then : {T E P Q : Type 0} (result : Result T E) → OnOk result P → (P → Q) → OnOk result Q
+ok_then (Ok x) p f = f p
+ok_then (Err e) p f = tt
+
+pub none_then : {A : Type 0} (o : Option A) (P Q : Type 0) → (P → Q) → IfNone o P → IfNone o Q
+none_then None P Q f h = f h
+none_then (Some x) P Q f h = tt
+
+pub within_more : (P : Place → Type 0) (places : List Place) (i : ℕ) → AllWithin P places 0 i → ((d : Place) → P (get_or places i d)) → AllWithin P places 0 (i + 1)
+within_more P places i before here = λ k d after below. elim (cases_eq k i) [
+  | inl same ↦ subst (λ (n : ℕ). P (get_or places n d)) (sym same) (here d)
+  | inr other ↦ before k d after (omega arith)
+]
+
+pub both_left : (sets : List IntSet) (found : Form) → (IsSwitchAt sets found.switch true → IsFormLeft sets (form_where true found)) → (IsSwitchAt sets found.switch false → IsFormLeft sets (form_where false found)) → IsLeftAlone sets found
+both_left sets found on off true is = on is
+both_left sets found on off false is = off is
+
+-- a side of a pass
+module _ (side : Side) (pass : Pass) (on : Bool) (is : (side.pass ≡ pass) × (side.on ≡ on)) where
+  pub side_left : IsFormLeft side.pass.trail.now.sets (form_in side.sum.now) → IsFormLeft pass.trail.now.sets (form_where on (form_in pass.form.now))
+  side_left left =
+      let here = subst (λ (f : Form). IsFormLeft side.pass.trail.now.sets f) side.sum_is left in
+      subst (λ (b : Bool). IsFormLeft pass.trail.now.sets (form_where b (form_in pass.form.now))) is.1 (subst (λ (p : Pass). IsFormLeft p.trail.now.sets (form_where side.on (form_in p.form.now))) is.0 here)
+
+  pub side_ends : (ends : Ends) → AreEnds pass.trail.now.sets (form_where on (form_in pass.form.now)).places ends → AreEnds side.pass.trail.now.sets side.sum.now.places ends
+  side_ends ends are =
+      let there = subst (λ (b : Bool). AreEnds pass.trail.now.sets (form_where b (form_in pass.form.now)).places ends) (sym is.1) are in
+      subst (λ (f : Form). AreEnds side.pass.trail.now.sets f.places ends) (sym side.sum_is) (subst (λ (p : Pass). AreEnds p.trail.now.sets (form_where side.on (form_in p.form.now)).places ends) (sym is.0) there)
