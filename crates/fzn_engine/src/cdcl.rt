@@ -47,7 +47,7 @@ pub(crate) fn search<S: Sink, C: Constraints>(
         if let Some(ending) = ending {
             return Ok(ending);
         }
-        if solver.notes.take_settled() {
+        if solver.notes.settling.take_settled() {
             constraints.renew(model);
         } else {
             // The last entry may stand where one that was shown was dropped; those before it were not changed.

@@ -39,7 +39,7 @@ pub(crate) fn take_hints<S: Sink>(
     ensures left { IsLeft model.now (S.written sink.new) (S.keeps model.now sink.new) (S.origin sink.new ≡ S.origin sink.old) }
 {
     'hints: for _ in 0..MOST_HINTS {
-        if !solver.notes.is_hint_due() {
+        if !solver.notes.hints.is_hint_due() {
             return Ok(None);
         }
         let ending = take_next_hint(solver, alloc, model, limits, sink)?;
@@ -65,15 +65,15 @@ fn take_next_hint<S: Sink>(
     ensures left { IsLeft model.now (S.written sink.new) (S.keeps model.now sink.new) (S.origin sink.new ≡ S.origin sink.old) }
 {
     let Some(values) = sink.hint(alloc)? else {
-        solver.notes.heed_no_more();
+        solver.notes.hints.heed_no_more();
         return Ok(None);
     };
     if !is_new(solver, model, values.as_slice()) {
-        solver.notes.pass_over();
+        solver.notes.hints.pass_over();
         return Ok(None);
     }
     write_solution(solver, alloc, model, sink, values)?;
-    solver.notes.take_hint();
+    solver.notes.hints.take_hint();
     if is_reached(model.goal, limits.solutions, solver.found) {
         return Ok(Some(Ending::SolutionLimit));
     }

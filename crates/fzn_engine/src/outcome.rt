@@ -64,8 +64,8 @@ pub fn solve<S: Sink, C: Constraints>(
         solutions: solver.found,
         nodes: solver.search.nodes(),
         ending,
-        hints_taken: solver.notes.hints_taken(),
-        hints_passed_over: solver.notes.hints_passed_over(),
+        hints_taken: solver.notes.hints.taken(),
+        hints_passed_over: solver.notes.hints.passed_over(),
     })
 }
 

@@ -38,11 +38,11 @@ pub fn next_deletion(
     ensures thinned { IfOk result (λ found. IfSome found (λ _. IsThinned (held_by clauses.now) numbers.now inferences.now written.old written.new)) }
     ensures same { IfOk result (λ found. IfNone found (written.new ≡ written.old)) }
 {
-    if !notes.has_many_steps(alive.len()) {
+    if !notes.deleting.has_many(alive.len()) {
         return Ok(None);
     }
     let used = numbers_in_use(alloc, clauses, numbers.as_slice(), inferences)?;
-    notes.expect_steps(used.len());
+    notes.deleting.expect(used.len());
     let ids = idle_among(alloc, alive.as_slice(), used.as_slice())?;
     if ids.len() == 0 {
         return Ok(None);

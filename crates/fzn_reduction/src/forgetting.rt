@@ -28,15 +28,14 @@ pub fn forget(
 ) -> Result<(), Memory>
     ensures { HasForgotten trail.now cuts.now clauses.old clauses.new }
 {
-    if !notes.has_many() {
+    if !notes.stock.has_many() {
         return Ok(());
     }
     let flags = reasons_on(alloc, trail, clauses.len())?;
     let are_reasons = flags.as_slice();
     let worst = notes.take_worst(alloc, are_reasons)?;
     drop_idle(worst.as_slice(), LONG, are_reasons, cuts, clauses);
-    notes.forget(worst.as_slice())?;
-    if notes.is_sweep_due(variables) {
+    if notes.stock.is_sweep_due(variables) {
         clauses.sweep();
     }
     Ok(())
@@ -57,7 +56,6 @@ pub fn forget_units(
     let are_reasons = flags.as_slice();
     let units = notes.settle(alloc, trail.len(), are_reasons)?;
     drop_idle(units.as_slice(), 0, are_reasons, cuts, clauses);
-    notes.forget(units.as_slice())?;
     Ok(())
 }
 

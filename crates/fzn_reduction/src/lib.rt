@@ -13,13 +13,18 @@ pub use notes::Notes;
 pub use numbers::Numbers;
 pub use written::{Given, Written};
 
+mod cited;
 mod cuts;
+mod deleting;
 mod deletion;
 mod forgetting;
+mod hints;
 mod idle;
 mod notes;
 mod numbers;
 mod ranks;
 mod reasons;
 mod recent;
+mod settling;
+mod stock;
 mod written;

@@ -25,7 +25,7 @@ impl Solver {
         ensures reduced { OnOk result (IsReduced model.now self.old self.new (S.written sink.new)) }
         ensures left { IsLeft model.now (S.written sink.new) (S.keeps model.now sink.new) (S.origin sink.new ≡ S.origin sink.old) }
     {
-        self.notes.drop_cited(); // The places of written clauses change.
+        self.notes.cited.clear(); // The places of written clauses change.
         let found = next_deletion(
             alloc,
             &self.clauses,

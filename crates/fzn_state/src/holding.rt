@@ -44,8 +44,8 @@ impl Solver {
     pub(crate) fn hold_cited(&mut self) -> Result<(), Memory>
         ensures reduced { OnOk result ((model : Model) (steps : List Step) → IsAfter model self.old steps → IsReduced model self.old self.new steps) }
     {
-        'cited: for _ in 0..self.notes.count_cited() {
-            if let Some(place) = self.notes.next_cited() {
+        'cited: for _ in 0..self.notes.cited.len() {
+            if let Some(place) = self.notes.cited.next_cited() {
                 self.hold_written(place)?;
             }
         }
@@ -65,15 +65,15 @@ impl Solver {
         if clause.len() < 2 || SHORT < clause.len() {
             return Ok(());
         }
-        let Some(free) = self.notes.next_free(&self.clauses, &self.numbers) else {
+        let Some(free) = self.notes.stock.next_free(&self.clauses, &self.numbers) else {
             let id = self.clauses.add(clause)?;
             self.numbers.push(number)?;
-            self.notes.infer(id)?;
+            self.notes.stock.infer(id)?;
             return Ok(());
         };
         self.clauses.put(free, clause)?;
         self.numbers.set(free.0 as usize, number);
-        self.notes.infer(free)?;
+        self.notes.stock.infer(free)?;
         Ok(())
     }
 }

@@ -156,7 +156,7 @@ impl Solver {
         requires room { self.old.steps < 10 ^ 18 }
         ensures reduced { OnOk result ((model : Model) (steps : List Step) → HoldsNext model clause.now steps self.old self.new) }
     {
-        let Some(free) = self.notes.next_free(&self.clauses, &self.numbers) else {
+        let Some(free) = self.notes.stock.next_free(&self.clauses, &self.numbers) else {
             let id = self.hold(clause, [].as_slice(), None)?;
             return Ok(id);
         };

@@ -42,7 +42,7 @@ impl Solver {
             return Ok(());
         }
         if !are_moves(&self.trail) {
-            self.notes.expect_entries(self.trail.len());
+            self.notes.settling.expect_entries(self.trail.len());
             return Ok(());
         }
         want_units(&self.trail, &self.clauses, &mut self.notes.marks)?;
@@ -59,7 +59,11 @@ impl Solver {
         match self.learn {
             Learn::Plain => false,
             Learn::First => {
-                self.trail.level() == 0 && self.notes.has_many_entries(self.trail.len(), variables)
+                self.trail.level() == 0
+                    && self
+                        .notes
+                        .settling
+                        .has_many_entries(self.trail.len(), variables)
             }
         }
     }
@@ -71,7 +75,7 @@ impl Solver {
         requires state { (steps : List Step) × IsAfter model.now self.old steps }
         ensures kept { OnOk result ((steps : List Step) → IsAfter model.now self.old steps → IsKeptBy model.now steps self.old self.new) }
     {
-        self.notes.expect_entries(self.trail.len());
+        self.notes.settling.expect_entries(self.trail.len());
         self.clauses.look_at_all()?;
         let trail = settled(
             alloc,

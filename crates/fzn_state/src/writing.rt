@@ -103,7 +103,7 @@ impl Solver {
     {
         let given = self.written.get(known).number;
         self.inferences.set_number(place, given);
-        self.notes.cite(known)?;
+        self.notes.cited.cite(known)?;
         Ok(given)
     }
 
@@ -130,7 +130,7 @@ impl Solver {
         let number = self.steps + 1;
         let copy = Items::from_slice(alloc, clause.as_slice())?;
         let known = self.written.push(copy, number)?;
-        self.notes.cite(known)?;
+        self.notes.cited.cite(known)?;
         self.alive.push(number)?;
         let step = Step::Infer {
             constraint,

@@ -21,4 +21,4 @@ write_solution-requires-clause-passes g c =
 pub returns-then-is_reached-clause-takes : goal.returns-then-is_reached-clause-takes
 returns-then-is_reached-clause-takes g c =
     let w = c.in_ok-write_solution.ensures.written in
-    solution-limit c.args.limits c.args.solver.now (nothing-reduced w.state c.take_hint.new.self).state w.tally c.requires.within c.if-is_reached.ensures
+    solution-limit c.args.limits c.args.solver.now (nothing-reduced w.state (record c.write_solution.new.solver.notes { hints = c.take_hint.new.self })).state w.tally c.requires.within c.if-is_reached.ensures

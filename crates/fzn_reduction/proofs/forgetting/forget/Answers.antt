@@ -6,11 +6,6 @@ use Rattle.fzn_reduction.proofs.ForgetLemmas.{forgotten-swept, forgotten-through
 use Rattle.fzn_reduction.proofs.forgetting.forget.Goals as goal
 use Rattle.fzn_reduction.proofs.forgetting.forget.Goals.{then-is_sweep_due, else-is_sweep_due}
 
-pub returns-in_err-forget : goal.returns-in_err-forget
-returns-in_err-forget c =
-    let F : List Bool → Type 0 = λ flags. AreFlagged flags c.args.trail.now in
-    c.drop_idle.ensures c.args.trail.now (subst F (sym c.as_slice-are_reasons.ensures.value) c.in_ok-flags.ensures)
-
 pub returns : goal.returns
 returns c =
     let F : List Bool → Type 0 = λ flags. AreFlagged flags c.args.trail.now in

@@ -17,5 +17,5 @@ pub returns-clause-written : goal.returns-clause-written
 returns-clause-written c model steps h =
     let old = c.args.self.now in
     let gives = ap (λ (g : Given). clause_held (past_after model steps) g.number) c.get.ensures ∙ written-given h c.args.known c.requires.given.0 ∙ ap Some c.requires.given.1 in
-    let W : List Inferred → Type 0 = λ stack. IsWritten model steps c.args.self.now (record c.args.self.now { inferences = stack; notes = c.cite.new.self }) steps in
-    subst W (sym c.set_number.ensures) (infer-given h c.args.place c.requires.stacked c.get.result.now.number gives c.cite.new.self)
+    let W : List Inferred → Type 0 = λ stack. IsWritten model steps c.args.self.now (record c.args.self.now { inferences = stack; notes = record c.args.self.now.notes { cited = c.cite.new.self } }) steps in
+    subst W (sym c.set_number.ensures) (infer-given h c.args.place c.requires.stacked c.get.result.now.number gives (record c.args.self.now.notes { cited = c.cite.new.self }))

@@ -15,8 +15,8 @@ returns-in_default c =
     let held = c.in_ok-id.ensures.ok ∙ ap (λ (clause : List Lit). held_by c.args.self.now.clauses ++ Some clause ∷ []) (c.as_slice-clause.ensures ∙ ap (λ (g : Given). g.clause) c.get-given.ensures) in
     record {
       reduced = λ model steps h.
-          let N : List ℕ → Type 0 = λ numbers. IsReduced model c.args.self.now (record c.args.self.now { clauses = c.add.new.self; numbers = numbers; notes = c.infer.new.self }) steps in
-          subst N (sym numbers) (more-reduced h c.args.place within c.add.new.self held c.in_ok-id.ensures.watching c.infer.new.self);
+          let N : List ℕ → Type 0 = λ numbers. IsReduced model c.args.self.now (record c.args.self.now { clauses = c.add.new.self; numbers = numbers; notes = record c.args.self.now.notes { stock = c.infer.new.self } }) steps in
+          subst N (sym numbers) (more-reduced h c.args.place within c.add.new.self held c.in_ok-id.ensures.watching (record c.args.self.now.notes { stock = c.infer.new.self }));
     }
 
 pub returns : goal.returns
@@ -27,6 +27,6 @@ returns c =
     let held = c.in_ok-put.ensures.ok ∙ ap (λ (clause : List Lit). set (held_by c.args.self.now.clauses) free.0 (Some clause)) (c.as_slice-clause.ensures ∙ ap (λ (g : Given). g.clause) c.get-given.ensures) in
     record {
       reduced = λ model steps h.
-          let N : List ℕ → Type 0 = λ numbers. IsReduced model c.args.self.now (record c.args.self.now { clauses = c.put.new.self; numbers = numbers; notes = c.infer-2.new.self }) steps in
-          subst N (sym numbers) (put-reduced h c.args.place within c.put.new.self free c.in-Some.ensures.in_range c.in-Some.ensures.free held c.in_ok-put.ensures.watching c.infer-2.new.self);
+          let N : List ℕ → Type 0 = λ numbers. IsReduced model c.args.self.now (record c.args.self.now { clauses = c.put.new.self; numbers = numbers; notes = record c.args.self.now.notes { stock = c.infer-2.new.self } }) steps in
+          subst N (sym numbers) (put-reduced h c.args.place within c.put.new.self free c.in-Some.ensures.in_range c.in-Some.ensures.free held c.in_ok-put.ensures.watching (record c.args.self.now.notes { stock = c.infer-2.new.self }));
     }

@@ -29,7 +29,7 @@ has_no_more_values-requires-clause-one c =
 
 pub returns-then-not-has_no_more_values : goal.returns-then-not-has_no_more_values
 returns-then-not-has_no_more_values c = record {
-  kept = λ steps h. reduced-kept (swept-reduced h c.look_at_all.new.self c.in_ok-look_at_all.ensures.held c.in_ok-look_at_all.ensures.watching c.expect_entries.new.self);
+  kept = λ steps h. reduced-kept (swept-reduced h c.look_at_all.new.self c.in_ok-look_at_all.ensures.held c.in_ok-look_at_all.ensures.watching (record c.args.self.now.notes { settling = c.expect_entries.new.self }));
 }
 
 pub drop_inferences-requires : goal.drop_inferences-requires
@@ -37,8 +37,8 @@ drop_inferences-requires c =
     let h = c.requires.state.1 in
     let same : declared_sets c.as_slice.result.now ≡ c.args.self.now.trail.declared = ap declared_sets c.as_slice.ensures ∙ sym h.state.core.declared in
     let R : List IntSet → Type 0 = λ declared. IsPropagated (held_by c.look_at_all.new.self) (fresh declared) c.in_ok-trail.trail in
-    let kept = renewed-kept h c.requires.first c.requires.level c.look_at_all.new.self c.in_ok-look_at_all.ensures.held c.in_ok-trail.trail (subst R same c.in_ok-trail.ensures.propagated) c.in_ok-trail.ensures.watching (c.if-not-has_no_more_values.ensures refl) c.expect_entries.new.self in
-    let anew = record c.args.self.now { clauses = c.look_at_all.new.self; trail = c.in_ok-trail.trail; notes = c.expect_entries.new.self } in
+    let kept = renewed-kept h c.requires.first c.requires.level c.look_at_all.new.self c.in_ok-look_at_all.ensures.held c.in_ok-trail.trail (subst R same c.in_ok-trail.ensures.propagated) c.in_ok-trail.ensures.watching (c.if-not-has_no_more_values.ensures refl) (record c.args.self.now.notes { settling = c.expect_entries.new.self }) in
+    let anew = record c.args.self.now { clauses = c.look_at_all.new.self; trail = c.in_ok-trail.trail; notes = record c.args.self.now.notes { settling = c.expect_entries.new.self } } in
     AllBelow-reasoned (stock_of anew) c.in_ok-trail.trail (length c.args.self.now.inferences) kept.state.state.core.reasoned refl
 
 pub returns : goal.returns
@@ -46,8 +46,8 @@ returns c = record {
   kept = λ steps h.
       let same : declared_sets c.as_slice.result.now ≡ c.args.self.now.trail.declared = ap declared_sets c.as_slice.ensures ∙ sym h.state.core.declared in
       let R : List IntSet → Type 0 = λ declared. IsPropagated (held_by c.look_at_all.new.self) (fresh declared) c.in_ok-trail.trail in
-      let anew = renewed-kept h c.requires.first c.requires.level c.look_at_all.new.self c.in_ok-look_at_all.ensures.held c.in_ok-trail.trail (subst R same c.in_ok-trail.ensures.propagated) c.in_ok-trail.ensures.watching (c.if-not-has_no_more_values.ensures refl) c.expect_entries.new.self in
-      let K : Searching → Type 0 = λ search. IsKeptBy c.args.model.now steps c.args.self.now (record c.args.self.now { clauses = c.look_at_all.new.self; trail = c.in_ok-trail.trail; notes = c.expect_entries.new.self; search = search }) in
+      let anew = renewed-kept h c.requires.first c.requires.level c.look_at_all.new.self c.in_ok-look_at_all.ensures.held c.in_ok-trail.trail (subst R same c.in_ok-trail.ensures.propagated) c.in_ok-trail.ensures.watching (c.if-not-has_no_more_values.ensures refl) (record c.args.self.now.notes { settling = c.expect_entries.new.self }) in
+      let K : Searching → Type 0 = λ search. IsKeptBy c.args.model.now steps c.args.self.now (record c.args.self.now { clauses = c.look_at_all.new.self; trail = c.in_ok-trail.trail; notes = record c.args.self.now.notes { settling = c.expect_entries.new.self }; search = search }) in
       let kept = subst K (sym c.undo.ensures.same) anew in
       let less = dropped-reduced kept.state c.drop_inferences.ensures in
       let left = reduced-through less (forgotten-reduced less.state c.forget_units.new.clauses c.forget_units.ensures c.forget_units.new.notes) in

@@ -45,5 +45,5 @@ returns-clause-written g c =
     let copied : c.in_ok-copy.copy ≡ it.clause = c.in_ok-copy.ensures ∙ c.as_slice.ensures ∙ ap (λ (i : Inferred). i.clause) k.ensures in
     let written = c.in_ok-known.ensures ∙ ap (λ (clause : List Lit). old.written ++ record { clause = clause; number = old.steps + 1 } ∷ []) copied in
     infer-written c.requires.ready.state c.args.place c.requires.stacked
-    (c.in_ok-step.ensures.ok ∙ ap (λ (s : Step). g.S.Sink.written c.args.sink.now ++ s ∷ []) same) c.in_ok-step.ensures.few (old.steps + 1) refl c.cite.new.self _
-    (λ i. record old { inferences = c.set_number.ensures i; written = written i; alive = c.in_ok-push.ensures.ok i; notes = c.cite.new.self; steps = old.steps + 1 })
+    (c.in_ok-step.ensures.ok ∙ ap (λ (s : Step). g.S.Sink.written c.args.sink.now ++ s ∷ []) same) c.in_ok-step.ensures.few (old.steps + 1) refl (record old.notes { cited = c.cite.new.self }) _
+    (λ i. record old { inferences = c.set_number.ensures i; written = written i; alive = c.in_ok-push.ensures.ok i; notes = record old.notes { cited = c.cite.new.self }; steps = old.steps + 1 })

@@ -1,0 +1,51 @@
+// When steps are deleted.
+use fzn_strategy::Learn;
+
+/// How many steps beyond those in use are written before some are deleted: as many as these, and so many more, but no more of the
+/// first than the last of the numbers.
+const IDLE: usize = 10_000;
+
+const MOST_IDLE: usize = 100_000;
+
+/// When steps of the certificate are deleted: once many are written since, and after restarts that forget clauses.
+#[derive(Debug, Drop)]
+pub struct Deleting {
+    /// What is learned: in plain learning no step is ever deleted.
+    learn: Learn,
+    /// Whether clauses were forgotten since steps were deleted last.
+    has_forgotten: bool,
+    /// With how many steps that are not deleted some are.
+    next: usize,
+}
+
+impl Deleting {
+    pub(crate) fn new(learn: Learn) -> Deleting {
+        Deleting {
+            learn,
+            has_forgotten: false,
+            next: IDLE,
+        }
+    }
+
+    /// Clauses are forgotten, some or none, at a restart or between two. Where some were since steps were deleted last, a restart has steps
+    /// deleted.
+    pub(crate) fn forget(&mut self, some: bool, is_restart: bool) {
+        self.has_forgotten |= some;
+        if is_restart && self.has_forgotten {
+            self.next = 0;
+        }
+    }
+
+    /// Whether some of so many steps are to be deleted.
+    pub(crate) fn has_many(&self, steps: usize) -> bool {
+        self.learn == Learn::First && steps >= self.next
+    }
+
+    /// So many steps are in use.
+    pub(crate) fn expect(&mut self, used: usize) {
+        self.has_forgotten = false;
+        self.next = used
+            .saturating_add(used.min(MOST_IDLE))
+            .saturating_add(IDLE);
+    }
+}
