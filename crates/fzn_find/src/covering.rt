@@ -17,7 +17,7 @@ const MOST_CLIQUES: usize = 1_000;
 const MOST_NAMED: u64 = 1_000_000;
 
 /// So many edges are looked for at the most, while cliques are grown.
-const MOST_LOOKS: u64 = 2_000_000;
+const MOST_LOOKS: u64 = 1_000_000;
 
 /// Cliques of at least three variables of which constraints tell each two apart (`int_ne`, or `int_lin_ne` of their difference and 0).
 /// Each begins with two that are in none before it, and grows while it can. It answers `Err` where memory runs out.

@@ -12,13 +12,18 @@ use fzn_meaning::Model;
 use std::alloc::Global;
 
 /// A multiplier of 1, while multipliers are sought.
-const ONE: i64 = 1 << 20;
+const ONE: i64 = 1 << 32;
 
-/// What is 1 among the multipliers that are found, from the finest on: a coarser one is taken where coefficients become too large.
-const GRIDS: [i64; 4] = [1024, 64, 8, 1];
+/// What is 1 among the multipliers that are found: the first that serves. A finer one is tried where rows have large coefficients and the
+/// objective small ones, a coarser one where coefficients become too large.
+const GRIDS: [i64; 5] = [1024, 1 << 20, 64, 8, 1];
+
+/// Rounding may lose one part of so many of what the bound has risen; if every grid loses more, then all of it but what makes it worth a
+/// sum.
+const PARTS: [i128; 2] = [16, 1];
 
 /// No multiplier makes a coefficient larger while multipliers are sought.
-const LARGEST: i64 = 1 << 50;
+const LARGEST: i64 = 1 << 56;
 
 /// No coefficient and no bound of what is found is larger.
 const MOST: i128 = 1_000_000_000;
@@ -41,12 +46,13 @@ const LEAST_STEP: i64 = 3;
 /// A bound has to rise by one part of so many, else it is not worth a sum.
 const WORTH: i128 = 200;
 
-/// A violation of 1 by a row of norm 1.
+/// What a violation of 1 counts, of a row of norm 1.
 const UNIT: i64 = 1024;
 
-/// One sum of rows of the model, each times a number, that bounds the objective better than single rows do, or,
-/// where there is none, that nothing meets; or no sum. The multipliers are sought by a subgradient method. It answers `Err` where memory
-/// runs out.
+/// One sum of constraints of the model that have a form without a switch and that are at most their bound or are it, each times a number:
+/// it bounds the objective better than single constraints do, or, where there is no objective, nothing meets it. No sum where none
+/// is found. The multipliers are sought by the subgradient method, which moves them towards the constraints that are violated where the
+/// sum is least. It answers `Err` where memory runs out.
 pub fn multipliers(alloc: Global, model: &Model) -> Result<Items<Derivation>, Memory>
     requires { IsWellFormed model.now }
 {
@@ -72,10 +78,12 @@ pub fn push_multipliers(
     if !ascent.is_worth(ascent.best, ONE) {
         return Ok(());
     }
-    for grid in GRIDS {
-        if let Some(multiples) = ascent.rounded(alloc, &problem, grid)? {
-            found.push(Derivation::Sum(multiples))?;
-            return Ok(());
+    for parts in PARTS {
+        for grid in GRIDS {
+            if let Some(multiples) = ascent.rounded(alloc, &problem, grid, parts)? {
+                found.push(Derivation::Sum(multiples))?;
+                return Ok(());
+            }
         }
     }
     Ok(())
@@ -92,7 +100,7 @@ struct Weight {
     most: i64,
     /// The root of the sum of the squares of its coefficients.
     norm: i64,
-    /// How far the sum lies above its bound, in units, by the norm.
+    /// How far the sum lies above its bound where the Lagrangian is least, in units, by the norm.
     excess: i64,
     /// The direction in which the multiplier moves.
     momentum: i64,
@@ -308,24 +316,31 @@ impl Ascent {
         }
         let one = ONE as i128;
         let first = narrowed(self.first) as i128;
-        let bound = (narrowed(bound) as i128).wrapping_mul(one) / (scale.max(1) as i128);
+        let bound = rescaled(bound, scale);
         let rise = bound.wrapping_sub(first);
         let least = one.wrapping_add(first.wrapping_abs()) / WORTH;
         least < rise && ceiling(first) < ceiling(bound)
     }
 
-    /// The best multipliers on a grid, where they are as good and make no coefficient too large.
+    /// Whether the bound, times this number, lies below the best by at most one part of so many of what that has risen.
+    fn is_near(&self, bound: i128, scale: i64, parts: i128) -> bool {
+        let lost = self.best.wrapping_sub(rescaled(bound, scale));
+        lost.wrapping_mul(parts) <= self.best.wrapping_sub(self.first)
+    }
+
+    /// The best multipliers on a grid, where they are nearly as good and make no coefficient too large.
     fn rounded(
         &mut self,
         alloc: Global,
         problem: &Problem,
         grid: i64,
+        parts: i128,
     ) -> Result<Option<Items<Multiple>>, Memory> {
         for weight in self.weights.iter_mut() {
             weight.multiplier = rounded(weight.best, grid);
         }
         let bound = self.bound(problem, grid);
-        if !self.is_worth(bound, grid) {
+        if !self.is_worth(bound, grid) || !self.is_near(bound, grid, parts) {
             return Ok(None);
         }
         let mut all = Vec::new(alloc);
@@ -367,10 +382,16 @@ impl Ascent {
     }
 }
 
+/// A bound that was taken times one number, times `ONE` instead.
+fn rescaled(bound: i128, scale: i64) -> i128 {
+    (narrowed(bound) as i128).wrapping_mul(ONE as i128) / (scale.max(1) as i128)
+}
+
 /// A multiplier on a grid.
 fn rounded(multiplier: i64, grid: i64) -> i64 {
     let half = if multiplier < 0 { -(ONE / 2) } else { ONE / 2 };
-    multiplier.saturating_mul(grid).saturating_add(half) / ONE
+    let whole = (multiplier as i128).wrapping_mul(grid as i128);
+    narrowed(whole.wrapping_add(half as i128) / ONE as i128)
 }
 
 /// The greatest number that divides all multipliers, and 1 where there are none.

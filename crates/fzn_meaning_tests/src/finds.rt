@@ -1,0 +1,132 @@
+// What is found to be derived, on a small model for each way.
+use crate::kinds::model_of;
+use fzn_derive::{Derivation, Multiple};
+use fzn_domain::Memory;
+use fzn_find::{cliques, eliminated, found, merged, multipliers};
+use std::alloc::Global;
+use std::fmt::Write;
+use std::test::*;
+
+const REPEATED: &str =
+    "var 0..5: x; var 0..5: y; constraint int_plus(x,y,x); constraint int_lin_le([2,3,-1],[x,y,x],4); solve satisfy;";
+
+const APART: &str = "var 1..2: u; var 1..2: v; var 1..2: w;
+    constraint int_ne(u,v); constraint int_lin_ne([3,-3],[u,w],0); constraint int_ne(w,v); solve satisfy;";
+
+const ODD: &str = "var bool: a; var bool: b; var bool: c; var bool: d;
+    constraint array_bool_xor([a,b,c]); constraint array_bool_xor([b,c,d]); solve satisfy;";
+
+/// The three together.
+const EACH: &str =
+    "var 0..5: x; var 0..5: y; var 1..2: u; var 1..2: v; var 1..2: w; var bool: a; var bool: b; var bool: c; var bool: d;
+    constraint int_plus(x,y,x); constraint int_lin_le([2,3,-1],[x,y,x],4);
+    constraint int_ne(u,v); constraint int_lin_ne([3,-3],[u,w],0); constraint int_ne(w,v);
+    constraint array_bool_xor([a,b,c]); constraint array_bool_xor([b,c,d]); solve satisfy;";
+
+/// At most one of each two, and at least two of all three.
+const CROWDED: &str =
+    "var 0..1: x; var 0..1: y; var 0..1: z; constraint int_lin_le([1,1],[x,y],1); constraint int_lin_le([1,1],[y,z],1);
+    constraint int_lin_le([1,1],[x,z],1); constraint int_lin_le([-1,-1,-1],[x,y,z],-2); solve satisfy;";
+
+/// Multipliers with constraints, or variables with constraints, or constraints.
+fn write_one(text: &mut String, derivation: &Derivation) -> Result<(), Memory> {
+    match derivation {
+        Derivation::Sum(multiples) => {
+            for multiple in multiples.as_slice() {
+                write!(text, "{}*{} ", multiple.multiplier, multiple.constraint)?;
+            }
+        }
+        Derivation::Parity(constraints) => {
+            for constraint in constraints.as_slice() {
+                write!(text, "{constraint} ")?;
+            }
+        }
+        Derivation::AllDifferent {
+            variables,
+            constraints,
+        } => {
+            for variable in variables.as_slice() {
+                write!(text, "x{} ", variable.0)?;
+            }
+            for constraint in constraints.as_slice() {
+                write!(text, "{constraint} ")?;
+            }
+        }
+    }
+    text.push_str("; ")?;
+    Ok(())
+}
+
+fn written(alloc: Global, derivations: &[Derivation]) -> Result<String, Memory> {
+    let mut text = String::new(alloc);
+    for derivation in derivations {
+        write_one(&mut text, derivation)?;
+    }
+    Ok(text)
+}
+
+#[test]
+fn sums_of_which_a_variable_stands_twice(rt: HostRuntime) -> Result<(), Fail> {
+    let model = model_of(rt.alloc(), REPEATED)?;
+    let derivations = merged(rt.alloc(), &model)?;
+    let text = written(rt.alloc(), derivations.as_slice())?;
+    assert!(rt; text.as_str() == "1*1 ; -1*1 ; 1*2 ; ");
+    Ok(())
+}
+
+#[test]
+fn variables_apart_two_by_two(rt: HostRuntime) -> Result<(), Fail> {
+    let model = model_of(rt.alloc(), APART)?;
+    let derivations = cliques(rt.alloc(), &model)?;
+    let text = written(rt.alloc(), derivations.as_slice())?;
+    assert!(rt; text.as_str() == "x1 x2 x3 1 2 3 ; ");
+    Ok(())
+}
+
+#[test]
+fn odd_sums_together(rt: HostRuntime) -> Result<(), Fail> {
+    let model = model_of(rt.alloc(), ODD)?;
+    let derivations = eliminated(rt.alloc(), &model)?;
+    let text = written(rt.alloc(), derivations.as_slice())?;
+    assert!(rt; text.as_str() == "1 2 ; ");
+    Ok(())
+}
+
+#[test]
+fn all_that_is_found(rt: HostRuntime) -> Result<(), Fail> {
+    let model = model_of(rt.alloc(), EACH)?;
+    let derivations = found(rt.alloc(), &model)?;
+    let text = written(rt.alloc(), derivations.as_slice())?;
+    assert!(rt; text.as_str() == "1*1 ; -1*1 ; 1*2 ; x3 x4 x5 3 4 5 ; 6 7 ; ");
+    Ok(())
+}
+
+/// Whether nothing meets this sum of the four constraints of three Booleans.
+fn is_refuting(multiples: &[Multiple]) -> bool {
+    let [xy, yz, xz, all] = multiples else {
+        return false;
+    };
+    let pairs = xy
+        .multiplier
+        .saturating_add(yz.multiplier)
+        .saturating_add(xz.multiplier);
+    let bound = pairs.saturating_sub(all.multiplier.saturating_mul(2));
+    let mut least = 0i64;
+    for pair in [xy, yz, xz] {
+        let others = pairs.saturating_sub(pair.multiplier); // Those of the variable that is not in the pair.
+        least = least.saturating_add(others.saturating_sub(all.multiplier).min(0));
+    }
+    bound < least
+}
+
+#[test]
+fn a_sum_that_nothing_meets(rt: HostRuntime) -> Result<(), Fail> {
+    let model = model_of(rt.alloc(), CROWDED)?;
+    let derivations = multipliers(rt.alloc(), &model)?;
+    let is_refuted = match derivations.as_slice() {
+        [Derivation::Sum(multiples)] => is_refuting(multiples.as_slice()),
+        _ => false,
+    };
+    assert!(rt; is_refuted);
+    Ok(())
+}
