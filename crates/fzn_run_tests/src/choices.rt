@@ -4,9 +4,9 @@ use crate::runs::options_of;
 use std::alloc::Global;
 use std::test::Fail;
 
-/// A number of which the annotation tries the greatest value first.
+/// A number that is minimised, of which the annotation tries the greatest value first.
 const GREATEST: &str =
-    "var 0..3: x :: output_var; solve :: int_search([x], input_order, indomain_max) satisfy;";
+    "var 0..3: x :: output_var; solve :: int_search([x], input_order, indomain_max) minimize x;";
 
 /// One of two is true: the one that is decided last.
 const ONE_OF_TWO: &str =
@@ -18,18 +18,24 @@ const DIFFERENT: &str =
 
 const NO_ANSWER: &[u8] = b"=====UNSATISFIABLE=====\n";
 
-/// Whether a run that follows annotations, or is free of them, gives this answer.
+/// Whether a run of one decision that follows annotations, or is free of them, gives this answer.
 fn is_greatest(alloc: Global, free: bool, answer: &[u8]) -> bool {
-    let mut options = options_of(alloc, false, 100);
+    let mut options = options_of(alloc, false, 1);
     options.free = free;
     let mut cert: Vec<u8> = Vec::new(alloc);
     is_answered(alloc, GREATEST, &options, answer, &mut cert)
 }
 
 #[test]
-fn a_free_search_follows_no_annotation(rt: HostRuntime) {
+fn a_free_search_takes_the_cheapest_value(rt: HostRuntime) {
     assert!(rt; is_greatest(rt.alloc(), false, b"x = 3;\n----------\n".as_slice()));
-    assert!(rt; is_greatest(rt.alloc(), true, b"x = 0;\n----------\n".as_slice()));
+    assert!(rt;
+        is_greatest(
+            rt.alloc(),
+            true,
+            b"x = 0;\n----------\n==========\n".as_slice()
+        )
+    );
 }
 
 /// With how many of ten seeds a run gives this answer.

@@ -6,8 +6,8 @@ use rand_pcg::Pcg32;
 /// What is asked of the search besides the annotations.
 #[derive(Clone, Copy, Debug, PartialEq, Eq)]
 pub struct Choice {
-    /// Activity decides throughout, and the annotations say nothing. Otherwise each decision is what the annotations want as long as a
-    /// variable of theirs is not fixed, after each restart too; activity decides the variables that stand in none.
+    /// Activity decides every variable, and annotations only help to find the first solution. Otherwise each decision is what the annotations
+    /// want as long as a variable of theirs is not fixed, after each restart too; activity decides the variables that stand in none.
     pub free: bool,
     /// Of equals the first is taken, and with a seed one by random words.
     pub seed: Option<u64>,

@@ -4,16 +4,22 @@ ghost use Rattle.std.specs.Prelude.{◌≡◌, length};
 
 use crate::choice::{Choice, Ties};
 use crate::comparisons::Comparisons;
+use crate::costs::Costs;
 use crate::heap::Heap;
 use crate::open::{greatest_value, least_value, open_domain, value_left};
 use crate::order::Order;
+use crate::pricing::costs_of;
 use crate::probes::Probes;
 use crate::restarts::Restarts;
-use fzn_domain::{Domain, GREATEST_VALUE, LEAST_VALUE, Lit, Memory, Op};
-use fzn_meaning::{Goal, Var};
+use fzn_domain::{Domain, GREATEST_VALUE, LEAST_VALUE, Lit, Memory, Op, VarId};
+use fzn_meaning::{Goal, Model, Var};
 use fzn_strategy::Annotation;
 use fzn_trail::Trail;
 use std::alloc::Global;
+
+/// Where activity decides every variable: until a solution is found, one in so many periods between restarts is the annotations', the first
+/// of all included.
+const TURNS: u64 = 3;
 
 /// The order of the annotations, and beside it what conflicts told of the variables that stand in none.
 #[derive(Drop)]
@@ -23,6 +29,8 @@ pub struct Guide {
     bounds: Vec<(i64, i64)>,
     /// By variable: the value that it had last, where activity decides it, but for those under a probe.
     last_values: Vec<Option<i64>>,
+    /// By variable: its value in the last solution, where activity decides every variable.
+    found_values: Vec<Option<i64>>,
     comparisons: Comparisons,
     /// The variables by their activity.
     activity: Heap,
@@ -30,8 +38,15 @@ pub struct Guide {
     restarts: Option<Restarts>,
     /// What the search assumes of the objective at some restarts, where activity decides every variable.
     probes: Probes,
-    /// Whether activity decides every variable, and not only those that stand in no annotation.
+    /// Whether activity decides every variable, and not only those that stand in no annotation; annotations then only help to find the
+    /// first solution.
     free: bool,
+    /// Whether a solution was found.
+    has_solution: bool,
+    /// How many restarts there were that no probe asked for.
+    restarted: u64,
+    /// What is tried first until a solution is found, where activity decides every variable.
+    costs: Costs,
     /// The variable that is maximised, if one is, counted from 0: of its values the greatest are tried first, of all others the least.
     maximised: Option<usize>,
 }
@@ -39,11 +54,11 @@ pub struct Guide {
 impl Guide {
     pub fn new(
         alloc: Global,
-        vars: &[Var],
-        goal: Goal,
+        model: &Model,
         annotations: &[Annotation],
         choice: Choice,
     ) -> Result<Guide, Memory> {
+        let vars = model.vars.as_slice();
         let mut ties = Ties::new(choice.seed);
         let order = Order::new(alloc, vars.len(), annotations, &mut ties)?;
         let activity = by_rank(alloc, vars.len(), &order, &mut ties)?;
@@ -51,13 +66,21 @@ impl Guide {
             order,
             bounds: bounds_of(alloc, vars)?,
             last_values: vec![in alloc; None; vars.len()]?,
+            found_values: vec![in alloc; None; vars.len()]?,
             comparisons: Comparisons::new(alloc, vars.len())?,
             activity,
             ties,
             restarts: choice.restart_after.map(|first| Restarts::new(first)),
-            probes: Probes::new(goal),
+            probes: Probes::new(model.goal),
             free: choice.free,
-            maximised: maximised_by(goal),
+            has_solution: false,
+            restarted: 0,
+            costs: if choice.free {
+                costs_of(alloc, model)?
+            } else {
+                Costs::none(alloc)
+            },
+            maximised: maximised_by(model.goal),
         })
     }
 
@@ -72,21 +95,49 @@ impl Guide {
     pub fn next(&mut self, trail: &Trail, vars: usize) -> Option<Lit>
         requires { vars ≡ length trail.now.declared }
     {
-        if !self.free {
-            if let Some(lit) = self.order.next(trail, vars) {
+        if self.free {
+            if let Some(lit) = self.probes.next(trail, vars) {
                 return Some(lit);
             }
-        } else if let Some(lit) = self.probes.next(trail, vars) {
+        }
+        if let Some(lit) = self.annotated(trail, vars) {
             return Some(lit);
         }
         if let Some(comparison) = self.comparisons.most_active(trail, vars) {
-            return Some(self.as_last(comparison));
+            return Some(self.as_last(trail, vars, comparison));
         }
         let number = self.most_active(trail, vars)?;
+        if let Some(lit) = self.cheapest(trail, vars, number) {
+            return Some(lit);
+        }
         if self.maximised == Some(number) {
             greatest_value(trail, vars, number)
         } else {
             least_value(trail, vars, number)
+        }
+    }
+
+    /// What the annotations want, where it is for them to decide; of a variable that is known to cost something the cheapest value.
+    fn annotated(&mut self, trail: &Trail, vars: usize) -> Option<Lit>
+        requires { vars ≡ length trail.now.declared }
+    {
+        if self.free && (self.has_solution || self.restarted % TURNS != 0) {
+            return None;
+        }
+        let lit = self.order.next(trail, vars)?;
+        let cheapest = self.cheapest(trail, vars, lit.var.0.saturating_sub(1));
+        Some(cheapest.unwrap_or(lit))
+    }
+
+    /// The variable of this number, counted from 0, takes its cheapest value, where no solution was found yet and it is known to cost
+    /// something.
+    fn cheapest(&self, trail: &Trail, vars: usize, number: usize) -> Option<Lit>
+        requires { vars ≡ length trail.now.declared }
+    {
+        if self.has_solution {
+            None
+        } else {
+            self.costs.cheapest(trail, vars, number)
         }
     }
 
@@ -104,12 +155,14 @@ impl Guide {
         None
     }
 
-    /// The comparison or its opposite, whichever the last value of its variable made true. Where there was none, a bound from above, or
-    /// from below where the variable is maximised.
-    fn as_last(&self, comparison: Lit) -> Lit {
+    /// The comparison or its opposite, whichever the last value of its variable made true. Where there was none, its cheapest value counts,
+    /// and where none is known to be cheap, it is a bound from above, or from below where the variable is maximised.
+    fn as_last(&self, trail: &Trail, vars: usize, comparison: Lit) -> Lit
+        requires { vars ≡ length trail.now.declared }
+    {
         let number = comparison.var.0.saturating_sub(1);
-        let last = self.last_values.get(number).copied().flatten();
-        let is_true = match last {
+        let cheapest = || self.cheapest(trail, vars, number).map(|lit| lit.value);
+        let is_true = match self.suggested(number).or_else(cheapest) {
             Some(value) => comparison.is_true_at(value),
             None => comparison.op == Op::AtMost && self.maximised != Some(number),
         };
@@ -117,6 +170,17 @@ impl Guide {
             comparison
         } else {
             comparison.negated()
+        }
+    }
+
+    /// The value that the variable of this number, counted from 0, had last, or in every second period between restarts that of the last
+    /// solution, if one was found.
+    fn suggested(&self, number: usize) -> Option<i64> {
+        let found = self.found_values.get(number).copied().flatten();
+        if found.is_some() && self.restarted % 2 == 0 {
+            found
+        } else {
+            self.last_values.get(number).copied().flatten()
         }
     }
 
@@ -140,6 +204,22 @@ impl Guide {
                 }
                 self.activity.put(number);
                 self.comparisons.set_free(number);
+            }
+        }
+    }
+
+    /// Each variable has one value: a solution is found.
+    pub fn found(&mut self, trail: &Trail, vars: usize)
+        requires { vars ≡ length trail.now.declared }
+    {
+        self.has_solution = true;
+        if !self.free {
+            return;
+        }
+        for number in 0..vars {
+            let domain = trail.domain(VarId(number + 1));
+            if number < self.found_values.len() && !domain.is_empty() {
+                self.found_values[number] = Some(domain.min());
             }
         }
     }
@@ -179,6 +259,7 @@ impl Guide {
         if self.probes.is_trying() || !restarts.count_conflict() {
             return false;
         }
+        self.restarted = self.restarted.saturating_add(1);
         self.probes.restart();
         true
     }

@@ -1,14 +1,14 @@
 //! Which literal is assumed next.
 //!
-//! In: the declared variables, search annotations and what is asked besides; the trail; which entries of it are about to be dropped; the
-//! literals that a conflict rests on. Out: a literal that is neither true nor false on the trail, where some variable has more than
-//! one value, and else the values; after a conflict whether to restart. The definitions are in `specs/Fixed.antt`. The clause that a
-//! solution adds is `cut`.
+//! In: a model, search annotations and what is asked besides; the trail; which entries of it are about to be dropped; the literals that
+//! a conflict rests on. Out: a literal that is neither true nor false on the trail, where some variable has more than one value, and
+//! else the values; after a conflict whether to restart. The definitions are in `specs/Fixed.antt`. The clause that a solution adds is
+//! `cut`.
 //!
 //! Contracts see the number of variables and of decisions alone. All else steers: the order of the annotations, the activity of
-//! comparisons and of variables, the values that variables had last. None of it is trusted; a decision is tested on the trail, so
-//! only its use is at stake. No decision passes over all variables: what may be open stands in heaps, which lose what is met fixed
-//! and get it back as it is undone.
+//! comparisons and of variables, the values that variables had last and in the last solution, what values cost. None of it is trusted; a
+//! decision is tested on the trail, so only its use is at stake. No decision passes over all variables: what may be open stands in
+//! heaps, which lose what is met fixed and get it back as it is undone.
 #![tactic(auto)]
 
 pub use choice::Choice;
@@ -18,11 +18,13 @@ pub use search::{Search, values_of};
 
 mod choice;
 mod comparisons;
+mod costs;
 mod guide;
 mod heap;
 mod open;
 mod order;
 mod pool;
+mod pricing;
 mod probes;
 mod restarts;
 mod search;

@@ -10,11 +10,11 @@ use crate::guide::Guide;
 use crate::open::splits;
 use fzn_domain::{Lit, Memory, Op, VarId};
 use fzn_list::Items;
-use fzn_meaning::{Goal, Var};
+use fzn_meaning::Model;
 use fzn_strategy::Annotation;
 use fzn_trail::Trail;
 use std::alloc::Global;
-use std::marker::Model;
+use std::marker;
 
 /// What decides, over a number of variables, and counts its decisions. It is told of conflicts and of what is undone, which steers
 /// later decisions and nothing else. Activity is that of Moskewicz, Madigan, Zhao, Zhang and Malik, Chaff, 2001.
@@ -25,7 +25,7 @@ pub struct Search {
     guide: Guide,
 }
 
-impl Model for Search {
+impl marker::Model for Search {
     ghost use Rattle.fzn_search.specs.Fixed.{Searching};
 
     ghost Value = { Searching };
@@ -38,16 +38,15 @@ impl Search {
     /// out.
     pub fn new(
         alloc: Global,
-        vars: &[Var],
-        goal: Goal,
+        model: &Model,
         annotations: &[Annotation],
         choice: Choice,
     ) -> Result<Search, Memory>
-        ensures { IfOk result (λ search. search ≡ record { vars = length vars.now; nodes = 0 }) }
+        ensures { IfOk result (λ search. search ≡ record { vars = length model.now.vars; nodes = 0 }) }
     {
-        let guide = Guide::new(alloc, vars, goal, annotations, choice)?;
+        let guide = Guide::new(alloc, model, annotations, choice)?;
         Ok(Search {
-            vars: vars.len(),
+            vars: model.vars.len(),
             nodes: 0,
             guide,
         })
@@ -89,7 +88,7 @@ impl Search {
         })
     }
 
-    /// Whether each variable has one value. This goes over all variables only where it is so.
+    /// Whether each variable has one value, which counts as a solution. This goes over all variables only where it is so.
     pub fn is_fixed(&mut self, trail: &Trail) -> bool
         requires variables { self.old.vars ≡ length trail.now.declared }
         requires filled { NoneEmpty trail.now.sets }
@@ -100,7 +99,10 @@ impl Search {
         let _entries = trail.len(); // A trail has a set for each variable.
         match self.open_variable(trail) {
             Some(_) => false,
-            None => true,
+            None => {
+                self.guide.found(trail, self.vars);
+                true
+            }
         }
     }
 

@@ -30,13 +30,7 @@ fn search_of(
         restart_after: Some(2),
         keep: 0,
     };
-    Search::new(
-        alloc,
-        model.vars.as_slice(),
-        model.goal,
-        annotations,
-        choice,
-    )
+    Search::new(alloc, model, annotations, choice)
 }
 
 /// Whether the first variable that is open is decided, by its least value.
@@ -59,12 +53,18 @@ fn annotation(alloc: Global) -> Result<Annotation, Memory> {
     })
 }
 
-fn is_annotation_followed(alloc: Global, model: &Model, trail: &Trail) -> Result<bool, Memory>
+/// Whether the annotation decides first.
+fn is_annotation_followed(
+    alloc: Global,
+    model: &Model,
+    trail: &Trail,
+    free: bool,
+) -> Result<bool, Memory>
     requires declared { trail.now.declared ≡ declared_sets model.now.vars }
     requires filled { NoneEmpty trail.now.sets }
 {
     let annotation = annotation(alloc)?;
-    let mut search = search_of(alloc, model, slice::from_ref(&annotation), false)?;
+    let mut search = search_of(alloc, model, slice::from_ref(&annotation), free)?;
     Ok(search.decide(trail) == Some(lit(2, Op::AtLeast, -1)))
 }
 
@@ -121,7 +121,8 @@ fn are_decided(alloc: Global, model: &Model) -> Result<bool, Memory> {
     keep(&mut before, VarId(2), Op::Equal, -1)?;
     Ok(
         is_first_decided(alloc, model, &trail)?
-            && is_annotation_followed(alloc, model, &trail)?
+            && is_annotation_followed(alloc, model, &trail, false)?
+            && is_annotation_followed(alloc, model, &trail, true)?
             && is_most_named_decided(alloc, model, &trail, true)?
             && is_most_named_decided(alloc, model, &trail, false)?
             && is_decided_as_before(alloc, model, &before, &trail)?,
@@ -132,6 +133,32 @@ fn are_decided(alloc: Global, model: &Model) -> Result<bool, Memory> {
 fn decisions(rt: HostRuntime) -> Result<(), Fail> {
     let model = model_of(rt.alloc(), "var 5..5: x; var -4..1: y; solve satisfy;")?;
     assert!(rt; are_decided(rt.alloc(), &model)?);
+    Ok(())
+}
+
+/// Whether a variable that costs something takes this value first, where no annotation is binding.
+fn is_cheapest_decided(alloc: Global, model: &Model, wanted: Lit) -> Result<bool, Memory> {
+    let trail = trail_of(alloc, model)?;
+    if !is_filled(&trail, model.vars.len()) {
+        return Ok(false);
+    }
+    let mut search = search_of(alloc, model, &[], true)?;
+    Ok(search.decide(&trail) == Some(wanted))
+}
+
+/// Of an index the entry counts, of a part of a sum the coefficient.
+#[test]
+fn cheapest_values_come_first(rt: HostRuntime) -> Result<(), Fail> {
+    let index = model_of(
+        rt.alloc(),
+        "array [1..4] of int: costs = [5, 7, 2, 9]; var 1..4: x; var 0..9: y; constraint array_int_element(x, costs, y); solve minimize y;",
+    )?;
+    assert!(rt; is_cheapest_decided(rt.alloc(), &index, lit(1, Op::Equal, 3))?);
+    let part = model_of(
+        rt.alloc(),
+        "var 0..3: x; var -9..9: y; constraint int_lin_eq([2, 1], [x, y], 3); solve minimize y;",
+    )?;
+    assert!(rt; is_cheapest_decided(rt.alloc(), &part, lit(1, Op::AtLeast, 3))?);
     Ok(())
 }
 
@@ -181,13 +208,7 @@ fn is_followed_after_restarts(alloc: Global, model: &Model) -> Result<bool, Memo
         keep: 0,
     };
     let annotations = slice::from_ref(&annotation);
-    let mut search = Search::new(
-        alloc,
-        model.vars.as_slice(),
-        model.goal,
-        annotations,
-        choice,
-    )?;
+    let mut search = Search::new(alloc, model, annotations, choice)?;
     Ok(
         is_greatest_decided(&mut search, &trail)
             && is_restarted_by_conflict(&mut search, &mut trail)?

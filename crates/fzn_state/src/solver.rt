@@ -67,13 +67,7 @@ impl Solver {
     {
         let trail = Trail::new(alloc, declared(alloc, model.vars.as_slice())?)?;
         let scratch = Sets::new(alloc, declared(alloc, model.vars.as_slice())?)?;
-        let search = Search::new(
-            alloc,
-            model.vars.as_slice(),
-            model.goal,
-            annotations,
-            choice,
-        )?;
+        let search = Search::new(alloc, model, annotations, choice)?;
         Ok(Solver {
             trail,
             clauses: Clauses::new(alloc),

@@ -1,4 +1,6 @@
-use Rattle.std.proofs.Common.{rules, sym, subst}
+use Rattle.std.proofs.Common.{◌≡◌, rules, sym, subst}
+use Rattle.fzn_domain.specs.Narrow.{NoneEmpty}
+use Rattle.fzn_meaning.specs.Solutions.{declared_sets}
 use Rattle.fzn_trail.specs.Levels.{Levels}
 use Rattle.fzn_clauses.specs.Watching.{IsWatching}
 use Rattle.fzn_state.proofs.solver.Solver.new.Goals as goal
@@ -8,7 +10,9 @@ returns-clause-fresh c = record {
   state = record {
     core = record {
       declared = search rules;
-      filled = search rules;
+      filled =
+          let same : c.in_ok-trail.trail.declared ≡ declared_sets c.args.model.now.vars = search rules in
+          subst NoneEmpty (sym same) c.requires;
       accepted = search rules;
       stocked = search rules;
       reasoned = search rules;
