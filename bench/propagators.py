@@ -293,9 +293,14 @@ KINDS = {
 }
 
 
+def asks(name):
+    """Whether a function asks a propagator of one kind or of another."""
+    return 'EitherPropagator::propagate' in name
+
+
 def passes(profile):
-    """How often a propagator was asked: the calls of the function that asks one of any kind."""
-    count, names, called = 0, {}, ''
+    """How often a propagator was asked: the calls of the function that asks one of any kind, but for those of itself for fewer kinds."""
+    count, names, caller, called = 0, {}, '', ''
     with open(profile) as lines:
         for line in lines:
             found = re.match(r'(c?fn)=\((\d+)\)(?: (.*))?', line)
@@ -304,7 +309,9 @@ def passes(profile):
                     names[found[2]] = found[3]
                 if found[1] == 'cfn':
                     called = names[found[2]]
-            elif line.startswith('calls=') and 'AnyPropagator' in called and called.split(':')[-1].startswith('propagate'):
+                else:
+                    caller = names[found[2]]
+            elif line.startswith('calls=') and asks(called) and not asks(caller):
                 count += int(line[len('calls='):].split()[0])
     return count
 

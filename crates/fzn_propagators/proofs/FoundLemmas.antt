@@ -15,9 +15,7 @@ use Rattle.fzn_rules.specs.declared.rule.Rule.{Rule}
 use Rattle.fzn_rules.specs.Rules.{IsAcceptedBy}
 use Rattle.fzn_cert.specs.Accepted.{IsInferredBy}
 use Rattle.fzn_trail.specs.Levels.{Levels, IsNarrower}
-use Rattle.fzn_kinds.specs.declared.kinds.AnyPropagator.{AnyPropagator}
 use Rattle.fzn_propagator.specs.declared.propagator.Inference.{Inference}
-use Rattle.fzn_kinds.specs.AnyCrate.{any_number, AnyIsFor, AnyFits}
 use Rattle.fzn_propagator.specs.Inference.{IsInferenceOf, AreInferencesOf, AreExhausted, IsInference as IsFound}
 use Rattle.fzn_propagator.specs.Constraints.{IsInference, IsJustified, IsQuiet}
 use Rattle.fzn_propagators.specs.Propagators.{IsPropagatorOf, AreFor}
@@ -60,42 +58,42 @@ module _ (model : Model) (trail : Levels) (declared : trail.declared ≡ declare
     inside = λ k below. let same = narrower.one_each in narrower.within k (get_or values k (pos 0)) (h.inside k (omega arith));
   }
 
-  module _ (items : List AnyPropagator) (are : AreFor items model) where
+  module _ {P : Type 0} (number : P → ℕ) (IsFor : P → Constraint → Type 0) (Fits : P → List IntSet → Type 0) (items : List P) (are : AreFor number IsFor Fits items model) where
     -- the propagator at place k
-    module _ (k : ℕ) (p : AnyPropagator) (at : p ≡ get_or items k p) (below : k < length items) where
+    module _ (k : ℕ) (p : P) (at : p ≡ get_or items k p) (below : k < length items) where
       inside : k < length model.constraints
       inside = let one_each = are.one_each in omega arith
 
-      it-is : (constraint : Constraint) → IsPropagatorOf model (k + 1) (get_or model.constraints k constraint) p
-      it-is constraint = subst (λ (q : AnyPropagator). IsPropagatorOf model (k + 1) (get_or model.constraints k constraint) q) (sym at) (are.each k constraint p inside)
+      it-is : (constraint : Constraint) → IsPropagatorOf number IsFor Fits model (k + 1) (get_or model.constraints k constraint) p
+      it-is constraint = subst (λ (q : P). IsPropagatorOf number IsFor Fits model (k + 1) (get_or model.constraints k constraint) q) (sym at) (are.each k constraint p inside)
 
       some_constraint : Constraint
       some_constraint = some_member model.constraints k inside
 
-      pub fits-trail : AnyFits p trail.declared
-      fits-trail = subst (AnyFits p) (sym declared) (it-is some_constraint).fits
+      pub fits-trail : Fits p trail.declared
+      fits-trail = subst (Fits p) (sym declared) (it-is some_constraint).fits
 
       -- what is found of this constraint
-      found-at : (found : Inference) → IsInferenceOf (any_number p) (AnyIsFor p) trail found → IsFound (k + 1) (get_or model.constraints k some_constraint) trail found
+      found-at : (found : Inference) → IsInferenceOf (number p) (IsFor p) trail found → IsFound (k + 1) (get_or model.constraints k some_constraint) trail found
       found-at found h =
           let here = it-is some_constraint in
           let constraint = get_or model.constraints k some_constraint in
           subst (λ (n : ℕ). IsFound n constraint trail found) here.numbered (h constraint here.is_for)
 
-      found-justified : (found : Inference) → IsInferenceOf (any_number p) (AnyIsFor p) trail found → IsJustified model found
+      found-justified : (found : Inference) → IsInferenceOf (number p) (IsFor p) trail found → IsJustified model found
       found-justified found h = justified-by k some_constraint found are.few_vars are.few_constraints inside (found-at found h)
 
-      found-inference : (found : Inference) → IsInferenceOf (any_number p) (AnyIsFor p) trail found → IsInference model trail found
+      found-inference : (found : Inference) → IsInferenceOf (number p) (IsFor p) trail found → IsInference model trail found
       found-inference found h = record { stands = found-justified found h; forces = (found-at found h).justified.forcing.forces }
 
       -- so is each of several
-      pub all-found : (found : List Inference) → AreInferencesOf (any_number p) (AnyIsFor p) trail found → All (IsInference model trail) found
+      pub all-found : (found : List Inference) → AreInferencesOf (number p) (IsFor p) trail found → All (IsInference model trail) found
       all-found found h = λ i d below. found-inference (get_or found i d) (h i d below)
 
-      pub all-justified : (found : List Inference) → AreInferencesOf (any_number p) (AnyIsFor p) trail found → All (IsJustified model) found
+      pub all-justified : (found : List Inference) → AreInferencesOf (number p) (IsFor p) trail found → All (IsJustified model) found
       all-justified found h = λ i d below. found-justified (get_or found i d) (h i d below)
 
-    pub none-quiet : IsNarrower trail.sets trail.declared → (i : ℕ) → length items ≤ i → AllWithin (λ (p : AnyPropagator). AreExhausted (AnyIsFor p) trail) items 0 i → IsQuiet model trail
+    pub none-quiet : IsNarrower trail.sets trail.declared → (i : ℕ) → length items ≤ i → AllWithin (λ (p : P). AreExhausted (IsFor p) trail) items 0 i → IsQuiet model trail
     none-quiet narrower i past exhausted fixed values within k constraint inside =
         let one_each = are.one_each in
         let here = get_or model.constraints k constraint in

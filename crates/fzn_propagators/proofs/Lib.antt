@@ -1,3 +1,4 @@
+mod CrateLemmas
 mod FoundLemmas
 mod MadeLemmas
 mod SpelledLemmas

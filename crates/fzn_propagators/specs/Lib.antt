@@ -1,1 +1,3 @@
+pub mod Either
 pub mod Propagators
+pub mod Sums

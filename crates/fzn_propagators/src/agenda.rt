@@ -3,17 +3,15 @@ ghost use Rattle.std.specs.Prelude.{◌≡◌, ◌≢◌, ◌<◌, ◌≤◌, Li
 ghost use Rattle.std.specs.List.{All};
 ghost use Rattle.fzn_domain.specs.IntSet.{IntSet, size};
 ghost use Rattle.fzn_domain.specs.Narrow.{AllFixed};
-ghost use Rattle.fzn_kinds.specs.AnyCrate.{AnyFits};
 
 use crate::bounds::Shift;
-use crate::counters::Counters;
+use crate::counters::{Counters, MayBeSum};
 use crate::order::leading_order;
 use crate::queue::Queue;
 use crate::watchers::{Watch, Watchers};
 use fzn_domain::{Domain, Memory, VarId};
-use fzn_kinds::AnyPropagator;
 use fzn_meaning::Model;
-use fzn_propagator::Change;
+use fzn_propagator::{Change, Propagator};
 use fzn_trail::Trail;
 use std::alloc::Global;
 
@@ -32,12 +30,12 @@ pub struct Agenda {
 
 impl Agenda {
     /// All of these propagators of the model are to be asked.
-    pub fn new(
+    pub fn new<P: Propagator + MayBeSum>(
         alloc: Global,
         model: &Model,
-        propagators: &[AnyPropagator],
+        propagators: &[P],
     ) -> Result<Agenda, Memory>
-        requires { All (λ propagator. (declared : List IntSet) × AnyFits propagator declared) propagators.now }
+        requires { All (λ propagator. (declared : List IntSet) × P.fits propagator declared) propagators.now }
     {
         let variables = model.vars.len();
         let counters = Counters::new(alloc, model, propagators)?;

@@ -1,12 +1,26 @@
 // The ends of the sums that are counted, moved as bounds move, and moved back as the trail goes back. It only chooses: nothing is promised
 // of what is counted.
+ghost use Rattle.std.specs.Prelude.{◌≡◌, Option};
+ghost use Rattle.std.specs.Option.{option_copied};
+ghost use Rattle.fzn_linear.specs.declared.form.SumForm.{SumForm};
+
 use crate::bounds::{Bounds, Shift};
 use crate::counter::Counter;
 use crate::watchers::{Watch, Watchers};
 use fzn_domain::{Domain, Memory};
-use fzn_kinds::AnyPropagator;
+use fzn_linear::SumForm;
 use fzn_meaning::{Model, Term};
 use std::alloc::Global;
+
+/// What may reason for a sum.
+pub trait MayBeSum {
+    /// The form of its constraint, where nothing but the ends of that sum is reasoned of.
+    ghost sum: { Self → Option SumForm };
+
+    /// That form, or `None`.
+    fn sum(&self) -> Option<&SumForm>
+        ensures { option_copied result ≡ sum self.now };
+}
 
 /// What the bounds of a variable were before an entry of the trail.
 #[derive(Clone, Copy, Debug)]
@@ -32,10 +46,10 @@ pub struct Counters {
 
 impl Counters {
     /// The sums among these propagators of the model, on the declared sets.
-    pub fn new(
+    pub fn new<P: MayBeSum>(
         alloc: Global,
         model: &Model,
-        propagators: &[AnyPropagator],
+        propagators: &[P],
     ) -> Result<Counters, Memory> {
         let mut declared = Vec::new(alloc);
         for var in model.vars.as_slice() {
@@ -54,8 +68,8 @@ impl Counters {
     }
 
     /// Where the propagator is a sum that is counted: the bounds of its variables are known from then on.
-    fn counter_of(&mut self, propagator: &AnyPropagator, declared: &[Bounds]) -> Option<Counter> {
-        let form = propagator.form()?;
+    fn counter_of<P: MayBeSum>(&mut self, propagator: &P, declared: &[Bounds]) -> Option<Counter> {
+        let form = propagator.sum()?;
         let counter = Counter::new(form, declared)?;
         for place in form.places.as_slice() {
             self.know(place.term, declared);

@@ -2,11 +2,9 @@
 ghost use Rattle.std.specs.Prelude.{List};
 ghost use Rattle.std.specs.List.{All};
 ghost use Rattle.fzn_domain.specs.IntSet.{IntSet};
-ghost use Rattle.fzn_kinds.specs.AnyCrate.{AnyFits};
 
 use crate::watchers::Watchers;
 use fzn_domain::Memory;
-use fzn_kinds::AnyPropagator;
 use fzn_propagator::{Event, Propagator};
 use std::alloc::Global;
 
@@ -35,13 +33,13 @@ struct Walk {
 /// The places of these propagators, each before those that it leads to, where they don't lead back to it. One that waits until the greatest
 /// value of a variable falls may raise its least value, and leads to those that wait until that rises: `x < y` to `y < z`. Where none
 /// leads to another they stand as they came.
-pub fn leading_order(
+pub fn leading_order<P: Propagator>(
     alloc: Global,
     variables: usize,
-    propagators: &[AnyPropagator],
+    propagators: &[P],
     watchers: &Watchers,
 ) -> Result<Vec<usize>, Memory>
-    requires { All (λ propagator. (declared : List IntSet) × AnyFits propagator declared) propagators.now }
+    requires { All (λ propagator. (declared : List IntSet) × P.fits propagator declared) propagators.now }
 {
     let count = propagators.len();
     let mut walk = Walk::new(alloc, count, variables)?;
@@ -76,13 +74,13 @@ impl Walk {
     }
 
     /// The least values that the propagator at this place may raise are next, where it is entered for the first time.
-    fn enter(
+    fn enter<P: Propagator>(
         &mut self,
         alloc: Global,
-        propagators: &[AnyPropagator],
+        propagators: &[P],
         place: usize,
     ) -> Result<(), Memory>
-        requires { All (λ propagator. (declared : List IntSet) × AnyFits propagator declared) propagators.now }
+        requires { All (λ propagator. (declared : List IntSet) × P.fits propagator declared) propagators.now }
     {
         if place >= self.is_entered.len() || self.is_entered[place] {
             return Ok(());
@@ -95,8 +93,8 @@ impl Walk {
         Ok(())
     }
 
-    fn raise(&mut self, alloc: Global, propagator: &AnyPropagator) -> Result<(), Memory>
-        requires { (declared : List IntSet) × AnyFits propagator.now declared }
+    fn raise<P: Propagator>(&mut self, alloc: Global, propagator: &P) -> Result<(), Memory>
+        requires { (declared : List IntSet) × P.fits propagator.now declared }
     {
         let subscriptions = propagator.subscriptions(alloc)?;
         for subscription in subscriptions.as_slice() {

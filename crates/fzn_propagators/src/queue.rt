@@ -1,7 +1,6 @@
 // The propagators that are to be asked, those that cost little first.
 use crate::sweep::Sweep;
 use fzn_domain::Memory;
-use fzn_kinds::AnyPropagator;
 use fzn_propagator::{Cost, Propagator};
 use std::alloc::Global;
 
@@ -38,9 +37,9 @@ pub struct Queue {
 
 impl Queue {
     /// All of these propagators. Their ranks rise in this order of their places, in which each of them stands once.
-    pub fn new(
+    pub fn new<P: Propagator>(
         alloc: Global,
-        propagators: &[AnyPropagator],
+        propagators: &[P],
         order: &[usize],
     ) -> Result<Queue, Memory> {
         let count = propagators.len();
@@ -129,9 +128,9 @@ impl Queue {
 }
 
 /// Where each of these propagators is queued, by its place, in this order of their ranks.
-fn slots_in(
+fn slots_in<P: Propagator>(
     alloc: Global,
-    propagators: &[AnyPropagator],
+    propagators: &[P],
     order: &[usize],
 ) -> Result<Vec<Slot>, Memory> {
     let mut slots = Vec::new(alloc);

@@ -2,11 +2,9 @@
 ghost use Rattle.std.specs.Prelude.{List};
 ghost use Rattle.std.specs.List.{All};
 ghost use Rattle.fzn_domain.specs.IntSet.{IntSet};
-ghost use Rattle.fzn_kinds.specs.AnyCrate.{AnyFits};
 
-use crate::counters::Counters;
+use crate::counters::{Counters, MayBeSum};
 use fzn_domain::Memory;
-use fzn_kinds::AnyPropagator;
 use fzn_meaning::Term;
 use fzn_propagator::{Event, Propagator};
 use std::alloc::Global;
@@ -43,13 +41,13 @@ pub struct Watchers {
 
 impl Watchers {
     /// What these propagators wait for, of so many variables. The sums among them are counted so.
-    pub fn new(
+    pub fn new<P: Propagator + MayBeSum>(
         alloc: Global,
         variables: usize,
-        propagators: &[AnyPropagator],
+        propagators: &[P],
         counters: &Counters,
     ) -> Result<Watchers, Memory>
-        requires { All (λ propagator. (declared : List IntSet) × AnyFits propagator declared) propagators.now }
+        requires { All (λ propagator. (declared : List IntSet) × P.fits propagator declared) propagators.now }
     {
         let mut list = Vec::new(alloc);
         for place in 0..propagators.len() {
@@ -123,14 +121,14 @@ fn by_variable(alloc: Global, starts: &[usize], list: &[Listed]) -> Result<Vec<W
 }
 
 /// The propagator at this place watches what it waits for.
-fn add_watches(
+fn add_watches<P: Propagator + MayBeSum>(
     alloc: Global,
     list: &mut Vec<Listed>,
     place: usize,
-    propagator: &AnyPropagator,
+    propagator: &P,
     is_counted: bool,
 ) -> Result<(), Memory>
-    requires { (declared : List IntSet) × AnyFits propagator.now declared }
+    requires { (declared : List IntSet) × P.fits propagator.now declared }
 {
     let subscriptions = propagator.subscriptions(alloc)?;
     let coefficients = coefficients_of(alloc, propagator)?;
@@ -150,9 +148,9 @@ fn add_watches(
 }
 
 /// By what a sum multiplies its variables, in the order in which it waits for them.
-fn coefficients_of(alloc: Global, propagator: &AnyPropagator) -> Result<Vec<i64>, Memory> {
+fn coefficients_of<P: MayBeSum>(alloc: Global, propagator: &P) -> Result<Vec<i64>, Memory> {
     let mut coefficients = Vec::new(alloc);
-    let Some(form) = propagator.form() else {
+    let Some(form) = propagator.sum() else {
         return Ok(coefficients);
     };
     for place in form.places.as_slice() {

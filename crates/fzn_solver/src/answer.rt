@@ -3,7 +3,6 @@ ghost use Rattle.std.specs.Prelude.{◌≡◌, false, IfOk, IfErr};
 ghost use Rattle.fzn_meaning.specs.WellFormed.{IsWellFormed};
 ghost use Rattle.fzn_cert.specs.Writer.{contents_of as cert_contents, cert_name, has_failed_in as cert_failed};
 ghost use Rattle.fzn_printer.specs.Printer.{out_contents, out_name, out_failed};
-ghost use Rattle.fzn_propagators.specs.Propagators.{StandFor};
 ghost use Rattle.fzn_solver.specs.Answer.{wanted, IsAnswer};
 ghost use Rattle.fzn_solver.specs.Causes.{HasCause, AreSameStreams, AreStreamsAsAtFirst};
 ghost use Rattle.fzn_solver.specs.Left.{IsLeft};
@@ -22,6 +21,7 @@ use fzn_engine::{Limits, Report, solve};
 use fzn_meaning::Model;
 use fzn_options::Options;
 use fzn_printer::Printer;
+use fzn_propagator::Constraints;
 use fzn_propagators::Propagators;
 use fzn_reading::read_annotated;
 use fzn_strategy::Annotation;
@@ -111,7 +111,7 @@ fn search<W: TrackedWrite, C: TrackedWrite, P: Observer>(
     writers: &mut Writers<'_, '_, '_, '_, W, C, P>,
 ) -> Result<Report, RunFault>
     requires model { IsWellFormed model.now }
-    requires propagators { StandFor propagators.old model.now }
+    requires propagators { ⟦<Propagators as Constraints>⟧.is_for propagators.old model.now }
     requires fresh { IsFresh W.contents C.contents writers.old }
     requires at_first { AreStreamsAsAtFirst W.stream C.stream writers.old }
     requires alone { writers.old.alone ≡ is_alone model.now.goal options.now.all }

@@ -86,7 +86,7 @@ fn report_of(
     requires model { IsWellFormed model.now }
     requires room { HasRoom model.now.goal limits.solutions 0 }
 {
-    let mut propagators = Propagators::new(alloc, model)?;
+    let mut propagators: Propagators = Propagators::new(alloc, model)?;
     let mut log = Log {
         steps: Items::new(alloc),
         nodes: 0,

@@ -3,7 +3,6 @@ ghost use Rattle.std.specs.Prelude.{◌≡◌, ◌<◌, ◌≤◌, IsTrue, IfOk,
 ghost use Rattle.fzn_domain.specs.Narrow.{NoneEmpty};
 ghost use Rattle.fzn_meaning.specs.Solutions.{declared_sets};
 ghost use Rattle.fzn_meaning.specs.WellFormed.{IsWellFormed};
-ghost use Rattle.fzn_propagators.specs.Propagators.{StandFor};
 
 use crate::models::{model_of, trail_of};
 use fzn_domain::{Lit, Memory, Op, VarId};
@@ -185,22 +184,22 @@ enum Progress {
 }
 
 /// Makes what is inferred true on the trail.
-fn advance(
+fn advance<C: Constraints>(
     alloc: Global,
     model: &Model,
-    propagators: &mut Propagators,
+    constraints: &mut C,
     trail: &mut Trail,
 ) -> Result<Progress, Memory>
-    requires is_for { StandFor propagators.old model.now }
+    requires is_for { C.is_for constraints.old model.now }
     requires declared { trail.old.declared ≡ declared_sets model.now.vars }
-    ensures is_for { StandFor propagators.new model.now }
+    ensures is_for { C.is_for constraints.new model.now }
     ensures declared { OnOk result (trail.new.declared ≡ trail.old.declared) }
 {
     let count = model.vars.len();
     if !is_filled(trail, count) {
         return Ok(Progress::Failed);
     }
-    let Some(found) = propagators.infer(alloc, model, trail)? else {
+    let Some(found) = constraints.infer(alloc, model, trail)? else {
         return Ok(Progress::AtFixpoint);
     };
     let Some(lit) = open_literal(trail, count, found.clause.as_slice()) else {
@@ -211,19 +210,19 @@ fn advance(
 }
 
 /// Makes each inference true on the trail, and says whether none is left and each set has a value.
-fn narrow(
+fn narrow<C: Constraints>(
     alloc: Global,
     model: &Model,
-    propagators: &mut Propagators,
+    constraints: &mut C,
     trail: &mut Trail,
 ) -> Result<bool, Memory>
-    requires is_for { StandFor propagators.old model.now }
+    requires is_for { C.is_for constraints.old model.now }
     requires declared { trail.old.declared ≡ declared_sets model.now.vars }
-    ensures is_for { StandFor propagators.new model.now }
+    ensures is_for { C.is_for constraints.new model.now }
     ensures declared { OnOk result (trail.new.declared ≡ trail.old.declared) }
 {
     for _ in 0..STEPS {
-        match advance(alloc, model, propagators, trail)? {
+        match advance(alloc, model, constraints, trail)? {
             Progress::Narrowed => {}
             Progress::AtFixpoint => return Ok(true),
             Progress::Failed => return Ok(false),
@@ -491,7 +490,7 @@ fn left_of(alloc: Global, model: &Model, choice: u64) -> Result<Option<Trail>, M
     requires { IsWellFormed model.now }
     ensures { IfOk result (λ found. IfSome found (λ trail. trail.declared ≡ declared_sets model.now.vars)) }
 {
-    let mut propagators = Propagators::new(alloc, model)?;
+    let mut propagators: Propagators = Propagators::new(alloc, model)?;
     let mut trail = trail_of(alloc, model)?;
     if !narrow(alloc, model, &mut propagators, &mut trail)? {
         return Ok(None);
@@ -586,7 +585,7 @@ fn first_len(trail: &Trail, count: usize) -> usize
 fn values_left(alloc: Global, model: &Model) -> Result<usize, Memory>
     requires { IsWellFormed model.now }
 {
-    let mut propagators = Propagators::new(alloc, model)?;
+    let mut propagators: Propagators = Propagators::new(alloc, model)?;
     let mut trail = trail_of(alloc, model)?;
     if !narrow(alloc, model, &mut propagators, &mut trail)? {
         return Ok(0);

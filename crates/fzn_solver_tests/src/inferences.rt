@@ -139,7 +139,7 @@ fn is_found(alloc: Global, model: &Model, trail: &Trail, wanted: &str) -> Result
     requires filled { NoneEmpty trail.now.sets }
 {
     let (first, _) = wanted.split_once(", ").unwrap_or((wanted, ""));
-    let mut propagators = Propagators::new(alloc, model)?;
+    let mut propagators: Propagators = Propagators::new(alloc, model)?;
     let found = first_of_all(alloc, &mut propagators, model, trail)?;
     if model.constraints.len() != 1 {
         return Ok(found.as_str() == first);

@@ -1,14 +1,13 @@
 use Rattle.std.specs.Prelude.{◌≡◌, []}
 use Rattle.std.specs.List.{All, AllWithin}
 use Rattle.fzn_propagator.specs.Constraints.{IsJustified}
-use Rattle.fzn_kinds.specs.AnyCrate.{AnyIsFor}
 use Rattle.fzn_propagator.specs.Inference.{AreExhausted}
 use Rattle.fzn_propagators.proofs.propagators.ask_all.Given as goal
 
 -- the propagators before this place find nothing
 abbrev pub invariant-loop-place : goal.invariant-loop-place
-invariant-loop-place l = record {
-  none : AllWithin (λ p. AreExhausted (AnyIsFor p) l.trail) l.items 0 l.place;
+invariant-loop-place g l = record {
+  none : AllWithin (λ p. AreExhausted (g.P.Propagator.is_for p) l.trail) l.items 0 l.place;
   rest : All (IsJustified l.model) l.found;
   left : l.found ≡ [];
 }

@@ -1,0 +1,45 @@
+// A propagator of one kind or of another, which reasons for what that one does.
+use fzn_domain::Memory;
+use fzn_propagator::{Cost, Findings, Propagator, Subscriptions};
+use fzn_trail::Trail;
+use std::alloc::Global;
+
+/// A propagator of this kind, or of another.
+#[derive(Drop)]
+pub enum Either<A, B> {
+    /// One of this kind.
+    This(A),
+    /// One of the other, which may be one of several.
+    Other(B),
+}
+
+impl<A: Propagator, B: Propagator> Propagator for Either<A, B> {
+    ghost use Rattle.fzn_propagators.specs.Either.{number_of_either, HoldsOfEither};
+
+    ghost number = { number_of_either A.number B.number };
+
+    ghost is_for = { HoldsOfEither A.is_for B.is_for };
+
+    ghost fits = { HoldsOfEither A.fits B.fits };
+
+    fn subscriptions(&self, alloc: Global) -> Result<Subscriptions, Memory> {
+        match self {
+            Either::This(propagator) => propagator.subscriptions(alloc),
+            Either::Other(propagator) => propagator.subscriptions(alloc),
+        }
+    }
+
+    fn cost(&self) -> Cost {
+        match self {
+            Either::This(propagator) => propagator.cost(),
+            Either::Other(propagator) => propagator.cost(),
+        }
+    }
+
+    fn propagate(&self, alloc: Global, trail: &Trail, found: &mut Findings) -> Result<(), Memory> {
+        match self {
+            Either::This(propagator) => propagator.propagate(alloc, trail, found),
+            Either::Other(propagator) => propagator.propagate(alloc, trail, found),
+        }
+    }
+}
