@@ -36,6 +36,8 @@ impl Propagator for BuiltinPropagator {
 
     ghost fits = { BuiltinFits };
 
+    ghost costs = { λ _. cost.Small };
+
     /// Each change of an input or of the result.
     fn subscriptions(&self, alloc: Global) -> Result<Subscriptions, Memory>
         requires fits { (declared : List IntSet) × BuiltinFits self.now declared }

@@ -59,6 +59,8 @@ impl Propagator for CircuitPropagator {
 
     ghost fits = { CircuitFits };
 
+    ghost costs = { λ _. cost.Great };
+
     /// Each change of a successor.
     fn subscriptions(&self, alloc: Global) -> Result<Subscriptions, Memory>
         requires fits { (declared : List IntSet) × CircuitFits self.now declared }

@@ -68,6 +68,8 @@ impl Propagator for CumulativePropagator {
 
     ghost fits = { CumulativeFits };
 
+    ghost costs = { λ _. cost.Great };
+
     /// That a bound of a start, a duration, a use or the capacity moves.
     fn subscriptions(&self, alloc: Global) -> Result<Subscriptions, Memory>
         requires fits { (declared : List IntSet) × CumulativeFits self.now declared }

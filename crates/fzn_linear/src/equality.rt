@@ -42,6 +42,8 @@ impl Propagator for EqualityPropagator {
 
     ghost fits = { EqualityFits };
 
+    ghost costs = { λ _. cost.Small };
+
     fn subscriptions(&self, alloc: Global) -> Result<Subscriptions, Memory>
         requires fits { (declared : List IntSet) × EqualityFits self.now declared }
         ensures value { IfOk result (λ subscriptions. subscriptions ≡ sum_subscriptions self.now.sum) }

@@ -52,6 +52,8 @@ impl Propagator for ArithPropagator {
 
     ghost fits = { KindFits };
 
+    ghost costs = { kind_cost };
+
     fn subscriptions(&self, alloc: Global) -> Result<Subscriptions, Memory>
         requires fits { (declared : List IntSet) × KindFits self.now declared }
         ensures value { IfOk result (λ subscriptions. subscriptions ≡ sum_subscriptions (sum_in self.now)) }

@@ -60,6 +60,8 @@ impl Propagator for SumPropagator {
 
     ghost fits = { λ propagator declared. IsReady (length declared) propagator.form propagator.opposite };
 
+    ghost costs = { λ propagator. cost_of (length propagator.form.places) };
+
     fn subscriptions(&self, alloc: Global) -> Result<Subscriptions, Memory>
         requires fits { (declared : List IntSet) × IsReady (length declared) self.now.form self.now.opposite }
         ensures value { IfOk result (λ subscriptions. subscriptions ≡ sum_subscriptions self.now) }

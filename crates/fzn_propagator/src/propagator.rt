@@ -3,6 +3,7 @@ ghost use Rattle.std.specs.Prelude.{◌≡◌, ℕ, List, [], IfOk, OnOk};
 ghost use Rattle.fzn_domain.specs.IntSet.{IntSet};
 ghost use Rattle.fzn_domain.specs.Narrow.{NoneEmpty};
 ghost use Rattle.fzn_meaning.specs.declared.constraint.Constraint.{Constraint};
+ghost use Rattle.fzn_propagator.specs.declared.cost.Cost.{Cost};
 ghost use Rattle.fzn_propagator.specs.Inference.{AreInferencesOf, AreExhausted};
 ghost use Rattle.fzn_propagator.specs.Subscriptions.{terms_of, AreHeard};
 
@@ -37,6 +38,9 @@ pub trait Propagator {
     /// Its terms are variables of the declared sets, and its numbers lie within the limits.
     ghost fits: { Self → List IntSet → Type 0 };
 
+    /// What it costs to ask it.
+    ghost costs: { Self → Cost };
+
     /// The changes of variables that can give it something new. It waits for some change of each variable of its constraint, so that
     /// no constraint is forgotten. `Err` where memory runs out.
     fn subscriptions(&self, alloc: Global) -> Result<Subscriptions, Memory>
@@ -44,7 +48,8 @@ pub trait Propagator {
         ensures heard { IfOk result (λ subscriptions. (constraint : Constraint) → (is_for self.now) constraint → AreHeard subscriptions (terms_of constraint)) };
 
     /// What it costs to ask it. Nothing but the order in which propagators are asked rests on that.
-    fn cost(&self) -> Cost;
+    fn cost(&self) -> Cost
+        ensures { result ≡ costs self.now };
 
     /// Appends what one pass infers to `found`. Each inference is one of the trail as it stands, so that one may force what another has
     /// forced. It answers `Err` where memory runs out; what was found up to then are inferences all the same.

@@ -11,7 +11,9 @@ use std::marker::Model;
 /// That a propagator waits for such changes of a variable.
 #[derive(Clone, Copy, Debug)]
 pub struct Subscription {
+    /// The variable that is waited for.
     pub variable: VarId,
+    /// Which of its changes.
     pub event: Event,
 }
 

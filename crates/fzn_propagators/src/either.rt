@@ -14,13 +14,15 @@ pub enum Either<A, B> {
 }
 
 impl<A: Propagator, B: Propagator> Propagator for Either<A, B> {
-    ghost use Rattle.fzn_propagators.specs.Either.{number_of_either, HoldsOfEither};
+    ghost use Rattle.fzn_propagators.specs.Either.{told_of_either, HoldsOfEither};
 
-    ghost number = { number_of_either A.number B.number };
+    ghost number = { told_of_either A.number B.number };
 
     ghost is_for = { HoldsOfEither A.is_for B.is_for };
 
     ghost fits = { HoldsOfEither A.fits B.fits };
+
+    ghost costs = { told_of_either A.costs B.costs };
 
     fn subscriptions(&self, alloc: Global) -> Result<Subscriptions, Memory> {
         match self {

@@ -65,6 +65,8 @@ impl Propagator for TablePropagator {
 
     ghost fits = { TableFits };
 
+    ghost costs = { λ _. cost.Middling };
+
     /// Each change of a place.
     fn subscriptions(&self, alloc: Global) -> Result<Subscriptions, Memory>
         requires fits { (declared : List IntSet) × TableFits self.now declared }
