@@ -31,7 +31,8 @@ const ABOUT: &str = "Solve a FlatZinc file, and write a certificate for the answ
 const LIMIT: &str =
     "Stop a satisfaction at K solutions (1 to 10^9; 1 without -a and -n). An optimisation goes on";
 
-const FREE: &str = "Follow no search annotation (without: follow those of the file)";
+const FREE: &str =
+    "Search freely: annotations only help to find a first solution (without: follow them)";
 
 const SEED: &str = "Break ties by random words of this seed (0 to 2^64 - 1; without: by order)";
 
@@ -68,7 +69,7 @@ pub struct Options {
     pub all: bool,
     /// At how many solutions a satisfaction stops, 1 to 10^9.
     pub limit: Option<u64>,
-    /// Whether the search follows no annotation.
+    /// Whether the search is free: annotations only help to find a first solution.
     pub free: bool,
     /// The seed of what breaks ties, 0 to 2^64 - 1. Without one no tie is broken by chance.
     pub seed: Option<u64>,

@@ -194,6 +194,19 @@ fn is_restarted_by_conflict(search: &mut Search, trail: &mut Trail) -> Result<bo
     Ok(is_due)
 }
 
+/// Whether the annotation decides, and a restart is due then.
+fn is_followed_to_a_restart(search: &mut Search, trail: &mut Trail) -> Result<bool, Memory>
+    requires two { length trail.old.declared ≡ 2 }
+    requires variables { search.old.vars ≡ 2 }
+    ensures two { length trail.new.declared ≡ 2 }
+    ensures variables { search.new.vars ≡ 2 }
+{
+    if !is_greatest_decided(search, trail) {
+        return Ok(false);
+    }
+    is_restarted_by_conflict(search, trail)
+}
+
 /// Whether the annotation decides before and after two restarts.
 fn is_followed_after_restarts(alloc: Global, model: &Model) -> Result<bool, Memory> {
     if model.vars.len() != 2 {
@@ -210,10 +223,8 @@ fn is_followed_after_restarts(alloc: Global, model: &Model) -> Result<bool, Memo
     let annotations = slice::from_ref(&annotation);
     let mut search = Search::new(alloc, model, annotations, choice)?;
     Ok(
-        is_greatest_decided(&mut search, &trail)
-            && is_restarted_by_conflict(&mut search, &mut trail)?
-            && is_greatest_decided(&mut search, &trail)
-            && is_restarted_by_conflict(&mut search, &mut trail)?
+        is_followed_to_a_restart(&mut search, &mut trail)?
+            && is_followed_to_a_restart(&mut search, &mut trail)?
             && is_greatest_decided(&mut search, &trail),
     )
 }
