@@ -29,7 +29,7 @@ use Rattle.fzn_arithmetic.specs.declared.excluded.Shape.{Shape}
 use Rattle.fzn_arithmetic.specs.declared.excluded.Shape.TheVariants.{Product, Quotient, Remainder, Absolute}
 use Rattle.fzn_terms.specs.Intervals.{IsIn, LiesIn}
 use Rattle.fzn_arithmetic.specs.declared.pass.Pass.{Pass}
-use Rattle.fzn_arithmetic.specs.Passes.{constraint_of}
+use Rattle.fzn_arithmetic.specs.Passes.{shape_constraint}
 use Rattle.fzn_arithmetic.specs.Excluded.{shaped, rule_of, IsProductBeyond, IsAbsoluteBeyond, NoneGives, IsFew, AreFewPairs, Excludes}
 
 -- ---- products of numbers between bounds
@@ -160,20 +160,20 @@ module _ (sets : List IntSet) (left right of : Term) (l r o : Interval) (filled 
 
 -- ---- claims that say that some term lies elsewhere
 
-pub refuted_shaped : (pass : Pass) (l r o : Interval) (a b c d e f : Claim) → ((sets : List IntSet) → IsDenied sets a → IsDenied sets b → LiesIn sets pass.left l) → ((sets : List IntSet) → IsDenied sets c → IsDenied sets d → LiesIn sets pass.right r) → ((sets : List IntSet) → IsDenied sets e → IsDenied sets f → LiesIn sets pass.of o) → Excludes pass.shape l r o → Refute (length pass.trail.now.declared) (a ∷ b ∷ c ∷ d ∷ e ∷ f ∷ []) (constraint_of pass) (rule_of pass.shape)
+pub refuted_shaped : (pass : Pass) (l r o : Interval) (a b c d e f : Claim) → ((sets : List IntSet) → IsDenied sets a → IsDenied sets b → LiesIn sets pass.left l) → ((sets : List IntSet) → IsDenied sets c → IsDenied sets d → LiesIn sets pass.right r) → ((sets : List IntSet) → IsDenied sets e → IsDenied sets f → LiesIn sets pass.of o) → Excludes pass.shape l r o → Refute (length pass.trail.now.declared) (a ∷ b ∷ c ∷ d ∷ e ∷ f ∷ []) (shape_constraint pass) (rule_of pass.shape)
 refuted_shaped pass l r o a b c d e f in_left in_right in_of none sets denying =
     let each = recursion_from_All (IsDenied sets) (a ∷ b ∷ c ∷ d ∷ e ∷ f ∷ []) denying.denied in
     met_shaped sets pass.left pass.right pass.of l r o denying.filled (in_left sets each.0 each.1.0) (in_right sets each.1.1.0 each.1.1.1.0) (in_of sets each.1.1.1.1.0 each.1.1.1.1.1.0) pass.shape
     (subst (λ (n : ℕ). IsTerm n pass.left) (sym denying.one_each) pass.left_fits) (subst (λ (n : ℕ). IsTerm n pass.right) (sym denying.one_each) pass.right_fits) (subst (λ (n : ℕ). IsTerm n pass.of) (sym denying.one_each) pass.of_fits) none
 
 -- the absolute value of none that the first term may be is one that the other may be
-refuted_where : (pass : Pass) (claims : List Claim) → pass.shape ≡ Absolute → ((sets : List IntSet) → All (IsDenied sets) claims → (v : ℤ) → MayBe sets pass.left v → MayBe sets pass.of (pos (unsigned_abs v)) → ⊥) → Refute (length pass.trail.now.declared) claims (constraint_of pass) (rule_of pass.shape)
+refuted_where : (pass : Pass) (claims : List Claim) → pass.shape ≡ Absolute → ((sets : List IntSet) → All (IsDenied sets) claims → (v : ℤ) → MayBe sets pass.left v → MayBe sets pass.of (pos (unsigned_abs v)) → ⊥) → Refute (length pass.trail.now.declared) claims (shape_constraint pass) (rule_of pass.shape)
 unfolding IsMet IsRowsMet
 refuted_where pass claims is never =
     subst (λ (s : Shape). Refute (length pass.trail.now.declared) claims (shaped s pass.left pass.right pass.of) (rule_of s)) (sym is) (λ sets denying. inl (λ v may there. never sets denying.denied v may there))
 
 -- the first term has one value alone, and the other not its absolute value
-pub refuted_value : (pass : Pass) (value number : ℤ) (first second : Claim) → pass.shape ≡ Absolute → number ≡ pos (unsigned_abs value) → ((sets : List IntSet) (v : ℤ) → IsDenied sets first → MayBe sets pass.left v → v ≡ value) → ((sets : List IntSet) → IsDenied sets second → MayBe sets pass.of number → ⊥) → Refute (length pass.trail.now.declared) (first ∷ second ∷ []) (constraint_of pass) (rule_of pass.shape)
+pub refuted_value : (pass : Pass) (value number : ℤ) (first second : Claim) → pass.shape ≡ Absolute → number ≡ pos (unsigned_abs value) → ((sets : List IntSet) (v : ℤ) → IsDenied sets first → MayBe sets pass.left v → v ≡ value) → ((sets : List IntSet) → IsDenied sets second → MayBe sets pass.of number → ⊥) → Refute (length pass.trail.now.declared) (first ∷ second ∷ []) (shape_constraint pass) (rule_of pass.shape)
 refuted_value pass value number first second shape number_is only never = refuted_where pass (first ∷ second ∷ []) shape (λ sets all v may there.
     let each = recursion_from_All (IsDenied sets) (first ∷ second ∷ []) all in
     let same : v ≡ value = only sets v each.0 may in
@@ -187,7 +187,7 @@ absolute_of P v value opposite opposite_is is here first second = elim (absolute
 ]
 
 -- the absolute value is one value alone, and the first term has no number of that absolute value
-pub refuted_absolute : (pass : Pass) (value opposite : ℤ) (first second third : Claim) → pass.shape ≡ Absolute → opposite ≡ pos 0 -ℤ value → ((sets : List IntSet) (v : ℤ) → IsDenied sets first → MayBe sets pass.of v → v ≡ value) → ((sets : List IntSet) → IsDenied sets second → MayBe sets pass.left value → ⊥) → ((sets : List IntSet) → IsDenied sets third → MayBe sets pass.left opposite → ⊥) → Refute (length pass.trail.now.declared) (first ∷ second ∷ third ∷ []) (constraint_of pass) (rule_of pass.shape)
+pub refuted_absolute : (pass : Pass) (value opposite : ℤ) (first second third : Claim) → pass.shape ≡ Absolute → opposite ≡ pos 0 -ℤ value → ((sets : List IntSet) (v : ℤ) → IsDenied sets first → MayBe sets pass.of v → v ≡ value) → ((sets : List IntSet) → IsDenied sets second → MayBe sets pass.left value → ⊥) → ((sets : List IntSet) → IsDenied sets third → MayBe sets pass.left opposite → ⊥) → Refute (length pass.trail.now.declared) (first ∷ second ∷ third ∷ []) (shape_constraint pass) (rule_of pass.shape)
 refuted_absolute pass value opposite first second third shape opposite_is only never never_opposite = refuted_where pass (first ∷ second ∷ third ∷ []) shape (λ sets all v may there.
     let each = recursion_from_All (IsDenied sets) (first ∷ second ∷ third ∷ []) all in
     absolute_of (MayBe sets pass.left) v value opposite opposite_is (only sets _ each.0 there) may (never sets each.1.0) (never_opposite sets each.1.1.0))

@@ -58,7 +58,7 @@ Excludes Remainder left right of = IsFew left right × NoneGives operation.Remai
 Excludes Absolute left right of = IsAbsoluteBeyond left of
 
 -- nothing in the intervals meets the constraint
-pub record IsExcluded (shape : Shape) (left right of : Interval) : Type 0 where
+pub record IsShapeExcluded (shape : Shape) (left right of : Interval) : Type 0 where
   pub left_limited : IsLimitedInterval left
   pub right_limited : IsLimitedInterval right
   pub of_limited : IsLimitedInterval of

@@ -8,13 +8,13 @@ use Rattle.fzn_propagator.specs.Inference.{AreFoundOf}
 use Rattle.fzn_arithmetic.specs.declared.pass.Pass.{Pass}
 use Rattle.fzn_arithmetic.specs.Excluded.{shaped, rule_of}
 
-abbrev pub constraint_of : Pass → Constraint
-constraint_of pass = shaped pass.shape pass.left pass.right pass.of
+abbrev pub shape_constraint : Pass → Constraint
+shape_constraint pass = shaped pass.shape pass.left pass.right pass.of
 
 -- the rule for its shape justifies the clause from the constraint
-abbrev pub IsInferred : Pass → List Lit → Type 0
-IsInferred pass clause = IsJustified pass.trail.now (constraint_of pass) (rule_of pass.shape) clause
+abbrev pub IsJustifiedByShape : Pass → List Lit → Type 0
+IsJustifiedByShape pass clause = IsJustified pass.trail.now (shape_constraint pass) (rule_of pass.shape) clause
 
 -- so of each of these inferences, which have its number
-abbrev pub AreFoundIn : Pass → List Inference → Type 0
-AreFoundIn pass found = AreFoundOf pass.number (constraint_of pass) pass.trail.now found
+abbrev pub AreFoundOfShape : Pass → List Inference → Type 0
+AreFoundOfShape pass found = AreFoundOf pass.number (shape_constraint pass) pass.trail.now found

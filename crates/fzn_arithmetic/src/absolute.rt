@@ -6,7 +6,7 @@ ghost use Rattle.fzn_meaning.specs.declared.constraint.Constraint.TheVariants as
 ghost use Rattle.fzn_meaning.specs.Term.{IsTerm};
 ghost use Rattle.fzn_propagator.specs.Inference.{AreFoundOf};
 ghost use Rattle.fzn_arithmetic.specs.declared.excluded.Shape.TheVariants.{Absolute};
-ghost use Rattle.fzn_arithmetic.specs.Passes.{IsInferred, AreFoundIn};
+ghost use Rattle.fzn_arithmetic.specs.Passes.{IsJustifiedByShape, AreFoundOfShape};
 
 use crate::excluded::Shape;
 use crate::exclusion::rule_of;
@@ -53,8 +53,8 @@ impl<'a> Pass<'a> {
     /// Finds what the ends of the two terms show, else the values of the first, else those of the second.
     pub(crate) fn find_absolutes(&self, found: &mut Findings) -> Result<(), Memory>
         requires absolute { self.now.shape ≡ Absolute }
-        requires before { AreFoundIn self.now found.old }
-        ensures { AreFoundIn self.now found.new }
+        requires before { AreFoundOfShape self.now found.old }
+        ensures { AreFoundOfShape self.now found.new }
     {
         let before = found.len();
         self.find_ends(self.intervals(), found)?;
@@ -71,8 +71,8 @@ impl<'a> Pass<'a> {
     /// Finds that the first term has not a value whose absolute value the other has not, where it is narrow.
     fn part_values(&self, found: &mut Findings) -> Result<(), Memory>
         requires absolute { self.now.shape ≡ Absolute }
-        requires before { AreFoundIn self.now found.old }
-        ensures { AreFoundIn self.now found.new }
+        requires before { AreFoundOfShape self.now found.old }
+        ensures { AreFoundOfShape self.now found.new }
     {
         let ends = interval_of(self.trail, self.left);
         if !is_thinned_beside(self.trail, self.left, ends, &[self.of]) {
@@ -93,8 +93,8 @@ impl<'a> Pass<'a> {
     /// Finds that the absolute value is not one that no value of the other term has, where it is narrow.
     fn part_absolutes(&self, found: &mut Findings) -> Result<(), Memory>
         requires absolute { self.now.shape ≡ Absolute }
-        requires before { AreFoundIn self.now found.old }
-        ensures { AreFoundIn self.now found.new }
+        requires before { AreFoundOfShape self.now found.old }
+        ensures { AreFoundOfShape self.now found.new }
     {
         let ends = interval_of(self.trail, self.of);
         if !is_thinned_beside(self.trail, self.of, ends, &[self.left]) {
@@ -116,7 +116,7 @@ impl<'a> Pass<'a> {
     fn other_value_or_absolute(&self, value: i64) -> Result<Option<Items<Lit>>, Memory>
         requires absolute { self.now.shape ≡ Absolute }
         requires value { IsInLimits value }
-        ensures { IfOk result (λ found. IfSome found (IsInferred self.now)) }
+        ensures { IfOk result (λ found. IfSome found (IsJustifiedByShape self.now)) }
     {
         let absolute = value.abs();
         if may_be(self.trail, self.of, &absolute) {
@@ -131,7 +131,7 @@ impl<'a> Pass<'a> {
     fn value_or_other_absolute(&self, value: i64) -> Result<Option<Items<Lit>>, Memory>
         requires absolute { self.now.shape ≡ Absolute }
         requires value { IsInLimits value }
-        ensures { IfOk result (λ found. IfSome found (IsInferred self.now)) }
+        ensures { IfOk result (λ found. IfSome found (IsJustifiedByShape self.now)) }
     {
         let negated = -value;
         if may_be(self.trail, self.left, &value) || may_be(self.trail, self.left, &negated) {

@@ -4,7 +4,7 @@ ghost use Rattle.fzn_domain.specs.Limits.{IsInLimits};
 ghost use Rattle.fzn_domain.specs.IntSet.{width};
 ghost use Rattle.fzn_meaning.specs.Arithmetic.{IsArithmetic};
 ghost use Rattle.fzn_terms.specs.Intervals.{IsIn, IsLimitedInterval};
-ghost use Rattle.fzn_arithmetic.specs.Excluded.{IsProductBeyond, IsAbsoluteBeyond, NoneGives, IsFew, AreFewPairs, IsExcluded};
+ghost use Rattle.fzn_arithmetic.specs.Excluded.{IsProductBeyond, IsAbsoluteBeyond, NoneGives, IsFew, AreFewPairs, IsShapeExcluded};
 ghost use Rattle.fzn_fixed.specs.Image.{Admits};
 
 use fzn_fixed::{Image, of_operation};
@@ -28,7 +28,7 @@ pub enum Shape {
 /// Whether it is sure that no values in the intervals meet the constraint.
 #[inline(always)]
 pub fn is_excluded(shape: Shape, left: Interval, right: Interval, of: Interval) -> bool
-    ensures { IsTrue result → IsExcluded shape left right of }
+    ensures { IsTrue result → IsShapeExcluded shape left right of }
 {
     if !left.is_limited() || !right.is_limited() || !of.is_limited() {
         return false;

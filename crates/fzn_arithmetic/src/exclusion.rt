@@ -4,7 +4,7 @@ ghost use Rattle.fzn_meaning.specs.Term.{IsTerm};
 ghost use Rattle.fzn_propagator.specs.Inference.{HasWritableHints};
 ghost use Rattle.fzn_terms.specs.Intervals.{IsLimitedInterval};
 ghost use Rattle.fzn_arithmetic.specs.Excluded.{rule_of};
-ghost use Rattle.fzn_arithmetic.specs.Passes.{IsInferred, AreFoundIn};
+ghost use Rattle.fzn_arithmetic.specs.Passes.{IsJustifiedByShape, AreFoundOfShape};
 
 use crate::excluded::{Shape, is_excluded};
 use crate::pass::Pass;
@@ -222,8 +222,8 @@ impl<'a> Pass<'a> {
 
     /// Finds that a place has no value at an end of its interval, of those on the trail, from where none meets the constraint.
     pub(crate) fn find_ends(&self, now: Intervals, found: &mut Findings) -> Result<(), Memory>
-        requires { AreFoundIn self.now found.old }
-        ensures { AreFoundIn self.now found.new }
+        requires { AreFoundOfShape self.now found.old }
+        ensures { AreFoundOfShape self.now found.new }
     {
         let all = now.all_excluded(self.alloc, self.shape)?;
         for excluded in all.as_slice() {
@@ -235,8 +235,8 @@ impl<'a> Pass<'a> {
 
     /// Finds that some place has a value outside of its interval, where these are excluded.
     pub(crate) fn find_outside(&self, within: Intervals, found: &mut Findings) -> Result<(), Memory>
-        requires { AreFoundIn self.now found.old }
-        ensures { AreFoundIn self.now found.new }
+        requires { AreFoundOfShape self.now found.old }
+        ensures { AreFoundOfShape self.now found.new }
     {
         let clause = self.outside(within)?;
         found.hand_over(self.number, rule_of(self.shape), clause)
@@ -244,7 +244,7 @@ impl<'a> Pass<'a> {
 
     /// The clause that some place has a value outside of its interval, where these are excluded.
     fn outside(&self, within: Intervals) -> Result<Option<Items<Lit>>, Memory>
-        ensures { IfOk result (λ found. IfSome found (IsInferred self.now)) }
+        ensures { IfOk result (λ found. IfSome found (IsJustifiedByShape self.now)) }
     {
         if !is_excluded(self.shape, within.left, within.right, within.of) {
             return Ok(None);

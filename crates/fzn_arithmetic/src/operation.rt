@@ -6,7 +6,7 @@ ghost use Rattle.fzn_meaning.specs.declared.constraint.Constraint.TheVariants as
 ghost use Rattle.fzn_meaning.specs.Term.{IsTerm};
 ghost use Rattle.fzn_propagator.specs.Inference.{AreFoundOf};
 ghost use Rattle.fzn_arithmetic.specs.Excluded.{shaped};
-ghost use Rattle.fzn_arithmetic.specs.Passes.{AreFoundIn};
+ghost use Rattle.fzn_arithmetic.specs.Passes.{AreFoundOfShape};
 
 use crate::excluded::Shape;
 use crate::pass::Pass;
@@ -64,8 +64,8 @@ fn shape_of(operation: Operation) -> Option<Shape>
 impl<'a> Pass<'a> {
     /// Finds what the ends or the values of the places show.
     pub(crate) fn find(&self, found: &mut Findings) -> Result<(), Memory>
-        requires { AreFoundIn self.now found.old }
-        ensures { AreFoundIn self.now found.new }
+        requires { AreFoundOfShape self.now found.old }
+        ensures { AreFoundOfShape self.now found.new }
     {
         match self.shape {
             Shape::Product => self.find_ends(self.intervals(), found),

@@ -1,7 +1,7 @@
 // Quotients and remainders of few pairs: by the rule `enum`.
 ghost use Rattle.std.specs.Prelude.{pos, ◌≤ℤ◌};
 ghost use Rattle.fzn_terms.specs.Intervals.{IsLimitedInterval};
-ghost use Rattle.fzn_arithmetic.specs.Passes.{AreFoundIn};
+ghost use Rattle.fzn_arithmetic.specs.Passes.{AreFoundOfShape};
 
 use crate::excluded::{Shape, are_few};
 use crate::exclusion::Intervals;
@@ -17,8 +17,8 @@ use std::alloc::Global;
 impl<'a> Pass<'a> {
     /// Finds what the ends of the places show, else which values of the result are given by no pair.
     pub(crate) fn find_quotients(&self, found: &mut Findings) -> Result<(), Memory>
-        requires { AreFoundIn self.now found.old }
-        ensures { AreFoundIn self.now found.new }
+        requires { AreFoundOfShape self.now found.old }
+        ensures { AreFoundOfShape self.now found.new }
     {
         let now = self.intervals();
         if !are_few(now.left, now.right) && !now.is_last_open() {
@@ -36,8 +36,8 @@ impl<'a> Pass<'a> {
     fn part_results(&self, now: Intervals, found: &mut Findings) -> Result<(), Memory>
         requires left { IsLimitedInterval now.left }
         requires right { IsLimitedInterval now.right }
-        requires before { AreFoundIn self.now found.old }
-        ensures { AreFoundIn self.now found.new }
+        requires before { AreFoundOfShape self.now found.old }
+        ensures { AreFoundOfShape self.now found.new }
     {
         let values = self.values_of_none(now.left, now.right)?;
         for value in values.as_slice() {

@@ -14,6 +14,7 @@ use Rattle.fzn_domain.specs.declared.literal.VarId.{VarId}
 use Rattle.fzn_domain.specs.IntSet.{contains}
 use Rattle.fzn_domain.specs.Literal.{compares}
 use Rattle.fzn_domain.specs.Narrow.{is_clause_true, set_of, value_of}
+use Rattle.fzn_meaning.specs.declared.constraint.Constraint.{Constraint}
 use Rattle.fzn_meaning.specs.declared.model.Goal.{Goal}
 use Rattle.fzn_meaning.specs.declared.model.Goal.TheVariants.{Satisfy, Minimize, Maximize}
 use Rattle.fzn_meaning.specs.declared.model.Model.{Model}
@@ -27,8 +28,10 @@ use Rattle.fzn_cert.specs.Past.{StepsPast, no_past}
 use Rattle.fzn_cert.specs.Accepted.{AllAcceptedAfter, after_step}
 use Rattle.fzn_cert.specs.Sound.{IsSound}
 use Rattle.fzn_cert.proofs.SoundLaws.{sound-after, sound-start}
+use Rattle.fzn_head.specs.Extended.{IsExtended}
+use Rattle.fzn_head.proofs.ExtendedLaws.{with_constraints, only_constraints}
 use Rattle.fzn_bound.specs.declared.known.Known.{Known}
-use Rattle.fzn_bound.specs.declared.known.Known.TheVariants.{NoObjective}
+use Rattle.fzn_bound.specs.declared.known.Known.TheVariants.{NoObjective, NoSolution, Unsolved, Open, Closed}
 use Rattle.fzn_bound.specs.Known.{IsBetterValue, objective_in, IsTrueOf, NoneBetter, IsDeclared, IsObjective, SaysBound, clause_given, IsAsStrong, IsStrongest, IsStrong}
 use Rattle.fzn_bound.specs.Said.{IsBestDeclared, is_objective, has_side, said_in, stronger, strengthened, bound_after, weaker, unsolved, solved, found_of, known_after}
 use Rattle.fzn_bound.specs.Bounded.{IsBoundBy}
@@ -428,3 +431,32 @@ strong-found model steps (first ∷ rest) closed bound other by = strong-solved 
 -- and as strong as the steps make it
 pub known-strong : (model : Model) (steps : List Step) (found : List (List ℤ)) (closed : Bool) (bound : Option ℤ) → IsBoundBy model steps bound → IsStrong model steps (known_after model.goal found closed bound)
 known-strong model steps found closed bound by = by-goal model (IsStrong model steps) found closed bound (λ is. tt) (λ other. strong-found model steps found closed bound other by)
+
+-- ---- derived constraints change none of it
+
+true-of : (model : Model) (constraints : List Constraint) (found : List (List ℤ)) (closed : Bool) (known : Known) → ((a : List ℤ) → IsSolution model a → IsSolution (with_constraints model constraints) a) → IsTrueOf (with_constraints model constraints) found closed known → IsTrueOf model found closed known
+true-of model constraints found closed NoObjective more h = h
+true-of model constraints found closed NoSolution more h = (h.0, λ a solution. h.1 a (more a solution))
+true-of model constraints found closed (Unsolved bound) more h = (h.0, h.1, h.2, λ a solution. h.3 a (more a solution))
+true-of model constraints found closed (Open best bound) more h = (h.0, h.1, h.2, λ a solution. h.3 a (more a solution))
+true-of model constraints found closed (Closed best) more h = (h.0, h.1, h.2, λ a solution. h.3 a (more a solution))
+
+strong-of : (model : Model) (constraints : List Constraint) (steps : List Step) (known : Known) → IsStrong (with_constraints model constraints) steps known → IsStrong model steps known
+strong-of model constraints steps NoObjective h = tt
+strong-of model constraints steps NoSolution h = tt
+strong-of model constraints steps (Unsolved bound) h = h
+strong-of model constraints steps (Open best bound) h = h
+strong-of model constraints steps (Closed best) h = tt
+
+module _ (model after : Model) (extended : IsExtended model after) where
+  others : (constraints : List Constraint) × (after ≡ with_constraints model constraints)
+  others = only_constraints model after extended.0 extended.1
+
+  -- what is true of the model with them is true of the model
+  pub true-before : (found : List (List ℤ)) (closed : Bool) (known : Known) → ((a : List ℤ) → IsSolution model a → IsSolution after a) → IsTrueOf after found closed known → IsTrueOf model found closed known
+  true-before found closed known more h =
+      true-of model others.0 found closed known (λ a solution. subst (λ (m : Model). IsSolution m a) others.1 (more a solution)) (subst (λ (m : Model). IsTrueOf m found closed known) others.1 h)
+
+  -- and as strong
+  pub strong-before : (steps : List Step) (known : Known) → IsStrong after steps known → IsStrong model steps known
+  strong-before steps known h = strong-of model others.0 steps known (subst (λ (m : Model). IsStrong m steps known) others.1 h)

@@ -9,11 +9,14 @@ use Rattle.fzn_printer.specs.Answer.{answer_text}
 use Rattle.fzn_reading.specs.Reads.{Reads, States}
 use Rattle.fzn_cert.specs.declared.step.Step.{Step}
 use Rattle.fzn_cert.specs.declared.step.Version.{Version}
-use Rattle.fzn_cert.specs.Verdict.{MayEnd, VerdictOn, refused}
+use Rattle.fzn_cert.specs.Verdict.{MayEnd, refused}
+use Rattle.fzn_cert_reader.specs.Reader.{Progress}
+use Rattle.fzn_head.specs.Extended.{IsExtended}
+use Rattle.fzn_head.specs.Outcome.{IsOutcomeOn}
 use Rattle.fzn_checker.specs.declared.fault.CheckFault.{CheckFault}
 use Rattle.fzn_checker.specs.declared.fault.CheckFault.TheVariants.{File, Refused, NotVersionOne, Memory, Read, WriteOutput, WriteCert}
 use Rattle.fzn_checker.specs.Answered.{Shows}
-use Rattle.fzn_checker.specs.Held.{past_in, HasTaken, IsCertificate}
+use Rattle.fzn_checker.specs.Held.{past_in, HasTaken, AreLinesLeft, IsCertificate}
 use Rattle.fzn_bound.specs.declared.certificate.Walked.{Walked}
 use Rattle.fzn_bound.specs.declared.known.Known.{Known}
 use Rattle.fzn_bound.specs.Known.{IsStrong, IsTrueOf}
@@ -27,9 +30,11 @@ pub record TellsBound (file cert : Option (List ℕ)) (all : Bool) (text : List 
   pub found : List (List ℤ)
   pub closed : Bool
   pub shows : Shows file cert model found closed
+  -- the model with the constraints that the certificate's head derives, and its steps
+  pub after : Model
   pub version : Version
   pub steps : List Step
-  pub certificate : IsCertificate model version cert steps closed
+  pub certificate : IsCertificate model after version cert steps closed
   pub holds : IsTrueOf model found closed known
   pub strong : IsStrong model steps known
   pub is : text ≡ answer_text model found closed all ++ bound_line model known
@@ -42,7 +47,7 @@ IsBoundTold file cert all before after known = (text : List ℕ) × TellsBound f
 -- text stands.
 abbrev pub IsBoundFault : Option (List ℕ) → Option (List ℕ) → Bool → Option (List ℕ) → Option (List ℕ) → CheckFault → Type 0
 IsBoundFault file cert all before after (File fault) = Keeps before after × IfSome file (λ bytes. Reads bytes (Err (errors.Fault fault)))
-IsBoundFault file cert all before after (Refused line refusal) = Keeps before after × ((model : Model) × States file model × VerdictOn model cert (refused line refusal))
+IsBoundFault file cert all before after (Refused line refusal) = Keeps before after × ((model : Model) × States file model × IsOutcomeOn model cert (refused line refusal))
 IsBoundFault file cert all before after Memory = Keeps before after
 IsBoundFault file cert all before after Read = Keeps before after
 IsBoundFault file cert all before after WriteOutput = (known : Known) × (text : List ℕ) × TellsBound file cert all text known × AppendsFront before after text
@@ -57,11 +62,20 @@ pub record IsBoundBy (model : Model) (steps : List Step) (bound : Option ℤ) : 
   pub end : IsBestDeclared model.goal model.vars first
   pub is : bound ≡ fold (bound_after model.goal) first steps
 
--- what is left was a certificate of accepted steps, and they were taken
-pub record IsWalked (model : Model) (left : Option (List ℕ)) (walked : Walked) : Type 0 where
-  pub version : Version
+-- the lines of these accepted steps were left, and they were taken
+pub record IsWalked (model : Model) (now : Progress) (walked : Walked) : Type 0 where
   pub steps : List Step
-  pub certificate : IsCertificate model version left steps walked.closed
+  pub lines : AreLinesLeft now steps walked.closed
   pub taken : HasTaken model steps walked.taken
   pub may_end : MayEnd (past_in walked.taken) walked.closed
   pub bound : IsBoundBy model steps walked.bound
+
+-- what was left was a certificate, by whose head the model is the second one, and its steps are accepted for that
+pub record IsCertificateWalked (model after : Model) (left : Option (List ℕ)) (walked : Walked) : Type 0 where
+  pub version : Version
+  pub steps : List Step
+  pub certificate : IsCertificate model after version left steps walked.closed
+  pub extended : IsExtended model after
+  pub taken : HasTaken after steps walked.taken
+  pub may_end : MayEnd (past_in walked.taken) walked.closed
+  pub bound : IsBoundBy after steps walked.bound

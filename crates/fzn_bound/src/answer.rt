@@ -57,8 +57,8 @@ pub fn bound_tracked<R: TrackedRead, C: TrackedRead + Drop, W: TrackedWrite>(
     ensures due { IfErr result (IsCheckDue (R.has_failed file.new) (C.has_failed (reader_below cert.new)) (W.has_failed out.new)) }
     ensures same_stream { W.stream out.new ≡ W.stream out.old }
 {
-    let model = read_model(alloc, file)?;
-    let walked = walk_certificate(alloc, &model, cert)?;
+    let mut model = read_model(alloc, file)?;
+    let walked = walk_certificate(alloc, &mut model, cert)?;
     let found = walked.taken.solutions();
     let known = known_of(&model, found, walked.closed, walked.bound);
     match put_known_answer(out, &model, found, walked.closed, show_all, &known) {

@@ -19,7 +19,7 @@ use Rattle.fzn_terms.specs.declared.interval.Interval.{Interval}
 use Rattle.fzn_terms.specs.Intervals.{LiesIn}
 use Rattle.fzn_builtin.specs.declared.member.Pass.{Pass}
 use Rattle.fzn_builtin.specs.Members.{IsNextAsked, IsSwitchedTo}
-use Rattle.fzn_builtin.specs.Passes.{constraint_of, AreAsked}
+use Rattle.fzn_builtin.specs.Passes.{membership_constraint, AreAsked}
 use Rattle.fzn_equality.proofs.CallerLemmas.{fixed_to, All-front, All-last}
 
 missed : (sets : List IntSet) (term : Term) (s : IntSet) (switch : Option Term) (within : Bool) → is_some_empty sets ≡ false → IsSwitch (length sets) switch → IsSwitchedTo sets switch within → ((v : ℤ) → MayBe sets term v → contains s v ≡ not within) → IsSetMissed sets term s switch
@@ -63,7 +63,7 @@ module _ (pass : Pass) (within : Bool) (interval : Interval) where
     none = λ sets all v may. by_order from v (λ after. rest v after (so_far.inside sets all v may).1) (λ before. so_far.none sets all v may before);
   }
 
-pub refuted_elsewhere : (pass : Pass) (within : Bool) (claims : List Claim) (otherwise : Claim) → AreAsked pass within claims → ((sets : List IntSet) → IsDenied sets otherwise → IsSwitchedTo sets pass.switch within) → Refute (length pass.trail.now.declared) (claims ++ otherwise ∷ []) (constraint_of pass) rule.Rows
+pub refuted_elsewhere : (pass : Pass) (within : Bool) (claims : List Claim) (otherwise : Claim) → AreAsked pass within claims → ((sets : List IntSet) → IsDenied sets otherwise → IsSwitchedTo sets pass.switch within) → Refute (length pass.trail.now.declared) (claims ++ otherwise ∷ []) (membership_constraint pass) rule.Rows
 unfolding IsMet IsRowsMet
 refuted_elsewhere pass within claims otherwise asked switched sets denying =
     inl (missed sets pass.term pass.set.now pass.switch within denying.filled (subst (λ (n : ℕ). IsSwitch n pass.switch) (sym denying.one_each) pass.switch_fits) (switched sets (All-last (IsDenied sets) claims otherwise denying.denied)) (asked.none sets (All-front (IsDenied sets) claims otherwise denying.denied)))

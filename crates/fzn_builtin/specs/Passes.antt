@@ -15,16 +15,16 @@ use Rattle.fzn_terms.specs.declared.claim.Claim.{Claim}
 use Rattle.fzn_terms.specs.Denied.{IsDenied}
 use Rattle.fzn_builtin.specs.declared.member.Pass.{Pass}
 
-abbrev pub constraint_of : Pass → Constraint
-constraint_of pass = SetIn pass.term pass.set.now pass.switch
+abbrev pub membership_constraint : Pass → Constraint
+membership_constraint pass = SetIn pass.term pass.set.now pass.switch
 
 -- the rule `rows` justifies the clause from the membership
-abbrev pub IsInferred : Pass → List Lit → Type 0
-IsInferred pass clause = IsJustified pass.trail.now (constraint_of pass) Rows clause
+abbrev pub IsJustifiedByMembership : Pass → List Lit → Type 0
+IsJustifiedByMembership pass clause = IsJustified pass.trail.now (membership_constraint pass) Rows clause
 
 -- so of each of these inferences, which have its number
-abbrev pub AreFoundIn : Pass → List Inference → Type 0
-AreFoundIn pass found = AreFoundOf pass.number (constraint_of pass) pass.trail.now found
+abbrev pub AreFoundOfMembership : Pass → List Inference → Type 0
+AreFoundOfMembership pass found = AreFoundOf pass.number (membership_constraint pass) pass.trail.now found
 
 -- claims on terms of the trail; where they are denied, none of the term's values is asked for
 pub record AreAsked (pass : Pass) (asked : Bool) (claims : List Claim) : Type 0 where

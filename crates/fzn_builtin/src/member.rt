@@ -40,12 +40,12 @@ pub(crate) struct Pass<'a> {
 }
 
 impl<'a> Pass<'a> {
-    ghost use Rattle.fzn_builtin.specs.Passes.{IsInferred, AreFoundIn, AreAsked};
+    ghost use Rattle.fzn_builtin.specs.Passes.{IsJustifiedByMembership, AreFoundOfMembership, AreAsked};
 
     /// Finds what the values of the term or the switch show.
     pub(crate) fn find(&self, found: &mut Findings) -> Result<(), Memory>
-        requires { AreFoundIn self.now found.old }
-        ensures { AreFoundIn self.now found.new }
+        requires { AreFoundOfMembership self.now found.old }
+        ensures { AreFoundOfMembership self.now found.new }
     {
         match self.asked() {
             Some(within) => self.part_misfits(within, found),
@@ -191,8 +191,8 @@ impl<'a> Pass<'a> {
 
     /// Finds for each interval of misfits that the switch says otherwise, or the term has a value elsewhere.
     fn part_misfits(&self, within: bool, found: &mut Findings) -> Result<(), Memory>
-        requires { AreFoundIn self.now found.old }
-        ensures { AreFoundIn self.now found.new }
+        requires { AreFoundOfMembership self.now found.old }
+        ensures { AreFoundOfMembership self.now found.new }
     {
         let all = self.misfits(within)?;
         for interval in all.as_slice() {
@@ -204,7 +204,7 @@ impl<'a> Pass<'a> {
 
     /// The clause that the switch says whether the term is a member, where all of its values are, or none is.
     fn explain_switch(&self) -> Result<Option<Items<Lit>>, Memory>
-        ensures { IfOk result (λ found. IfSome found (IsInferred self.now)) }
+        ensures { IfOk result (λ found. IfSome found (IsJustifiedByMembership self.now)) }
     {
         let all = interval_of(self.trail, self.term);
         if self.are_all(false) {
@@ -218,7 +218,7 @@ impl<'a> Pass<'a> {
 
     /// The clause that the switch says otherwise, or the term has a value outside of the interval or one of the few in it asked for.
     fn elsewhere(&self, within: bool, interval: Interval) -> Result<Option<Items<Lit>>, Memory>
-        ensures { IfOk result (λ found. IfSome found (IsInferred self.now)) }
+        ensures { IfOk result (λ found. IfSome found (IsJustifiedByMembership self.now)) }
     {
         let Some(otherwise) = self.otherwise(within) else {
             return Ok(None);

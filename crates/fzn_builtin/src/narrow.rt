@@ -5,7 +5,7 @@ ghost use Rattle.fzn_meaning.specs.declared.constraint.Constraint.TheVariants as
 ghost use Rattle.fzn_meaning.specs.Term.{IsTerm};
 ghost use Rattle.fzn_meaning.specs.Meaning.{IsWellFormed};
 ghost use Rattle.fzn_propagator.specs.Inference.{AreFoundOf};
-ghost use Rattle.fzn_fixed.specs.Parts.{IsReady};
+ghost use Rattle.fzn_fixed.specs.Parts.{ArePartsReady};
 
 use crate::member::Pass;
 use fzn_arithmetic::{infer_absolute_value, infer_operation};
@@ -26,7 +26,7 @@ pub fn narrow(
     parts: &Parts,
     found: &mut Findings,
 ) -> Result<(), Memory>
-    requires ready { IsReady (length trail.now.declared) parts.now }
+    requires ready { ArePartsReady (length trail.now.declared) parts.now }
     requires filled { NoneEmpty trail.now.sets }
     requires before { AreFoundOf number parts.now.constraint trail.now found.old }
     ensures { AreFoundOf number parts.now.constraint trail.now found.new }

@@ -4,11 +4,11 @@ pub mod DerivationLaws
 pub mod HeaderLaws
 pub mod LineLaws
 pub mod NumberLaws
-mod OneVerdict
-mod OneVerdictEnds
-mod OneVerdictHeader
-mod OneVerdictLines
-mod OneVerdictSteps
+pub mod OneVerdict
+pub mod OneVerdictEnds
+pub mod OneVerdictHeader
+pub mod OneVerdictLines
+pub mod OneVerdictSteps
 mod RefusalLaws
 pub mod SoundLaws
 mod SpaceLaws

@@ -49,4 +49,7 @@ pub enum Refusal {
     /// The model has no variable of this number.
     #[error("fault 49 NoSuchVariable")]
     NoSuchVariable,
+    /// The constraints that the line cites do not give a constraint so.
+    #[error("fault 51 NotDerived")]
+    NotDerived,
 }

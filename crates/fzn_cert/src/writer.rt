@@ -1,7 +1,7 @@
 // The writer of a certificate.
 ghost use Rattle.std.specs.Prelude.{◌≡◌, ℕ, ◌+◌, ◌<◌, ◌^◌, Bool, true, string_bytes, OnOk, OnErr, IfOk, IfErr, Err};
 ghost use Rattle.std.specs.Io.KnownBytes.{Appends, Keeps};
-ghost use Rattle.fzn_streams.specs.Output.{Puts, IsStreamDue};
+ghost use Rattle.fzn_streams.specs.Output.{Puts, AppendsFront, IsStreamDue};
 ghost use Rattle.fzn_cert.specs.declared.step.Version.TheVariants.{One};
 ghost use Rattle.fzn_cert.specs.declared.writer.Stage.TheVariants.{Fresh, Open, Shut};
 ghost use Rattle.fzn_cert.specs.Spelling.{step_line, IsSpelled, HasLineRoom, version_text, header_text, end_line};
@@ -119,14 +119,56 @@ impl<'w, W: TrackedWrite> StepWriter<'w, W> {
         ensures failed { ¬ (stage_of self.old ≡ Fresh) → result ≡ Err WriteFault.Failed }
         ensures shut { OnErr result (stage_of self.new ≡ Shut) }
     {
+        self.take_fresh()?;
+        let text = header_of(alloc, version, variables, constraints)?;
+        self.put_first(version, text.as_bytes())
+    }
+
+    /// Writes these lines as the first ones, behind which the steps of this version come. It answers `Write`, and `Failed` after an earlier
+    /// call.
+    pub fn begin_with(&mut self, version: Version, lines: &str) -> Result<(), WriteFault>
+        ensures ok { OnOk result (Appends (contents_of W.contents self.old) (contents_of W.contents self.new) lines.now) }
+        ensures begun { OnOk result ((stage_of self.new ≡ Open) × (version_of self.new ≡ version) × (step_count self.new ≡ 0)) }
+        ensures same_stream { stream_of W.stream self.new ≡ stream_of W.stream self.old }
+        ensures same_writer { cert_name self.new ≡ cert_name self.old }
+        ensures err { IfErr result (Leaves lines.now (contents_of W.contents self.old) (contents_of W.contents self.new)) }
+        ensures fault { stage_of self.old ≡ Fresh → IfErr result (λ fault. fault ≡ WriteFault.Write) }
+        ensures due { IfErr result (λ fault. fault ≡ WriteFault.Write → has_failed_in W.has_failed self.new ≡ true) }
+        ensures failed { ¬ (stage_of self.old ≡ Fresh) → result ≡ Err WriteFault.Failed }
+        ensures shut { OnErr result (stage_of self.new ≡ Shut) }
+    {
+        self.take_fresh()?;
+        self.put_first(version, lines.as_bytes())
+    }
+
+    // Shuts the writer, so that only a call that goes well opens it.
+    fn take_fresh(&mut self) -> Result<(), WriteFault>
+        ensures ok { OnOk result (stage_of self.old ≡ Fresh) }
+        ensures err { IfErr result (λ fault. fault ≡ WriteFault.Failed × ¬ (stage_of self.old ≡ Fresh)) }
+        ensures same { contents_of W.contents self.new ≡ contents_of W.contents self.old }
+        ensures same_stream { stream_of W.stream self.new ≡ stream_of W.stream self.old }
+        ensures same_writer { cert_name self.new ≡ cert_name self.old }
+        ensures shut { stage_of self.new ≡ Shut }
+    {
         let stage = self.stage;
         self.stage = Stage::Shut;
         match stage {
-            Stage::Fresh => {}
-            _ => return Err(WriteFault::Failed),
+            Stage::Fresh => Ok(()),
+            _ => Err(WriteFault::Failed),
         }
-        let text = header_of(alloc, version, variables, constraints)?;
-        if put(self.out, text.as_bytes()).is_err() {
+    }
+
+    // Writes the first lines, and opens the writer that was shut for it.
+    fn put_first(&mut self, version: Version, lines: &[u8]) -> Result<(), WriteFault>
+        requires shut { stage_of self.old ≡ Shut }
+        ensures ok { OnOk result (Appends (contents_of W.contents self.old) (contents_of W.contents self.new) lines.now) }
+        ensures begun { OnOk result ((stage_of self.new ≡ Open) × (version_of self.new ≡ version) × (step_count self.new ≡ 0)) }
+        ensures same_stream { stream_of W.stream self.new ≡ stream_of W.stream self.old }
+        ensures same_writer { cert_name self.new ≡ cert_name self.old }
+        ensures err { IfErr result (λ fault. (fault ≡ WriteFault.Write) × AppendsFront (contents_of W.contents self.old) (contents_of W.contents self.new) lines.now × (has_failed_in W.has_failed self.new ≡ true)) }
+        ensures shut { OnErr result (stage_of self.new ≡ Shut) }
+    {
+        if put(self.out, lines).is_err() {
             return Err(WriteFault::Write);
         }
         self.version = version;

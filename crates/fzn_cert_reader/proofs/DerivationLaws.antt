@@ -1,5 +1,5 @@
 -- Derivations that are read are what is written.
-use Rattle.std.proofs.Common.{◌≡◌, ◌⊎◌, ℕ, Bool, true, false, cond, List, [], ◌∷◌, ◌++◌, map, Option, Some, None, refl, sym, ap, subst, ◌∙◌, inl, inr, append_assoc}
+use Rattle.std.proofs.Common.{◌≡◌, ℕ, true, List, [], ◌∷◌, ◌++◌, map, Option, Some, None, refl, sym, ap, subst, ◌∙◌, inl, inr, append_assoc}
 use Rattle.std.specs.Prelude.{◌&&◌, ℤ, pos, negsuc, Result, Ok, Err, IfOk, IfSome, IfNone, codes}
 use Rattle.std.specs.List.{AllByRecursion, flat_map}
 use Rattle.std.specs.Str.{bytes_eq}
@@ -16,7 +16,7 @@ use Rattle.fzn_cert.specs.Words.{◌>>=◌, positive_of, items_of, items_before_
 use Rattle.fzn_cert.specs.Reading.{words_of}
 use Rattle.fzn_cert.specs.Derivations.{var_text, multiple_words, derivation_words, derivation_text, IsMultiplier, IsMultiple, IsVariableNumber, IsDerivation, multiplier_of, variable_of, multiples_of, named_derivation, derivation_of_words, derivation_of}
 use Rattle.fzn_cert.proofs.CallerLemmas.{and_true, some_is, derivation_again}
-use Rattle.fzn_cert_reader.proofs.OptionLaws.{bind_some, guard_some, chosen}
+use Rattle.fzn_cert_reader.proofs.OptionLaws.{bind_some, chosen}
 use Rattle.fzn_cert_reader.proofs.WordLaws.{number_takes, within_takes, items_take, marked_take}
 use Rattle.fzn_cert_reader.proofs.LineLaws.{spaced-words_of}
 

@@ -11,6 +11,9 @@ use Rattle.fzn_cert.specs.Stream.{IsVersionText, IsCountsText}
 use Rattle.fzn_cert.specs.Words.{◌>>=◌, natural_of}
 use Rattle.fzn_cert.specs.Reading.{words_of, counts_of}
 use Rattle.fzn_cert.proofs.CallerLemmas.{and_true, some_is, counts_words, counts_text_is, counts_again}
+use Rattle.fzn_head.specs.declared.head.Head.{Head}
+use Rattle.fzn_head.specs.Head.{head_counts, head_of_words, IsSizedHead, IsHeadCountsText}
+use Rattle.fzn_head.proofs.HeadLaws.{head_counts_is, head_again, head_takes}
 use Rattle.fzn_cert_reader.proofs.OptionLaws.{bind_some, chosen}
 use Rattle.fzn_cert_reader.proofs.NumberLaws.{natural_takes}
 use Rattle.fzn_cert_reader.proofs.LineLaws.{spaced-words_of, false_true}
@@ -69,3 +72,18 @@ counts_none line None e = λ t. none_some (t.0, t.1) (e ∙ ap (λ (text : List 
     none_some : (y : ℕ × ℕ) → None ≡ Some y → ⊥
     none_some y h = cc
 counts_none line (Some x) e = tt
+
+-- ---- version three
+
+pub head_found : (line : List ℕ) (r : Option Head) → r ≡ head_of_words (words_of line) → IfSome r (λ head. (line ≡ head_counts head) × IsSizedHead head)
+head_found line None e = tt
+head_found line (Some head) e =
+    let s = head_takes natural_takes (words_of line) head (sym e) in
+    (sym (spaced-words_of line) ∙ ap spaced s.words_are ∙ head_counts_is head, s.sized)
+
+pub head_none : (line : List ℕ) (r : Option Head) → r ≡ head_of_words (words_of line) → IfNone r (IsHeadCountsText line → ⊥)
+head_none line None e = λ t. none_some t.0 (e ∙ ap (λ (text : List ℕ). head_of_words (words_of text)) t.2 ∙ head_again t.0 t.1)
+  where
+    none_some : (head : Head) → None ≡ Some head → ⊥
+    none_some head h = cc
+head_none line (Some head) e = tt

@@ -2,17 +2,22 @@
 ghost use Rattle.std.specs.Prelude.{◌≡◌, ◌≤◌, ◌+◌, ◌++◌, ◌∷◌, [], Bool, true, Some, None, IfOk, IfErr, IfSome, IfNone, OnOk, OnErr};
 ghost use Rattle.std.specs.Io.KnownBytes.{Consumes, IsAtEnd};
 ghost use Rattle.fzn_cert.specs.Spelling.{step_text, step_line, end_line, version_text, counts_text, HasLine, IsSized};
+ghost use Rattle.fzn_head.specs.Head.{head_counts_line, derivation_line, HasDerivationLine, IsSizedHead, IsFirstText, IsHeadCountsText, IsDerivationText};
 ghost use Rattle.fzn_cert_reader.specs.Input.{reader_in, left_in};
+ghost use Rattle.fzn_cert_reader.specs.First.{first_text};
 ghost use Rattle.fzn_cert_reader.specs.Told.{TakesNone, TakesEnd};
 ghost use Rattle.fzn_cert.specs.declared.fault.FaultKind.TheVariants.{Read, Trailing};
 ghost use Rattle.fzn_cert.specs.Stream.{IsFaultOf, IsTrailedBy, IsHeaderFaultOf, IsVersionText, IsCountsText};
 
+use crate::derivation::derivation_of_line;
 use crate::ending::closed_of_line;
-use crate::header::{counts_of_line, version_of_line};
+use crate::header::{FirstLine, counts_of_line, first_of_line, head_of_line, version_of_line};
 use crate::input::Bytes;
 use crate::lines::{LineEnd, next_line};
 use crate::parse::step_after;
 use fzn_cert::{FaultKind, Step, Version};
+use fzn_derive::Derivation;
+use fzn_head::Head;
 use fzn_streams::{ReadFailed, TrackedRead};
 use std::alloc::Global;
 
@@ -129,6 +134,61 @@ impl<R: TrackedRead + Drop> StepLines<R> {
             LineEnd::TooLong => Err(FaultKind::LineTooLong),
             LineEnd::Whole => match counts_of_line(&self.line) {
                 Some(counts) => Ok(counts),
+                None => Err(FaultKind::Header),
+            },
+        }
+    }
+
+    /// Reads the first line, of whichever version. It answers `Memory`, `Read`, `Truncated` and `LineTooLong` as `next_step` does, and `Header`
+    /// where the line spells no version.
+    pub fn read_first(&mut self) -> Result<FirstLine, FaultKind>
+        ensures ok { IfOk result (λ first. Consumes (left_in R.remaining self.old.bytes) (left_in R.remaining self.new.bytes) (first_text first ++ 10 ∷ [])) }
+        ensures err { IfErr result (IsHeaderFaultOf IsFirstText (left_in R.remaining self.old.bytes)) }
+        ensures due { IfErr result (λ kind. kind ≡ Read → R.has_failed (reader_in self.new.bytes) ≡ true) }
+        ensures same { (self.new.steps ≡ self.old.steps) × (self.new.closed ≡ self.old.closed) }
+    {
+        match next_line(&mut self.bytes, &mut self.line)? {
+            LineEnd::Truncated => Err(FaultKind::Truncated),
+            LineEnd::TooLong => Err(FaultKind::LineTooLong),
+            LineEnd::Whole => match first_of_line(&self.line) {
+                Some(first) => Ok(first),
+                None => Err(FaultKind::Header),
+            },
+        }
+    }
+
+    /// Reads the second line of version three, with the faults of `read_counts`.
+    pub fn read_head(&mut self) -> Result<Head, FaultKind>
+        ensures ok { IfOk result (λ head. Consumes (left_in R.remaining self.old.bytes) (left_in R.remaining self.new.bytes) (head_counts_line head)) }
+        ensures sized { IfOk result IsSizedHead }
+        ensures err { IfErr result (IsHeaderFaultOf IsHeadCountsText (left_in R.remaining self.old.bytes)) }
+        ensures due { IfErr result (λ kind. kind ≡ Read → R.has_failed (reader_in self.new.bytes) ≡ true) }
+        ensures same { (self.new.steps ≡ self.old.steps) × (self.new.closed ≡ self.old.closed) }
+    {
+        match next_line(&mut self.bytes, &mut self.line)? {
+            LineEnd::Truncated => Err(FaultKind::Truncated),
+            LineEnd::TooLong => Err(FaultKind::LineTooLong),
+            LineEnd::Whole => match head_of_line(&self.line) {
+                Some(head) => Ok(head),
+                None => Err(FaultKind::Header),
+            },
+        }
+    }
+
+    /// Reads a line that derives a constraint. It answers `Memory` where memory runs out, `Read`, `Truncated` and `LineTooLong` as `next_step`
+    /// does, and `Header` where the line spells no derivation.
+    pub fn read_derivation(&mut self, alloc: Global) -> Result<Derivation, FaultKind>
+        ensures ok { IfOk result (λ derivation. Consumes (left_in R.remaining self.old.bytes) (left_in R.remaining self.new.bytes) (derivation_line derivation)) }
+        ensures line { IfOk result HasDerivationLine }
+        ensures err { IfErr result (IsHeaderFaultOf IsDerivationText (left_in R.remaining self.old.bytes)) }
+        ensures due { IfErr result (λ kind. kind ≡ Read → R.has_failed (reader_in self.new.bytes) ≡ true) }
+        ensures same { (self.new.steps ≡ self.old.steps) × (self.new.closed ≡ self.old.closed) }
+    {
+        match next_line(&mut self.bytes, &mut self.line)? {
+            LineEnd::Truncated => Err(FaultKind::Truncated),
+            LineEnd::TooLong => Err(FaultKind::LineTooLong),
+            LineEnd::Whole => match derivation_of_line(alloc, &self.line)? {
+                Some(derivation) => Ok(derivation),
                 None => Err(FaultKind::Header),
             },
         }

@@ -1,5 +1,5 @@
 // The reader of a certificate.
-ghost use Rattle.std.specs.Prelude.{◌≡◌, ◌<◌, ◌^◌, true, Ok, Err, None, Some, IfErr, IfOk, IfSome, IfNone, OnOk, OnErr, IsSome};
+ghost use Rattle.std.specs.Prelude.{◌≡◌, ◌+◌, ◌<◌, ◌≤◌, ◌^◌, true, Ok, Err, None, Some, IfErr, IfOk, IfSome, IfNone, OnOk, OnErr, IsSome};
 ghost use Rattle.std.specs.Option.{option_map, ForSome};
 ghost use Rattle.std.specs.Io.KnownBytes.{Consumes};
 ghost use Rattle.fzn_cert.specs.Spelling.{IsHeader};
@@ -15,9 +15,12 @@ use std::alloc::Global;
 /// Reads the steps of a certificate, one at a time. After a fault each call answers `Failed`, at the line of that fault.
 #[derive(Drop)]
 pub struct StepReader<R> {
-    lines: StepLines<R>,
-    header: Option<Header>,
-    fault_line: Option<u64>,
+    /// The lines of the certificate.
+    pub(crate) lines: StepLines<R>,
+    /// What the first two lines say, once they were read.
+    pub(crate) header: Option<Header>,
+    /// The line of the fault, after one.
+    pub(crate) fault_line: Option<u64>,
     ghost sized: { ForSome header IsHeader },
 }
 
@@ -52,6 +55,14 @@ impl<R: TrackedRead + Drop> StepReader<R> {
         Some((header.variables, header.constraints))
     }
 
+    /// How many steps were read, below 10^18.
+    pub fn steps(&self) -> u64
+        ensures value { result ≡ (progress R.remaining self.now).steps }
+        ensures few { result < 10 ^ 18 }
+    {
+        self.lines.steps
+    }
+
     /// Whether the last line says that the answer is closed, once it was read.
     pub fn closed(&self) -> Option<bool>
         ensures { result ≡ (progress R.remaining self.now).closing }
@@ -72,6 +83,7 @@ impl<R: TrackedRead + Drop> StepReader<R> {
         ensures failed { IfSome (progress R.remaining self.old).fault_line (λ line. (result ≡ Err (record { kind = FaultKind.Failed; line = line })) × (self.new ≡ self.old)) }
         ensures due { IfErr result (λ fault. fault.kind ≡ FaultKind.Read → R.has_failed (reader_below self.new) ≡ true) }
         ensures same { IsSome (progress R.remaining self.old).header → (progress R.remaining self.new).header ≡ (progress R.remaining self.old).header }
+        ensures near { MayGoOn (progress R.remaining self.old) → IfErr result (λ fault. fault.line ≤ 10 ^ 18 + 4) }
     {
         if let Some(line) = self.fault_line {
             return Err(CertFault {
@@ -100,6 +112,7 @@ impl<R: TrackedRead + Drop> StepReader<R> {
         ensures told { Tells (progress R.remaining self.old) (progress R.remaining self.new) }
         ensures same { (self.new.fault_line ≡ self.old.fault_line) × (IsSome self.old.header → self.new.header ≡ self.old.header) }
         ensures same_steps { OnErr result (self.new.lines.steps ≡ self.old.lines.steps) }
+        ensures near { IfErr result (λ fault. fault.line ≤ 10 ^ 18 + 4) }
         ensures due { IfErr result (λ fault. fault.kind ≡ FaultKind.Read → R.has_failed (reader_below self.new) ≡ true) }
     {
         let header = self.read_header()?;
@@ -121,6 +134,7 @@ impl<R: TrackedRead + Drop> StepReader<R> {
         ensures untold { OnErr result (TakesNoHeader (left_in R.remaining self.old.lines.bytes) (left_in R.remaining self.new.lines.bytes)) }
         ensures same { (self.new.lines.steps ≡ self.old.lines.steps) × (self.new.lines.closed ≡ self.old.lines.closed) × (self.new.fault_line ≡ self.old.fault_line) }
         ensures same_header { IsSome self.old.header → self.new.header ≡ self.old.header }
+        ensures near { IfErr result (λ fault. fault.line ≤ 2) }
         ensures due { IfErr result (λ fault. fault.kind ≡ FaultKind.Read → R.has_failed (reader_below self.new) ≡ true) }
     {
         if let Some(header) = self.header {
@@ -149,7 +163,8 @@ impl<R: TrackedRead + Drop> StepReader<R> {
 /// behind the last line.
 pub fn line_of(kind: FaultKind, steps: u64) -> u64
     requires { steps < 10 ^ 18 }
-    ensures { result ≡ line_of_fault kind steps }
+    ensures value { result ≡ line_of_fault kind steps }
+    ensures near { result ≤ steps + 4 }
 {
     match kind {
         FaultKind::Trailing => steps + 4,

@@ -25,7 +25,7 @@ use Rattle.fzn_checker.proofs.StandingLaws.{Consumes-split, standing-from, other
 
 -- ---- a fault of the reader
 
-fault-weaker : (P Q : Outcome → Type 0) (fault : CheckFault) → ((outcome : Outcome) → P outcome → Q outcome) → IsFaultWhere P fault → IsFaultWhere Q fault
+pub fault-weaker : (P Q : Outcome → Type 0) (fault : CheckFault) → ((outcome : Outcome) → P outcome → Q outcome) → IsFaultWhere P fault → IsFaultWhere Q fault
 fault-weaker P Q (Refused line refusal) h f = h (refused line refusal) f
 fault-weaker P Q Memory h f = tt
 fault-weaker P Q Read h f = tt
@@ -113,14 +113,10 @@ counts-refused model past old new next midway same sized other gives ends finds 
 -- ---- the whole certificate
 
 -- what the ending says
-pub found-accepted : (model : Model) (left : Option (List ℕ)) (past : StepsPast) (old new : Progress) (closed : Bool) → ((outcome : Outcome) → ComesTo model past old outcome → VerdictOn model left outcome) → Accepts model past old new → closed ≡ unwrap_or new.closing false → VerdictOn model left (accepted past.solutions closed)
-found-accepted model left past old new closed goes_on (said, is, may_say, standing) closed_is =
-    subst (λ b. VerdictOn model left (accepted past.solutions b)) (sym (closed_is ∙ ap (λ o. unwrap_or o false) is)) (goes_on (accepted past.solutions said) standing)
+pub found-accepted : (Holds : Outcome → Type 0) (model : Model) (past : StepsPast) (old new : Progress) (closed : Bool) → ((outcome : Outcome) → ComesTo model past old outcome → Holds outcome) → Accepts model past old new → closed ≡ unwrap_or new.closing false → Holds (accepted past.solutions closed)
+found-accepted Holds model past old new closed goes_on (said, is, may_say, standing) closed_is =
+    subst (λ b. Holds (accepted past.solutions b)) (sym (closed_is ∙ ap (λ o. unwrap_or o false) is)) (goes_on (accepted past.solutions said) standing)
 
 -- a closed one comes after the empty clause
 pub found-refuted : (model : Model) (past : StepsPast) (old new : Progress) (closed : Bool) → Accepts model past old new → closed ≡ unwrap_or new.closing false → closed ≡ true → past.refuted ≡ true
 found-refuted model past old new closed (said, is, may_say, standing) closed_is is_closed = may_say (sym (closed_is ∙ ap (λ o. unwrap_or o false) is) ∙ is_closed)
-
--- a fault found on the way
-pub fault-found : (model : Model) (left : Option (List ℕ)) (past : StepsPast) (now : Progress) (fault : CheckFault) → ((outcome : Outcome) → ComesTo model past now outcome → VerdictOn model left outcome) → IsFaultWhere (ComesTo model past now) fault → IsFaultWhere (VerdictOn model left) fault
-fault-found model left past now fault goes_on h = fault-weaker (ComesTo model past now) (VerdictOn model left) fault goes_on h

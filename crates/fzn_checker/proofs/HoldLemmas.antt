@@ -1,28 +1,37 @@
 -- Steps that are held: what they leave, the lines that they have, and the certificate that they make.
-use Rattle.std.proofs.Common.{◌≡◌, ℕ, ◌+◌, Bool, false, List, [], ◌∷◌, ◌++◌, length, Option, Some, None, IsSome, IfSome, unwrap_or, refl, sym, ap, ap₂, subst, ◌∙◌, inr, arith, append_assoc, append-nil}
-use Rattle.std.specs.List.{fold, flat_map}
+use Rattle.std.proofs.Common.{◌≡◌, ℕ, ◌+◌, ◌≤◌, Bool, false, List, [], ◌∷◌, ◌++◌, length, Option, Some, None, IsSome, IfSome, unwrap_or, refl, sym, ap, subst, ◌∙◌, inl, inr, arith, append_assoc, append-nil}
+use Rattle.std.specs.List.{fold}
+use Rattle.std.specs.Io.KnownBytes.{Consumes, IsAtEnd}
+use Rattle.std.proofs.KnownBytes.{Consumes-trans}
+use Rattle.std.proofs.lemmas.List.{length-append}
 use Rattle.fzn_meaning.specs.declared.model.Model.{Model}
+use Rattle.fzn_meaning.specs.WellFormed.{IsWellFormed}
+use Rattle.fzn_derive.specs.declared.derivation.Derivation.{Derivation}
 use Rattle.fzn_cert.specs.declared.header.Header.{Header}
 use Rattle.fzn_cert.specs.declared.step.Step.{Step}
 use Rattle.fzn_cert.specs.declared.step.Step.TheVariants.{Infer, Resolve, Solution, Delete}
 use Rattle.fzn_cert.specs.declared.step.Version.{Version}
 use Rattle.fzn_cert.specs.declared.step.Version.TheVariants.{Two}
-use Rattle.fzn_cert.specs.Spelling.{step_line, end_line, IsSized, IsSpelled, HasLine}
+use Rattle.fzn_cert.specs.Spelling.{step_line, end_line, header_lines, version_text, counts_text, IsSpelled, HasLine}
 use Rattle.fzn_cert.specs.Past.{StepsPast, no_past}
 use Rattle.fzn_cert.specs.Accepted.{IsAccepted, AllAcceptedAfter, AllAccepted, after_step, past_after}
-use Rattle.fzn_cert.specs.Verdict.{accepted, lines_of, AllHaveLines, MayEnd, VerdictOn}
+use Rattle.fzn_cert.specs.Verdict.{accepted, lines_of, AllHaveLines, MayEnd, VerdictFrom, header_of}
 use Rattle.fzn_cert.proofs.CallerLemmas.{some_is}
 use Rattle.fzn_cert.proofs.SoundLaws.{sound-after}
-use Rattle.fzn_cert_reader.specs.Reader.{Progress, IsAtStart, GivesStep, Ends, HasRead, certificate_text}
-use Rattle.fzn_cert_reader.proofs.CallerLemmas.{HasRead-end}
+use Rattle.fzn_cert_reader.specs.Reader.{Progress, lines_read, GivesStep, Ends}
+use Rattle.fzn_head.specs.Head.{three_line, head_counts_line, derivation_lines}
+use Rattle.fzn_head.specs.Opening.{head_for}
+use Rattle.fzn_head.specs.Outcome.{IsOutcomeOn, early, third}
+use Rattle.fzn_head.proofs.CallerLemmas.{one_for_each}
 use Rattle.fzn_checker.specs.declared.hold.Held.{Held}
 use Rattle.fzn_checker.specs.declared.hold.Taken.{Taken}
-use Rattle.fzn_checker.specs.Checked.{HasCounts, Accepts}
+use Rattle.fzn_checker.specs.Checked.{Accepts}
 use Rattle.fzn_checker.specs.Given.{AreGiven}
-use Rattle.fzn_checker.specs.Held.{MayTake, HasTaken, certificate_of, IsCertificate, HoldsCertificate}
+use Rattle.fzn_checker.specs.Held.{MayTake, HasTaken, lines_to_end, AreLinesLeft, IsCertificate, HoldsSteps, HoldsCertificate}
+use Rattle.fzn_checker.specs.Opened.{IsHeadOf, IsInFront, plain, headed, IsOpened}
 use Rattle.fzn_checker.proofs.FaultLaws.{found-refuted}
 use Rattle.fzn_checker.proofs.RewriteLemmas.{all_more}
-use Rattle.fzn_checker.proofs.StandingLaws.{header_is}
+use Rattle.fzn_checker.proofs.StandingLaws.{Consumes-split}
 
 -- ---- one step more
 
@@ -68,63 +77,77 @@ pub lines-two : (version : Version) (count : ℕ) (steps : List Step) → AllHav
 lines-two version count [] h = tt
 lines-two version count (step ∷ steps) h = ((spelled-two version step h.0.0, h.0.1), lines-two version (count + 1) steps h.1)
 
--- once the first two lines were read, each step has a line in their version
-abbrev pub AreSpelled : Progress → List Step → Type 0
-AreSpelled now steps = IfSome now.header (λ header. AllHaveLines header.version 0 steps)
+lines-push : (steps : List Step) (step : Step) → lines_of steps ++ step_line step ≡ lines_of (steps ++ step ∷ [])
+lines-push [] step = sym (append-nil (step_line step))
+lines-push (first ∷ steps) step = append_assoc (step_line first) (lines_of steps) (step_line step) ∙ ap (λ (t : List ℕ). step_line first ++ t) (lines-push steps step)
 
-pub spelled-fresh : (left : Option (List ℕ)) (now : Progress) → IsAtStart left now → AreSpelled now []
-spelled-fresh left now fresh = subst (λ (o : Option Header). IfSome o (λ header. AllHaveLines header.version 0 [])) (sym fresh.1) tt
+-- behind the first two lines, or those of a head, the lines of these steps were read
+pub record HasReadSteps (first now : Progress) (steps : List Step) : Type 0 where
+  pub header : Header
+  pub told_first : first.header ≡ Some header
+  pub told : now.header ≡ Some header
+  pub taken : Consumes first.left now.left (lines_of steps)
+  pub counted : now.steps ≡ length steps
+  pub spelled : AllHaveLines header.version 0 steps
 
--- in the version of the first two lines, where this call read them or not
-spelled-at : (bytes : Option (List ℕ)) (old : Progress) (now : Option Header) (header : Header) (steps : List Step) → HasRead bytes old steps → AreSpelled old steps → now ≡ Some header → (IsSome old.header → now ≡ old.header) → AllHaveLines header.version 0 steps
-spelled-at bytes old now header steps read spelled told same = by_header old.header refl
+nothing-taken : (left : Option (List ℕ)) → Consumes left left []
+nothing-taken None = tt
+nothing-taken (Some bytes) = refl
+
+pub read-none : (first : Progress) → IsSome first.header → first.steps ≡ 0 → HasReadSteps first first []
+read-none first begun none = by_header first.header refl begun
   where
-    by_header : (before : Option Header) → old.header ≡ before → AllHaveLines header.version 0 steps
-    by_header None is = subst (AllHaveLines header.version 0) (sym (read.none_before is)) tt
-    by_header (Some before) is =
-        let same_header : before ≡ header = some_is before header (sym is ∙ sym (same (subst IsSome (sym is) refl)) ∙ told) in
-        subst (λ (h : Header). AllHaveLines h.version 0 steps) same_header (subst (λ (o : Option Header). IfSome o (λ h. AllHaveLines h.version 0 steps)) is spelled)
+    by_header : (told : Option Header) → first.header ≡ told → IsSome told → HasReadSteps first first []
+    by_header None is some = cc
+    by_header (Some header) is some = record { header = header; told_first = is; told = is; taken = nothing-taken first.left; counted = none; spelled = tt }
 
-pub spelled-more : (bytes : Option (List ℕ)) (old new : Progress) (steps : List Step) (step : Step) → HasRead bytes old steps → AreSpelled old steps → GivesStep old new step → (IsSome old.header → new.header ≡ old.header) → AreSpelled new (steps ++ step ∷ [])
-spelled-more bytes old new steps step read spelled gives same =
-    let count : old.steps ≡ 0 + length steps = omega (arith, read.counted) in
-    subst (λ (o : Option Header). IfSome o (λ header. AllHaveLines header.version 0 (steps ++ step ∷ []))) (sym gives.told)
-    (all_more gives.header.version 0 steps step (spelled-at bytes old new.header gives.header steps read spelled gives.told same) (subst (λ (n : ℕ). HasLine gives.header.version n step) count gives.has_line))
+-- the header that is told stays the one that was told
+told-still : (old new : Progress) (header : Header) → old.header ≡ Some header → (IsSome old.header → new.header ≡ old.header) → new.header ≡ Some header
+told-still old new header told same = same (subst IsSome (sym told) refl) ∙ told
 
--- ---- the certificate
+-- a call that read no first two lines took the text alone
+taken-alone : (left rest : Option (List ℕ)) (old new : Option Header) (header : Header) (text : List ℕ) → old ≡ Some header → Consumes left rest (lines_read old new ++ text) → Consumes left rest text
+taken-alone left rest old new header text told taken = subst (λ (o : Option Header). Consumes left rest (lines_read o new ++ text)) told taken
 
-flat-lines : (steps : List Step) → flat_map step_line steps ≡ lines_of steps
-flat-lines [] = refl
-flat-lines (step ∷ steps) = ap (λ (t : List ℕ). step_line step ++ t) (flat-lines steps)
+pub read-more : (first old new : Progress) (steps : List Step) (step : Step) → HasReadSteps first old steps → GivesStep old new step → (IsSome old.header → new.header ≡ old.header) → HasReadSteps first new (steps ++ step ∷ [])
+read-more first old new steps step so_far gives same =
+    let told = told-still old new so_far.header so_far.told same in
+    let is : gives.header ≡ so_far.header = some_is gives.header so_far.header (sym gives.told ∙ told) in
+    let count : old.steps ≡ 0 + length steps = omega (arith, so_far.counted) in
+    record {
+      header = so_far.header;
+      told_first = so_far.told_first;
+      told = told;
+      taken = subst (Consumes first.left new.left) (lines-push steps step)
+          (Consumes-trans first.left old.left new.left (lines_of steps) (step_line step) so_far.taken (taken-alone old.left new.left old.header new.header so_far.header (step_line step) so_far.told gives.taken));
+      counted = omega (arith, gives.counted, so_far.counted, length-append steps (step ∷ []));
+      spelled = all_more so_far.header.version 0 steps step so_far.spelled
+          (subst (λ (n : ℕ). HasLine so_far.header.version n step) count (subst (λ (h : Header). HasLine h.version old.steps step) is gives.has_line));
+    }
 
-certificate-is : (model : Model) (header : Header) (steps : List Step) (closed : Bool) → HasCounts model header → certificate_text header steps closed ≡ certificate_of model header.version steps closed
-certificate-is model header steps closed counts =
-    append_assoc _ (flat_map step_line steps) (end_line closed) ∙ ap₂ (λ (h t : List ℕ). h ++ (t ++ end_line closed)) (header_is model header counts) (flat-lines steps)
+-- all that is taken up to the end
+all-taken : (left rest : Option (List ℕ)) (text : List ℕ) → Consumes left rest text → IsAtEnd rest → IfSome left (λ bytes. bytes ≡ text)
+all-taken None rest text taken at_end = tt
+all-taken (Some bytes) None text taken at_end = absurd taken
+all-taken (Some bytes) (Some rest) text taken at_end = taken ∙ ap (λ (t : List ℕ). text ++ t) at_end ∙ append-nil text
 
--- the lines that were read up to the ending are a certificate of the steps
-pub certificate-read : (model : Model) (bytes : Option (List ℕ)) (old new : Progress) (steps : List Step) → HasRead bytes old steps → AreSpelled old steps → (ends : Ends old new) → HasCounts model ends.header → (IsSome old.header → new.header ≡ old.header)
-    → IsCertificate model ends.header.version bytes steps ends.closed
-certificate-read model bytes old new steps read spelled ends counts same = record {
-  sized = (subst IsSized counts.0 counts.2.0, subst IsSized counts.1 counts.2.1);
-  spelled = spelled-at bytes old new.header ends.header steps read spelled ends.told same;
-  text = by_bytes bytes read;
-}
-  where
-    by_bytes : (known : Option (List ℕ)) → HasRead known old steps → IfSome known (λ text. text ≡ certificate_of model ends.header.version steps ends.closed)
-    by_bytes None so_far = tt
-    by_bytes (Some text) so_far = HasRead-end text old new steps so_far ends same ∙ certificate-is model ends.header steps ends.closed counts
+pub read-all : (first old new : Progress) (steps : List Step) (closed : Bool) → HasReadSteps first old steps → Ends old new → closed ≡ unwrap_or new.closing false → AreLinesLeft first steps closed
+read-all first old new steps closed so_far ends is =
+    let said : ends.closed ≡ closed = sym (is ∙ ap (λ (o : Option Bool). unwrap_or o false) ends.closing) in
+    record {
+      spelled = subst (λ (o : Option Header). IfSome o (λ header. AllHaveLines header.version 0 steps)) (sym so_far.told_first) so_far.spelled;
+      text = subst (λ (b : Bool). IfSome first.left (λ bytes. bytes ≡ lines_to_end steps b)) said
+          (all-taken first.left new.left (lines_to_end steps ends.closed)
+          (Consumes-trans first.left old.left new.left (lines_of steps) (end_line ends.closed) so_far.taken (taken-alone old.left new.left old.header new.header so_far.header (end_line ends.closed) so_far.told ends.taken)) ends.at_end);
+    }
 
-pub held-end : (model : Model) (bytes : Option (List ℕ)) (steps : List Step) (taken : Taken) (old new : Progress) (held : Held) → HasTaken model steps taken → HasRead bytes old steps → AreSpelled old steps
-    → Accepts model taken.history old new → Ends old new → IfSome new.header (HasCounts model) → (IsSome old.header → new.header ≡ old.header)
-    → held.steps ≡ steps → held.solutions.items ≡ taken.history.solutions → held.closed ≡ unwrap_or new.closing false → HoldsCertificate model bytes held
-held-end model bytes steps taken old new held has_taken read spelled accepts ends counts same held_steps solutions closed =
-    let fits : HasCounts model ends.header = subst (λ (o : Option Header). IfSome o (HasCounts model)) ends.told counts in
-    let said : ends.closed ≡ held.closed = sym (closed ∙ ap (λ (o : Option Bool). unwrap_or o false) ends.closing) in
+pub steps-end : (model : Model) (first : Progress) (steps : List Step) (taken : Taken) (old new : Progress) (held : Held) → HasTaken model steps taken → HasReadSteps first old steps
+    → Accepts model taken.history old new → Ends old new
+    → held.steps ≡ steps → held.solutions.items ≡ taken.history.solutions → held.closed ≡ unwrap_or new.closing false → HoldsSteps model first held
+steps-end model first steps taken old new held has_taken read accepts ends held_steps solutions closed =
     let past : taken.history ≡ past_after model held.steps = has_taken.past ∙ ap (past_after model) (sym held_steps) in
     record {
-      version = ends.header.version;
-      certificate = subst (λ (b : Bool). IsCertificate model ends.header.version bytes held.steps b) said
-          (subst (λ (all : List Step). IsCertificate model ends.header.version bytes all ends.closed) (sym held_steps) (certificate-read model bytes old new steps read spelled ends fits same));
+      lines = subst (λ (all : List Step). AreLinesLeft first all held.closed) (sym held_steps) (read-all first old new steps held.closed read ends closed);
       stands = record {
         accepted = subst (AllAccepted model) (sym held_steps) has_taken.accepted;
         found = solutions ∙ ap (λ (p : StepsPast). p.solutions) past;
@@ -132,9 +155,97 @@ held-end model bytes steps taken old new held has_taken read spelled accepts end
       };
     }
 
+-- ---- the certificate
+
+-- in front of them stands what makes of the model the second one
+pub certificate-of : (model after : Model) (left : Option (List ℕ)) (now : Progress) (lines : ℕ) (steps : List Step) (closed : Bool) → (opened : IsOpened model after left now lines) → AreLinesLeft now steps closed
+    → IsCertificate model after opened.header.version left steps closed
+certificate-of model after left now lines steps closed opened are = record {
+  front = opened.front;
+  opens = opened.opens;
+  spelled = subst (λ (o : Option Header). IfSome o (λ header. AllHaveLines header.version 0 steps)) opened.told are.spelled;
+  text = joined left now.left opened.taken are.text;
+}
+  where
+    joined : (known rest : Option (List ℕ)) → Consumes known rest opened.front → IfSome rest (λ bytes. bytes ≡ lines_to_end steps closed) → IfSome known (λ bytes. bytes ≡ opened.front ++ lines_to_end steps closed)
+    joined None rest taken is = tt
+    joined (Some bytes) None taken is = absurd taken
+    joined (Some bytes) (Some rest) taken is = taken ∙ ap (λ (t : List ℕ). opened.front ++ t) is
+
+pub held-of : (model after : Model) (left : Option (List ℕ)) (now : Progress) (lines : ℕ) (derivations : List Derivation) (held : Held) → IsOpened model after left now lines → IsHeadOf model after derivations → held.derivations.items ≡ derivations → HoldsSteps after now held
+    → HoldsCertificate model after left held
+held-of model after left now lines derivations held opened derives is steps = record {
+  version = opened.header.version;
+  certificate = certificate-of model after left now lines held.steps held.closed opened steps.lines;
+  derives = subst (IsHeadOf model after) (sym is) derives;
+  stands = steps.stands;
+}
+
+-- what is left is text, and then the rest of what is known
+after-text : (left : Option (List ℕ)) (text rest : List ℕ) → IfSome left (λ bytes. bytes ≡ text ++ rest) → (last : Option (List ℕ)) × Consumes left last text × IfSome last (λ bytes. bytes ≡ rest)
+after-text None text rest is = (None, tt, tt)
+after-text (Some bytes) text rest is = (Some rest, is, refl)
+
+-- the lines of accepted steps and an ending that is right
+steps-accepted : (after : Model) (version : Version) (left : Option (List ℕ)) (steps : List Step) (closed : Bool) → AllHaveLines version 0 steps → IfSome left (λ bytes. bytes ≡ lines_to_end steps closed) → AllAccepted after steps → MayEnd (past_after after steps) closed
+    → VerdictFrom after version no_past 0 left (accepted (past_after after steps).solutions closed)
+steps-accepted after version None steps closed spelled is all may_end = (steps, spelled, all, (None, tt, ((None, tt, tt), may_end, refl)))
+steps-accepted after version (Some bytes) steps closed spelled is all may_end =
+    (steps, spelled, all, (Some (end_line closed), is, ((Some [], sym (append-nil (end_line closed)), refl), may_end, refl)))
+
 -- it is accepted where its steps are
-pub certificate-accepted : (model : Model) (version : Version) (left : Option (List ℕ)) (steps : List Step) (closed : Bool) → IsCertificate model version left steps closed → AllAccepted model steps → MayEnd (past_after model steps) closed
-    → VerdictOn model left (accepted (past_after model steps).solutions closed)
-certificate-accepted model version None steps closed certificate all may_end = inr (version, certificate.sized, (None, tt, (steps, certificate.spelled, all, (None, tt, ((None, tt, tt), may_end, refl)))))
-certificate-accepted model version (Some bytes) steps closed certificate all may_end =
-    inr (version, certificate.sized, (Some (lines_of steps ++ end_line closed), certificate.text, (steps, certificate.spelled, all, (Some (end_line closed), refl, ((Some [], sym (append-nil (end_line closed)), refl), may_end, refl)))))
+pub certificate-accepted : (model after : Model) (version : Version) (left : Option (List ℕ)) (steps : List Step) (closed : Bool) → IsWellFormed model → IsCertificate model after version left steps closed → AllAccepted after steps → MayEnd (past_after after steps) closed
+    → IsOutcomeOn model left (accepted (past_after after steps).solutions closed)
+certificate-accepted model after version left steps closed formed certificate all may_end = by_front certificate.opens
+  where
+    by_front : IsInFront model after version certificate.front → IsOutcomeOn model left (accepted (past_after after steps).solutions closed)
+    by_front (plain same sized is) =
+        let text = subst (λ (t : List ℕ). IfSome left (λ bytes. bytes ≡ t ++ lines_to_end steps closed)) is certificate.text in
+        let behind = after-text left (header_lines (header_of model version)) (lines_to_end steps closed) text in
+        let first = version_text version ++ 10 ∷ [] in
+        let counts = counts_text (length model.vars) (length model.constraints) ++ 10 ∷ [] in
+        let split = Consumes-split left behind.0 first counts (subst (Consumes left behind.0) (append_assoc first (counts_text (length model.vars) (length model.constraints)) (10 ∷ [])) behind.1) in
+        early version (split.0, split.1, tt)
+        (inr (version, sized, (behind.0, behind.1, subst (λ (m : Model). VerdictFrom m version no_past 0 behind.0 (accepted (past_after after steps).solutions closed)) same (steps-accepted after version behind.0 steps closed certificate.spelled behind.2 all may_end))))
+    by_front (headed two opening) =
+        let lines = head_counts_line (head_for model (length opening.read)) in
+        let text : certificate.front ++ lines_to_end steps closed ≡ three_line ++ (lines ++ (derivation_lines opening.read ++ lines_to_end steps closed)) =
+        ap (λ (t : List ℕ). t ++ lines_to_end steps closed) opening.text_is
+        ∙ append_assoc three_line (lines ++ derivation_lines opening.read) (lines_to_end steps closed)
+        ∙ ap (λ (t : List ℕ). three_line ++ t) (append_assoc lines (derivation_lines opening.read) (lines_to_end steps closed)) in
+        let one = after-text left three_line (lines ++ (derivation_lines opening.read ++ lines_to_end steps closed)) (subst (λ (t : List ℕ). IfSome left (λ bytes. bytes ≡ t)) text certificate.text) in
+        let two_lines = after-text one.0 lines (derivation_lines opening.read ++ lines_to_end steps closed) one.2 in
+        let behind = after-text two_lines.0 (derivation_lines opening.read) (lines_to_end steps closed) two_lines.2 in
+        let count = one_for_each model after opening.read opening.extends in
+        third (
+          one.0,
+          one.1,
+          inr (
+            head_for model (length opening.read),
+            (omega (arith, formed.few_vars), omega (arith, formed.few_constraints), omega (arith, count, opening.room)),
+            record { variables = refl; constraints = refl; room = omega (arith, count, opening.room, formed.few_constraints) },
+            (
+              two_lines.0,
+              two_lines.1,
+              record {
+                read = opening.read;
+                lines = opening.lines;
+                after = after;
+                extends = opening.extends;
+                few = opening.few;
+                behind = (
+                  behind.0,
+                  behind.1,
+                  inl (
+                    refl,
+                    (
+                      accepted (past_after after steps).solutions closed,
+                      subst (λ (v : Version). VerdictFrom after v no_past 0 behind.0 (accepted (past_after after steps).solutions closed)) two (steps-accepted after version behind.0 steps closed certificate.spelled behind.2 all may_end),
+                      refl,
+                    ),
+                  ),
+                );
+              },
+            ),
+          ),
+        )

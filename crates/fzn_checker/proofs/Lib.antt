@@ -5,6 +5,7 @@ mod FaultLaws
 mod GivenLemmas
 mod HoldLemmas
 mod JudgeLemmas
+mod OpeningLaws
 mod RewriteLemmas
 mod StandingLaws
 mod VersionLemmas

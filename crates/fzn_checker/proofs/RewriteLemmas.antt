@@ -14,7 +14,8 @@ use Rattle.fzn_cert.specs.declared.step.Step.{Step}
 use Rattle.fzn_cert.specs.declared.step.Version.{Version}
 use Rattle.fzn_cert.specs.declared.step.Version.TheVariants.{One, Two}
 use Rattle.fzn_cert.specs.Spelling.{step_line, end_line, HasLine, IsSized}
-use Rattle.fzn_cert.specs.Stream.{After, IsFaultOf, IsHeaderFaultOf, IsVersionText, IsCountsText, line_of_fault}
+use Rattle.fzn_cert.specs.Stream.{After, IsFaultOf, IsHeaderFaultOf, IsCountsText, line_of_fault}
+use Rattle.fzn_head.specs.Head.{IsFirstText}
 use Rattle.fzn_cert.specs.Verdict.{lines_of, AllHaveLines, BeginsWith, line_after}
 use Rattle.fzn_checker.specs.declared.fault.CheckFault.{CheckFault}
 use Rattle.fzn_checker.specs.declared.fault.CheckFault.TheVariants.{File, Refused, NotVersionOne, Memory, Read, WriteOutput, WriteCert}
@@ -24,7 +25,7 @@ use Rattle.fzn_checker.proofs.VersionLemmas.{same_verdict}
 
 -- ---- the faults of one line
 
-pub first-fault : (left : Option (List ℕ)) (kind : FaultKind) → IsHeaderFaultOf IsVersionText left kind → IsFirstLineFault left (fault_of_kind kind 1 None true)
+pub first-fault : (left : Option (List ℕ)) (kind : FaultKind) → IsHeaderFaultOf IsFirstText left kind → IsFirstLineFault left (fault_of_kind kind 1 None true)
 first-fault left faults.Header f = (refl, f)
 first-fault left faults.Truncated f = (refl, f)
 first-fault left faults.LineTooLong f = (refl, f)

@@ -109,7 +109,7 @@ refused-step model version past count left next (Solution values) _ line taken f
 refused-step model version past count left next (Delete ids) refusals.NoSuchClause line taken f = (refl, (Delete ids, line, (next, taken, tt), f))
 refused-step model version past count left next (Delete ids) _ line taken f = absurd f
 
-standing-told : (model : Model) (past : StepsPast) (now : Progress) (header : Header) (steps : ℕ) (outcome : Outcome) → now.header ≡ Some header → now.steps ≡ steps → ComesTo model past now outcome → VerdictFrom model header.version past steps now.left outcome
+pub standing-told : (model : Model) (past : StepsPast) (now : Progress) (header : Header) (steps : ℕ) (outcome : Outcome) → now.header ≡ Some header → now.steps ≡ steps → ComesTo model past now outcome → VerdictFrom model header.version past steps now.left outcome
 standing-told model past now header steps outcome told counted h =
     subst (λ n. VerdictFrom model header.version past n now.left outcome) counted
     (subst (λ o. MatchOption o (VerdictOn model now.left outcome) (λ (k : Header). VerdictFrom model k.version past now.steps now.left outcome)) told h)

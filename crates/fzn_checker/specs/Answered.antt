@@ -7,7 +7,8 @@ use Rattle.fzn_meaning.specs.declared.model.Model.{Model}
 use Rattle.fzn_meaning.specs.Solutions.{IsProper, IsExhausted}
 use Rattle.fzn_printer.specs.Answer.{answer_text}
 use Rattle.fzn_reading.specs.Reads.{Reads, States}
-use Rattle.fzn_cert.specs.Verdict.{VerdictOn, accepted, refused}
+use Rattle.fzn_cert.specs.Verdict.{accepted, refused}
+use Rattle.fzn_head.specs.Outcome.{IsOutcomeOn}
 use Rattle.fzn_checker.specs.declared.certificate.Verdict.{Verdict}
 use Rattle.fzn_checker.specs.declared.fault.CheckFault.{CheckFault}
 use Rattle.fzn_checker.specs.declared.fault.CheckFault.TheVariants.{File, Refused, NotVersionOne, Memory, Read, WriteOutput, WriteCert}
@@ -16,7 +17,7 @@ use Rattle.fzn_checker.specs.declared.fault.CheckFault.TheVariants.{File, Refuse
 -- are a proper list, and an exhausted one where it is closed.
 pub record Shows (file cert : Option (List ℕ)) (model : Model) (found : List (List ℤ)) (closed : Bool) : Type 0 where
   pub states : States file model
-  pub verdict : VerdictOn model cert (accepted found closed)
+  pub verdict : IsOutcomeOn model cert (accepted found closed)
   pub proper : IsProper model found
   pub exhausted : closed ≡ true → IsExhausted model found
 
@@ -32,7 +33,7 @@ pub record IsAnswered (file cert : Option (List ℕ)) (all : Bool) (old new : Op
 -- beginning of a true answer stands.
 abbrev pub IsCheckFault : Option (List ℕ) → Option (List ℕ) → Bool → Option (List ℕ) → Option (List ℕ) → CheckFault → Type 0
 IsCheckFault file cert all old new (File fault) = Keeps old new × IfSome file (λ bytes. Reads bytes (Err (errors.Fault fault)))
-IsCheckFault file cert all old new (Refused line refusal) = Keeps old new × ((model : Model) × States file model × VerdictOn model cert (refused line refusal))
+IsCheckFault file cert all old new (Refused line refusal) = Keeps old new × ((model : Model) × States file model × IsOutcomeOn model cert (refused line refusal))
 IsCheckFault file cert all old new Memory = Keeps old new
 IsCheckFault file cert all old new Read = Keeps old new
 IsCheckFault file cert all old new NotVersionOne = ⊥

@@ -3,14 +3,16 @@ use Rattle.std.specs.Prelude.{◌≡◌, ℕ, Bool, List, ◌++◌, Option, IfSo
 use Rattle.fzn_meaning.specs.declared.model.Model.{Model}
 use Rattle.fzn_cert.specs.declared.step.Step.{Step}
 use Rattle.fzn_cert.specs.declared.step.Version.{Version}
-use Rattle.fzn_cert.specs.Spelling.{end_line, header_lines, IsHeader}
+use Rattle.fzn_cert.specs.Spelling.{end_line}
 use Rattle.fzn_cert.specs.Past.{StepsPast}
 use Rattle.fzn_cert.specs.Accepted.{AllAccepted, past_after}
-use Rattle.fzn_cert.specs.Verdict.{lines_of, AllHaveLines, MayEnd, header_of}
+use Rattle.fzn_cert.specs.Verdict.{lines_of, AllHaveLines, MayEnd}
+use Rattle.fzn_cert_reader.specs.Reader.{Progress}
 use Rattle.fzn_checker.specs.declared.hold.Held.{Held}
 use Rattle.fzn_checker.specs.declared.hold.Taken.{Taken}
 use Rattle.fzn_checker.specs.Given.{AreGiven}
 use Rattle.fzn_checker.specs.Judged.{IsJudgedOn}
+use Rattle.fzn_checker.specs.Opened.{IsHeadOf, IsInFront}
 
 -- what the steps leave for later ones
 abbrev pub past_in : Taken → StepsPast
@@ -33,18 +35,31 @@ pub record Stands (model : Model) (held : Held) : Type 0 where
   pub found : held.solutions.items ≡ (past_after model held.steps).solutions
   pub may_end : MayEnd (past_after model held.steps) held.closed
 
--- the bytes of a certificate with these steps and this ending
-abbrev pub certificate_of : Model → Version → List Step → Bool → List ℕ
-certificate_of model version steps closed = header_lines (header_of model version) ++ (lines_of steps ++ end_line closed)
+-- the lines of these steps, and the last one
+abbrev pub lines_to_end : List Step → Bool → List ℕ
+lines_to_end steps closed = lines_of steps ++ end_line closed
 
--- what is left is such a certificate, and each of its steps has a line
-pub record IsCertificate (model : Model) (version : Version) (left : Option (List ℕ)) (steps : List Step) (closed : Bool) : Type 0 where
-  pub sized : IsHeader (header_of model version)
+-- what is left are the lines of these steps, and this ending
+pub record AreLinesLeft (now : Progress) (steps : List Step) (closed : Bool) : Type 0 where
+  pub spelled : IfSome now.header (λ header. AllHaveLines header.version 0 steps)
+  pub text : IfSome now.left (λ bytes. bytes ≡ lines_to_end steps closed)
+
+-- what is left is a certificate for the model, with these steps and this ending: what stands in front of them makes of the model the second
+-- one, and each step has a line in this version
+pub record IsCertificate (model after : Model) (version : Version) (left : Option (List ℕ)) (steps : List Step) (closed : Bool) : Type 0 where
+  pub front : List ℕ
+  pub opens : IsInFront model after version front
   pub spelled : AllHaveLines version 0 steps
-  pub text : IfSome left (λ bytes. bytes ≡ certificate_of model version steps closed)
+  pub text : IfSome left (λ bytes. bytes ≡ front ++ lines_to_end steps closed)
 
 -- these are the steps of what is left, and they are accepted
-pub record HoldsCertificate (model : Model) (left : Option (List ℕ)) (held : Held) : Type 0 where
-  pub version : Version
-  pub certificate : IsCertificate model version left held.steps held.closed
+pub record HoldsSteps (model : Model) (now : Progress) (held : Held) : Type 0 where
+  pub lines : AreLinesLeft now held.steps held.closed
   pub stands : Stands model held
+
+-- what is left is a certificate with these steps and derivations, by which the model is the second one, and the steps are accepted for that
+pub record HoldsCertificate (model after : Model) (left : Option (List ℕ)) (held : Held) : Type 0 where
+  pub version : Version
+  pub certificate : IsCertificate model after version left held.steps held.closed
+  pub derives : IsHeadOf model after held.derivations.items
+  pub stands : Stands after held

@@ -5,4 +5,5 @@ pub mod FileFaults
 pub mod Given
 pub mod Held
 pub mod Judged
+pub mod Opened
 pub mod Rewritten

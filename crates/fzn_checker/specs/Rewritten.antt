@@ -1,5 +1,5 @@
 -- A certificate of version 1 written anew as one of version 2.
-use Rattle.std.specs.Prelude.{◌≡◌, ℕ, ◌↔◌, Bool, true, List, [], ◌∷◌, ◌++◌, length, Option, IfSome}
+use Rattle.std.specs.Prelude.{◌≡◌, ◌⊎◌, ℕ, ◌↔◌, Bool, true, List, [], ◌∷◌, ◌++◌, length, Option, IfSome}
 use Rattle.std.specs.Io.KnownBytes.{Consumes, IsAtEnd, Appends, Keeps}
 use Rattle.fzn_streams.specs.Output.{AppendsFront}
 use Rattle.fzn_meaning.specs.declared.model.Model.{Model}
@@ -11,7 +11,9 @@ use Rattle.fzn_cert.specs.declared.step.Version.{Version}
 use Rattle.fzn_cert.specs.declared.step.Version.TheVariants.{One, Two}
 use Rattle.fzn_cert.specs.Spelling.{step_line, end_line, version_text, counts_text, HasLine, IsSized}
 use Rattle.fzn_cert.specs.Stream.{After, IsFaultOf, IsHeaderFaultOf, IsCountsText}
-use Rattle.fzn_cert.specs.Verdict.{Outcome, Verdict, lines_of, AllHaveLines, BeginsWith, IsFirstRefused, line_after}
+use Rattle.fzn_cert.specs.Verdict.{Outcome, Verdict, lines_of, AllHaveLines, BeginsWith, line_after}
+use Rattle.fzn_head.specs.Head.{three_line}
+use Rattle.fzn_head.specs.Outcome.{IsOpeningRefused}
 use Rattle.fzn_checker.specs.declared.fault.CheckFault.{CheckFault}
 use Rattle.fzn_checker.specs.declared.fault.CheckFault.TheVariants.{File, Refused, NotVersionOne, Memory, Read, WriteOutput, WriteCert}
 
@@ -61,7 +63,7 @@ IsStepLineFault count left _ = ⊥
 
 -- the first faulty line, and what is wrong with it
 pub data IsFaulty (old : Option (List ℕ)) (line : ℕ) (refusal : Refusal) : Type 0 where
-  first : line ≡ 1 → IsFirstRefused old refusal → IsFaulty old line refusal
+  first : line ≡ 1 → IsOpeningRefused old refusal → IsFaulty old line refusal
   -- after a first line of version 1
   second : line ≡ 2 → After old (first_line One) (λ left. IsCountsFault left refusal) → IsFaulty old line refusal
   -- after the first two lines and those of these steps
@@ -73,9 +75,13 @@ pub data IsRewriteBegun (old before after : Option (List ℕ)) : Type 0 where
   nothing : Keeps before after → IsRewriteBegun old before after
   some_of : After old (first_line One) (λ left. IfSome left (λ rest. AppendsFront before after (first_line Two ++ rest))) → IsRewriteBegun old before after
 
+-- the first line is that of version two or three
+abbrev pub IsOtherVersion : Option (List ℕ) → Type 0
+IsOtherVersion left = BeginsWith left (first_line Two) ⊎ BeginsWith left three_line
+
 abbrev pub IsRewriteFault : Option (List ℕ) → Option (List ℕ) → Option (List ℕ) → CheckFault → Type 0
 IsRewriteFault old before after (Refused line refusal) = IsFaulty old line refusal × IsRewriteBegun old before after
-IsRewriteFault old before after NotVersionOne = BeginsWith old (first_line Two) × Keeps before after
+IsRewriteFault old before after NotVersionOne = IsOtherVersion old × Keeps before after
 IsRewriteFault old before after Memory = IsRewriteBegun old before after
 IsRewriteFault old before after Read = IsRewriteBegun old before after
 IsRewriteFault old before after WriteCert = IsRewriteBegun old before after
@@ -91,8 +97,8 @@ pub record IsRewriteDue (old new : Bool) (fault : CheckFault) : Type 0 where
 -- ---- line by line
 
 abbrev pub IsFirstLineFault : Option (List ℕ) → CheckFault → Type 0
-IsFirstLineFault left (Refused line refusal) = (line ≡ 1) × IsFirstRefused left refusal
-IsFirstLineFault left NotVersionOne = BeginsWith left (first_line Two)
+IsFirstLineFault left (Refused line refusal) = (line ≡ 1) × IsOpeningRefused left refusal
+IsFirstLineFault left NotVersionOne = IsOtherVersion left
 IsFirstLineFault left Memory = Unit {0}
 IsFirstLineFault left Read = Unit {0}
 IsFirstLineFault left _ = ⊥

@@ -53,8 +53,8 @@ pub fn check_tracked<R: TrackedRead, C: TrackedRead + Drop, W: TrackedWrite>(
     ensures due { IfErr result (IsCheckDue (R.has_failed file.new) (C.has_failed (reader_below cert.new)) (W.has_failed out.new)) }
     ensures same_stream { W.stream out.new ≡ W.stream out.old }
 {
-    let model = read_model(alloc, file)?;
-    let accepted = check_certificate(alloc, &model, cert)?;
+    let mut model = read_model(alloc, file)?;
+    let accepted = check_certificate(alloc, &mut model, cert)?;
     match put_answer(out, &model, &accepted.solutions, accepted.closed, show_all) {
         Ok(()) => Ok(accepted.verdict()),
         Err(WriteFailed) => Err(CheckFault::WriteOutput),

@@ -5,10 +5,12 @@ ghost use Rattle.fzn_cert.specs.declared.step.Step.{Step};
 ghost use Rattle.fzn_cert.specs.declared.step.Version.TheVariants.{Two};
 ghost use Rattle.fzn_cert.specs.Spelling.{IsSpelled};
 ghost use Rattle.fzn_cert.specs.Accepted.{IsJudged, after_step};
-ghost use Rattle.fzn_cert.specs.Verdict.{VerdictOn};
+ghost use Rattle.fzn_cert.specs.Past.{no_past};
 ghost use Rattle.fzn_cert_reader.specs.Reader.{progress, reader_below, GivesStep, Ends};
+ghost use Rattle.fzn_head.specs.Outcome.{IsOutcomeOn};
 ghost use Rattle.fzn_checker.specs.Checked.{IsUnread, IsFaultWhere, IsReadDue, HasCounts, ComesTo, IsMidway, Offers, Accepts};
-ghost use Rattle.fzn_checker.specs.Held.{past_in, MayTake, HasTaken, HoldsCertificate};
+ghost use Rattle.fzn_checker.specs.Held.{past_in, MayTake, HasTaken, HoldsSteps, HoldsCertificate};
+ghost use Rattle.fzn_checker.specs.Opened.{HasNearLine};
 
 use crate::certificate::first_sets;
 use crate::fault::CheckFault;
@@ -16,9 +18,11 @@ use crate::given::Given;
 use crate::history::History;
 use crate::judge::fault_of;
 use crate::next::next_step;
+use crate::opening::{further, open_certificate};
 use crate::steps::accept;
 use fzn_cert::{Refusal, Step};
 use fzn_cert_reader::{Script, StepReader};
+use fzn_derive::Derivation;
 use fzn_domain::Memory;
 use fzn_list::Items;
 use fzn_meaning::Model;
@@ -29,6 +33,8 @@ use std::alloc::Global;
 /// The steps of an accepted certificate, and what it shows.
 #[derive(Drop)]
 pub struct Held {
+    /// How the lines of its head derive constraints, in order; none in versions one and two.
+    pub derivations: Vec<Derivation>,
     /// Its steps, in order.
     pub steps: Script,
     /// The values of its solutions, in order.
@@ -82,6 +88,7 @@ impl Taken {
         ensures counts { OnOk result (IfSome (progress C.remaining cert.new).header (HasCounts model.now)) }
         ensures same_header { IsSome (progress C.remaining cert.old).header → (progress C.remaining cert.new).header ≡ (progress C.remaining cert.old).header }
         ensures err { IfErr result (IsFaultWhere (ComesTo model.now (past_in self.now) (progress C.remaining cert.old))) }
+        ensures near { IfErr result HasNearLine }
         ensures due { IfErr result (IsReadDue (C.has_failed (reader_below cert.new))) }
     {
         next_step(alloc, model, &self.history, line, cert)
@@ -133,17 +140,43 @@ impl Taken {
     }
 }
 
-/// Checks a certificate as `check_certificate` does, with the same faults, and answers its steps too. All of them are held until the end, as
-/// the text of their lines.
+/// Checks a certificate of any version as `check_certificate` does, with the same faults, and answers its steps too, and how its head derives
+/// constraints. All of them are held until the end, the steps as the text of their lines.
 pub fn hold_certificate<C: TrackedRead + Drop>(
     alloc: Global,
+    model: &mut Model,
+    cert: &mut StepReader<C>,
+) -> Result<Held, CheckFault>
+    requires model { IsWellFormed model.old }
+    requires unread { IsUnread (progress C.remaining cert.old) }
+    ensures ok { IfOk result (HoldsCertificate model.old model.new (progress C.remaining cert.old).left) }
+    ensures err { IfErr result (IsFaultWhere (IsOutcomeOn model.old (progress C.remaining cert.old).left)) }
+    ensures due { IfErr result (IsReadDue (C.has_failed (reader_below cert.new))) }
+    ensures formed { OnOk result (IsWellFormed model.new) }
+{
+    let opening = open_certificate(alloc, model, cert, true)?;
+    match hold_steps(alloc, model, opening.derivations, cert) {
+        Ok(held) => Ok(held),
+        Err(fault) => Err(further(fault, opening.lines)),
+    }
+}
+
+/// Checks the steps of a certificate of which no step was read, and the ending behind them, and holds them beside the derivations. It answers
+/// as `hold_certificate` does, but that the lines are counted as though two stood in front of the steps.
+fn hold_steps<C: TrackedRead + Drop>(
+    alloc: Global,
     model: &Model,
+    derivations: Vec<Derivation>,
     cert: &mut StepReader<C>,
 ) -> Result<Held, CheckFault>
     requires model { IsWellFormed model.now }
-    requires unread { IsUnread (progress C.remaining cert.old) }
-    ensures ok { IfOk result (HoldsCertificate model.now (progress C.remaining cert.old).left) }
-    ensures err { IfErr result (IsFaultWhere (VerdictOn model.now (progress C.remaining cert.old).left)) }
+    requires midway { IsMidway model.now no_past (progress C.remaining cert.old) }
+    requires begun { IsSome (progress C.remaining cert.old).header }
+    requires no_steps { (progress C.remaining cert.old).steps ≡ 0 }
+    ensures ok { IfOk result (HoldsSteps model.now (progress C.remaining cert.old)) }
+    ensures derivations { IfOk result (λ held. held.derivations.items ≡ derivations.items) }
+    ensures err { IfErr result (IsFaultWhere (ComesTo model.now no_past (progress C.remaining cert.old))) }
+    ensures near { IfErr result HasNearLine }
     ensures due { IfErr result (IsReadDue (C.has_failed (reader_below cert.new))) }
 {
     let mut taken = Taken::new(alloc, model)?;
@@ -157,6 +190,7 @@ pub fn hold_certificate<C: TrackedRead + Drop>(
         line += 1;
     }
     Ok(Held {
+        derivations,
         steps,
         solutions: taken.history.into_solutions(),
         closed: cert.closed().unwrap_or(false),

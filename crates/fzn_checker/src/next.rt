@@ -3,6 +3,7 @@ ghost use Rattle.std.specs.Prelude.{◌≡◌, ◌↔◌, ◌+◌, ◌≤◌, If
 ghost use Rattle.fzn_cert_reader.specs.Reader.{progress, reader_below, GivesStep, Ends};
 ghost use Rattle.fzn_cert.specs.Spelling.{IsHeader};
 ghost use Rattle.fzn_checker.specs.Checked.{IsFaultWhere, HasCounts, ComesTo, IsMidway, Offers, Accepts, IsReadDue};
+ghost use Rattle.fzn_checker.specs.Opened.{HasNearLine};
 ghost use Rattle.fzn_checker.specs.Faults.{may_end, fault_after};
 
 use crate::fault::CheckFault;
@@ -31,6 +32,7 @@ pub fn next_step<R: TrackedRead + Drop>(
     ensures counts { OnOk result (IfSome (progress R.remaining reader.new).header (HasCounts model.now)) }
     ensures same_header { IsSome (progress R.remaining reader.old).header → (progress R.remaining reader.new).header ≡ (progress R.remaining reader.old).header }
     ensures err { IfErr result (IsFaultWhere (ComesTo model.now history.now (progress R.remaining reader.old))) }
+    ensures near { IfErr result HasNearLine }
     ensures due { IfErr result (IsReadDue (R.has_failed (reader_below reader.new))) }
 {
     let next = reader.next(alloc);
@@ -47,6 +49,7 @@ pub fn next_step<R: TrackedRead + Drop>(
             if may_end(reader.closed(), history.is_refuted()) {
                 Ok(None)
             } else {
+                let _steps = reader.steps(); // A certificate has fewer than 10^18 steps.
                 Err(CheckFault::Refused {
                     line,
                     refusal: Refusal::NotClosed,
@@ -64,7 +67,7 @@ fn may_end(closed: Option<bool>, is_refuted: bool) -> bool
 }
 
 /// Whether the first two lines tell the model's counts, where they were read.
-fn has_counts<R: TrackedRead + Drop>(model: &Model, reader: &StepReader<R>) -> bool
+pub fn has_counts<R: TrackedRead + Drop>(model: &Model, reader: &StepReader<R>) -> bool
     ensures value { IsTrue result ↔ IfSome (progress R.remaining reader.now).header (HasCounts model.now) }
     ensures sized { IfSome (progress R.remaining reader.now).header IsHeader }
 {

@@ -13,7 +13,7 @@ ghost use Rattle.fzn_checker.specs.Rewritten.{first_line, IsRewritten, IsRewrite
 use crate::fault::CheckFault;
 use crate::next::fault_after;
 use fzn_cert::{CertFault, FaultKind, Version};
-use fzn_cert_reader::{StepLines, line_of};
+use fzn_cert_reader::{FirstLine, StepLines, line_of};
 use fzn_streams::{TrackedRead, TrackedReader, TrackedWrite, TrackedWriter, WriteFailed, put};
 use std::alloc::Global;
 use std::io::{Read, Write};
@@ -64,9 +64,10 @@ fn take_version<R: TrackedRead + Drop>(lines: &mut StepLines<R>) -> Result<(), C
     ensures due { IfErr result (IsReadDue (R.has_failed (reader_in lines.new.bytes))) }
     ensures same { lines.new.steps ≡ lines.old.steps }
 {
-    match lines.read_version() {
-        Ok(Version::One) => Ok(()),
-        Ok(Version::Two) => Err(CheckFault::NotVersionOne),
+    match lines.read_first() {
+        Ok(FirstLine::Early(Version::One)) => Ok(()),
+        Ok(FirstLine::Early(Version::Two)) => Err(CheckFault::NotVersionOne),
+        Ok(FirstLine::Third) => Err(CheckFault::NotVersionOne),
         Err(kind) => Err(fault_at(kind, 1)),
     }
 }

@@ -1,1 +1,2 @@
+mod HeldLemmas
 mod ModelLemmas

@@ -1,11 +1,11 @@
-ghost use Rattle.std.specs.Prelude.{IfOk};
+ghost use Rattle.std.specs.Prelude.{IfOk, OnOk};
 ghost use Rattle.fzn_meaning.specs.Solutions.{IsProper};
 ghost use Rattle.fzn_meaning.specs.WellFormed.{IsWellFormed};
 ghost use Rattle.fzn_printer.specs.Showable.{CanBeShown};
 
 use crate::checker::least_bit;
 use fzn_cert_reader::StepReader;
-use fzn_checker::{Accepted, CheckFault, check_certificate};
+use fzn_checker::{CheckFault, Held, hold_certificate};
 use fzn_meaning::{Model, is_solution};
 use fzn_printer::{Ending, PrintFault, Printer, put_answer, well_formed_can_be_shown};
 use fzn_streams::{TrackedReader, TrackedWriter};
@@ -75,17 +75,18 @@ fn one_solution(rt: HostRuntime) -> Result<(), Fail> {
 }
 
 /// The solution 1, and then 0.
-fn both(alloc: Global, model: &Model) -> Result<Accepted, CheckFault>
-    requires { IsWellFormed model.now }
-    ensures { IfOk result (λ answer. IsProper model.now answer.solutions.items) }
+fn both(alloc: Global, model: &mut Model) -> Result<Held, CheckFault>
+    requires { IsWellFormed model.old }
+    ensures formed { OnOk result (IsWellFormed model.new) }
+    ensures proper { IfOk result (λ answer. IsProper model.new answer.solutions.items) }
 {
     let certificate = b"fzc 1\nvars 1 cons 0\ns 1\ns 0\ne open\n".as_slice();
     let mut reader = StepReader::new(alloc, TrackedReader::new(certificate));
-    check_certificate(alloc, model, &mut reader)
+    hold_certificate(alloc, model, &mut reader)
 }
 
 /// Prints the last of the solutions, and then all of them and the end; says whether all is printed.
-fn prints_both(model: &Model, answer: &Accepted, text: &mut Vec<u8>) -> bool
+fn prints_both(model: &Model, answer: &Held, text: &mut Vec<u8>) -> bool
     requires model { CanBeShown model.now }
     requires answer { IsProper model.now answer.now.solutions.items }
 {
@@ -103,8 +104,8 @@ const BOTH: &[u8] = b"x = 0;\n----------\nx = 1;\n----------\nx = 0;\n----------
 
 #[test]
 fn answers_of_two_solutions(rt: HostRuntime) -> Result<(), Fail> {
-    let model = least_bit(rt.alloc())?;
-    let answer = both(rt.alloc(), &model)?;
+    let mut model = least_bit(rt.alloc())?;
+    let answer = both(rt.alloc(), &mut model)?;
     let mut text: Vec<u8> = Vec::new(rt.alloc());
     assert!(rt; prints_both(&model, &answer, &mut text));
     assert!(rt; text.as_slice() == BOTH);

@@ -1,6 +1,8 @@
 use crate::writer::LINES;
-use fzn_cert::{CertFault, FaultKind, Step, StepWriter, Version, WriteFault};
+use fzn_cert::{CertFault, FaultKind, Header, Step, StepWriter, Version, WriteFault};
 use fzn_cert_reader::StepReader;
+use fzn_derive::Derivation;
+use fzn_head::Head;
 use fzn_list::Items;
 use fzn_rules::Rule;
 use fzn_streams::{TrackedReader, TrackedWriter};
@@ -14,6 +16,9 @@ const ROW: &[u8] =
 
 const TWO: &[u8] =
     b"fzc 2\nvars 2 cons 2\ni 2 lin ; 1<=0\ni 1 lin ; 1>=1 2>=1\nr 2>=1 ; 1 2\nd 2\ns 0 1\nr ; 1 3 5\ne open\n";
+
+const THREE: &[u8] =
+    b"fzc 3\nvars 2 cons 2 new 3\nc lin ; 2 1\nc xor ; 2 3\nc alldiff ; 1 2 ; 4\ni 2 lin ; 1<=0\nd 1\ne open\n";
 
 // Gives `most` bytes a call, and fails at the end where it is to.
 #[derive(Drop)]
@@ -83,6 +88,88 @@ fn reads_however_the_bytes_are_cut(rt: HostRuntime) {
 #[test]
 fn reads_a_step_of_each_kind(rt: HostRuntime) {
     assert!(rt; is_read(rt.alloc(), LINES, 4096, 5, true));
+}
+
+/// Whether a head comes first, then a derivation of each kind, and so many steps before the end, which says that the answer is open.
+fn is_read_behind_a_head(alloc: Global, bytes: &[u8], most: usize, steps: u8) -> bool {
+    let mut reader = StepReader::new(alloc, TrackedReader::new(cut_in(bytes, most, false)));
+    let Ok(Some(head)) = reader.begin() else {
+        return false;
+    };
+    let Ok(Derivation::Sum(_)) = reader.next_derivation(alloc, 3) else {
+        return false;
+    };
+    let Ok(Derivation::Parity(_)) = reader.next_derivation(alloc, 4) else {
+        return false;
+    };
+    let Ok(Derivation::AllDifferent { .. }) = reader.next_derivation(alloc, 5) else {
+        return false;
+    };
+    reader.turn_to_steps(Header {
+        version: Version::Two,
+        variables: 2,
+        constraints: 5,
+    });
+    is_head_of_three(head)
+        && has_lin(alloc, &mut reader)
+        && has_steps(alloc, &mut reader, steps)
+        && has_ended(alloc, &mut reader)
+        && reader.closed() == Some(false)
+}
+
+/// Whether there are two variables and two constraints, and three are derived.
+fn is_head_of_three(head: Head) -> bool {
+    head == Head {
+        variables: 2,
+        constraints: 2,
+        derived: 3,
+    }
+}
+
+#[test]
+fn reads_a_head(rt: HostRuntime) {
+    for most in [1, 7, 4096] {
+        assert!(rt;
+            is_read_behind_a_head(rt.alloc(), THREE, most, 1),
+            "by {most}"
+        );
+    }
+}
+
+/// Whether steps of version one or two come behind the first two lines.
+fn begins_with_steps(alloc: Global, bytes: &[u8], steps: u8) -> bool {
+    let mut reader = StepReader::new(alloc, TrackedReader::new(cut_in(bytes, 4096, false)));
+    let Ok(None) = reader.begin() else {
+        return false;
+    };
+    reader.counts() == Some((2, 2))
+        && has_steps(alloc, &mut reader, steps)
+        && has_ended(alloc, &mut reader)
+}
+
+/// The fault of the first two lines, if they have one.
+fn opening_fault(alloc: Global, bytes: &[u8]) -> Option<CertFault> {
+    let mut reader = StepReader::new(alloc, TrackedReader::new(cut_in(bytes, 4096, false)));
+    reader.begin().err()
+}
+
+/// Whether the first two lines are at fault, at this line.
+fn is_header_fault(alloc: Global, bytes: &[u8], line: u64) -> bool {
+    let fault = CertFault {
+        kind: FaultKind::Header,
+        line,
+    };
+    opening_fault(alloc, bytes) == Some(fault)
+}
+
+#[test]
+fn begins_by_the_first_line(rt: HostRuntime) {
+    assert!(rt; begins_with_steps(rt.alloc(), ROW, 4));
+    assert!(rt; begins_with_steps(rt.alloc(), TWO, 6));
+    assert!(rt; is_header_fault(rt.alloc(), b"fzc 4\n", 1));
+    assert!(rt; is_header_fault(rt.alloc(), b"fzc 3\nvars 2 cons 2\n", 2));
+    assert!(rt; is_header_fault(rt.alloc(), b"fzc 3\nvars 2 cons 2 new 03\n", 2));
+    assert!(rt; is_header_fault(rt.alloc(), b"fzc 2\nvars 2 cons 2 new 3\n", 2));
 }
 
 /// The fault that comes next, if one does.

@@ -15,7 +15,8 @@ const NEW: &[u8] =
 /// Certificates, where `|` stands for a line feed, what is wrong with them, and what stands then.
 const FAULTS: &str = "
 fzc 2|vars 1 cons|: certificate line 1: fault 50 NotVersionOne:
-fzc 3|: certificate line 1: fault 30 Header:
+fzc 3|: certificate line 1: fault 50 NotVersionOne:
+fzc 4|: certificate line 1: fault 30 Header:
 fzc 1: certificate line 1: fault 32 Truncated:
 fzc 1|vars 1 cons|: certificate line 2: fault 30 Header:fzc 2|
 fzc 1|vars 1 cons 0|d 1|e open|: certificate line 3: fault 31 Spelling:fzc 2|vars 1 cons 0|
@@ -82,7 +83,7 @@ fn is_as_told(alloc: Global, row: &str) -> Result<bool, Fail> {
 
 #[test]
 fn the_first_faulty_line(rt: HostRuntime) -> Result<(), Fail> {
-    assert!(rt; FAULTS.trim().lines().count() == 7);
+    assert!(rt; FAULTS.trim().lines().count() == 8);
     for row in FAULTS.trim().lines() {
         assert!(rt; is_as_told(rt.alloc(), row)?, "{row}");
     }

@@ -20,7 +20,7 @@ use Rattle.fzn_sets.specs.Terms.{least_value, greatest_value, IsFixedTo}
 use Rattle.fzn_sets.proofs.ValueLemmas.{MayBe-between, MayBe-ends}
 use Rattle.fzn_rules.specs.GlobalRows.{IsGlobalRowsMet}
 use Rattle.fzn_rules.specs.Hall.{lies_within, IsHallMet}
-use Rattle.fzn_propagator.specs.Clause.{AreLeft}
+use Rattle.fzn_propagator.specs.Clause.{AreLeftByClause}
 use Rattle.fzn_terms.specs.Denied.{that, IsEntailed}
 use Rattle.fzn_terms.proofs.OrderLemmas.{le_same}
 
@@ -81,7 +81,7 @@ two_apart p xs i j d apart one other h k = elim (cases_lt i j) [
 excess_of : (v : ℤ) (n : ℕ) → 2 ≤ n → ((v -ℤ v) +ℤ pos 1) <ℤ pos n
 excess_of v n h = omega (arith, ints)
 
-module _ (declared : List IntSet) (clause : List Lit) (sets : List IntSet) (left : AreLeft declared clause sets) (successors : List Term) (fit : All (IsTerm (length declared)) successors) where
+module _ (declared : List IntSet) (clause : List Lit) (sets : List IntSet) (left : AreLeftByClause declared clause sets) (successors : List Term) (fit : All (IsTerm (length declared)) successors) where
   pub fits_left : All (IsTerm (length sets)) successors
   fits_left = subst (λ (n : ℕ). All (IsTerm n) successors) (sym left.one_each) fit
 

@@ -19,7 +19,7 @@ use Rattle.fzn_sets.specs.Terms.{MayBe, term_at}
 use Rattle.fzn_rules.specs.Cut.{LeadsInto, IsCutMet}
 use Rattle.fzn_trail.specs.Levels.{Levels}
 use Rattle.fzn_propagator.specs.Clause.{Says, IsFalseClause, IsJustified}
-use Rattle.fzn_terms.specs.Denied.{that, IsExplained, IsGrown}
+use Rattle.fzn_terms.specs.Denied.{that, IsClaimExplained, IsGrown}
 use Rattle.fzn_circuit.specs.Closed.{IsPlaceIf, LeadsIntoBetween}
 use Rattle.fzn_propagator.proofs.CallerLemmas.{forcing_of_false, justified_where}
 use Rattle.fzn_terms.proofs.OrderLemmas.{le_lt, at_most}
@@ -83,7 +83,7 @@ last_before value next high v over first to = elim (more_or_not value v) [
 
 -- ---- one term
 
-pub leads_into : (trail : Levels) (places : List ℤ) (var : VarId) (low high : ℤ) (old one two new : List Lit) → IsExplained trail (that (Variable var) AtLeast low) old one → IsExplained trail (that (Variable var) AtMost high) one two → IsGrown trail (LeadsIntoBetween places var low high) two new → IsGrown trail (λ sets. LeadsInto sets places (Variable var)) old new
+pub leads_into : (trail : Levels) (places : List ℤ) (var : VarId) (low high : ℤ) (old one two new : List Lit) → IsClaimExplained trail (that (Variable var) AtLeast low) old one → IsClaimExplained trail (that (Variable var) AtMost high) one two → IsGrown trail (LeadsIntoBetween places var low high) two new → IsGrown trail (λ sets. LeadsInto sets places (Variable var)) old new
 leads_into trail places var low high old one two new from to between = record {
   still = between.still;
   keeps = λ sets left. from.keeps sets (to.keeps sets (between.keeps sets left));

@@ -16,7 +16,7 @@ use Rattle.fzn_sets.proofs.CallerLemmas.{MayBe-term_value}
 use Rattle.fzn_sets.specs.Terms.{IsFixedTo}
 use Rattle.fzn_builtin_rules.specs.Form.{form_of}
 use Rattle.fzn_trail.specs.Levels.{Levels}
-use Rattle.fzn_propagator.specs.Inference.{AllFixed, IsExhausted}
+use Rattle.fzn_propagator.specs.Inference.{AllFixed, IsInferredOut}
 use Rattle.fzn_terms.proofs.FixedLemmas.{fixed_to}
 use Rattle.fzn_circuit.specs.Circuits.{AreFixedPlaces, AreInside, AreDifferent, HasNoShortWay}
 use Rattle.fzn_circuit.proofs.ClosingLemmas.{circuit_of}
@@ -55,7 +55,7 @@ module _ (sets : List IntSet) (successors : List Term) (fit : All (IsTerm (lengt
   unfolding Meets
   meets_circuit none = circuit_of (values_of values successors) places (different fit values within fixed) (λ some. none (subst (λ (n : ℕ). 0 < n) (length-values_of values successors) some) (values_of values successors) fixed_places)
 
-pub exhausted : (trail : Levels) (successors : List Term) → AreTerms (length trail.declared) successors → AreInside trail.sets successors → AreDifferent trail.sets successors → (0 < length successors → HasNoShortWay trail.sets successors (pos 1)) → (constraint : Constraint) → Circuit successors ≡ constraint → IsExhausted constraint trail
+pub exhausted : (trail : Levels) (successors : List Term) → AreTerms (length trail.declared) successors → AreInside trail.sets successors → AreDifferent trail.sets successors → (0 < length successors → HasNoShortWay trail.sets successors (pos 1)) → (constraint : Constraint) → Circuit successors ≡ constraint → IsInferredOut constraint trail
 unfolding form_of
 exhausted trail successors fit inside different none constraint same = no_sum trail (Circuit successors) constraint refl same (λ fixed values declared present.
     let count : length trail.declared ≡ length trail.sets = sym declared.one_each ∙ present.one_each in

@@ -16,7 +16,7 @@ use Rattle.fzn_propagator.specs.Inference.{IsHint, HasWritableHints}
 use Rattle.fzn_sets.proofs.CallerLemmas.{MayBe-term_value}
 use Rattle.fzn_sets.specs.Terms.{IsFixedTo, least_value}
 use Rattle.fzn_terms.proofs.FixedLemmas.{fixed_to}
-use Rattle.fzn_circuit.specs.Circuits.{AreApart, AreDifferent, HasOpen, owner_of}
+use Rattle.fzn_circuit.specs.Circuits.{HaveNoCommonValue, AreDifferent, HasOpenSuccessor, owner_of}
 
 pub hall_hints : (v : ℤ) → IsInLimits v → HasWritableHints (Hall v v)
 hall_hints v limits =
@@ -34,7 +34,7 @@ value_is sets successors fit values within fixed k below =
     (fixed_to sets values within fixed (get_or successors k d) (All-get_or (IsTerm (length sets)) successors k d below fit))
 
 module _ (sets : List IntSet) (successors : List Term) where
-  pub apart_different : ((i j : ℕ) → i < length successors → AreApart sets successors i j) → AreDifferent sets successors
+  pub apart_different : ((i j : ℕ) → i < length successors → HaveNoCommonValue sets successors i j) → AreDifferent sets successors
   apart_different apart fit values within fixed i j d before below same =
       let len = length-values_of values successors in
       let lt_i : i < length successors = omega arith in
@@ -61,6 +61,6 @@ module _ (sets : List IntSet) (successors : List Term) where
       let one : i ≡ j = sym (owned i lt_i) ∙ here ∙ ap (owner_of owners) like ∙ sym there ∙ owned j lt_j in
       omega (arith, one, before)
 
-  pub open_different : HasOpen sets successors → AreDifferent sets successors
+  pub open_different : HasOpenSuccessor sets successors → AreDifferent sets successors
   open_different some fit values within fixed i j d before below same =
       absurd (some.2 (get_or (values_of values successors) some.0 (pos 0)) (value_is sets successors fit values within fixed some.0 some.1))

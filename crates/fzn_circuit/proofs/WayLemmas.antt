@@ -29,7 +29,7 @@ use Rattle.fzn_sets.specs.Terms.{MayBe, IsFixedTo, term_at}
 use Rattle.fzn_rules.specs.Cut.{LeadsInto, IsCutMet}
 use Rattle.fzn_trail.specs.Levels.{Levels}
 use Rattle.fzn_propagator.specs.Inference.{IsHint, HasWritableHints}
-use Rattle.fzn_terms.specs.Denied.{that, IsDenied, IsExplained, IsForced}
+use Rattle.fzn_terms.specs.Denied.{that, IsDenied, IsClaimExplained, IsClaimForced}
 use Rattle.fzn_propagator.specs.Clause.{IsJustified}
 use Rattle.fzn_circuit.specs.Circuits.{AreFixedPlaces, IsWay, IsAtEnd, HasNoShortWay}
 use Rattle.fzn_propagator.proofs.CallerLemmas.{justified_where}
@@ -164,7 +164,7 @@ module _ (trail : Levels) (successors : List Term) (start last : ℤ) (places : 
   comes_back next back leads = inr (λ values fixed. next_reached next leads values fixed ∙ back)
 
 -- one more place
-pub way_step : (trail : Levels) (successors : List Term) (start last next : ℤ) (places : List ℤ) (old new : List Lit) → IsWay trail successors start last places old → length places < length successors → IsIndex (length successors) next → IsFixedTo trail.sets (term_at successors last) next → (next ≡ start → ⊥) → IsExplained trail (that (term_at successors last) Equal next) old new → IsWay trail successors start next (places ++ next ∷ []) new
+pub way_step : (trail : Levels) (successors : List Term) (start last next : ℤ) (places : List ℤ) (old new : List Lit) → IsWay trail successors start last places old → length places < length successors → IsIndex (length successors) next → IsFixedTo trail.sets (term_at successors last) next → (next ≡ start → ⊥) → IsClaimExplained trail (that (term_at successors last) Equal next) old new → IsWay trail successors start next (places ++ next ∷ []) new
 way_step trail successors start last next places old new way room place leads apart explained =
     let len = length-append places (next ∷ []) in
     let some = way.some in
@@ -216,7 +216,7 @@ module _ (trail : Levels) (successors : List Term) (start last : ℤ) (places so
   some_items : (x : ℤ) → Contains items x → 0 < length items
   some_items x h = let below = h.1 in omega arith
 
-  pub cut_inferred : (new : List Lit) → IsAscending items → length items < length successors → IsForced trail (that (term_at successors last) Equal start) old new → IsJustified trail (Circuit successors) (Cut items) new
+  pub cut_inferred : (new : List Lit) → IsAscending items → length items < length successors → IsClaimForced trail (that (term_at successors last) Equal start) old new → IsJustified trail (Circuit successors) (Cut items) new
   unfolding IsMet IsCutMet
   cut_inferred new up fewer forced =
       justified_where trail (Circuit successors) (Cut items) new forced.forcing (λ sets left. record {

@@ -21,8 +21,8 @@ use Rattle.fzn_terms.specs.Denied.{that, IsDenied}
 use Rattle.fzn_terms.specs.Values.{IsTerm-prop}
 
 -- of a constraint's list of terms on so many variables there is one proof at most
-pub AreTerms-prop : (count : ℕ) (terms : List Term) → IsProp (AreTerms count terms)
-AreTerms-prop count terms = Prim.hlevel (props, IsTerm-prop)
+pub AreSuccessors-prop : (count : ℕ) (terms : List Term) → IsProp (AreTerms count terms)
+AreSuccessors-prop count terms = Prim.hlevel (props, IsTerm-prop)
 
 -- each successor has one value, these in order, and each is a place
 pub record AreFixedPlaces (sets : List IntSet) (successors : List Term) (values : List ℤ) : Type 0 where
@@ -53,16 +53,16 @@ HasNoShortWay sets successors start =
     (values : List ℤ) → AreFixedPlaces sets successors values → (k : ℕ) → 1 ≤ k → k < length values → reached_from values start k ≡ start → ⊥
 
 -- each value of the term is one of so many places
-abbrev pub IsInside : List IntSet → ℕ → Term → Type 0
-IsInside sets count term = IsDenied sets (that term AtMost (pos 0)) × IsDenied sets (that term AtLeast (pos (count + 1)))
+abbrev pub IsSuccessorInside : List IntSet → ℕ → Term → Type 0
+IsSuccessorInside sets count term = IsDenied sets (that term AtMost (pos 0)) × IsDenied sets (that term AtLeast (pos (count + 1)))
 
 -- no successor has a value that is no place
 abbrev pub AreInside : List IntSet → List Term → Type 0
-AreInside sets successors = All (IsInside sets (length successors)) successors
+AreInside sets successors = All (IsSuccessorInside sets (length successors)) successors
 
 -- the value of the successor at place i, counted from 0, where it has one, is no value of the one at place j
-abbrev pub AreApart : List IntSet → List Term → ℕ → ℕ → Type 0
-AreApart sets successors i j =
+abbrev pub HaveNoCommonValue : List IntSet → List Term → ℕ → ℕ → Type 0
+HaveNoCommonValue sets successors i j =
     (default : Term) (value : ℤ) → i ≢ j → i < length successors → j < length successors → IsFixedTo sets (slice_index_or successors i default) value
     → IsDenied sets (that (slice_index_or successors j default) Equal value)
 
@@ -71,8 +71,8 @@ abbrev pub AreDifferent : List IntSet → List Term → Type 0
 AreDifferent sets successors = All (IsTerm (length sets)) successors → (values : List ℤ) → IsWithin sets values → AllFixed sets → IsAllDifferent (values_of values successors)
 
 -- some successor has several values
-abbrev pub HasOpen : List IntSet → List Term → Type 0
-HasOpen sets successors = (k : ℕ) × (k < length successors) × ((value : ℤ) → IsFixedTo sets (slice_index_or successors k (Constant (pos 0))) value → ⊥)
+abbrev pub HasOpenSuccessor : List IntSet → List Term → Type 0
+HasOpenSuccessor sets successors = (k : ℕ) × (k < length successors) × ((value : ℤ) → IsFixedTo sets (slice_index_or successors k (Constant (pos 0))) value → ⊥)
 
 -- the place that is listed for a number
 abbrev pub owner_of : List ℕ → ℤ → ℕ

@@ -14,13 +14,13 @@ use Rattle.fzn_terms.specs.Denied.{IsEntailed}
 use Rattle.fzn_circuit.specs.declared.pass.Pass.{Pass}
 
 -- the rule justifies the clause from the circuit of the successors
-abbrev pub IsInferred : Pass → Rule → List Lit → Type 0
-IsInferred pass rule clause = IsJustified pass.trail.now (Circuit pass.successors.now) rule clause
+abbrev pub IsJustifiedByCircuit : Pass → Rule → List Lit → Type 0
+IsJustifiedByCircuit pass rule clause = IsJustified pass.trail.now (Circuit pass.successors.now) rule clause
 
 -- so of each of these inferences, which have its number
-abbrev pub AreFoundIn : Pass → List Inference → Type 0
-AreFoundIn pass found = AreFoundOf pass.number (Circuit pass.successors.now) pass.trail.now found
+abbrev pub AreFoundOfCircuit : Pass → List Inference → Type 0
+AreFoundOfCircuit pass found = AreFoundOf pass.number (Circuit pass.successors.now) pass.trail.now found
 
 -- the rule `rows` is met on all sets on which so it is
-abbrev pub IsRefuted : Pass → Claim → Type 0
-IsRefuted pass claim = (sets : List IntSet) → IsEntailed sets claim → IsMet (Circuit pass.successors.now) sets Rows
+abbrev pub RefutesRows : Pass → Claim → Type 0
+RefutesRows pass claim = (sets : List IntSet) → IsEntailed sets claim → IsMet (Circuit pass.successors.now) sets Rows

@@ -8,7 +8,7 @@ ghost use Rattle.fzn_meaning.specs.Entries.{IsIndex};
 ghost use Rattle.fzn_sets.specs.Terms.{IsFixedTo, term_at};
 ghost use Rattle.fzn_propagator.specs.Clause.{IsFalseClause};
 ghost use Rattle.fzn_circuit.specs.Circuits.{IsWay, IsAtEnd, HasNoShortWay};
-ghost use Rattle.fzn_circuit.specs.Passes.{AreFoundIn};
+ghost use Rattle.fzn_circuit.specs.Passes.{AreFoundOfCircuit};
 
 use crate::pass::Pass;
 use fzn_domain::{Lit, Memory};
@@ -85,8 +85,8 @@ pub(crate) fn rising(alloc: Global, values: &[i64]) -> Result<Items<i64>, Memory
 /// Finds that the way from the start, counted from 1, through fixed successors does not come back before it has been at all places.
 pub(crate) fn find_cut(pass: &Pass, start: i64, found: &mut Findings) -> Result<(), Memory>
     requires start { IsIndex (length pass.now.successors.now) start }
-    requires before { AreFoundIn pass.now found.old }
-    ensures found { AreFoundIn pass.now found.new }
+    requires before { AreFoundOfCircuit pass.now found.old }
+    ensures found { AreFoundOfCircuit pass.now found.new }
     ensures none { OnOk result (found.new ≡ [] → HasNoShortWay pass.now.trail.now.sets pass.now.successors.now start) }
 {
     let _entries = pass.trail.len(); // Each present set lies within its declared one.

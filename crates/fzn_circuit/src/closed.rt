@@ -9,7 +9,7 @@ ghost use Rattle.fzn_rules.specs.Cut.{LeadsInto};
 ghost use Rattle.fzn_terms.specs.Denied.{IsGrown};
 ghost use Rattle.fzn_propagator.specs.Clause.{IsFalseClause};
 ghost use Rattle.fzn_circuit.specs.Closed.{IsPlaceIf, LeadsIntoBetween};
-ghost use Rattle.fzn_circuit.specs.Passes.{AreFoundIn};
+ghost use Rattle.fzn_circuit.specs.Passes.{AreFoundOfCircuit};
 
 use crate::pass::Pass;
 use crate::walk::closed_places;
@@ -148,8 +148,8 @@ fn explain_within(
 
 /// Finds that places which lead only to one another, where the walk finds any, do not.
 pub(crate) fn find_closed(pass: &Pass, found: &mut Findings) -> Result<(), Memory>
-    requires before { AreFoundIn pass.now found.old }
-    ensures { AreFoundIn pass.now found.new }
+    requires before { AreFoundOfCircuit pass.now found.old }
+    ensures { AreFoundOfCircuit pass.now found.new }
 {
     let Some(places) = closed_places(pass)? else {
         return Ok(());

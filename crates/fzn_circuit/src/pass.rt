@@ -2,7 +2,7 @@
 ghost use Rattle.std.specs.Prelude.{length};
 ghost use Rattle.fzn_domain.specs.Narrow.{NoneEmpty};
 ghost use Rattle.fzn_meaning.specs.Meaning.{AreTerms};
-ghost use Rattle.fzn_circuit.specs.Circuits.{AreTerms-prop};
+ghost use Rattle.fzn_circuit.specs.Circuits.{AreSuccessors-prop};
 
 use fzn_meaning::Term;
 use fzn_trail::Trail;
@@ -17,6 +17,6 @@ pub(crate) struct Pass<'a> {
     pub trail: &'a Trail,
     /// The successor of each place, both counted from 1.
     pub successors: &'a [Term],
-    ghost terms: { AreTerms (length trail.now.declared) successors.now } by { AreTerms-prop _ _ },
+    ghost terms: { AreTerms (length trail.now.declared) successors.now } by { AreSuccessors-prop _ _ },
     ghost filled: { NoneEmpty trail.now.sets },
 }

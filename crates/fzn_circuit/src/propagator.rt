@@ -14,7 +14,7 @@ ghost use Rattle.fzn_propagator.specs.Subscriptions.{terms_of, waits_each, AreHe
 ghost use Rattle.fzn_terms.specs.Denied.{IsDenied, IsNear};
 ghost use Rattle.fzn_circuit.specs.Propagator.{circuit_number, CircuitIsFor, CircuitFits};
 ghost use Rattle.fzn_circuit.specs.Circuits.{AreInside, HasNoShortWay};
-ghost use Rattle.fzn_circuit.specs.Passes.{IsRefuted, AreFoundIn};
+ghost use Rattle.fzn_circuit.specs.Passes.{RefutesRows, AreFoundOfCircuit};
 
 use crate::circuit::find_cut;
 use crate::closed::find_closed;
@@ -115,8 +115,8 @@ fn propagator_for(number: u64, given: &Constraint) -> Result<Option<CircuitPropa
 
 /// Finds all of the first kind of which there is anything to be found.
 fn find_all(pass: &Pass, found: &mut Findings) -> Result<(), Memory>
-    requires before { AreFoundIn pass.now found.old }
-    ensures found { AreFoundIn pass.now found.new }
+    requires before { AreFoundOfCircuit pass.now found.old }
+    ensures found { AreFoundOfCircuit pass.now found.new }
     ensures none { OnOk result (found.new ≡ [] → AreExhausted (λ given. constraint.Circuit pass.now.successors.now ≡ given) pass.now.trail.now) }
 {
     find_outside(pass, found)?;
@@ -136,8 +136,8 @@ fn find_all(pass: &Pass, found: &mut Findings) -> Result<(), Memory>
 
 /// Finds for each successor that it is a place.
 fn find_outside(pass: &Pass, found: &mut Findings) -> Result<(), Memory>
-    requires before { AreFoundIn pass.now found.old }
-    ensures found { AreFoundIn pass.now found.new }
+    requires before { AreFoundOfCircuit pass.now found.old }
+    ensures found { AreFoundOfCircuit pass.now found.new }
     ensures none { OnOk result (found.new ≡ [] → AreInside pass.now.trail.now.sets pass.now.successors.now) }
 {
     let beyond = pass.successors.len() as i64 + 1;
@@ -158,9 +158,9 @@ fn find_outside(pass: &Pass, found: &mut Findings) -> Result<(), Memory>
 fn find_not(pass: &Pass, claim: Claim, found: &mut Findings) -> Result<(), Memory>
     requires term { IsTerm (length pass.now.trail.now.declared) claim.term }
     requires near { IsNear claim.number }
-    requires refuted { IsRefuted pass.now claim }
-    requires before { AreFoundIn pass.now found.old }
-    ensures found { AreFoundIn pass.now found.new }
+    requires refuted { RefutesRows pass.now claim }
+    requires before { AreFoundOfCircuit pass.now found.old }
+    ensures found { AreFoundOfCircuit pass.now found.new }
     ensures kept { OnOk result (found.new ≡ [] → found.old ≡ []) }
     ensures none { OnOk result (found.new ≡ [] → IsDenied pass.now.trail.now.sets claim) }
 {
@@ -173,8 +173,8 @@ fn find_not(pass: &Pass, claim: Claim, found: &mut Findings) -> Result<(), Memor
 
 /// Finds for each way through fixed successors that it does not come back too soon.
 fn find_cuts(pass: &Pass, found: &mut Findings) -> Result<(), Memory>
-    requires before { AreFoundIn pass.now found.old }
-    ensures found { AreFoundIn pass.now found.new }
+    requires before { AreFoundOfCircuit pass.now found.old }
+    ensures found { AreFoundOfCircuit pass.now found.new }
     ensures none { OnOk result (found.new ≡ [] → 0 < length pass.now.successors.now → HasNoShortWay pass.now.trail.now.sets pass.now.successors.now (pos 1)) }
 {
     let list = starts_of(pass)?;

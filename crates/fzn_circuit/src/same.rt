@@ -1,8 +1,8 @@
 // Two successors that are the same: by the rule `hall`.
 ghost use Rattle.std.specs.Prelude.{◌≡◌, ◌<◌, [], length, IsTrue, OnOk};
 ghost use Rattle.fzn_meaning.specs.Term.{IsTerm};
-ghost use Rattle.fzn_circuit.specs.Circuits.{AreApart, AreDifferent, HasOpen, owner_of};
-ghost use Rattle.fzn_circuit.specs.Passes.{AreFoundIn};
+ghost use Rattle.fzn_circuit.specs.Circuits.{HaveNoCommonValue, AreDifferent, HasOpenSuccessor, owner_of};
+ghost use Rattle.fzn_circuit.specs.Passes.{AreFoundOfCircuit};
 
 use crate::pass::Pass;
 use fzn_domain::Memory;
@@ -15,8 +15,8 @@ use fzn_trail::Trail;
 
 /// Finds for each successor that has one value since the last level began that no other has it.
 pub(crate) fn find_same(pass: &Pass, found: &mut Findings) -> Result<(), Memory>
-    requires before { AreFoundIn pass.now found.old }
-    ensures found { AreFoundIn pass.now found.new }
+    requires before { AreFoundOfCircuit pass.now found.old }
+    ensures found { AreFoundOfCircuit pass.now found.new }
     ensures none { OnOk result (found.new ≡ [] → AreDifferent pass.now.trail.now.sets pass.now.successors.now) }
 {
     find_new(pass, found)?;
@@ -74,8 +74,8 @@ const FEW: usize = 8;
 
 /// Finds the same, but promises nothing where it finds nothing.
 fn find_new(pass: &Pass, found: &mut Findings) -> Result<(), Memory>
-    requires before { AreFoundIn pass.now found.old }
-    ensures { AreFoundIn pass.now found.new }
+    requires before { AreFoundOfCircuit pass.now found.old }
+    ensures { AreFoundOfCircuit pass.now found.new }
 {
     let fixed = fixed_of(pass)?;
     if FEW < fixed.len() {
@@ -90,8 +90,8 @@ fn find_new(pass: &Pass, found: &mut Findings) -> Result<(), Memory>
 
 /// Finds for each successor that it is not the same as the one at place i, where there is one and it may be.
 fn find_like(pass: &Pass, i: usize, found: &mut Findings) -> Result<(), Memory>
-    requires before { AreFoundIn pass.now found.old }
-    ensures { AreFoundIn pass.now found.new }
+    requires before { AreFoundOfCircuit pass.now found.old }
+    ensures { AreFoundOfCircuit pass.now found.new }
 {
     if i >= pass.successors.len() {
         return Ok(());
@@ -107,9 +107,9 @@ fn find_like(pass: &Pass, i: usize, found: &mut Findings) -> Result<(), Memory>
 
 /// Finds that the successor at place j is not the one value of that at place i, where it has one.
 fn find_pair(pass: &Pass, i: usize, j: usize, found: &mut Findings) -> Result<(), Memory>
-    requires before { AreFoundIn pass.now found.old }
-    ensures found { AreFoundIn pass.now found.new }
-    ensures none { OnOk result (found.new ≡ [] → AreApart pass.now.trail.now.sets pass.now.successors.now i j) }
+    requires before { AreFoundOfCircuit pass.now found.old }
+    ensures found { AreFoundOfCircuit pass.now found.new }
+    ensures none { OnOk result (found.new ≡ [] → HaveNoCommonValue pass.now.trail.now.sets pass.now.successors.now i j) }
 {
     if i >= pass.successors.len() || j >= pass.successors.len() || j == i {
         return Ok(());
@@ -131,8 +131,8 @@ fn find_pair(pass: &Pass, i: usize, j: usize, found: &mut Findings) -> Result<()
 /// Finds for each successor that it is not the one value of another, by places that have the values. About as many steps as all successors
 /// have values.
 fn find_owned(pass: &Pass, owners: &[usize], found: &mut Findings) -> Result<(), Memory>
-    requires before { AreFoundIn pass.now found.old }
-    ensures { AreFoundIn pass.now found.new }
+    requires before { AreFoundOfCircuit pass.now found.old }
+    ensures { AreFoundOfCircuit pass.now found.new }
 {
     for j in 0..pass.successors.len() {
         find_owners(pass, owners, j, found)?;
@@ -143,8 +143,8 @@ fn find_owned(pass: &Pass, owners: &[usize], found: &mut Findings) -> Result<(),
 /// Finds that the successor at place j has none of the values that other places have.
 fn find_owners(pass: &Pass, owners: &[usize], j: usize, found: &mut Findings) -> Result<(), Memory>
     requires place { j < length pass.now.successors.now }
-    requires before { AreFoundIn pass.now found.old }
-    ensures { AreFoundIn pass.now found.new }
+    requires before { AreFoundOfCircuit pass.now found.old }
+    ensures { AreFoundOfCircuit pass.now found.new }
 {
     let mut upto = 0;
     for _ in 0..owners.len() {
@@ -201,7 +201,7 @@ fn are_owned(pass: &Pass, owners: &[usize]) -> bool
 
 /// Whether some successor has several values.
 pub(crate) fn has_open(pass: &Pass) -> bool
-    ensures { IsTrue result → HasOpen pass.now.trail.now.sets pass.now.successors.now }
+    ensures { IsTrue result → HasOpenSuccessor pass.now.trail.now.sets pass.now.successors.now }
 {
     for k in 0..pass.successors.len() {
         if !is_fixed(pass.trail, pass.successors[k]) {
@@ -213,8 +213,8 @@ pub(crate) fn has_open(pass: &Pass) -> bool
 
 /// Finds the first two successors, each compared with all others, that they are not the same.
 fn find_any(pass: &Pass, found: &mut Findings) -> Result<(), Memory>
-    requires before { AreFoundIn pass.now found.old }
-    ensures found { AreFoundIn pass.now found.new }
+    requires before { AreFoundOfCircuit pass.now found.old }
+    ensures found { AreFoundOfCircuit pass.now found.new }
     ensures none { OnOk result (found.new ≡ [] → AreDifferent pass.now.trail.now.sets pass.now.successors.now) }
 {
     for i in 0..pass.successors.len() {

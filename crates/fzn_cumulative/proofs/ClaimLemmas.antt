@@ -9,7 +9,7 @@ use Rattle.fzn_meaning.specs.Term.{IsTerm}
 use Rattle.fzn_sets.specs.Terms.{least_value, greatest_value}
 use Rattle.fzn_sets.proofs.ValueLemmas.{MayBe-ends, MayBe-between}
 use Rattle.fzn_trail.specs.Levels.{Levels}
-use Rattle.fzn_propagator.specs.Clause.{AreLeft}
+use Rattle.fzn_propagator.specs.Clause.{AreLeftByClause}
 use Rattle.fzn_terms.specs.declared.claim.Claim.{Claim}
 use Rattle.fzn_terms.specs.Denied.{that, IsEntailed, AreEntailedBut}
 use Rattle.fzn_terms.proofs.OrderLemmas.{at_most, le_test}
@@ -44,7 +44,7 @@ pub record AreWithin (sets : List IntSet) (start duration uses : Term) (latest e
   pub no_less : least ≤ℤ least_value sets uses
 
 -- where a clause is denied that says the claims, the sets are so
-pub task_said : (tasks : Tasks) (k : ℕ) (latest earliest shortest least : ℤ) (trail : Levels) (clause : List Lit) (sets : List IntSet) → AreLeft trail.declared clause sets → AreReady (length trail.declared) tasks → k < length tasks.starts → All (IsEntailed sets) (task_claims (start_at tasks k) (duration_at tasks k) (uses_at tasks k) latest earliest shortest least) → AreWithin sets (start_at tasks k) (duration_at tasks k) (uses_at tasks k) latest earliest shortest least
+pub task_said : (tasks : Tasks) (k : ℕ) (latest earliest shortest least : ℤ) (trail : Levels) (clause : List Lit) (sets : List IntSet) → AreLeftByClause trail.declared clause sets → AreReady (length trail.declared) tasks → k < length tasks.starts → All (IsEntailed sets) (task_claims (start_at tasks k) (duration_at tasks k) (uses_at tasks k) latest earliest shortest least) → AreWithin sets (start_at tasks k) (duration_at tasks k) (uses_at tasks k) latest earliest shortest least
 task_said tasks k latest earliest shortest least trail clause sets left ready inside all =
     let d = ready.as_many_durations in
     let u = ready.as_many_uses in

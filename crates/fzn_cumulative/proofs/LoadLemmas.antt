@@ -17,7 +17,7 @@ use Rattle.fzn_rules.specs.Load.{IsLoadMet}
 use Rattle.fzn_trail.specs.Levels.{Levels}
 use Rattle.fzn_propagator.specs.Clause.{IsJustified}
 use Rattle.fzn_terms.specs.declared.claim.Claim.{Claim}
-use Rattle.fzn_terms.specs.Denied.{that, IsExplained, IsGrown, AreEntailedBut}
+use Rattle.fzn_terms.specs.Denied.{that, IsClaimExplained, IsGrown, AreEntailedBut}
 use Rattle.fzn_cumulative.specs.declared.tasks.Tasks.{Tasks}
 use Rattle.fzn_cumulative.specs.Loads.{AreReady, cumulative_of, IsTime, least_use_of, total_of, total_but, IsUseExplained, AreExplained, HasNoMore, start_at, duration_at, uses_at}
 use Rattle.fzn_cumulative.specs.Claims.{task_claims, use_claims, IsLeast}
@@ -195,7 +195,7 @@ explained_all trail t e k spare ss ds rs old new p q past h =
 -- ---- the rule
 
 -- a clause that says no more than what the capacity may be
-pub no_more : (trail : Levels) (tasks : Tasks) (capacity : ℤ) (new : List Lit) → IsTerm (length trail.declared) tasks.capacity → capacity ≡ greatest_value trail.sets tasks.capacity → (old : List Lit) → IsExplained trail (that tasks.capacity AtMost capacity) old new → HasNoMore trail tasks new
+pub no_more : (trail : Levels) (tasks : Tasks) (capacity : ℤ) (new : List Lit) → IsTerm (length trail.declared) tasks.capacity → capacity ≡ greatest_value trail.sets tasks.capacity → (old : List Lit) → IsClaimExplained trail (that tasks.capacity AtMost capacity) old new → HasNoMore trail tasks new
 no_more trail tasks capacity new fit is old said = record {
   still = said.still;
   says = λ sets left.

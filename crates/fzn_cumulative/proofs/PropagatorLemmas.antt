@@ -27,8 +27,8 @@ use Rattle.fzn_rules.specs.Rules.{IsMet}
 use Rattle.fzn_rules.specs.GlobalRows.{IsBelowZero, IsGlobalRowsMet}
 use Rattle.fzn_builtin_rules.specs.Form.{form_of}
 use Rattle.fzn_trail.specs.Levels.{Levels}
-use Rattle.fzn_propagator.specs.Inference.{AllFixed, IsExhausted}
-use Rattle.fzn_terms.specs.Denied.{that, IsForced}
+use Rattle.fzn_propagator.specs.Inference.{AllFixed, IsInferredOut}
+use Rattle.fzn_terms.specs.Denied.{that, IsClaimForced}
 use Rattle.fzn_propagator.specs.Clause.{IsJustified}
 use Rattle.fzn_terms.specs.Values.{IsFixed}
 use Rattle.fzn_terms.proofs.FixedLemmas.{fixed_to, fixed_ends}
@@ -44,7 +44,7 @@ below_of : (v : ℤ) → int_le v (negsuc 0) ≡ true → v <ℤ pos 0
 below_of v h = grind (arith, ints)
 
 -- a clause that forces that a term is below 0
-pub some_below : (trail : Levels) (terms : List Term) (k : ℕ) (d : Term) (old clause : List Lit) → All (IsTerm (length trail.declared)) terms → k < length terms → IsForced trail (that (get_or terms k d) AtMost (negsuc 0)) old clause → IsSomeBelow trail terms clause
+pub some_below : (trail : Levels) (terms : List Term) (k : ℕ) (d : Term) (old clause : List Lit) → All (IsTerm (length trail.declared)) terms → k < length terms → IsClaimForced trail (that (get_or terms k d) AtMost (negsuc 0)) old clause → IsSomeBelow trail terms clause
 some_below trail terms k d old clause fit inside forced = record {
   forcing = forced.forcing;
   says = λ sets left.
@@ -163,6 +163,6 @@ meets_least sets count group ready same meets fixed values within = least_meets 
 pub meets_kept : (sets : List IntSet) (count : ℕ) (group : Tasks) → AreReady count group → length sets ≡ count → HasNoneBelow sets group → AreKept sets group → MeetsWhereFixed sets group
 meets_kept sets count group ready same none kept fixed values within = meets_cumulative sets values within fixed group (subst (λ (n : ℕ). AreReady n group) (sym same) ready) none kept
 
-pub exhausted : (trail : Levels) (group : Tasks) → MeetsWhereFixed trail.sets group → (constraint : Constraint) → cumulative_of group ≡ constraint → IsExhausted constraint trail
+pub exhausted : (trail : Levels) (group : Tasks) → MeetsWhereFixed trail.sets group → (constraint : Constraint) → cumulative_of group ≡ constraint → IsInferredOut constraint trail
 unfolding form_of
 exhausted trail group meets constraint same = no_sum trail (cumulative_of group) constraint refl same (λ fixed values declared present. meets fixed values present)

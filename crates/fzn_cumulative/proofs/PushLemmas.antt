@@ -16,10 +16,10 @@ use Rattle.fzn_rules.specs.Load.{IsLoadMet}
 use Rattle.fzn_trail.specs.Levels.{Levels}
 use Rattle.fzn_propagator.specs.Clause.{IsJustified}
 use Rattle.fzn_terms.specs.declared.claim.Claim.{Claim}
-use Rattle.fzn_terms.specs.Denied.{that, IsEntailed, IsDenied, IsForced, IsGrownToForce, AreEntailedBut}
+use Rattle.fzn_terms.specs.Denied.{that, IsEntailed, IsDenied, IsClaimForced, IsGrownToForce, AreEntailedBut}
 use Rattle.fzn_cumulative.specs.declared.tasks.Tasks.{Tasks}
 use Rattle.fzn_cumulative.specs.Claims.{use_claims, IsNotPushed}
-use Rattle.fzn_cumulative.specs.Loads.{AreReady, cumulative_of, least_use_of, total_of, total_but, AreExplained, HasNoMore, start_at, duration_at, uses_at, runs_surely, least_amount, others_of, HasRoom, IsFreeAfter, IsFreeBefore, IsFreeForLong, IsFreeToUse}
+use Rattle.fzn_cumulative.specs.Loads.{AreReady, cumulative_of, least_use_of, total_of, total_but, AreExplained, HasNoMore, start_at, duration_at, uses_at, runs_surely, least_amount, others_of, HasRoomBeside, IsFreeAfter, IsFreeBefore, IsFreeForLong, IsFreeToUse}
 use Rattle.fzn_cumulative.proofs.ClaimLemmas.{task_entailed, task_said}
 use Rattle.fzn_cumulative.proofs.LoadLemmas.{but-one, but-none, use_full, run_parts}
 use Rattle.fzn_propagator.proofs.CallerLemmas.{justified_where}
@@ -77,8 +77,8 @@ module _ (sets : List IntSet) (tasks : Tasks) (t s u : ℤ) (k : ℕ) where
   any : Claim
   any = that (start_at tasks k) AtMost t
 
-  room_for : u ≡ least_value sets (uses_at tasks k) → HasRoom sets t k (int_max (pos 0) u) tasks → HasRoom sets t k (least_amount sets (uses_at tasks k)) tasks
-  room_for least room = subst (λ (n : ℤ). HasRoom sets t k (int_max (pos 0) n) tasks) least room
+  room_for : u ≡ least_value sets (uses_at tasks k) → HasRoomBeside sets t k (int_max (pos 0) u) tasks → HasRoomBeside sets t k (least_amount sets (uses_at tasks k)) tasks
+  room_for least room = subst (λ (n : ℤ). HasRoomBeside sets t k (int_max (pos 0) n) tasks) least room
 
   pub free_after : u ≡ least_value sets (uses_at tasks k) → IsNotPushed sets t k s u 0 tasks → IsFreeAfter sets t k tasks
   free_after least (inl room) = inr (inl (room_for least room))
@@ -101,7 +101,7 @@ module _ (sets : List IntSet) (tasks : Tasks) (t s u : ℤ) (k : ℕ) where
 least_of : (most limit load total trail_total : ℤ) → most ≤ℤ limit → trail_total ≤ℤ (total +ℤ pos 0) → load ≡ trail_total → limit ≡ load -ℤ pos 1 → most <ℤ total
 least_of most limit load total trail_total a b e f = omega (arith, ints)
 
-pub capacity_inferred : (trail : Levels) (tasks : Tasks) (t load limit : ℤ) (n : ℕ) (c0 c1 c2 : List Lit) → AreReady (length trail.declared) tasks → length tasks.starts ≤ n → AreExplained trail t n (pos 0) tasks.starts tasks.durations tasks.uses c0 c1 → IsForced trail (that tasks.capacity AtMost limit) c1 c2 → load ≡ total_of trail.sets t tasks.starts tasks.durations tasks.uses → limit ≡ load -ℤ pos 1 → IsJustified trail (cumulative_of tasks) (Load t) c2
+pub capacity_inferred : (trail : Levels) (tasks : Tasks) (t load limit : ℤ) (n : ℕ) (c0 c1 c2 : List Lit) → AreReady (length trail.declared) tasks → length tasks.starts ≤ n → AreExplained trail t n (pos 0) tasks.starts tasks.durations tasks.uses c0 c1 → IsClaimForced trail (that tasks.capacity AtMost limit) c1 c2 → load ≡ total_of trail.sets t tasks.starts tasks.durations tasks.uses → limit ≡ load -ℤ pos 1 → IsJustified trail (cumulative_of tasks) (Load t) c2
 unfolding IsMet IsLoadMet
 capacity_inferred trail tasks t load limit n c0 c1 c2 ready all explained forced is limit_is =
     justified_where trail (cumulative_of tasks) (Load t) c2 forced.forcing (λ sets left.

@@ -7,7 +7,7 @@ use Rattle.fzn_meaning.specs.declared.term.Term.{Term}
 use Rattle.fzn_terms.specs.Denied.{that, IsDenied}
 use Rattle.fzn_terms.specs.declared.claim.Claim.{Claim}
 use Rattle.fzn_cumulative.specs.declared.tasks.Tasks.{Tasks}
-use Rattle.fzn_cumulative.specs.Loads.{start_at, duration_at, uses_at, HasRoom}
+use Rattle.fzn_cumulative.specs.Loads.{start_at, duration_at, uses_at, HasRoomBeside}
 
 -- that a task of these terms starts at these times at the latest and at the earliest, lasts so long and uses so much at least
 abbrev pub task_claims : Term → Term → Term → ℤ → ℤ → ℤ → ℤ → List Claim
@@ -26,5 +26,5 @@ IsLeast least = (negsuc 1999999998 ≤ℤ least) × (least ≤ℤ pos 3000000001
 -- there is room for so much, or the claim at an index is true of no value
 abbrev pub IsNotPushed : List IntSet → ℤ → ℕ → ℤ → ℤ → ℕ → Tasks → Type 0
 IsNotPushed sets time k shortest least forced tasks =
-    HasRoom sets time k (int_max (pos 0) least) tasks
+    HasRoomBeside sets time k (int_max (pos 0) least) tasks
     ⊎ ((default : Claim) → IsDenied sets (slice_index_or (use_claims tasks k time shortest least) forced default))

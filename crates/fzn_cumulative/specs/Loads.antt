@@ -102,28 +102,28 @@ pub record IsLoadOfOthers (sets : List IntSet) (time : ℤ) (k : ℕ) (tasks : T
   pub high : load ≤ℤ pos (100000 * 1000000000)
 
 -- they leave room for so much
-abbrev pub HasRoom : List IntSet → ℤ → ℕ → ℤ → Tasks → Type 0
-HasRoom sets time k amount tasks = (others_of sets time k tasks +ℤ amount) ≤ℤ greatest_value sets tasks.capacity
+abbrev pub HasRoomBeside : List IntSet → ℤ → ℕ → ℤ → Tasks → Type 0
+HasRoomBeside sets time k amount tasks = (others_of sets time k tasks +ℤ amount) ≤ℤ greatest_value sets tasks.capacity
 
 -- the task at an index may end by the time, there is room for it, or it starts later anyway
 abbrev pub IsFreeAfter : List IntSet → ℤ → ℕ → Tasks → Type 0
 IsFreeAfter sets time k tasks =
     ((least_value sets (start_at tasks k) +ℤ least_value sets (duration_at tasks k)) ≤ℤ time)
-    ⊎ (HasRoom sets time k (least_amount sets (uses_at tasks k)) tasks
+    ⊎ (HasRoomBeside sets time k (least_amount sets (uses_at tasks k)) tasks
     ⊎ IsDenied sets (that (start_at tasks k) AtMost time))
 
 -- it may start after the time, there is room for it, or it ends by then anyway
 abbrev pub IsFreeBefore : List IntSet → ℤ → ℕ → Tasks → Type 0
 IsFreeBefore sets time k tasks =
     (time <ℤ greatest_value sets (start_at tasks k))
-    ⊎ (HasRoom sets time k (least_amount sets (uses_at tasks k)) tasks
+    ⊎ (HasRoomBeside sets time k (least_amount sets (uses_at tasks k)) tasks
     ⊎ IsDenied sets (that (start_at tasks k) AtLeast ((time -ℤ least_value sets (duration_at tasks k)) +ℤ pos 1)))
 
 -- it may start after the time, there is room for it, or it is short enough anyway to end by then from its earliest start
 abbrev pub IsFreeForLong : List IntSet → ℤ → ℕ → Tasks → Type 0
 IsFreeForLong sets time k tasks =
     (time <ℤ greatest_value sets (start_at tasks k))
-    ⊎ (HasRoom sets time k (least_amount sets (uses_at tasks k)) tasks
+    ⊎ (HasRoomBeside sets time k (least_amount sets (uses_at tasks k)) tasks
     ⊎ IsDenied sets (that (duration_at tasks k) AtLeast ((time -ℤ least_value sets (start_at tasks k)) +ℤ pos 1)))
 
 -- it may not run at the time, the others use too much alone, or it uses no more than what they leave

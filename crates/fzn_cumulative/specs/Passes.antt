@@ -13,9 +13,9 @@ abbrev pub tasks_of : Pass → Tasks
 tasks_of pass = record { starts = pass.starts.now; durations = pass.durations.now; uses = pass.uses.now; capacity = pass.capacity }
 
 -- the rule justifies the clause from the cumulative of the tasks
-abbrev pub IsInferred : Pass → Rule → List Lit → Type 0
-IsInferred pass rule clause = IsJustified pass.trail.now (cumulative_of (tasks_of pass)) rule clause
+abbrev pub IsJustifiedByCumulative : Pass → Rule → List Lit → Type 0
+IsJustifiedByCumulative pass rule clause = IsJustified pass.trail.now (cumulative_of (tasks_of pass)) rule clause
 
 -- so of each of these inferences, which have its number
-abbrev pub AreFoundIn : Pass → List Inference → Type 0
-AreFoundIn pass found = AreFoundOf pass.number (cumulative_of (tasks_of pass)) pass.trail.now found
+abbrev pub AreFoundOfCumulative : Pass → List Inference → Type 0
+AreFoundOfCumulative pass found = AreFoundOf pass.number (cumulative_of (tasks_of pass)) pass.trail.now found

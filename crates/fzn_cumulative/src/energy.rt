@@ -6,7 +6,7 @@ ghost use Rattle.fzn_rules.specs.declared.rule.Rule.TheVariants as rule;
 ghost use Rattle.fzn_propagator.specs.Clause.{IsFalseClause};
 ghost use Rattle.fzn_cumulative.specs.Loads.{IsTime, start_at, duration_at, uses_at};
 ghost use Rattle.fzn_cumulative.specs.Energies.{least_cover, energy_of, energies_of, IsEnergyExplained, AreEnergiesExplained, IsKeptBetween};
-ghost use Rattle.fzn_cumulative.specs.Passes.{tasks_of, IsInferred};
+ghost use Rattle.fzn_cumulative.specs.Passes.{tasks_of, IsJustifiedByCumulative};
 
 use crate::claims::task_claims;
 use crate::load::{explain_capacity, least_use};
@@ -124,7 +124,7 @@ fn explain_energies(
 /// `true`: the clause, emptied first, is an inference by `energy` that the tasks do not use more between the two times than there is.
 /// `false`: they do not on the trail, or the second time is not after the first.
 pub fn explain_energy(pass: &Pass, span: &Span, clause: &mut Items<Lit>) -> Result<bool, Memory>
-    ensures { IfOk result (λ found. MatchBool found (IsInferred pass.now (rule.Energy span.now.from span.now.until) clause.new) (IsKeptBetween pass.now.trail.now.sets (tasks_of pass.now) span.now.from span.now.until)) }
+    ensures { IfOk result (λ found. MatchBool found (IsJustifiedByCumulative pass.now (rule.Energy span.now.from span.now.until) clause.new) (IsKeptBetween pass.now.trail.now.sets (tasks_of pass.now) span.now.from span.now.until)) }
 {
     if span.until <= span.from {
         return Ok(false);

@@ -1,5 +1,5 @@
 // The first conflict of `fzn_cumulative` by the rule `energy`, between times that a sweep picks.
-ghost use Rattle.fzn_cumulative.specs.Passes.{AreFoundIn};
+ghost use Rattle.fzn_cumulative.specs.Passes.{AreFoundOfCumulative};
 
 use crate::energy::{Span, explain_energy};
 use crate::energy_tree::EnergyTree;
@@ -23,8 +23,8 @@ pub(crate) struct Stay {
 
 /// Finds a conflict between two times that the sweep picks.
 pub(crate) fn find_energy(pass: &Pass, found: &mut Findings) -> Result<(), Memory>
-    requires { AreFoundIn pass.now found.old }
-    ensures { AreFoundIn pass.now found.new }
+    requires { AreFoundOfCumulative pass.now found.old }
+    ensures { AreFoundOfCumulative pass.now found.new }
 {
     let Some(span) = overloaded(pass)? else {
         return Ok(());

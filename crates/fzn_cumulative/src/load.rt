@@ -4,7 +4,7 @@ ghost use Rattle.fzn_sets.specs.Terms.{least_value};
 ghost use Rattle.fzn_rules.specs.declared.rule.Rule.TheVariants as rule;
 ghost use Rattle.fzn_propagator.specs.Clause.{IsFalseClause};
 ghost use Rattle.fzn_cumulative.specs.Loads.{IsTime, least_use_of, runs_surely, total_of, IsUseExplained, AreExplained, IsKeptAt, HasNoMore, start_at, duration_at, uses_at, least_amount};
-ghost use Rattle.fzn_cumulative.specs.Passes.{tasks_of, IsInferred};
+ghost use Rattle.fzn_cumulative.specs.Passes.{tasks_of, IsJustifiedByCumulative};
 
 use crate::claims::task_claims;
 use crate::pass::Pass;
@@ -122,7 +122,7 @@ pub fn explain_uses(
 /// do not on the trail.
 pub fn explain_load(pass: &Pass, time: &i64, clause: &mut Items<Lit>) -> Result<bool, Memory>
     requires { IsTime time.now }
-    ensures { IfOk result (λ found. MatchBool found (IsInferred pass.now (rule.Load time.now) clause.new) (IsKeptAt pass.now.trail.now.sets (tasks_of pass.now) time.now)) }
+    ensures { IfOk result (λ found. MatchBool found (IsJustifiedByCumulative pass.now (rule.Load time.now) clause.new) (IsKeptAt pass.now.trail.now.sets (tasks_of pass.now) time.now)) }
 {
     let load = load_at(pass, time);
     let capacity = greatest_of(pass.trail, pass.capacity);

@@ -3,7 +3,7 @@
 ghost use Rattle.std.specs.Prelude.{◌≡◌, ◌≢◌, ◌↔◌, ◌<◌, [], IsTrue, length, IfOk, OnOk, MatchBool};
 ghost use Rattle.fzn_cumulative.specs.Loads.{IsTime, IsKeptAt};
 ghost use Rattle.fzn_cumulative.specs.Kept.{HasNoneBelow, AreKept, MeetsWhereFixed};
-ghost use Rattle.fzn_cumulative.specs.Passes.{tasks_of, AreFoundIn};
+ghost use Rattle.fzn_cumulative.specs.Passes.{tasks_of, AreFoundOfCumulative};
 
 use crate::fixed_tasks::is_kept_at_least;
 use crate::load::{explain_load, least_use};
@@ -21,8 +21,8 @@ use fzn_terms::{are_fixed, greatest_of, least_of};
 /// Finds what follows at times that the profile picks: that the tasks use too much at its peak, or else for each task that it starts later,
 /// ends earlier or uses less, and for the capacity that it is greater.
 pub(crate) fn find_by_profile(pass: &Pass, found: &mut Findings) -> Result<(), Memory>
-    requires { AreFoundIn pass.now found.old }
-    ensures { AreFoundIn pass.now found.new }
+    requires { AreFoundOfCumulative pass.now found.old }
+    ensures { AreFoundOfCumulative pass.now found.new }
 {
     let profile = profile_of(pass)?;
     let peak = profile.peak;
@@ -55,8 +55,8 @@ fn most_used(pass: &Pass) -> i64 {
 /// Finds that the tasks do not use more at the time than the capacity. `true` where they do.
 fn find_overload(pass: &Pass, time: &i64, found: &mut Findings) -> Result<bool, Memory>
     requires time { IsTime time.now }
-    requires before { AreFoundIn pass.now found.old }
-    ensures found { AreFoundIn pass.now found.new }
+    requires before { AreFoundOfCumulative pass.now found.old }
+    ensures found { AreFoundOfCumulative pass.now found.new }
     ensures told { IfOk result (λ over. MatchBool over (found.new ≢ []) ((found.new ≡ found.old) × IsKeptAt pass.now.trail.now.sets (tasks_of pass.now) time.now)) }
 {
     let mut clause = Items::new(pass.alloc);
@@ -69,8 +69,8 @@ fn find_overload(pass: &Pass, time: &i64, found: &mut Findings) -> Result<bool, 
 
 /// Finds that the capacity is no less than what the tasks use at the peak.
 fn find_capacity(pass: &Pass, peak: &Stretch, found: &mut Findings) -> Result<(), Memory>
-    requires { AreFoundIn pass.now found.old }
-    ensures { AreFoundIn pass.now found.new }
+    requires { AreFoundOfCumulative pass.now found.old }
+    ensures { AreFoundOfCumulative pass.now found.new }
 {
     let time = peak.from;
     if !is_time(&time) || peak.load <= least_of(pass.trail, pass.capacity) {
@@ -85,8 +85,8 @@ fn find_capacity(pass: &Pass, peak: &Stretch, found: &mut Findings) -> Result<()
 
 /// Finds for each task that values are to be taken out of it so.
 fn find_pushes(pass: &Pass, way: Way, profile: &Profile, found: &mut Findings) -> Result<(), Memory>
-    requires { AreFoundIn pass.now found.old }
-    ensures { AreFoundIn pass.now found.new }
+    requires { AreFoundOfCumulative pass.now found.old }
+    ensures { AreFoundOfCumulative pass.now found.new }
 {
     for k in 0..pass.starts.len() {
         if let Some(time) = time_for(pass, k, way, profile) {
@@ -105,8 +105,8 @@ fn find_push(
     found: &mut Findings,
 ) -> Result<(), Memory>
     requires place { k < length pass.now.starts.now }
-    requires before { AreFoundIn pass.now found.old }
-    ensures { AreFoundIn pass.now found.new }
+    requires before { AreFoundOfCumulative pass.now found.old }
+    ensures { AreFoundOfCumulative pass.now found.new }
 {
     if !is_time(time) {
         return Ok(());
@@ -147,8 +147,8 @@ pub(crate) fn is_time(time: &i64) -> bool
 /// Finds where all tasks are fixed that they do not use more than the capacity where one of them starts.
 pub(crate) fn find_of_fixed(pass: &Pass, found: &mut Findings) -> Result<(), Memory>
     requires none_below { HasNoneBelow pass.now.trail.now.sets (tasks_of pass.now) }
-    requires before { AreFoundIn pass.now found.old }
-    ensures found { AreFoundIn pass.now found.new }
+    requires before { AreFoundOfCumulative pass.now found.old }
+    ensures found { AreFoundOfCumulative pass.now found.new }
     ensures none { OnOk result (found.new ≡ [] → MeetsWhereFixed pass.now.trail.now.sets (tasks_of pass.now)) }
 {
     let _entries = pass.trail.len(); // Each present set lies within its declared one.
@@ -166,8 +166,8 @@ pub(crate) fn find_of_fixed(pass: &Pass, found: &mut Findings) -> Result<(), Mem
 
 /// Finds that the tasks do not use more than the capacity where one of them starts at the latest: at the first such time where they do.
 fn find_at_starts(pass: &Pass, found: &mut Findings) -> Result<(), Memory>
-    requires before { AreFoundIn pass.now found.old }
-    ensures found { AreFoundIn pass.now found.new }
+    requires before { AreFoundOfCumulative pass.now found.old }
+    ensures found { AreFoundOfCumulative pass.now found.new }
     ensures none { OnOk result (found.new ≡ [] → AreKept pass.now.trail.now.sets (tasks_of pass.now)) }
 {
     for k in 0..pass.starts.len() {

@@ -13,7 +13,7 @@ ghost use Rattle.fzn_rules.specs.declared.rule.Rule.TheVariants as rule;
 ghost use Rattle.fzn_propagator.specs.declared.cost.Cost.TheVariants as cost;
 ghost use Rattle.fzn_propagator.specs.declared.event.Event.TheVariants as event;
 ghost use Rattle.fzn_propagator.specs.Subscriptions.{terms_of, waits, waits_each, AreHeard};
-ghost use Rattle.fzn_cumulative.specs.Passes.{tasks_of, IsInferred, AreFoundIn};
+ghost use Rattle.fzn_cumulative.specs.Passes.{tasks_of, IsJustifiedByCumulative, AreFoundOfCumulative};
 ghost use Rattle.fzn_cumulative.specs.Propagator.{cumulative_number, CumulativeIsFor, CumulativeFits};
 ghost use Rattle.fzn_cumulative.specs.Kept.{AreNotBelow, HasNoneBelow, IsSomeBelow, MeetsWhereFixed};
 
@@ -137,8 +137,8 @@ fn propagator_for(number: u64, given: &Constraint) -> Result<Option<CumulativePr
 
 /// Finds by one kind of clauses after the other, until there is any.
 fn find_all(pass: &Pass, found: &mut Findings) -> Result<(), Memory>
-    requires before { AreFoundIn pass.now found.old }
-    ensures found { AreFoundIn pass.now found.new }
+    requires before { AreFoundOfCumulative pass.now found.old }
+    ensures found { AreFoundOfCumulative pass.now found.new }
     ensures none { OnOk result (found.new ≡ [] → MeetsWhereFixed pass.now.trail.now.sets (tasks_of pass.now)) }
 {
     find_negative(pass, found)?;
@@ -158,8 +158,8 @@ fn find_all(pass: &Pass, found: &mut Findings) -> Result<(), Memory>
 
 /// Finds of each duration, each use and the capacity that it is not below 0.
 fn find_negative(pass: &Pass, found: &mut Findings) -> Result<(), Memory>
-    requires before { AreFoundIn pass.now found.old }
-    ensures found { AreFoundIn pass.now found.new }
+    requires before { AreFoundOfCumulative pass.now found.old }
+    ensures found { AreFoundOfCumulative pass.now found.new }
     ensures none { OnOk result (found.new ≡ [] → HasNoneBelow pass.now.trail.now.sets (tasks_of pass.now)) }
 {
     find_below(pass, pass.durations, found)?;
@@ -170,9 +170,9 @@ fn find_negative(pass: &Pass, found: &mut Findings) -> Result<(), Memory>
 /// Finds of each of these terms of the tasks that it is not below 0.
 fn find_below(pass: &Pass, terms: &[Term], found: &mut Findings) -> Result<(), Memory>
     requires terms { All (IsTerm (length pass.now.trail.now.declared)) terms.now }
-    requires inferred { (clause : List Lit) → IsSomeBelow pass.now.trail.now terms.now clause → IsInferred pass.now rule.Rows clause }
-    requires before { AreFoundIn pass.now found.old }
-    ensures found { AreFoundIn pass.now found.new }
+    requires inferred { (clause : List Lit) → IsSomeBelow pass.now.trail.now terms.now clause → IsJustifiedByCumulative pass.now rule.Rows clause }
+    requires before { AreFoundOfCumulative pass.now found.old }
+    ensures found { AreFoundOfCumulative pass.now found.new }
     ensures kept { OnOk result (found.new ≡ [] → found.old ≡ []) }
     ensures none { OnOk result (found.new ≡ [] → AreNotBelow pass.now.trail.now.sets terms.now) }
 {

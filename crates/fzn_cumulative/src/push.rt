@@ -4,7 +4,7 @@ ghost use Rattle.fzn_rules.specs.declared.rule.Rule.TheVariants as rule;
 ghost use Rattle.fzn_terms.specs.Denied.{AreEntailedBut};
 ghost use Rattle.fzn_cumulative.specs.Loads.{IsTime, IsLoadOfOthers, IsFreeAfter, IsFreeBefore, IsFreeForLong, IsFreeToUse, IsFreeAt};
 ghost use Rattle.fzn_cumulative.specs.Claims.{use_claims, IsLeast, IsNotPushed};
-ghost use Rattle.fzn_cumulative.specs.Passes.{tasks_of, IsInferred};
+ghost use Rattle.fzn_cumulative.specs.Passes.{tasks_of, IsJustifiedByCumulative};
 
 use crate::claims::{EARLIEST, LATEST, LEAST, SHORTEST, task_claims};
 use crate::load::{explain_capacity, explain_uses, least_end, load_at, surely_runs, use_at};
@@ -36,7 +36,7 @@ pub(crate) fn push(
 ) -> Result<bool, Memory>
     requires place { k < length pass.now.starts.now }
     requires time { IsTime time.now }
-    ensures { IfOk result (λ found. MatchBool found (IsInferred pass.now (rule.Load time.now) clause.new) ⊤) }
+    ensures { IfOk result (λ found. MatchBool found (IsJustifiedByCumulative pass.now (rule.Load time.now) clause.new) ⊤) }
 {
     match way {
         Way::After => push_after(pass, k, time, clause),
@@ -51,7 +51,7 @@ pub(crate) fn push(
 fn push_after(pass: &Pass, k: usize, time: &i64, clause: &mut Items<Lit>) -> Result<bool, Memory>
     requires place { k < length pass.now.starts.now }
     requires time { IsTime time.now }
-    ensures { IfOk result (λ found. MatchBool found (IsInferred pass.now (rule.Load time.now) clause.new) (IsFreeAfter pass.now.trail.now.sets time.now k (tasks_of pass.now))) }
+    ensures { IfOk result (λ found. MatchBool found (IsJustifiedByCumulative pass.now (rule.Load time.now) clause.new) (IsFreeAfter pass.now.trail.now.sets time.now k (tasks_of pass.now))) }
 {
     if least_end(pass, k) <= *time {
         return Ok(false);
@@ -67,7 +67,7 @@ fn push_after(pass: &Pass, k: usize, time: &i64, clause: &mut Items<Lit>) -> Res
 fn push_before(pass: &Pass, k: usize, time: &i64, clause: &mut Items<Lit>) -> Result<bool, Memory>
     requires place { k < length pass.now.starts.now }
     requires time { IsTime time.now }
-    ensures { IfOk result (λ found. MatchBool found (IsInferred pass.now (rule.Load time.now) clause.new) (IsFreeBefore pass.now.trail.now.sets time.now k (tasks_of pass.now))) }
+    ensures { IfOk result (λ found. MatchBool found (IsJustifiedByCumulative pass.now (rule.Load time.now) clause.new) (IsFreeBefore pass.now.trail.now.sets time.now k (tasks_of pass.now))) }
 {
     if *time < greatest_of(pass.trail, pass.start(k)) {
         return Ok(false);
@@ -83,7 +83,7 @@ fn push_before(pass: &Pass, k: usize, time: &i64, clause: &mut Items<Lit>) -> Re
 fn push_shorter(pass: &Pass, k: usize, time: &i64, clause: &mut Items<Lit>) -> Result<bool, Memory>
     requires place { k < length pass.now.starts.now }
     requires time { IsTime time.now }
-    ensures { IfOk result (λ found. MatchBool found (IsInferred pass.now (rule.Load time.now) clause.new) (IsFreeForLong pass.now.trail.now.sets time.now k (tasks_of pass.now))) }
+    ensures { IfOk result (λ found. MatchBool found (IsJustifiedByCumulative pass.now (rule.Load time.now) clause.new) (IsFreeForLong pass.now.trail.now.sets time.now k (tasks_of pass.now))) }
 {
     let start = pass.start(k);
     if *time < greatest_of(pass.trail, start) {
@@ -100,7 +100,7 @@ fn push_shorter(pass: &Pass, k: usize, time: &i64, clause: &mut Items<Lit>) -> R
 fn push_less(pass: &Pass, k: usize, time: &i64, clause: &mut Items<Lit>) -> Result<bool, Memory>
     requires place { k < length pass.now.starts.now }
     requires time { IsTime time.now }
-    ensures { IfOk result (λ found. MatchBool found (IsInferred pass.now (rule.Load time.now) clause.new) (IsFreeToUse pass.now.trail.now.sets time.now k (tasks_of pass.now))) }
+    ensures { IfOk result (λ found. MatchBool found (IsJustifiedByCumulative pass.now (rule.Load time.now) clause.new) (IsFreeToUse pass.now.trail.now.sets time.now k (tasks_of pass.now))) }
 {
     if !surely_runs(pass, k, time) {
         return Ok(false);
@@ -141,7 +141,7 @@ fn push_out(
     requires least { IsLeast least }
     requires forced { forced < 4 }
     requires present { AreEntailedBut forced (use_claims (tasks_of pass.now) k time.now shortest least) pass.now.trail.now.sets }
-    ensures { IfOk result (λ found. MatchBool found (IsInferred pass.now (rule.Load time.now) clause.new) (IsNotPushed pass.now.trail.now.sets time.now k shortest least forced (tasks_of pass.now))) }
+    ensures { IfOk result (λ found. MatchBool found (IsJustifiedByCumulative pass.now (rule.Load time.now) clause.new) (IsNotPushed pass.now.trail.now.sets time.now k shortest least forced (tasks_of pass.now))) }
 {
     let excess = others + least.max(0) - greatest_of(pass.trail, pass.capacity);
     if excess <= 0 {
@@ -157,7 +157,7 @@ fn push_out(
 /// it is no less anyway, or they use more than any capacity.
 pub fn push_capacity(pass: &Pass, time: &i64, clause: &mut Items<Lit>) -> Result<bool, Memory>
     requires { IsTime time.now }
-    ensures { IfOk result (λ found. MatchBool found (IsInferred pass.now (rule.Load time.now) clause.new) (IsFreeAt pass.now.trail.now.sets time.now (tasks_of pass.now))) }
+    ensures { IfOk result (λ found. MatchBool found (IsJustifiedByCumulative pass.now (rule.Load time.now) clause.new) (IsFreeAt pass.now.trail.now.sets time.now (tasks_of pass.now))) }
 {
     let load = load_at(pass, time);
     if GREATEST_VALUE < load {

@@ -1,21 +1,21 @@
 -- One multiple more, or one that cannot be added.
-use Rattle.std.proofs.Common.{◌≡◌, ◌⊎◌, ℕ, ◌+◌, ◌-◌, ◌<◌, ◌≤◌, List, [], ◌∷◌, ◌++◌, take, length, get_or, replicate, All, refl, sym, ap, subst, ◌∙◌, inl, inr, arith, ℤ, pos, ◌+ℤ◌, ◌*ℤ◌, Option, Some, None, IsSomeAnd, unsigned_abs}
-use Rattle.std.specs.Option.{option_map_or}
+use Rattle.std.proofs.Common.{◌≡◌, ◌⊎◌, ℕ, ◌+◌, ◌-◌, ◌<◌, ◌≤◌, List, [], ◌∷◌, ◌++◌, take, length, get_or, replicate, All, refl, sym, ap, subst, ◌∙◌, inl, inr, arith, ℤ, pos, ◌+ℤ◌, ◌*ℤ◌, Option, Some, None, IfSome, IsSome, IsSomeAnd, Result, Ok, Err, IfErr, unsigned_abs}
+use Rattle.std.specs.Option.{option_and_then, option_map_or}
 use Rattle.std.proofs.lemmas.Int.{ints}
 use Rattle.std.proofs.lemmas.Bool.{cases_eq, cases_lt}
 use Rattle.std.proofs.lemmas.List.{take_more, take_all, append-nil, get_or-replicate, get_or_past, length-replicate}
 use Rattle.fzn_meaning.specs.declared.term.Place.{Place}
 use Rattle.fzn_meaning.specs.declared.constraint.Constraint.{Constraint}
-use Rattle.fzn_builtin_rules.specs.Form.{Form}
+use Rattle.fzn_builtin_rules.specs.Form.{Form, form_of}
 use Rattle.fzn_derive.specs.declared.derivation.Multiple.{Multiple}
 use Rattle.fzn_derive.specs.declared.deriver.Cell.{Cell}
 use Rattle.fzn_derive.specs.declared.deriver.Deriver.{Deriver}
 use Rattle.fzn_derive.specs.declared.fault.DeriveFault.{DeriveFault}
 use Rattle.fzn_derive.specs.declared.fault.DeriveFault.TheVariants.{Memory, NoSuchVariable, NoSuchConstraint, NotDerived}
-use Rattle.fzn_derive.specs.Given.{IsGiven}
+use Rattle.fzn_derive.specs.Cited.{constraint_at, IsGiven}
 use Rattle.fzn_derive.specs.Merged.{coefficient_of, constant_of}
 use Rattle.fzn_derive.specs.Summed.{form_given, times, scaled, scaled_all, scaled_bounds, bound_left, IsUsable, multiple_at, IsCitedAt, IsAddableAt, AreAddable, IsFaultAt, IsFirstSumFault}
-use Rattle.fzn_derive.specs.Room.{variables_in, blank, cell_of, IsClear, ListsTouched, AreCounted, IsWithinLimit, AreWithinLimit, bound_with, IsMultipleAdded, IsMultipleFault, AreSummedUp}
+use Rattle.fzn_derive.specs.Room.{variables_in, blank, cell_of, IsClear, ListsTouched, AreCounted, IsWithinLimit, AreWithinLimit, bound_with, IsPastLimit, IsUsableForm, IsMultipleAdded, IsMultipleFault, AreSummedUp}
 use Rattle.fzn_derive.proofs.MergedLemmas.{coefficient_of-nil, coefficient_of-append, constant_of-nil, constant_of-append}
 use Rattle.fzn_derive.proofs.SummedLemmas.{scaled_all-nil, scaled_all-push, scaled_bounds-nil, scaled_bounds-push, bound_left-is}
 
@@ -68,6 +68,24 @@ summing-all given multiples i room bound past so_far =
       counted = subst (λ (ms : List Multiple). AreCounted room (scaled_all given ms)) all so_far.counted;
       bound_is = so_far.bound_is ∙ ap (bound_left given) all;
     }
+
+-- a constraint with a form is given
+given-form : (o : Option Constraint) (found : Form) → option_and_then form_of o ≡ Some found → IsSome o
+given-form None found is = absurd (cc)
+given-form (Some c) found is = refl
+
+-- a form that leaves the limits is a fault of its multiple
+pub past-fault : {T : Type 0} (given : List Constraint) (room : Deriver) (bound so_far by : ℤ) (multiple : Multiple) (found : Form) (result : Result T DeriveFault) → so_far ≡ bound → by ≡ multiple.multiplier → IsUsableForm given multiple found
+    → IfErr result (λ (fault : DeriveFault). (fault ≡ Memory) ⊎ ((fault ≡ NotDerived) × IsPastLimit room so_far by found))
+    → IfErr result (λ (fault : DeriveFault). (fault ≡ Memory) ⊎ IsMultipleFault given room bound multiple fault)
+past-fault given room bound so_far by multiple found (Ok x) bound_is by_is usable past = tt
+past-fault given room bound so_far by multiple found (Err fault) bound_is by_is usable (inl memory) = inl memory
+past-fault given room bound so_far by multiple found (Err fault) bound_is by_is usable (inr past) =
+    let here = subst (λ (k : ℤ). IsPastLimit room bound k found) by_is (subst (λ (b : ℤ). IsPastLimit room b by found) bound_is past.1) in
+    inr (subst (IsMultipleFault given room bound multiple) (sym past.0) (
+      given-form (constraint_at given multiple.constraint) found usable.form_is,
+      λ other form_is may. subst (λ (o : Option Form). IfSome o (λ (f : Form). IsPastLimit room bound multiple.multiplier f)) (sym usable.form_is ∙ form_is) here,
+    ))
 
 some_of : (P : Form → Type 0) (o : Option Form) → IsSomeAnd o P → (found : Form) × (o ≡ Some found) × P found
 some_of P None has = absurd has
@@ -126,7 +144,7 @@ module _ (given : List Constraint) (multiples : List Multiple) (i : ℕ) (m : Mu
           a ∙ b ∙ sym (bound_left-next new.found new.form.form_is)
 
       given_here : IsCitedAt given multiples i
-      given_here = subst (λ (x : Multiple). IsGiven given x.constraint) (sym m_is) new.form.given_is
+      given_here = subst (λ (x : Multiple). IsGiven given x.constraint) (sym m_is) (given-form (constraint_at given m.constraint) new.found new.form.form_is)
 
       addable_here : IsAddableAt given multiples i
       addable_here = record {

@@ -26,7 +26,7 @@ use Rattle.fzn_meaning.proofs.CircuitLemmas.{circuit-different}
 use Rattle.fzn_derive.specs.declared.fault.DeriveFault.{DeriveFault}
 use Rattle.fzn_derive.specs.declared.fault.DeriveFault.TheVariants as faults
 use Rattle.fzn_derive.specs.Cited.{constraint_at}
-use Rattle.fzn_derive.proofs.CitedLemmas.{IsCitedMet, met_at, formed_at, HoldsUpTo-none, HoldsUpTo-all, HoldsUpTo-one, cited-not_wrong, wrong-one}
+use Rattle.fzn_derive.proofs.CitedLemmas.{IsCitedMet, each_at, HoldsUpTo-none, HoldsUpTo-all, HoldsUpTo-one, cited-not_wrong, wrong-one}
 use Rattle.fzn_derive.specs.Apart.{StandApart, CancelOut, TellsApart, two_by_two, pairs_cited, IsPairTold, IsPairWrong, IsPairsFault, HasOneForEachTwo, AreToldApart, IsApartFault}
 
 -- ---- one constraint
@@ -130,7 +130,7 @@ abbrev pub Differ : List ℤ → VarId × VarId → Type 0
 Differ values pair = value_of values pair.0 ≢ value_of values pair.1
 
 pair-differs : (given : List Constraint) (values : List ℤ) (count : ℕ) (pair : VarId × VarId) (id : ℕ) → All (IsWellFormed count) given → IsCitedMet given values id → IsPairTold given (pair, id) → Differ values pair
-pair-differs given values count pair id formed met = by_constraint (constraint_at given id) (formed_at given count id formed) (met_at given values id met)
+pair-differs given values count pair id formed met = by_constraint (constraint_at given id) (each_at (IsWellFormed count) given id formed) met
   where
     by_constraint : (found : Option Constraint) → IfSome found (IsWellFormed count) → IfSome found (λ constraint. Meets constraint values) → IsSomeAnd found (λ constraint. TellsApart constraint pair.0 pair.1) → Differ values pair
     by_constraint None formed met told = absurd told

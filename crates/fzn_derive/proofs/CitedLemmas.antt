@@ -3,32 +3,25 @@ use Rattle.std.proofs.Common.{◌≡◌, ℕ, zero, suc, ◌-◌, ◌<◌, List,
 use Rattle.std.specs.List.{All, AllByRecursion}
 use Rattle.std.proofs.lemmas.List.Elements.{recursion_from_All}
 use Rattle.fzn_meaning.specs.declared.constraint.Constraint.{Constraint}
-use Rattle.fzn_meaning.specs.Meaning.{Meets, IsWellFormed}
+use Rattle.fzn_meaning.specs.Meaning.{Meets}
 use Rattle.fzn_derive.specs.declared.fault.DeriveFault.{DeriveFault}
 use Rattle.fzn_derive.specs.declared.fault.DeriveFault.TheVariants as faults
 use Rattle.fzn_derive.specs.Cited.{constraint_at, IsCitedAs, IsCitedWrong, HoldsUpTo}
 
 -- the values meet the constraint with this number, where there is one
 abbrev pub IsCitedMet : List Constraint → List ℤ → ℕ → Type 0
-IsCitedMet given values id = IfSome (slice_get given (id - 1)) (λ constraint. Meets constraint values)
-
-pub met_at : (given : List Constraint) (values : List ℤ) (id : ℕ) → IsCitedMet given values id → IfSome (constraint_at given id) (λ constraint. Meets constraint values)
-met_at given values id met = by_test (eqb id 0) met
-  where
-    by_test : (b : Bool) → IfSome (slice_get given (id - 1)) (λ constraint. Meets constraint values) → IfSome (cond b None (slice_get given (id - 1))) (λ constraint. Meets constraint values)
-    by_test true h = tt
-    by_test false h = h
+IsCitedMet given values id = IfSome (constraint_at given id) (λ constraint. Meets constraint values)
 
 -- what holds of each constraint holds of the one with a number
-pub formed_at : (given : List Constraint) (count : ℕ) (id : ℕ) → All (IsWellFormed count) given → IfSome (constraint_at given id) (IsWellFormed count)
-formed_at given count id formed = by_test (eqb id 0) (at given (id - 1) (recursion_from_All (IsWellFormed count) given formed))
+pub each_at : (P : Constraint → Type 0) (given : List Constraint) (id : ℕ) → All P given → IfSome (constraint_at given id) P
+each_at P given id all = by_test (eqb id 0) (at given (id - 1) (recursion_from_All P given all))
   where
-    at : (given : List Constraint) (k : ℕ) → AllByRecursion (IsWellFormed count) given → IfSome (slice_get given k) (IsWellFormed count)
-    at [] k formed = tt
-    at (c ∷ given) zero formed = formed.0
-    at (c ∷ given) (suc k) formed = at given k formed.1
+    at : (given : List Constraint) (k : ℕ) → AllByRecursion P given → IfSome (slice_get given k) P
+    at [] k all = tt
+    at (c ∷ given) zero all = all.0
+    at (c ∷ given) (suc k) all = at given k all.1
 
-    by_test : (b : Bool) → IfSome (slice_get given (id - 1)) (IsWellFormed count) → IfSome (cond b None (slice_get given (id - 1))) (IsWellFormed count)
+    by_test : (b : Bool) → IfSome (slice_get given (id - 1)) P → IfSome (cond b None (slice_get given (id - 1))) P
     by_test true h = tt
     by_test false h = h
 

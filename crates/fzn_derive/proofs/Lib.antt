@@ -18,3 +18,4 @@ pub mod SortedLemmas
 mod StatingLemmas
 mod SummedLemmas
 pub mod SummedSound
+pub mod TryingLemmas

@@ -16,7 +16,7 @@ use Rattle.fzn_derive.specs.declared.fault.DeriveFault.{DeriveFault}
 use Rattle.fzn_derive.specs.declared.fault.DeriveFault.TheVariants as faults
 use Rattle.fzn_derive.specs.Cited.{constraint_at, IsCitedAs, IsCitedWrong}
 use Rattle.fzn_derive.specs.Parity.{Parity, parity_of, SaysParity, parities, terms_together, odd_together, variable_numbers, ones_in, AreOddIn, variable_with, one_if_even, parity_inputs, IsParity, IsSumsFault, IsParityFault}
-use Rattle.fzn_derive.proofs.CitedLemmas.{formed_at, cited-not_wrong, wrong-one, HoldsUpTo-none, HoldsUpTo-all, HoldsUpTo-one}
+use Rattle.fzn_derive.proofs.CitedLemmas.{each_at, cited-not_wrong, wrong-one, HoldsUpTo-none, HoldsUpTo-all, HoldsUpTo-one}
 use Rattle.fzn_derive.proofs.OddLemmas.{times, Contains-times, odd_in-one}
 
 -- ---- what holds of all terms holds of the inputs
@@ -70,7 +70,7 @@ sum-formed count _ formed = tt
 
 sums-formed : (given : List Constraint) (count : ℕ) (ids : List ℕ) → All (IsWellFormed count) given → AllByRecursion (λ (sum : Parity). AllByRecursion (IsTerm count) sum.terms) (parities given ids)
 sums-formed given count [] formed = tt
-sums-formed given count (id ∷ ids) formed = by_constraint (constraint_at given id) (formed_at given count id formed) (sums-formed given count ids formed)
+sums-formed given count (id ∷ ids) formed = by_constraint (constraint_at given id) (each_at (IsWellFormed count) given id formed) (sums-formed given count ids formed)
   where
     by_sum : (found : Option Parity) → IfSome found (λ sum. AllByRecursion (IsTerm count) sum.terms) → AllByRecursion (λ (sum : Parity). AllByRecursion (IsTerm count) sum.terms) (parities given ids) → AllByRecursion (λ (sum : Parity). AllByRecursion (IsTerm count) sum.terms) (cons_option found (parities given ids))
     by_sum None h rest = rest

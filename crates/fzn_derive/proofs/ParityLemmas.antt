@@ -21,7 +21,7 @@ use Rattle.fzn_meaning.specs.Meaning.{Meets, IsBit, IsBoolean, booleans_of}
 use Rattle.fzn_meaning.proofs.CutLemmas.{bits-choice}
 use Rattle.fzn_derive.specs.Cited.{constraint_at, IsCitedAs}
 use Rattle.fzn_derive.specs.Parity.{Parity, parity_of, SaysParity, parities, terms_together, odd_together, variable_numbers, is_one, ones_in, AreOddIn, variable_with, one_if_even, parity_inputs, IsParity}
-use Rattle.fzn_derive.proofs.CitedLemmas.{IsCitedMet, met_at}
+use Rattle.fzn_derive.proofs.CitedLemmas.{IsCitedMet}
 use Rattle.fzn_derive.proofs.OddLemmas.{odd_in-sum}
 
 -- how many of the values are 1
@@ -175,7 +175,7 @@ bits declared values terms within booleans = recursion_from_All (λ (term : Term
 
 all-said : (given : List Constraint) (declared : List IntSet) (ids : List ℕ) (values : List ℤ) → IsWithin declared values → AllByRecursion (IsCitedAs (SaysParity declared) given) ids → AllByRecursion (IsCitedMet given values) ids → AllByRecursion (IsSaid values) (parities given ids)
 all-said given declared [] values within says met = tt
-all-said given declared (id ∷ ids) values within says met = by_constraint (constraint_at given id) says.0 (met_at given values id met.0) (all-said given declared ids values within says.1 met.1)
+all-said given declared (id ∷ ids) values within says met = by_constraint (constraint_at given id) says.0 met.0 (all-said given declared ids values within says.1 met.1)
   where
     by_sum : (found : Option Parity) → IsSomeAnd found (λ sum. All (IsBoolean declared) sum.terms) → IfSome found (λ sum. AllByRecursion (λ (term : Term). IsBit (term_value values term)) sum.terms → IsSaid values sum) → AllByRecursion (IsSaid values) (parities given ids) → AllByRecursion (IsSaid values) (cons_option found (parities given ids))
     by_sum None booleans says rest = absurd booleans

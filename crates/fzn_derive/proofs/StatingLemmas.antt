@@ -21,7 +21,7 @@ use Rattle.fzn_derive.specs.declared.fault.DeriveFault.{DeriveFault}
 use Rattle.fzn_derive.specs.declared.fault.DeriveFault.TheVariants.{NotDerived}
 use Rattle.fzn_derive.specs.Merged.{whole, has_weight, merged}
 use Rattle.fzn_derive.specs.Summed.{scaled_all, bound_left, IsStatable, IsSummed, IsUnstatable}
-use Rattle.fzn_derive.specs.Room.{variables_in, blank, cell_of, ListsTouched, AreCounted, AreSummedUp, sum_place, held, IsInOrder}
+use Rattle.fzn_derive.specs.Room.{variables_in, blank, cell_of, ListsTouched, AreCounted, AreSummedUp, sum_place, held, IsSortedOnce}
 use Rattle.fzn_derive.proofs.OrderLemmas.{has, rises, same_kept}
 
 module _ (room : Deriver) (places : List Place) (counted : AreCounted room places) where
@@ -87,7 +87,7 @@ module _ (room : Deriver) (listed : ListsTouched room) where
       small-at (All-from_recursion (λ (p : Place). has_weight p ≡ true → IsSmall p.coefficient) wide (kept (λ (p : Place). IsSmall p.coefficient) wide (recursion_from_All (λ (p : Place). IsSmall p.coefficient) (filter has_weight wide) small)))
       (get_or room.touched.items k d) (listed.inside k d inside)
 
-  module _ (order : List ℕ) (ordered : IsInOrder room.touched.items order) where
+  module _ (order : List ℕ) (ordered : IsSortedOnce room.touched.items order) where
     each-ordered : (P : ℕ → Type 0) → All P room.touched.items → All P order
     each-ordered P all = λ k d inside. All-contains P room.touched.items (get_or order k d) all (ordered.only (get_or order k d) (Contains-get_or order k d inside))
 

@@ -1,6 +1,5 @@
 -- The sum of constraints: values that meet each of them meet it, it is one that a model may have, and there is but one.
 use Rattle.std.proofs.Common.{◌≡◌, ℕ, zero, suc, ◌-◌, ◌≤◌, List, [], ◌∷◌, ◌++◌, map, length, refl, sym, ap, subst, ◌∙◌, inl, inr, arith, ℤ, pos, ◌*ℤ◌, ◌≤ℤ◌, Option, Some, None, IfSome, IsSomeAnd, All}
-use Rattle.std.specs.Prelude.{slice_get}
 use Rattle.std.specs.List.{AllByRecursion, range_with_len}
 use Rattle.std.specs.Option.{option_and_then, option_map_or}
 use Rattle.std.proofs.lemmas.Int.{ints}
@@ -27,8 +26,10 @@ use Rattle.fzn_builtin_rules.proofs.FormLemmas.{form_holds}
 use Rattle.fzn_derive.specs.declared.derivation.Multiple.{Multiple}
 use Rattle.fzn_derive.specs.declared.fault.DeriveFault.{DeriveFault}
 use Rattle.fzn_derive.specs.declared.fault.DeriveFault.TheVariants.{Memory, NoSuchVariable, NoSuchConstraint, NotDerived}
+use Rattle.fzn_derive.specs.Cited.{constraint_at}
 use Rattle.fzn_derive.specs.Merged.{whole, has_weight, merged}
 use Rattle.fzn_derive.specs.Summed.{form_given, times, scaled, scaled_all, scaled_bounds, bound_left, sum_left, MayMultiply, IsUsable, IsCitedAt, IsAddableAt, AreAddable, IsStatable, IsSummed, IsFaultAt, IsSumFault}
+use Rattle.fzn_derive.proofs.CitedLemmas.{each_at}
 use Rattle.fzn_derive.proofs.IntLemmas.{times_plus, times_times, times_le, times_zero}
 use Rattle.fzn_derive.proofs.MergedSound.{IsAmong, sum-merged}
 use Rattle.fzn_derive.proofs.SummedLemmas.{scaled_all-nil, scaled_all-cons, scaled_bounds-nil, scaled_bounds-cons, bound_left-is}
@@ -63,14 +64,6 @@ form-multiplied values k found usable holds =
     omega (arith, ints)
 
 -- ---- the constraints that are given
-
-given-each : (P : Constraint → Type 0) (given : List Constraint) (j : ℕ) → AllByRecursion P given → IfSome (slice_get given j) P
-given-each P [] j all = tt
-given-each P (c ∷ given) zero all = all.0
-given-each P (c ∷ given) (suc j) all = given-each P given j all.1
-
-pub each-given : (P : Constraint → Type 0) (given : List Constraint) (number : ℕ) → All P given → IfSome (slice_get given (number - 1)) P
-each-given P given number all = given-each P given (number - 1) (recursion_from_All P given all)
 
 holds-given : (declared : List IntSet) (values : List ℤ) (c : Option Constraint) → IsWithin declared values → IfSome c (HasBooleanSets declared) → IfSome c (λ (c : Constraint). Meets c values) → IfSome (option_and_then form_of c) (λ (found : Form). FormHolds found values)
 holds-given declared values None within bits met = tt
@@ -108,7 +101,7 @@ among-scaled count k (Some f) fits = among-times count k f.places (recursion_fro
 
 module _ (given : List Constraint) (declared : List IntSet) (values : List ℤ) (within : IsWithin declared values) where
   abbrev IsMet : ℕ → Type 0
-  IsMet number = IfSome (slice_get given (number - 1)) (λ (c : Constraint). Meets c values)
+  IsMet number = IfSome (constraint_at given number) (λ (c : Constraint). Meets c values)
 
   abbrev HasUsable : Multiple → Type 0
   HasUsable m = IsSomeAnd (form_given given m.constraint) (IsUsable m.multiplier)
@@ -123,7 +116,7 @@ module _ (given : List Constraint) (declared : List IntSet) (values : List ℤ) 
       let places = ap (sum_at values) (scaled_all-cons given m multiples) in
       let both = total_by-append (product_at values) (scaled given m) (scaled_all given multiples) in
       let bounds = scaled_bounds-cons given m multiples in
-      let holds = holds-given declared values (slice_get given (m.constraint - 1)) within (each-given (HasBooleanSets declared) given m.constraint booleans) met.0 in
+      let holds = holds-given declared values (constraint_at given m.constraint) within (each_at (HasBooleanSets declared) given m.constraint booleans) met.0 in
       let here = multiple-holds values m.multiplier (form_given given m.constraint) usable.0 holds in
       let rest = sum-most booleans multiples usable.1 met.1 in
       omega (arith, ints)
@@ -131,7 +124,7 @@ module _ (given : List Constraint) (declared : List IntSet) (values : List ℤ) 
 among-all : (given : List Constraint) (count : ℕ) → All (IsWellFormed count) given → (multiples : List Multiple) → AreAmong count (scaled_all given multiples)
 among-all given count well [] = subst (AreAmong count) (sym (scaled_all-nil given)) tt
 among-all given count well (m ∷ multiples) =
-    let fits = fits-given count (slice_get given (m.constraint - 1)) (each-given (IsWellFormed count) given m.constraint well) in
+    let fits = fits-given count (constraint_at given m.constraint) (each_at (IsWellFormed count) given m.constraint well) in
     subst (AreAmong count) (sym (scaled_all-cons given m multiples))
     (among-append count (scaled given m) (scaled_all given multiples) (among-scaled count m.multiplier (form_given given m.constraint) fits) (among-all given count well multiples))
 
@@ -148,7 +141,7 @@ linear-meets values sum bound most = most
 pub sum-Meets : (given : List Constraint) (declared : List IntSet) (multiples : List Multiple) (constraint : Constraint) (values : List ℤ)
     → All (IsWellFormed (length declared)) given → All (HasBooleanSets declared) given
     → IsSummed given (length declared) multiples constraint → IsWithin declared values
-    → All (λ (number : ℕ). IfSome (slice_get given (number - 1)) (λ (c : Constraint). Meets c values)) (map (λ (m : Multiple). m.constraint) multiples)
+    → All (λ (number : ℕ). IfSome (constraint_at given number) (λ (c : Constraint). Meets c values)) (map (λ (m : Multiple). m.constraint) multiples)
     → Meets constraint values
 sum-Meets given declared multiples constraint values well booleans summed within met =
     let count = length declared in

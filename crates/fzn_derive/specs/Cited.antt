@@ -1,5 +1,5 @@
 -- Constraints that are cited by their numbers, which count from 1.
-use Rattle.std.specs.Prelude.{◌≡◌, ◌⊎◌, ℕ, ◌-◌, ◌==◌, if◌then◌else◌, List, [], ◌∷◌, Option, None, slice_get, IsSomeAnd}
+use Rattle.std.specs.Prelude.{◌≡◌, ◌⊎◌, ℕ, ◌-◌, ◌==◌, if◌then◌else◌, List, [], ◌∷◌, Option, None, slice_get, IsSome, IsSomeAnd}
 use Rattle.fzn_meaning.specs.declared.constraint.Constraint.{Constraint}
 use Rattle.fzn_derive.specs.declared.fault.DeriveFault.{DeriveFault}
 use Rattle.fzn_derive.specs.declared.fault.DeriveFault.TheVariants.{NoSuchConstraint, NotDerived}
@@ -8,7 +8,11 @@ use Rattle.fzn_derive.specs.declared.fault.DeriveFault.TheVariants.{NoSuchConstr
 abbrev pub constraint_at : List Constraint → ℕ → Option Constraint
 constraint_at given id = if id == 0 then None else slice_get given (id - 1)
 
--- there is a constraint with this number, and P holds of it
+-- there is a constraint with this number
+abbrev pub IsGiven : List Constraint → ℕ → Type 0
+IsGiven given id = IsSome (constraint_at given id)
+
+-- there is one, and P holds of it
 abbrev pub IsCitedAs : (Constraint → Type 0) → List Constraint → ℕ → Type 0
 IsCitedAs P given id = IsSomeAnd (constraint_at given id) P
 

@@ -1,7 +1,6 @@
 pub mod Apart
 pub mod Cited
 pub mod Derived
-pub mod Given
 pub mod Merged
 pub mod Parity
 pub mod Room

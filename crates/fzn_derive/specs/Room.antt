@@ -11,7 +11,7 @@ use Rattle.fzn_derive.specs.declared.deriver.Deriver.{Deriver}
 use Rattle.fzn_derive.specs.declared.derivation.Multiple.{Multiple}
 use Rattle.fzn_derive.specs.declared.fault.DeriveFault.{DeriveFault}
 use Rattle.fzn_derive.specs.declared.fault.DeriveFault.TheVariants.{NoSuchConstraint, NotDerived}
-use Rattle.fzn_derive.specs.Given.{IsGiven}
+use Rattle.fzn_derive.specs.Cited.{IsGiven}
 use Rattle.fzn_derive.specs.Merged.{coefficient_of, constant_of, has_weight}
 use Rattle.fzn_derive.specs.Summed.{form_given, times, scaled_all, bound_left, IsUsable, AreAddable}
 
@@ -74,7 +74,6 @@ IsPastLimit room bound multiplier found = ((place : ℕ) → IsWithinLimit ((cel
 
 -- the form of the multiple, where it may be added
 pub record IsUsableForm (given : List Constraint) (multiple : Multiple) (found : Form) : Type 0 where
-  pub given_is : IsGiven given multiple.constraint
   pub form_is : form_given given multiple.constraint ≡ Some found
   pub usable : IsUsable multiple.multiplier found
 
@@ -114,7 +113,7 @@ unfoldable pub held : Deriver → List Place
 held room = filter has_weight (map (sum_place room) (range_with_len 0 (variables_in room)))
 
 -- the numbers of the list in rising order, each once
-pub record IsInOrder (numbers order : List ℕ) : Type 0 where
+pub record IsSortedOnce (numbers order : List ℕ) : Type 0 where
   pub rising : AllPairs (λ x y. x < y) order
   pub keeps : (n : ℕ) → Contains numbers n → Contains order n
   pub only : (n : ℕ) → Contains order n → Contains numbers n

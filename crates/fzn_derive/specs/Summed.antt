@@ -13,12 +13,12 @@ use Rattle.fzn_builtin_rules.specs.Form.{Form, form_of}
 use Rattle.fzn_derive.specs.declared.derivation.Multiple.{Multiple}
 use Rattle.fzn_derive.specs.declared.fault.DeriveFault.{DeriveFault}
 use Rattle.fzn_derive.specs.declared.fault.DeriveFault.TheVariants.{NoSuchConstraint, NotDerived}
-use Rattle.fzn_derive.specs.Given.{IsGiven, constraint_given}
+use Rattle.fzn_derive.specs.Cited.{constraint_at, IsGiven}
 use Rattle.fzn_derive.specs.Merged.{coefficient_of, constant_of, merged}
 
 -- the form of the constraint of this number, where it has one
 abbrev pub form_given : List Constraint → ℕ → Option Form
-form_given given number = option_and_then form_of (constraint_given given number)
+form_given given number = option_and_then form_of (constraint_at given number)
 
 -- each coefficient times this number
 abbrev pub times : ℤ → List Place → List Place

@@ -7,6 +7,7 @@ ghost use Rattle.fzn_derive.specs.declared.fault.DeriveFault.TheVariants.{Memory
 ghost use Rattle.fzn_derive.specs.Summed.{IsUsable, MayMultiply, IsFirstSumFault};
 ghost use Rattle.fzn_derive.specs.Room.{variables_in, IsClear, ListsTouched, AreWithinLimit, IsWithinLimit, IsUsableForm, IsUnusable, IsMultipleAdded, IsMultipleFault, AreSummedUp};
 
+use crate::cited::constraint_at;
 use crate::derivation::Multiple;
 use crate::deriver::Deriver;
 use crate::fault::DeriveFault;
@@ -63,10 +64,10 @@ fn usable_form<'a>(given: &'a [Constraint], multiple: Multiple) -> Result<Form<'
     ensures found { IfOk result (λ found. IsUsableForm given.now multiple (form_in found)) }
     ensures fault { IfErr result (IsUnusable given.now multiple) }
 {
-    if multiple.constraint == 0 || (given.len() as u64) < multiple.constraint {
+    let Some(constraint) = constraint_at(given, multiple.constraint) else {
         return Err(DeriveFault::NoSuchConstraint);
-    }
-    match form_of(&given[(multiple.constraint - 1) as usize]) {
+    };
+    match form_of(constraint) {
         None => Err(DeriveFault::NotDerived),
         Some(form) => if is_usable(multiple.multiplier, &form) {
             Ok(form)

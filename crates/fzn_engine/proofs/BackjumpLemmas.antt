@@ -19,7 +19,7 @@ use Rattle.fzn_clauses.proofs.HeldLemmas.{IsHeld-newest, clause_of-newest}
 use Rattle.fzn_clauses.proofs.WatchingLemmas.{IsWatching-asserted, IsWatching-returned}
 use Rattle.fzn_strategy.specs.declared.learn.Learn.TheVariants.{Plain}
 use Rattle.fzn_learned.specs.declared.learned.Learned.{Learned}
-use Rattle.fzn_learned.specs.Reasoned.{IsKnown, IsBelow, clause_of}
+use Rattle.fzn_learned.specs.Reasoned.{IsKnown, IsBelow, reason_clause}
 use Rattle.fzn_learned.proofs.CallerLemmas.{IsReasoned-returned}
 use Rattle.fzn_state.specs.declared.solver.Solver.{Solver}
 use Rattle.fzn_engine.specs.Loop.{IsBehind}
@@ -76,8 +76,8 @@ module _ {model : Model} {mid : Solver} {before : List Step} {conflict : Reason}
 
     -- back where it forces a literal
     module _ {held back : Solver} (holds : Holds learned.clause mid held) (at : IsBackAt learned.level held back) (id : ClauseId) (newest : id.0 ≡ length (held_by mid.clauses)) where
-      clause_is : clause_of (known_in (stock_of back)) (Clause id) ≡ learned.clause
-      clause_is = ap (λ (k : Stock). clause_of (known_in k) (Clause id)) (stock_is holds at) ∙ clause_of-newest (held_by mid.clauses) learned.clause id newest
+      clause_is : reason_clause (known_in (stock_of back)) (Clause id) ≡ learned.clause
+      clause_is = ap (λ (k : Stock). reason_clause (known_in k) (Clause id)) (stock_is holds at) ∙ clause_of-newest (held_by mid.clauses) learned.clause id newest
 
       forcing : (lit : Lit) (rest : List Lit) → possible_in (returned learned.level mid.trail).sets learned.clause ≡ lit ∷ rest → (limit : ℕ) → IsBehind model limit mid (record (there holds at) { trail = asserted lit (Clause id) (returned learned.level mid.trail) }) now
       forcing lit rest e limit =
@@ -111,7 +111,7 @@ module _ {model : Model} {mid : Solver} {before : List Step} {conflict : Reason}
           let K : Stock → Type 0 = λ k. IsKnown (known_in k) (Clause id) in
           subst K (sym (stock_is holds at)) (IsHeld-newest (held_by mid.clauses) learned.clause id newest)
 
-      pub learn-over : IsClauseOver (length back.trail.declared) (clause_of (known_in (stock_of back)) (Clause id))
+      pub learn-over : IsClauseOver (length back.trail.declared) (reason_clause (known_in (stock_of back)) (Clause id))
       learn-over =
           let C : List Lit → Type 0 = λ c. IsClauseOver (length back.trail.declared) c in
           let D : List IntSet → Type 0 = λ d. IsClauseOver (length d) learned.clause in

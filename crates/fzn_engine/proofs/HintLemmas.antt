@@ -23,7 +23,7 @@ use Rattle.fzn_engine.specs.declared.limits.Limits.{Limits}
 use Rattle.fzn_state.specs.declared.solver.Solver.{Solver}
 use Rattle.fzn_engine.specs.Loop.{HasWritten, IsOngoing, IsOver, Continues, IsWithinLimits}
 use Rattle.fzn_engine.specs.Hinted.{AreCutsTrue, HasTakenHints, TakesHints}
-use Rattle.fzn_engine.specs.Outcome.{HasRoom, IsReached}
+use Rattle.fzn_engine.specs.Outcome.{HasRoomForMore, IsReached}
 use Rattle.fzn_state.specs.Search.{IsAfter, Tally, work, work_of}
 use Rattle.fzn_state.specs.State.{IsHeldCut}
 use Rattle.fzn_state.proofs.ForgetLemmas.{nothing-reduced}
@@ -53,7 +53,7 @@ pub noted-taken : {model : Model} (limits : Limits) {old mid : Solver} {steps : 
 noted-taken limits h notes = record { state = (nothing-reduced h.state notes).state; trail = h.trail; nodes = h.nodes; learn = h.learn; within = h.within }
 
 -- there is room for one more solution where the limit is not reached with it
-room-left : (goal : Goal) (most : Option ℕ) (n : ℕ) → HasRoom goal most n → (IsReached goal most (n + 1) → ⊥) → HasRoom goal most (n + 1)
+room-left : (goal : Goal) (most : Option ℕ) (n : ℕ) → HasRoomForMore goal most n → (IsReached goal most (n + 1) → ⊥) → HasRoomForMore goal most (n + 1)
 room-left Satisfy None n room not_yet = tt
 room-left Satisfy (Some most) n room not_yet = below room not_yet
   where
@@ -68,7 +68,7 @@ solution-taken {model = model} limits {old = old} {new = new} w within not_yet =
     let found : new.found ≡ old.found + 1 = ap (λ (t : Tally). t.found) w.tally in
     let nodes : new.search.nodes ≡ old.search.nodes = ap (λ (t : Tally). t.nodes) w.tally in
     let R : ℕ → Type 0 = λ n. IsReached model.goal limits.solutions n → ⊥ in
-    let H : ℕ → Type 0 = λ n. HasRoom model.goal limits.solutions n in
+    let H : ℕ → Type 0 = λ n. HasRoomForMore model.goal limits.solutions n in
     let N : ℕ → Type 0 = λ n. n ≤ limits.nodes in
     record {
       state = w.state;

@@ -4,8 +4,8 @@ use Rattle.fzn_meaning.specs.declared.model.Model.{Model}
 use Rattle.fzn_cert.specs.declared.step.Step.{Step}
 use Rattle.fzn_engine.specs.declared.limits.Limits.{Limits}
 use Rattle.fzn_state.specs.declared.solver.Solver.{Solver}
-use Rattle.fzn_engine.specs.Outcome.{HasRoom}
-use Rattle.fzn_state.specs.Changes.{IsKeptBy}
+use Rattle.fzn_engine.specs.Outcome.{HasRoomForMore}
+use Rattle.fzn_state.specs.Changes.{IsStateKept}
 use Rattle.fzn_engine.specs.Loop.{IsOngoing, Goes, IsWithinLimits}
 use Rattle.fzn_state.specs.Search.{Tally, tally_of, work, work_of}
 use Rattle.fzn_trail.specs.Levels.{Levels}
@@ -14,11 +14,11 @@ use Rattle.fzn_state.proofs.SolverLemmas.{closed-from}
 -- neither limit is passed where the tally is the same
 pub within-tally : (model : Model) (limits : Limits) (old new : Solver) → tally_of new ≡ tally_of old → IsWithinLimits model limits old → IsWithinLimits model limits new
 within-tally model limits old new same within =
-    let P : Tally → Type 0 = λ t. (t.nodes ≤ limits.nodes) × HasRoom model.goal limits.solutions t.found in
+    let P : Tally → Type 0 = λ t. (t.nodes ≤ limits.nodes) × HasRoomForMore model.goal limits.solutions t.found in
     subst P (sym same) within
 
 -- what keeps the state keeps that the search goes on
-pub kept-ongoing : {model : Model} {limits : Limits} {old mid new : Solver} {before now : List Step} → IsOngoing model limits old mid before → IsKeptBy model now mid new → IsOngoing model limits old new now
+pub kept-ongoing : {model : Model} {limits : Limits} {old mid new : Solver} {before now : List Step} → IsOngoing model limits old mid before → IsStateKept model now mid new → IsOngoing model limits old new now
 kept-ongoing {model = model} {limits = limits} {mid = mid} {new = new} o k =
     let less = k.less limits.nodes in
     record {

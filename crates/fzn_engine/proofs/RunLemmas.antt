@@ -24,7 +24,7 @@ use Rattle.fzn_clauses.proofs.HeldLemmas.{IsHeld-newest, clause_of-newest}
 use Rattle.fzn_clauses.proofs.WatchingLemmas.{IsWatching-asserted, IsWatching-pushed}
 use Rattle.fzn_strategy.specs.declared.learn.Learn.{Learn}
 use Rattle.fzn_strategy.specs.declared.learn.Learn.TheVariants.{Plain}
-use Rattle.fzn_learned.specs.Reasoned.{IsKnown, clause_of}
+use Rattle.fzn_learned.specs.Reasoned.{IsKnown, reason_clause}
 use Rattle.fzn_learned.proofs.CallerLemmas.{IsReasoned-decided}
 use Rattle.fzn_search.specs.Fixed.{HasMany}
 use Rattle.fzn_printer.specs.declared.printer.Ending.{Ending}
@@ -34,12 +34,12 @@ use Rattle.fzn_engine.specs.declared.limits.Limits.{Limits}
 use Rattle.fzn_state.specs.declared.solver.Solver.{Solver}
 use Rattle.fzn_reduction.specs.Forgetting.{is_cut}
 use Rattle.fzn_state.specs.Volume.{volume}
-use Rattle.fzn_engine.specs.Outcome.{HasRoom, IsReached, IsEnded, EndsTruly, IsOutcome}
-use Rattle.fzn_state.specs.Certified.{count, IsCertified, IsRefuted}
+use Rattle.fzn_engine.specs.Outcome.{HasRoomForMore, IsReached, IsEnded, StopsTruly, IsOutcome}
+use Rattle.fzn_state.specs.Certified.{count, IsRunCertified, HasEmptyClause}
 use Rattle.fzn_engine.specs.Loop.{HasWritten, IsRecorded, Goes, Continues, IsOngoing, IsOver, closed_after, ending_of, IsWithinLimits, IsComplete}
-use Rattle.fzn_state.specs.Changes.{IsKeptBy, IsClosed, Holds}
+use Rattle.fzn_state.specs.Changes.{IsStateKept, LeavesNothing, Holds}
 use Rattle.fzn_engine.specs.Moves.{IsDecided}
-use Rattle.fzn_state.specs.Search.{IsInOrder, IsAfter, stock_of, Tally, tally_of, work_of, work}
+use Rattle.fzn_state.specs.Search.{IsTestedInOrder, IsAfter, stock_of, Tally, tally_of, work_of, work}
 use Rattle.fzn_state.specs.State.{Stock, known_in, with_held, with_cuts, StateOf}
 use Rattle.fzn_state.proofs.AcceptedLemmas.{logged-accepted}
 use Rattle.fzn_state.proofs.ChangeLemmas.{State-length, State-decided, work-decided, State-certified}
@@ -54,13 +54,13 @@ use Rattle.fzn_state.proofs.VolumeLemmas.{volume-empty}
 not_zero : (k : ℕ) → (suc k == 0) ≡ false
 not_zero k = grind (arith, nat_tests)
 
-closed-truly : (model : Model) (learn : Learn) (limits : Limits) (steps : List Step) (nodes n : ℕ) → n ≡ count model steps → IsRefuted model steps → HasRoom model.goal limits.solutions n → EndsTruly model learn limits steps nodes (closed_after n)
+closed-truly : (model : Model) (learn : Learn) (limits : Limits) (steps : List Step) (nodes n : ℕ) → n ≡ count model steps → HasEmptyClause model steps → HasRoomForMore model.goal limits.solutions n → StopsTruly model learn limits steps nodes (closed_after n)
 closed-truly model learn limits steps nodes zero found_is refuted room = (refuted, sym found_is)
 closed-truly model learn limits steps nodes (suc k) found_is refuted room =
-    let E : Bool → Type 0 = λ b. EndsTruly model learn limits steps nodes (cond b Unsatisfiable Complete) in
-    subst E (sym (not_zero k)) (refuted, omega arith, subst (λ (n : ℕ). HasRoom model.goal limits.solutions n) found_is room)
+    let E : Bool → Type 0 = λ b. StopsTruly model learn limits steps nodes (cond b Unsatisfiable Complete) in
+    subst E (sym (not_zero k)) (refuted, omega arith, subst (λ (n : ℕ). HasRoomForMore model.goal limits.solutions n) found_is room)
 
-pub closed-over : {model : Model} (limits : Limits) {old new : Solver} {steps : List Step} → IsClosed model old new steps → IsWithinLimits model limits new → IsOver model old.learn limits new steps (closed_after new.found)
+pub closed-over : {model : Model} (limits : Limits) {old new : Solver} {steps : List Step} → LeavesNothing model old new steps → IsWithinLimits model limits new → IsOver model old.learn limits new steps (closed_after new.found)
 closed-over {model = model} limits {old = old} {new = new} {steps = steps} closed within = record {
   ended = record {
     certified = closed.certified;
@@ -73,7 +73,7 @@ closed-over {model = model} limits {old = old} {new = new} {steps = steps} close
 -- ---- a decision
 
 -- what the held clauses force, and then one change of the search
-module _ {model : Model} (limits : Limits) {old mid : Solver} {before : List Step} (within : IsWithinLimits model limits old) (kept : IsKeptBy model before old mid) where
+module _ {model : Model} (limits : Limits) {old mid : Solver} {before : List Step} (within : IsWithinLimits model limits old) (kept : IsStateKept model before old mid) where
   pub kept-goes : (new : Solver) (steps : List Step) (goes_on : Bool) → Goes model mid new steps goes_on → Continues model limits old new steps (ending_of goes_on new.found)
   kept-goes new steps true goes =
       let behind = goes limits.nodes in
@@ -108,7 +108,7 @@ decided-ongoing {model = model} limits {old = old} {new = new} {steps = steps} h
     let N : ℕ → Type 0 = λ n. StateOf model old.learn (stock_of new) steps trail n in
     let A : Clauses → Type 0 = λ clauses. IsWatching clauses trail in
     let W : ℕ → Type 0 = λ n. work limits.nodes n trail < work_of limits.nodes old in
-    let V : ℕ → Type 0 = λ n. IsInOrder model old.scratch n old.found old.steps steps in
+    let V : ℕ → Type 0 = λ n. IsTestedInOrder model old.scratch n old.found old.steps steps in
     let nodes = d.nodes in
     let P : Solver → Type 0 = λ s. IsOngoing model limits old s steps in
     subst P (sym (solver-is new d.trail refl d.same.scratch d.same.learn d.found d.same.steps)) (record {
@@ -128,7 +128,7 @@ pub node-limit : {model : Model} (limits : Limits) {solver : Solver} {steps : Li
 node-limit {model = model} limits h within reached many = record {
   ended = record {
     certified = State-certified h.state;
-    truly = (reached, choices-left h.state many.0 many.1 many.2, subst (λ (n : ℕ). HasRoom model.goal limits.solutions n) h.found_is within.1);
+    truly = (reached, choices-left h.state many.0 many.1 many.2, subst (λ (n : ℕ). HasRoomForMore model.goal limits.solutions n) h.found_is within.1);
     few_nodes = within.0;
   };
   found_is = h.found_is;
@@ -139,7 +139,7 @@ node-limit {model = model} limits h within reached many = record {
 pub solution-limit : {model : Model} (limits : Limits) (old : Solver) {new : Solver} {steps : List Step} → IsAfter model new steps → tally_of new ≡ record (tally_of old) { found = old.found + 1 } → IsWithinLimits model limits old → IsReached model.goal limits.solutions new.found → IsOver model old.learn limits new steps SolutionLimit
 solution-limit {model = model} limits old {new = new} {steps = steps} state tally within reached =
     let R : ℕ → Type 0 = λ n. IsReached model.goal limits.solutions n in
-    let L : Tally → Type 0 = λ t. IsCertified model t.learn steps new.search.nodes in
+    let L : Tally → Type 0 = λ t. IsRunCertified model t.learn steps new.search.nodes in
     let N : Tally → Type 0 = λ t. t.nodes ≤ limits.nodes in
     record {
       ended = record { certified = subst L tally (State-certified state.state); truly = subst R state.found_is reached; few_nodes = subst N (sym tally) within.0 };
@@ -166,8 +166,8 @@ module _ {model : Model} (good : IsWellFormed model) {old : Solver} {before : Li
       let S : List Step → Type 0 = λ s. StateOf model old.learn (with_cuts flags (with_held (cut_of model values) (old.steps + 1) (stock_of old))) s old.trail old.search.nodes in
       let K : Stock → Type 0 = λ k. StateOf model old.learn (with_cuts flags k) now old.trail old.search.nodes in
       let L : Stock → Type 0 = λ k. IsKnown (known_in k) (Clause id) in
-      let clause_is : clause_of (known_in (stock_of held)) (Clause id) ≡ cut_of model values =
-      ap (λ (k : Stock). clause_of (known_in k) (Clause id)) holds.stock ∙ clause_of-newest (held_by old.clauses) (cut_of model values) id newest in
+      let clause_is : reason_clause (known_in (stock_of held)) (Clause id) ≡ cut_of model values =
+      ap (λ (k : Stock). reason_clause (known_in k) (Clause id)) holds.stock ∙ clause_of-newest (held_by old.clauses) (cut_of model values) id newest in
       let P : Solver → Type 0 = λ s. HasWritten model values old (record s { cuts = flags; found = s.found + 1 }) now id in
       subst P (sym (solver-is held holds.trail holds.search holds.scratch holds.learn holds.found holds.steps)) (record {
         state = record {

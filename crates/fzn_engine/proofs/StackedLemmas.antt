@@ -10,7 +10,7 @@ use Rattle.fzn_propagator.specs.Inferences.{inferred}
 use Rattle.fzn_trail.specs.declared.trail.Reason.TheVariants as reason
 use Rattle.fzn_trail.specs.Unit.{IsFalseOrUnit}
 use Rattle.fzn_clauses.proofs.WatchingLemmas.{IsWatching-asserted}
-use Rattle.fzn_learned.specs.Reasoned.{IsKnown, clause_of, IsForced}
+use Rattle.fzn_learned.specs.Reasoned.{IsKnown, reason_clause, IsLoneLiteral}
 use Rattle.fzn_propagator.specs.declared.propagator.Inference.{Inference}
 use Rattle.fzn_state.specs.declared.solver.Solver.{Solver}
 use Rattle.fzn_propagator.specs.Constraints.{IsInference}
@@ -44,28 +44,28 @@ module _ {model : Model} {old : Solver} {before : List Step} (h : IsAfter model 
     pub stacked-known : IsKnown (known_in (stock_of stacked)) (reason.Inference place)
     stacked-known = let count = length-map (old.inferences ++ it ∷ []) (λ (i : Inferred). i.clause) in let inside = within in omega arith
 
-    clause_in : clause_of (known_in (stock_of stacked)) (reason.Inference place) ≡ inference.clause
+    clause_in : reason_clause (known_in (stock_of stacked)) (reason.Inference place) ≡ inference.clause
     clause_in =
         get_or-map (λ (i : Inferred). i.clause) (old.inferences ++ it ∷ []) place it [] within
         ∙ ap (λ (i : Inferred). i.clause) (get_or_push old.inferences it it place (sym newest))
 
-    pub stacked-over : IsClauseOver (length old.trail.declared) (clause_of (known_in (stock_of stacked)) (reason.Inference place))
+    pub stacked-over : IsClauseOver (length old.trail.declared) (reason_clause (known_in (stock_of stacked)) (reason.Inference place))
     stacked-over =
         let sizes : length old.trail.declared ≡ length model.vars = ap length h.state.core.declared ∙ length-map model.vars (λ var. var.domain) in
         let O : ℕ → Type 0 = λ n. IsClauseOver n inference.clause in
         let C : List Lit → Type 0 = λ c. IsClauseOver (length old.trail.declared) c in
         subst C (sym clause_in) (subst O (sym sizes) is.stands.over)
 
-    forces_there : IsFalseOrUnit old.trail.sets (clause_of (known_in (stock_of stacked)) (reason.Inference place))
+    forces_there : IsFalseOrUnit old.trail.sets (reason_clause (known_in (stock_of stacked)) (reason.Inference place))
     forces_there = let C : List Lit → Type 0 = λ c. IsFalseOrUnit old.trail.sets c in subst C (sym clause_in) is.forces
 
-    forced_by : (lit : Lit) (rest : List Lit) (clause : List Lit) → possible_in old.trail.sets clause ≡ lit ∷ rest → IsFalseOrUnit old.trail.sets clause → IsForced old.trail.sets clause lit
+    forced_by : (lit : Lit) (rest : List Lit) (clause : List Lit) → possible_in old.trail.sets clause ≡ lit ∷ rest → IsFalseOrUnit old.trail.sets clause → IsLoneLiteral old.trail.sets clause lit
     forced_by lit rest clause e (inl none) = absurd (none_there lit rest (sym none ∙ e))
       where
         none_there : (l : Lit) (more : List Lit) → [] ≡ l ∷ more → ⊥
         none_there l more k = cc
     forced_by lit rest clause e (inr unit) =
-        let F : Lit → Type 0 = λ l. IsForced old.trail.sets clause l in
+        let F : Lit → Type 0 = λ l. IsLoneLiteral old.trail.sets clause l in
         subst F (first_same unit.0 lit rest (sym unit.1.only ∙ e)) (unit.1.only, unit.1.not_yet_true)
       where
         first_same : (a b : Lit) (more : List Lit) → a ∷ [] ≡ b ∷ more → a ≡ b
@@ -75,9 +75,9 @@ module _ {model : Model} {old : Solver} {before : List Step} (h : IsAfter model 
     pub stacked-behind : (new : Solver) → IsForcedBy stacked (reason.Inference place) new true → (limit : ℕ) → IsBehind model limit old new before
     stacked-behind new forced limit =
         let lit = forced.0 in
-        let there = forced_by lit forced.1 (clause_of (known_in (stock_of stacked)) (reason.Inference place)) forced.2 forces_there in
+        let there = forced_by lit forced.1 (reason_clause (known_in (stock_of stacked)) (reason.Inference place)) forced.2 forces_there in
         let P : Solver → Type 0 = λ s. IsBehind model limit old s before in
-        let var = variable-of old.trail.sets (length old.trail.declared) (clause_of (known_in (stock_of stacked)) (reason.Inference place)) lit forced.1 stacked-over forced.2 in
+        let var = variable-of old.trail.sets (length old.trail.declared) (reason_clause (known_in (stock_of stacked)) (reason.Inference place)) lit forced.1 stacked-over forced.2 in
         let Var : ℕ → Type 0 = λ n. IsVariable n lit.var in
         subst P (sym forced.3) (record {
           state = record {

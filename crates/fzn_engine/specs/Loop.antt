@@ -7,12 +7,12 @@ use Rattle.fzn_trail.specs.declared.trail.Reason.TheVariants.{Clause}
 use Rattle.fzn_trail.specs.declared.trail.ClauseId.{ClauseId}
 use Rattle.fzn_clauses.specs.Watching.{held_by}
 use Rattle.fzn_strategy.specs.declared.learn.Learn.{Learn}
-use Rattle.fzn_learned.specs.Reasoned.{IsKnown, clause_of}
+use Rattle.fzn_learned.specs.Reasoned.{IsKnown, reason_clause}
 use Rattle.fzn_learned.specs.Learned.{IsConflicting}
 use Rattle.fzn_state.specs.State.{known_in}
 use Rattle.fzn_state.specs.Certified.{count}
-use Rattle.fzn_state.specs.Changes.{IsClosed}
-use Rattle.fzn_engine.specs.Outcome.{IsEnded, HasRoom}
+use Rattle.fzn_state.specs.Changes.{LeavesNothing}
+use Rattle.fzn_engine.specs.Outcome.{IsEnded, HasRoomForMore}
 use Rattle.fzn_printer.specs.declared.printer.Ending.{Ending}
 use Rattle.fzn_printer.specs.declared.printer.Ending.TheVariants.{Complete, Unsatisfiable}
 use Rattle.fzn_engine.specs.declared.limits.Limits.{Limits}
@@ -25,7 +25,7 @@ use Rattle.fzn_propagator.specs.Constraints.{IsQuiet}
 
 -- neither limit was passed
 abbrev pub IsWithinLimits : Model → Limits → Solver → Type 0
-IsWithinLimits model limits solver = (solver.search.nodes ≤ limits.nodes) × HasRoom model.goal limits.solutions solver.found
+IsWithinLimits model limits solver = (solver.search.nodes ≤ limits.nodes) × HasRoomForMore model.goal limits.solutions solver.found
 
 -- all that the held clauses force was asserted, and none of them is false
 pub record IsAtFixpoint (solver : Solver) : Type 0 where
@@ -47,13 +47,13 @@ pub record IsBehind (model : Model) (limit : ℕ) (old new : Solver) (steps : Li
 -- the search goes on with less work left, or nothing is left
 abbrev pub Goes : Model → Solver → Solver → List Step → Bool → Type 0
 Goes model old new steps true = (limit : ℕ) → IsBehind model limit old new steps
-Goes model old new steps false = IsClosed model old new steps
+Goes model old new steps false = LeavesNothing model old new steps
 
 -- this solution was written, and its cut is held under this number
 pub record HasWritten (model : Model) (values : List ℤ) (old new : Solver) (steps : List Step) (id : ClauseId) : Type 0 where
   pub state : IsAfter model new steps
   pub known : IsKnown (known_in (stock_of new)) (Clause id)
-  pub cut : clause_of (known_in (stock_of new)) (Clause id) ≡ cut_of model values
+  pub cut : reason_clause (known_in (stock_of new)) (Clause id) ≡ cut_of model values
   pub trail : new.trail ≡ old.trail
   pub tally : tally_of new ≡ record (tally_of old) { found = old.found + 1 }
 

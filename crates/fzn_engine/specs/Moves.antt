@@ -7,7 +7,7 @@ use Rattle.fzn_trail.specs.declared.trail.Reason.{Reason}
 use Rattle.fzn_trail.specs.declared.trail.Entry.{Entry}
 use Rattle.fzn_trail.specs.declared.trail.Reason.TheVariants.{Decision}
 use Rattle.fzn_trail.specs.Levels.{pushed, asserted, returned}
-use Rattle.fzn_learned.specs.Reasoned.{IsBelow, clause_of}
+use Rattle.fzn_learned.specs.Reasoned.{IsBelow, reason_clause}
 use Rattle.fzn_search.specs.Fixed.{Splits}
 use Rattle.fzn_state.specs.State.{known_in, with_stack}
 use Rattle.fzn_state.specs.declared.solver.Solver.{Solver}
@@ -37,8 +37,8 @@ pub record IsBackAt (level : ℕ) (old new : Solver) : Type 0 where
 -- the clause's first possible literal was asserted, or it has none
 abbrev pub IsForcedBy : Solver → Reason → Solver → Bool → Type 0
 IsForcedBy old reason new true =
-    (lit : Lit) × (rest : List Lit) × (possible_in old.trail.sets (clause_of (known_in (stock_of old)) reason) ≡ lit ∷ rest) × (new ≡ record old { trail = asserted lit reason old.trail })
-IsForcedBy old reason new false = (possible_in old.trail.sets (clause_of (known_in (stock_of old)) reason) ≡ []) × (new ≡ old)
+    (lit : Lit) × (rest : List Lit) × (possible_in old.trail.sets (reason_clause (known_in (stock_of old)) reason) ≡ lit ∷ rest) × (new ≡ record old { trail = asserted lit reason old.trail })
+IsForcedBy old reason new false = (possible_in old.trail.sets (reason_clause (known_in (stock_of old)) reason) ≡ []) × (new ≡ old)
 
 -- a decision was made
 pub record IsDecided (old new : Solver) : Type 0 where

@@ -8,7 +8,7 @@ ghost use Rattle.fzn_learned.specs.Learned.{IsConflicting};
 ghost use Rattle.fzn_propagator.specs.Constraints.{IsInference};
 ghost use Rattle.fzn_state.specs.State.{known_in};
 ghost use Rattle.fzn_engine.specs.Loop.{Goes, Continues, IsOver, closed_after, ending_of, IsWithinLimits, IsAtFixpoint, IsComplete};
-ghost use Rattle.fzn_state.specs.Search.{stock_of, IsReady, IsLeft};
+ghost use Rattle.fzn_state.specs.Search.{stock_of, IsSearchReady, IsLeftBySearch};
 
 use crate::hinting::take_hints;
 use crate::limits::Limits;
@@ -31,11 +31,11 @@ pub(crate) fn search<S: Sink, C: Constraints>(
     constraints: &mut C,
     sink: &mut S,
 ) -> Result<Ending, Fault>
-    requires ready { IsReady model.now solver.old (S.written sink.old) (S.keeps model.now sink.old × C.is_for constraints.old model.now) }
+    requires ready { IsSearchReady model.now solver.old (S.written sink.old) (S.keeps model.now sink.old × C.is_for constraints.old model.now) }
     requires within { IsWithinLimits model.now limits solver.old }
     ensures over { IfOk result (IsOver model.now solver.old.learn limits solver.new (S.written sink.new)) }
     ensures told { IfOk result (λ _. S.told sink.new ≡ solver.new.search.nodes) }
-    ensures left { IsLeft model.now (S.written sink.new) (S.keeps model.now sink.new) (S.origin sink.new ≡ S.origin sink.old) }
+    ensures left { IsLeftBySearch model.now (S.written sink.new) (S.keeps model.now sink.new) (S.origin sink.new ≡ S.origin sink.old) }
 {
     'iterations: loop {
         let ending = iterate(solver, alloc, model, limits, constraints, sink)?;
@@ -65,10 +65,10 @@ fn iterate<S: Sink, C: Constraints>(
     constraints: &mut C,
     sink: &mut S,
 ) -> Result<Option<Ending>, Fault>
-    requires ready { IsReady model.now solver.old (S.written sink.old) (S.keeps model.now sink.old × C.is_for constraints.old model.now) }
+    requires ready { IsSearchReady model.now solver.old (S.written sink.old) (S.keeps model.now sink.old × C.is_for constraints.old model.now) }
     requires within { IsWithinLimits model.now limits solver.old }
     ensures continues { IfOk result (Continues model.now limits solver.old solver.new (S.written sink.new)) }
-    ensures left { IsLeft model.now (S.written sink.new) (S.keeps model.now sink.new × C.is_for constraints.new model.now) (S.origin sink.new ≡ S.origin sink.old) }
+    ensures left { IsLeftBySearch model.now (S.written sink.new) (S.keeps model.now sink.new × C.is_for constraints.new model.now) (S.origin sink.new ≡ S.origin sink.old) }
 {
     match cdcl_round(solver, alloc, model, limits, constraints, sink)? {
         Some(ending) => Ok(Some(ending)),
@@ -88,10 +88,10 @@ fn cdcl_round<S: Sink, C: Constraints>(
     constraints: &mut C,
     sink: &mut S,
 ) -> Result<Option<Ending>, Fault>
-    requires ready { IsReady model.now solver.old (S.written sink.old) (S.keeps model.now sink.old × C.is_for constraints.old model.now) }
+    requires ready { IsSearchReady model.now solver.old (S.written sink.old) (S.keeps model.now sink.old × C.is_for constraints.old model.now) }
     requires within { IsWithinLimits model.now limits solver.old }
     ensures continues { IfOk result (Continues model.now limits solver.old solver.new (S.written sink.new)) }
-    ensures left { IsLeft model.now (S.written sink.new) (S.keeps model.now sink.new × C.is_for constraints.new model.now) (S.origin sink.new ≡ S.origin sink.old) }
+    ensures left { IsLeftBySearch model.now (S.written sink.new) (S.keeps model.now sink.new × C.is_for constraints.new model.now) (S.origin sink.new ≡ S.origin sink.old) }
 {
     match solver.clauses.propagate(&mut solver.trail)? {
         Some(conflict) => {
@@ -111,10 +111,10 @@ fn resolve_conflict<S: Sink>(
     sink: &mut S,
     conflict: Reason,
 ) -> Result<bool, Fault>
-    requires ready { IsReady model.now solver.old (S.written sink.old) (S.keeps model.now sink.old) }
+    requires ready { IsSearchReady model.now solver.old (S.written sink.old) (S.keeps model.now sink.old) }
     requires conflict { IsConflicting (known_in (stock_of solver.old)) solver.old.trail.sets conflict }
     ensures goes { IfOk result (Goes model.now solver.old solver.new (S.written sink.new)) }
-    ensures left { IsLeft model.now (S.written sink.new) (S.keeps model.now sink.new) (S.origin sink.new ≡ S.origin sink.old) }
+    ensures left { IsLeftBySearch model.now (S.written sink.new) (S.keeps model.now sink.new) (S.origin sink.new ≡ S.origin sink.old) }
 {
     let learned = solver.learn(alloc, model, sink, conflict)?;
     let Some(lesson) = learned else {
@@ -139,11 +139,11 @@ fn infer_or_decide<S: Sink, C: Constraints>(
     constraints: &mut C,
     sink: &mut S,
 ) -> Result<Option<Ending>, Fault>
-    requires ready { IsReady model.now solver.old (S.written sink.old) (S.keeps model.now sink.old × C.is_for constraints.old model.now) }
+    requires ready { IsSearchReady model.now solver.old (S.written sink.old) (S.keeps model.now sink.old × C.is_for constraints.old model.now) }
     requires within { IsWithinLimits model.now limits solver.old }
     requires propagated { IsAtFixpoint solver.old }
     ensures continues { IfOk result (Continues model.now limits solver.old solver.new (S.written sink.new)) }
-    ensures left { IsLeft model.now (S.written sink.new) (S.keeps model.now sink.new × C.is_for constraints.new model.now) (S.origin sink.new ≡ S.origin sink.old) }
+    ensures left { IsLeftBySearch model.now (S.written sink.new) (S.keeps model.now sink.new × C.is_for constraints.new model.now) (S.origin sink.new ≡ S.origin sink.old) }
 {
     if let Some(inference) = constraints.infer(alloc, model, &solver.trail)? {
         let goes_on = propagate_inference(solver, alloc, model, sink, inference)?;
@@ -168,10 +168,10 @@ fn propagate_inference<S: Sink>(
     sink: &mut S,
     inference: Inference,
 ) -> Result<bool, Fault>
-    requires ready { IsReady model.now solver.old (S.written sink.old) (S.keeps model.now sink.old) }
+    requires ready { IsSearchReady model.now solver.old (S.written sink.old) (S.keeps model.now sink.old) }
     requires inferred { IsInference model.now solver.old.trail inference }
     ensures goes { IfOk result (Goes model.now solver.old solver.new (S.written sink.new)) }
-    ensures left { IsLeft model.now (S.written sink.new) (S.keeps model.now sink.new) (S.origin sink.new ≡ S.origin sink.old) }
+    ensures left { IsLeftBySearch model.now (S.written sink.new) (S.keeps model.now sink.new) (S.origin sink.new ≡ S.origin sink.old) }
 {
     let Inference {
         constraint,
@@ -194,11 +194,11 @@ fn cut_off_solution<S: Sink>(
     limits: Limits,
     sink: &mut S,
 ) -> Result<Option<Ending>, Fault>
-    requires ready { IsReady model.now solver.old (S.written sink.old) (S.keeps model.now sink.old) }
+    requires ready { IsSearchReady model.now solver.old (S.written sink.old) (S.keeps model.now sink.old) }
     requires within { IsWithinLimits model.now limits solver.old }
     requires complete { IsComplete model.now solver.old }
     ensures continues { IfOk result (Continues model.now limits solver.old solver.new (S.written sink.new)) }
-    ensures left { IsLeft model.now (S.written sink.new) (S.keeps model.now sink.new) (S.origin sink.new ≡ S.origin sink.old) }
+    ensures left { IsLeftBySearch model.now (S.written sink.new) (S.keeps model.now sink.new) (S.origin sink.new ≡ S.origin sink.old) }
 {
     let id = record_solution(solver, alloc, model, sink)?;
     if is_reached(model.goal, limits.solutions, solver.found) {

@@ -7,7 +7,7 @@ ghost use Rattle.fzn_clauses.specs.Held.{IsHeld, AllHeld, clause_of};
 ghost use Rattle.fzn_clauses.specs.Watching.{held_by};
 ghost use Rattle.fzn_reduction.specs.Forgetting.{is_cut};
 ghost use Rattle.fzn_engine.specs.Hinted.{TakesHints, AreCutsTrue};
-ghost use Rattle.fzn_state.specs.Search.{IsReady, IsLeft};
+ghost use Rattle.fzn_state.specs.Search.{IsSearchReady, IsLeftBySearch};
 ghost use Rattle.fzn_engine.specs.Loop.{IsWithinLimits};
 
 use crate::limits::Limits;
@@ -33,10 +33,10 @@ pub(crate) fn take_hints<S: Sink>(
     limits: Limits,
     sink: &mut S,
 ) -> Result<Option<Ending>, Fault>
-    requires ready { IsReady model.now solver.old (S.written sink.old) (S.keeps model.now sink.old) }
+    requires ready { IsSearchReady model.now solver.old (S.written sink.old) (S.keeps model.now sink.old) }
     requires within { IsWithinLimits model.now limits solver.old }
     ensures takes { IfOk result (TakesHints model.now limits solver.old solver.new (S.written sink.new)) }
-    ensures left { IsLeft model.now (S.written sink.new) (S.keeps model.now sink.new) (S.origin sink.new ≡ S.origin sink.old) }
+    ensures left { IsLeftBySearch model.now (S.written sink.new) (S.keeps model.now sink.new) (S.origin sink.new ≡ S.origin sink.old) }
 {
     'hints: for _ in 0..MOST_HINTS {
         if !solver.notes.hints.is_hint_due() {
@@ -59,10 +59,10 @@ fn take_next_hint<S: Sink>(
     limits: Limits,
     sink: &mut S,
 ) -> Result<Option<Ending>, Fault>
-    requires ready { IsReady model.now solver.old (S.written sink.old) (S.keeps model.now sink.old) }
+    requires ready { IsSearchReady model.now solver.old (S.written sink.old) (S.keeps model.now sink.old) }
     requires within { IsWithinLimits model.now limits solver.old }
     ensures takes { IfOk result (TakesHints model.now limits solver.old solver.new (S.written sink.new)) }
-    ensures left { IsLeft model.now (S.written sink.new) (S.keeps model.now sink.new) (S.origin sink.new ≡ S.origin sink.old) }
+    ensures left { IsLeftBySearch model.now (S.written sink.new) (S.keeps model.now sink.new) (S.origin sink.new ≡ S.origin sink.old) }
 {
     let Some(values) = sink.hint(alloc)? else {
         solver.notes.hints.heed_no_more();

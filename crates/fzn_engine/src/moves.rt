@@ -3,7 +3,7 @@ ghost use Rattle.std.specs.Prelude.{◌≡◌, ◌+◌, ◌<◌, ◌≤◌, [], 
 ghost use Rattle.fzn_domain.specs.declared.literal.Lit.{Lit};
 ghost use Rattle.fzn_domain.specs.Narrow.{IsClauseOver, NoneEmpty, possible_in};
 ghost use Rattle.fzn_strategy.specs.declared.learn.Learn.TheVariants.{First};
-ghost use Rattle.fzn_learned.specs.Reasoned.{IsKnown, IsReasoned, clause_of};
+ghost use Rattle.fzn_learned.specs.Reasoned.{IsKnown, IsReasoned, reason_clause};
 ghost use Rattle.fzn_search.specs.Fixed.{AllFixed, HasMany};
 ghost use Rattle.fzn_trail.specs.Levels.{level_of};
 ghost use Rattle.fzn_state.specs.State.{known_in};
@@ -20,7 +20,7 @@ use fzn_trail::{Reason, Trail};
 /// conflict.
 pub(crate) fn enqueue(solver: &mut Solver, reason: Reason) -> Result<bool, Memory>
     requires known { IsKnown (known_in (stock_of solver.old)) reason }
-    requires over { IsClauseOver (length solver.old.trail.declared) (clause_of (known_in (stock_of solver.old)) reason) }
+    requires over { IsClauseOver (length solver.old.trail.declared) (reason_clause (known_in (stock_of solver.old)) reason) }
     ensures { IfOk result (IsForcedBy solver.old reason solver.new) }
 {
     match first_possible(

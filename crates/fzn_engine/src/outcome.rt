@@ -5,9 +5,9 @@ ghost use Rattle.fzn_meaning.specs.Solutions.{declared_sets};
 ghost use Rattle.fzn_meaning.specs.WellFormed.{IsWellFormed};
 ghost use Rattle.fzn_cert.specs.declared.step.Step.TheVariants.{Resolve};
 ghost use Rattle.fzn_cert.specs.Accepted.{AllAccepted};
-ghost use Rattle.fzn_engine.specs.Outcome.{HasRoom, IsOutcome};
+ghost use Rattle.fzn_engine.specs.Outcome.{HasRoomForMore, IsOutcome};
 ghost use Rattle.fzn_state.specs.Certified.{count};
-ghost use Rattle.fzn_state.specs.Search.{IsLeft};
+ghost use Rattle.fzn_state.specs.Search.{IsLeftBySearch};
 
 use crate::cdcl::search;
 use crate::limits::Limits;
@@ -38,7 +38,7 @@ pub fn solve<S: Sink, C: Constraints>(
 ) -> Result<Report, Fault>
     requires model { IsWellFormed model.now }
     requires is_for { C.is_for constraints.old model.now }
-    requires room { HasRoom model.now.goal limits.solutions 0 }
+    requires room { HasRoomForMore model.now.goal limits.solutions 0 }
     requires fresh { S.written sink.old ≡ [] }
     requires kept { S.keeps model.now sink.old }
     ensures outcome { IfOk result (λ report. IsOutcome model.now learn limits (S.written sink.new) report.nodes report.ending) }
@@ -76,7 +76,7 @@ fn refute<S: Sink>(alloc: Global, model: &Model, sink: &mut S) -> Result<(), Fau
     requires fresh { S.written sink.old ≡ [] }
     requires kept { S.keeps model.now sink.old }
     ensures written { OnOk result (S.written sink.new ≡ Resolve [] [] ∷ []) }
-    ensures left { IsLeft model.now (S.written sink.new) (S.keeps model.now sink.new) (S.origin sink.new ≡ S.origin sink.old) }
+    ensures left { IsLeftBySearch model.now (S.written sink.new) (S.keeps model.now sink.new) (S.origin sink.new ≡ S.origin sink.old) }
 {
     let step = Step::Resolve {
         clause: Items::new(alloc),

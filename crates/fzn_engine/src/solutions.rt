@@ -6,7 +6,7 @@ ghost use Rattle.fzn_cert.specs.declared.step.Step.{Step};
 ghost use Rattle.fzn_cert.specs.Accepted.{past_after};
 ghost use Rattle.fzn_engine.specs.Outcome.{IsReached};
 ghost use Rattle.fzn_engine.specs.Loop.{HasWritten, IsRecorded, IsComplete};
-ghost use Rattle.fzn_state.specs.Search.{IsReady, IsLeft};
+ghost use Rattle.fzn_state.specs.Search.{IsSearchReady, IsLeftBySearch};
 
 use fzn_cert::Step;
 use fzn_list::Items;
@@ -24,11 +24,11 @@ pub(crate) fn write_solution<S: Sink>(
     sink: &mut S,
     values: Items<i64>,
 ) -> Result<ClauseId, Fault>
-    requires ready { IsReady model.now solver.old (S.written sink.old) (S.keeps model.now sink.old) }
+    requires ready { IsSearchReady model.now solver.old (S.written sink.old) (S.keeps model.now sink.old) }
     requires solution { IsSolution model.now values }
     requires passes { PassesCuts model.now (past_after model.now (S.written sink.old)).solutions values }
     ensures written { IfOk result (HasWritten model.now values solver.old solver.new (S.written sink.new)) }
-    ensures left { IsLeft model.now (S.written sink.new) (S.keeps model.now sink.new) (S.origin sink.new ≡ S.origin sink.old) }
+    ensures left { IsLeftBySearch model.now (S.written sink.new) (S.keeps model.now sink.new) (S.origin sink.new ≡ S.origin sink.old) }
 {
     let clause = cut(alloc, model, values.as_slice())?;
     let id = solver.hold(clause.as_slice(), [].as_slice(), None)?;
@@ -46,10 +46,10 @@ pub(crate) fn record_solution<S: Sink>(
     model: &Model,
     sink: &mut S,
 ) -> Result<ClauseId, Fault>
-    requires ready { IsReady model.now solver.old (S.written sink.old) (S.keeps model.now sink.old) }
+    requires ready { IsSearchReady model.now solver.old (S.written sink.old) (S.keeps model.now sink.old) }
     requires complete { IsComplete model.now solver.old }
     ensures recorded { IfOk result (IsRecorded model.now solver.old solver.new (S.written sink.new)) }
-    ensures left { IsLeft model.now (S.written sink.new) (S.keeps model.now sink.new) (S.origin sink.new ≡ S.origin sink.old) }
+    ensures left { IsLeftBySearch model.now (S.written sink.new) (S.keeps model.now sink.new) (S.origin sink.new ≡ S.origin sink.old) }
 {
     let values = values_of(alloc, &solver.trail, model.vars.len())?;
     write_solution(solver, alloc, model, sink, values)

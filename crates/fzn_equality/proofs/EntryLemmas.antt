@@ -14,7 +14,7 @@ use Rattle.fzn_builtin_rules.specs.Rows.{ShareNone, NoEntryFits, Passes, IsRowsM
 use Rattle.fzn_rules.specs.declared.rule.Rule.TheVariants as rule
 use Rattle.fzn_rules.specs.Rules.{IsMet}
 use Rattle.fzn_terms.specs.declared.claim.Claim.{Claim}
-use Rattle.fzn_terms.specs.Denied.{opposite, IsDenied, Refute}
+use Rattle.fzn_terms.specs.Denied.{claim_turned_round, IsDenied, Refute}
 use Rattle.fzn_terms.specs.Intervals.{LiesIn}
 use Rattle.fzn_terms.proofs.ExplanationLemmas.{are_opposite}
 use Rattle.fzn_equality.specs.declared.element.pass.ElementPass.{ElementPass}
@@ -53,7 +53,7 @@ module _ (count : ℕ) (entries : List Term) (value : Term) (IsFirst : List IntS
     }
 
     -- a claim rules it out
-    pub against_push : (d : Term) (claim entry more : Claim) → k < length entries → ((sets : List IntSet) → IsFirst sets → IsDenied sets claim) → claim.term ≡ value → entry ≡ opposite claim (get_or entries k d) → IsTerm count more.term → ((sets : List IntSet) → IsDenied sets more → (IsLedTo sets k → ⊥) ⊎ IsDenied sets entry) → IsAgainst count entries value IsFirst IsLedTo (claims ++ more ∷ []) (k + 1)
+    pub against_push : (d : Term) (claim entry more : Claim) → k < length entries → ((sets : List IntSet) → IsFirst sets → IsDenied sets claim) → claim.term ≡ value → entry ≡ claim_turned_round claim (get_or entries k d) → IsTerm count more.term → ((sets : List IntSet) → IsDenied sets more → (IsLedTo sets k → ⊥) ⊎ IsDenied sets entry) → IsAgainst count entries value IsFirst IsLedTo (claims ++ more ∷ []) (k + 1)
     against_push d claim entry more inside denies term_is entry_is fits ruled_out = record {
       terms = All-push (λ (c : Claim). IsTerm count c.term) claims more so_far.terms fits;
       first = λ sets all. so_far.first sets (All-front (IsDenied sets) claims more all);
@@ -85,17 +85,17 @@ unfit_everywhere sets index entries value each (pos (suc k)) at may =
     subst (λ (t : Term). ShareNone sets t value) (sym (at_place entries k (Constant (pos 0)) below) ∙ ap (λ (n : ℕ). term_at entries (pos n)) same) (each k (Constant (pos 0)) below (subst (λ (n : ℕ). MayBe sets index (pos n)) (sym same) may))
 unfit_everywhere sets index entries value each (negsuc k) at may = absurd (omega (arith, ints))
 
-met_of : (pass : ElementPass) (sets : List IntSet) → NoEntryFits sets pass.index pass.entries.now pass.value → IsMet (element.constraint_of pass) sets rule.Rows
+met_of : (pass : ElementPass) (sets : List IntSet) → NoEntryFits sets pass.index pass.entries.now pass.value → IsMet (element.element_constraint pass) sets rule.Rows
 unfolding IsMet IsRowsMet
 met_of pass sets none = inl none
 
 -- the index lies outside the list
-pub refuted_outside : (pass : ElementPass) (claim : Claim) → ((sets : List IntSet) → IsDenied sets claim → element.LeavesNoIndex pass sets) → Refute (length pass.trail.now.declared) (claim ∷ []) (element.constraint_of pass) rule.Rows
+pub refuted_outside : (pass : ElementPass) (claim : Claim) → ((sets : List IntSet) → IsDenied sets claim → element.LeavesNoIndex pass sets) → Refute (length pass.trail.now.declared) (claim ∷ []) (element.element_constraint pass) rule.Rows
 refuted_outside pass claim leaves sets denying =
     met_of pass sets (λ k at may. absurd (leaves sets (All-head (IsDenied sets) claim [] denying.denied) k at may))
 
 -- the index leads to one place alone, whose entry shares no value with the result
-pub met_at : (pass : ElementPass) (place : ℕ) (d : Term) (number : ℤ) (elsewhere : Claim) → place < length pass.entries.now → number ≡ pos (place + 1) → ((sets : List IntSet) (v : ℤ) → IsDenied sets elsewhere → MayBe sets pass.index v → v ≡ number) → IsMetApart (length pass.trail.now.declared) elsewhere (get_or pass.entries.now place d) pass.value (element.constraint_of pass)
+pub met_at : (pass : ElementPass) (place : ℕ) (d : Term) (number : ℤ) (elsewhere : Claim) → place < length pass.entries.now → number ≡ pos (place + 1) → ((sets : List IntSet) (v : ℤ) → IsDenied sets elsewhere → MayBe sets pass.index v → v ≡ number) → IsMetApart (length pass.trail.now.declared) elsewhere (get_or pass.entries.now place d) pass.value (element.element_constraint pass)
 met_at pass place d number elsewhere below number_is only sets denying apart =
     let entries = pass.entries.now in
     met_of pass sets (unfit_everywhere sets pass.index entries pass.value (λ j e inside may v here there.
@@ -119,22 +119,22 @@ value_first pass claim below above claim_is below_is above_is low_is high_is =
     (All-from_recursion (λ (c : Claim). IsTerm count c.term) claims (subst (IsTerm count) (sym claim_is) pass.value_fits, (subst (IsTerm count) (sym below_is) pass.index_fits, (subst (IsTerm count) (sym above_is) pass.index_fits, tt))))
     (λ sets all. let each = recursion_from_All (IsDenied sets) claims all in (each.0, λ v may. (low_is sets v each.1.0 may, high_is sets v each.1.1.0 may)))
 
-pub refuted_against : (pass : ElementPass) (claim : Claim) (claims : List Claim) → IsAgainstValue pass claim claims (length pass.entries.now) → Refute (length pass.trail.now.declared) claims (element.constraint_of pass) rule.Rows
+pub refuted_against : (pass : ElementPass) (claim : Claim) (claims : List Claim) → IsAgainstValue pass claim claims (length pass.entries.now) → Refute (length pass.trail.now.declared) claims (element.element_constraint pass) rule.Rows
 refuted_against pass claim claims against sets denying = met_of pass sets (unfit_everywhere sets pass.index pass.entries.now pass.value (against.apart sets denying.denied))
 
 -- ---- an extremum
 
-met_passing : (pass : ExtremumPass) (sets : List IntSet) (k : ℕ) (d : Term) → k < length pass.entries.now → Passes sets pass.extreme pass.of (get_or pass.entries.now k d) → IsMet (extremum.constraint_of pass) sets rule.Rows
+met_passing : (pass : ExtremumPass) (sets : List IntSet) (k : ℕ) (d : Term) → k < length pass.entries.now → Passes sets pass.extreme pass.of (get_or pass.entries.now k d) → IsMet (extremum.extremum_constraint pass) sets rule.Rows
 unfolding IsMet IsRowsMet
 met_passing pass sets k d below passes =
     let entry = get_or pass.entries.now k d in inl (inl (k, entry, below, get_or_default pass.entries.now k entry d below, passes))
 
-met_apart : (pass : ExtremumPass) (sets : List IntSet) → All (λ entry. ShareNone sets entry pass.of) pass.entries.now → IsMet (extremum.constraint_of pass) sets rule.Rows
+met_apart : (pass : ExtremumPass) (sets : List IntSet) → All (λ entry. ShareNone sets entry pass.of) pass.entries.now → IsMet (extremum.extremum_constraint pass) sets rule.Rows
 unfolding IsMet IsRowsMet
 met_apart pass sets all = inl (inr all)
 
 -- an entry and the result lie on the wrong sides of a number
-pub refuted_passing : (pass : ExtremumPass) (place : ℕ) (d : Term) (lower upper : Term) (high low : ℤ) (first second : Claim) → place < length pass.entries.now → IsTerm (length pass.trail.now.declared) lower → IsTerm (length pass.trail.now.declared) upper → high <ℤ low → ((sets : List IntSet) (v : ℤ) → IsDenied sets first → MayBe sets lower v → v ≤ℤ high) → ((sets : List IntSet) (v : ℤ) → IsDenied sets second → MayBe sets upper v → low ≤ℤ v) → ((sets : List IntSet) → greatest_value sets lower <ℤ least_value sets upper → Passes sets pass.extreme pass.of (get_or pass.entries.now place d)) → Refute (length pass.trail.now.declared) (first ∷ second ∷ []) (extremum.constraint_of pass) rule.Rows
+pub refuted_passing : (pass : ExtremumPass) (place : ℕ) (d : Term) (lower upper : Term) (high low : ℤ) (first second : Claim) → place < length pass.entries.now → IsTerm (length pass.trail.now.declared) lower → IsTerm (length pass.trail.now.declared) upper → high <ℤ low → ((sets : List IntSet) (v : ℤ) → IsDenied sets first → MayBe sets lower v → v ≤ℤ high) → ((sets : List IntSet) (v : ℤ) → IsDenied sets second → MayBe sets upper v → low ≤ℤ v) → ((sets : List IntSet) → greatest_value sets lower <ℤ least_value sets upper → Passes sets pass.extreme pass.of (get_or pass.entries.now place d)) → Refute (length pass.trail.now.declared) (first ∷ second ∷ []) (extremum.extremum_constraint pass) rule.Rows
 refuted_passing pass place d lower upper high low first second below lower_fits upper_fits order first_is second_is passes sets denying =
     let each = recursion_from_All (IsDenied sets) (first ∷ second ∷ []) denying.denied in
     let under = MayBe-ends sets lower denying.filled (subst (λ (n : ℕ). IsTerm n lower) (sym denying.one_each) lower_fits) in
@@ -154,11 +154,11 @@ extremum_first pass claim term_is =
     (All-from_recursion (λ (c : Claim). IsTerm count c.term) (claim ∷ []) (subst (IsTerm count) (sym term_is) pass.of_fits, tt))
     (λ sets all. All-head (IsDenied sets) claim [] all)
 
-pub extremum_push : (pass : ExtremumPass) (claim : Claim) (claims : List Claim) (k : ℕ) (d : Term) (entry : Claim) → IsAgainstExtremum pass claim claims k → k < length pass.entries.now → claim.term ≡ pass.of → entry ≡ opposite claim (get_or pass.entries.now k d) → IsAgainstExtremum pass claim (claims ++ entry ∷ []) (k + 1)
+pub extremum_push : (pass : ExtremumPass) (claim : Claim) (claims : List Claim) (k : ℕ) (d : Term) (entry : Claim) → IsAgainstExtremum pass claim claims k → k < length pass.entries.now → claim.term ≡ pass.of → entry ≡ claim_turned_round claim (get_or pass.entries.now k d) → IsAgainstExtremum pass claim (claims ++ entry ∷ []) (k + 1)
 extremum_push pass claim claims k d entry so_far below term_is entry_is =
     let count = length pass.trail.now.declared in
     against_push count pass.entries.now pass.of (λ sets. IsDenied sets claim) (λ sets j. Unit {0}) claims k so_far d claim entry entry below (λ sets first. first) term_is entry_is
     (subst (λ (c : Claim). IsTerm count c.term) (sym entry_is) (pass.entries_fit k d below)) (λ sets denied. inr denied)
 
-pub refuted_each : (pass : ExtremumPass) (claim : Claim) (claims : List Claim) → IsAgainstExtremum pass claim claims (length pass.entries.now) → Refute (length pass.trail.now.declared) claims (extremum.constraint_of pass) rule.Rows
+pub refuted_each : (pass : ExtremumPass) (claim : Claim) (claims : List Claim) → IsAgainstExtremum pass claim claims (length pass.entries.now) → Refute (length pass.trail.now.declared) claims (extremum.extremum_constraint pass) rule.Rows
 refuted_each pass claim claims against sets denying = met_apart pass sets (λ j d below. against.apart sets denying.denied j d below tt)

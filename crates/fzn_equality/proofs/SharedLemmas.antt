@@ -10,7 +10,7 @@ use Rattle.fzn_meaning.specs.Term.{IsTerm}
 use Rattle.fzn_sets.specs.Terms.{MayBe}
 use Rattle.fzn_rules.specs.declared.rule.Rule.TheVariants as rule
 use Rattle.fzn_terms.specs.declared.claim.Claim.{Claim}
-use Rattle.fzn_terms.specs.Denied.{opposite, IsDenied, AreDenying, Refute}
+use Rattle.fzn_terms.specs.Denied.{claim_turned_round, IsDenied, AreDenying, Refute}
 use Rattle.fzn_terms.proofs.ExplanationLemmas.{are_opposite}
 use Rattle.fzn_equality.specs.declared.pair.Pair.{Pair}
 use Rattle.fzn_equality.specs.Shared.{IsMetApart}
@@ -24,8 +24,8 @@ denying_one count claims claim sets denying denied = record {
   denied = All-from_recursion (IsDenied sets) (claim ∷ []) (denied, tt);
 }
 
--- a claim of the one term, and its opposite of the other
-pub refuted_apart : (count : ℕ) (besides claim opposite_claim : Claim) (other : Term) (constraint : Constraint) → opposite_claim ≡ opposite claim other → IsMetApart count besides claim.term other constraint → Refute count (besides ∷ claim ∷ opposite_claim ∷ []) constraint rule.Rows
+-- a claim of the one term, and its claim_turned_round of the other
+pub refuted_apart : (count : ℕ) (besides claim opposite_claim : Claim) (other : Term) (constraint : Constraint) → opposite_claim ≡ claim_turned_round claim other → IsMetApart count besides claim.term other constraint → Refute count (besides ∷ claim ∷ opposite_claim ∷ []) constraint rule.Rows
 refuted_apart count besides claim opposite_claim other constraint is met sets denying =
     let claims : List Claim = besides ∷ claim ∷ opposite_claim ∷ [] in
     let each = recursion_from_All (IsDenied sets) claims denying.denied in

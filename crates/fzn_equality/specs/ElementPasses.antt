@@ -15,16 +15,16 @@ use Rattle.fzn_terms.specs.declared.claim.Claim.{Claim}
 use Rattle.fzn_terms.specs.Denied.{IsDenied}
 use Rattle.fzn_equality.specs.declared.element.pass.ElementPass.{ElementPass}
 
-abbrev pub constraint_of : ElementPass → Constraint
-constraint_of pass = Element pass.index pass.entries.now pass.value
+abbrev pub element_constraint : ElementPass → Constraint
+element_constraint pass = Element pass.index pass.entries.now pass.value
 
 -- the rule `rows` justifies the clause from the element
-abbrev pub IsInferred : ElementPass → List Lit → Type 0
-IsInferred pass clause = IsJustified pass.trail.now (constraint_of pass) Rows clause
+abbrev pub IsJustifiedByElement : ElementPass → List Lit → Type 0
+IsJustifiedByElement pass clause = IsJustified pass.trail.now (element_constraint pass) Rows clause
 
 -- these are inferences of the pass, which have the number of its constraint
-abbrev pub AreFoundIn : ElementPass → List Inference → Type 0
-AreFoundIn pass found = AreFoundOf pass.number (constraint_of pass) pass.trail.now found
+abbrev pub AreFoundOfElement : ElementPass → List Inference → Type 0
+AreFoundOfElement pass found = AreFoundOf pass.number (element_constraint pass) pass.trail.now found
 
 -- no value of the index is that of an entry
 abbrev pub LeavesNoIndex : ElementPass → List IntSet → Type 0

@@ -9,13 +9,13 @@ use Rattle.fzn_propagator.specs.Clause.{IsJustified}
 use Rattle.fzn_propagator.specs.Inference.{AreFoundOf}
 use Rattle.fzn_equality.specs.declared.extremum.pass.ExtremumPass.{ExtremumPass}
 
-abbrev pub constraint_of : ExtremumPass → Constraint
-constraint_of pass = Extremum pass.extreme pass.entries.now pass.of
+abbrev pub extremum_constraint : ExtremumPass → Constraint
+extremum_constraint pass = Extremum pass.extreme pass.entries.now pass.of
 
 -- the rule `rows` justifies the clause from the extremum
-abbrev pub IsInferred : ExtremumPass → List Lit → Type 0
-IsInferred pass clause = IsJustified pass.trail.now (constraint_of pass) Rows clause
+abbrev pub IsJustifiedByExtremum : ExtremumPass → List Lit → Type 0
+IsJustifiedByExtremum pass clause = IsJustified pass.trail.now (extremum_constraint pass) Rows clause
 
 -- these are inferences of the pass, which have the number of its constraint
-abbrev pub AreFoundIn : ExtremumPass → List Inference → Type 0
-AreFoundIn pass found = AreFoundOf pass.number (constraint_of pass) pass.trail.now found
+abbrev pub AreFoundOfExtremum : ExtremumPass → List Inference → Type 0
+AreFoundOfExtremum pass found = AreFoundOf pass.number (extremum_constraint pass) pass.trail.now found

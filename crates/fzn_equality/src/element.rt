@@ -7,7 +7,7 @@ ghost use Rattle.fzn_meaning.specs.declared.constraint.Constraint.TheVariants as
 ghost use Rattle.fzn_meaning.specs.Term.{IsTerm};
 ghost use Rattle.fzn_terms.specs.Denied.{IsDenied};
 ghost use Rattle.fzn_propagator.specs.Inference.{AreFoundOf};
-ghost use Rattle.fzn_equality.specs.ElementPasses.{IsInferred, AreFoundIn, LeavesNoIndex, IsRuledOut};
+ghost use Rattle.fzn_equality.specs.ElementPasses.{IsJustifiedByElement, AreFoundOfElement, LeavesNoIndex, IsRuledOut};
 
 use crate::element::pass::ElementPass;
 use crate::pair::Pair;
@@ -64,8 +64,8 @@ pub fn infer_element(
 impl<'a> ElementPass<'a> {
     /// Appends what the pass finds, up to what first shows something.
     fn find(&self, found: &mut Findings) -> Result<(), Memory>
-        requires { AreFoundIn self.now found.old }
-        ensures { AreFoundIn self.now found.new }
+        requires { AreFoundOfElement self.now found.old }
+        ensures { AreFoundOfElement self.now found.new }
     {
         let before = found.len();
         self.hold_index(true, found)?;
@@ -142,8 +142,8 @@ impl<'a> ElementPass<'a> {
 
     /// The clause that the index lies within the list, at its beginning or at its end, where it may lie outside.
     fn hold_index(&self, at_start: bool, found: &mut Findings) -> Result<(), Memory>
-        requires { AreFoundIn self.now found.old }
-        ensures { AreFoundIn self.now found.new }
+        requires { AreFoundOfElement self.now found.old }
+        ensures { AreFoundOfElement self.now found.new }
     {
         let is_outside = if at_start {
             self.leads.low < 1
@@ -159,8 +159,8 @@ impl<'a> ElementPass<'a> {
 
     /// Where the index leads to one place: what the entry there and the result have to be, since the other is.
     fn equate_entry(&self, found: &mut Findings) -> Result<(), Memory>
-        requires { AreFoundIn self.now found.old }
-        ensures { AreFoundIn self.now found.new }
+        requires { AreFoundOfElement self.now found.old }
+        ensures { AreFoundOfElement self.now found.new }
     {
         if self.leads.low < 1 || self.leads.low > self.entries.len() as i64 {
             return Ok(());
@@ -177,8 +177,8 @@ impl<'a> ElementPass<'a> {
     /// For each place to which the index may lead and whose entry has no value in common with the result: the clause that it leads
     /// elsewhere, or they share one.
     fn part_entries(&self, found: &mut Findings) -> Result<(), Memory>
-        requires { AreFoundIn self.now found.old }
-        ensures { AreFoundIn self.now found.new }
+        requires { AreFoundOfElement self.now found.old }
+        ensures { AreFoundOfElement self.now found.new }
     {
         for k in 0..self.entries.len() {
             if self.may_lead(k) {
@@ -191,8 +191,8 @@ impl<'a> ElementPass<'a> {
     /// The same of one place, by the ends or the one value of one of the two, else by all that both may be.
     fn part_entry(&self, place: usize, found: &mut Findings) -> Result<(), Memory>
         requires place { place < length self.now.entries.now }
-        requires before { AreFoundIn self.now found.old }
-        ensures { AreFoundIn self.now found.new }
+        requires before { AreFoundOfElement self.now found.old }
+        ensures { AreFoundOfElement self.now found.new }
     {
         let pair = self.pair_at(place);
         let bound = pair.apart();
@@ -205,8 +205,8 @@ impl<'a> ElementPass<'a> {
 
     /// For each of these: the clause that the result stands so to the number, or the index leads to an entry that does not.
     fn bound_value(&self, bounds: &[Bound], found: &mut Findings) -> Result<(), Memory>
-        requires { AreFoundIn self.now found.old }
-        ensures { AreFoundIn self.now found.new }
+        requires { AreFoundOfElement self.now found.old }
+        ensures { AreFoundOfElement self.now found.new }
     {
         for k in 0..bounds.len() {
             let clause = self.value_or_entries(bounds[k])?;
@@ -219,7 +219,7 @@ impl<'a> ElementPass<'a> {
 
     /// The clause that the index lies within the list, at its beginning or at its end.
     fn index_within(&self, at_start: bool) -> Result<Option<Items<Lit>>, Memory>
-        ensures { IfOk result (λ found. IfSome found (IsInferred self.now)) }
+        ensures { IfOk result (λ found. IfSome found (IsJustifiedByElement self.now)) }
     {
         explanation_of(self.alloc, self.trail, &[self.within(at_start)])
     }
@@ -249,7 +249,7 @@ impl<'a> ElementPass<'a> {
         bound: Option<Bound>,
     ) -> Result<Option<Items<Lit>>, Memory>
         requires { place < length self.now.entries.now }
-        ensures { IfOk result (λ found. IfSome found (IsInferred self.now)) }
+        ensures { IfOk result (λ found. IfSome found (IsJustifiedByElement self.now)) }
     {
         let elsewhere = Claim::other_than(self.index, place as i64 + 1);
         let entry = self.entries[place];
@@ -268,7 +268,7 @@ impl<'a> ElementPass<'a> {
 
     /// The clause that the result stands so to the number, or the index leads to an entry that does not.
     fn value_or_entries(&self, bound: Bound) -> Result<Option<Items<Lit>>, Memory>
-        ensures { IfOk result (λ found. IfSome found (IsInferred self.now)) }
+        ensures { IfOk result (λ found. IfSome found (IsJustifiedByElement self.now)) }
     {
         let claim = claim_of(self.value, bound);
         let room = self.entries.len().saturating_add(3).min(ROOM);

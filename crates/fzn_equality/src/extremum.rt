@@ -9,7 +9,7 @@ ghost use Rattle.fzn_meaning.specs.Term.{IsTerm};
 ghost use Rattle.fzn_sets.specs.Terms.{least_value, greatest_value};
 ghost use Rattle.fzn_builtin_rules.specs.Rows.{Passes};
 ghost use Rattle.fzn_propagator.specs.Inference.{AreFoundOf};
-ghost use Rattle.fzn_equality.specs.ExtremumPasses.{IsInferred, AreFoundIn};
+ghost use Rattle.fzn_equality.specs.ExtremumPasses.{IsJustifiedByExtremum, AreFoundOfExtremum};
 
 use crate::extremum::pass::ExtremumPass;
 use crate::terms::{Bound, claim_of, values_of_none};
@@ -56,8 +56,8 @@ pub fn infer_extremum(
 impl<'a> ExtremumPass<'a> {
     /// Appends what the pass finds, by the ends, and where they show nothing, by the values of the result.
     fn find(&self, found: &mut Findings) -> Result<(), Memory>
-        requires { AreFoundIn self.now found.old }
-        ensures { AreFoundIn self.now found.new }
+        requires { AreFoundOfExtremum self.now found.old }
+        ensures { AreFoundOfExtremum self.now found.new }
     {
         let before = found.len();
         self.hold_extremum(found)?;
@@ -172,8 +172,8 @@ impl<'a> ExtremumPass<'a> {
 
     /// The clause that the result reaches the entry from which each other one follows, where it may be short of it.
     fn hold_extremum(&self, found: &mut Findings) -> Result<(), Memory>
-        requires { AreFoundIn self.now found.old }
-        ensures { AreFoundIn self.now found.new }
+        requires { AreFoundOfExtremum self.now found.old }
+        ensures { AreFoundOfExtremum self.now found.new }
     {
         let Some((place, number)) = self.foremost() else {
             return Ok(());
@@ -184,8 +184,8 @@ impl<'a> ExtremumPass<'a> {
 
     /// The clauses that each entry is within the result's last value, where it may be beyond.
     fn hold_entries(&self, found: &mut Findings) -> Result<(), Memory>
-        requires { AreFoundIn self.now found.old }
-        ensures { AreFoundIn self.now found.new }
+        requires { AreFoundOfExtremum self.now found.old }
+        ensures { AreFoundOfExtremum self.now found.new }
     {
         let last = self.last(self.of);
         let number = self.parting(last, true);
@@ -200,8 +200,8 @@ impl<'a> ExtremumPass<'a> {
 
     /// For each of these: the clause that the result stands so to the number, or an entry does not.
     fn bound_extremum(&self, bounds: &[Bound], found: &mut Findings) -> Result<(), Memory>
-        requires { AreFoundIn self.now found.old }
-        ensures { AreFoundIn self.now found.new }
+        requires { AreFoundOfExtremum self.now found.old }
+        ensures { AreFoundOfExtremum self.now found.new }
     {
         for k in 0..bounds.len() {
             let clause = self.extremum_or_entries(bounds[k])?;
@@ -216,7 +216,7 @@ impl<'a> ExtremumPass<'a> {
     fn entry_or_extremum(&self, place: usize, number: i64) -> Result<Option<Items<Lit>>, Memory>
         requires place { place < length self.now.entries.now }
         requires number { IsNearLimits number }
-        ensures { IfOk result (λ found. IfSome found (IsInferred self.now)) }
+        ensures { IfOk result (λ found. IfSome found (IsJustifiedByExtremum self.now)) }
     {
         let (lower, upper) = self.in_order(self.entries[place]);
         let claims = [Claim::above(lower, number - 1), Claim::below(upper, number)];
@@ -238,7 +238,7 @@ impl<'a> ExtremumPass<'a> {
 
     /// The clause that the result stands so to the number, or an entry does not.
     fn extremum_or_entries(&self, bound: Bound) -> Result<Option<Items<Lit>>, Memory>
-        ensures { IfOk result (λ found. IfSome found (IsInferred self.now)) }
+        ensures { IfOk result (λ found. IfSome found (IsJustifiedByExtremum self.now)) }
     {
         let claim = claim_of(self.of, bound);
         let mut claims = Items::with_capacity(self.alloc, self.entries.len().saturating_add(1))?;

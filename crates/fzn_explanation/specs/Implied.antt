@@ -13,5 +13,5 @@ abbrev pub AreAlike : IntSet → Lit → Lit → Type 0
 AreAlike s one other = (value : ℤ) → contains s value ≡ true → (is_true_at one value ≡ true) ↔ (is_true_at other value ≡ true)
 
 -- the literal is true at each value of the set
-abbrev pub IsTrueOn : IntSet → Lit → Type 0
-IsTrueOn s lit = (value : ℤ) → contains s value ≡ true → is_true_at lit value ≡ true
+abbrev pub IsTrueOnSet : IntSet → Lit → Type 0
+IsTrueOnSet s lit = (value : ℤ) → contains s value ≡ true → is_true_at lit value ≡ true

@@ -2,7 +2,7 @@
 ghost use Rattle.std.specs.Prelude.{◌≡◌, ◌↔◌, ◌<ℤ◌, ℤ, true, IsTrue};
 ghost use Rattle.fzn_domain.specs.IntSet.{contains};
 ghost use Rattle.fzn_domain.specs.Literal.{is_true_at, negated};
-ghost use Rattle.fzn_explanation.specs.Implied.{Implies, AreAlike, IsTrueOn};
+ghost use Rattle.fzn_explanation.specs.Implied.{Implies, AreAlike, IsTrueOnSet};
 
 use fzn_domain::{Domain, Lit, Op};
 
@@ -89,7 +89,7 @@ pub fn implies(first: Lit, second: Lit) -> bool
 
 /// Whether the literal is true at each value of the set.
 pub fn is_true_on(domain: &Domain, lit: Lit) -> bool
-    ensures { IsTrue result → IsTrueOn domain.now lit }
+    ensures { IsTrue result → IsTrueOnSet domain.now lit }
 {
     if domain.is_empty() {
         return true;

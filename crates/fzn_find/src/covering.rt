@@ -1,10 +1,17 @@
 // Cliques of variables that are told apart two by two.
+ghost use Rattle.std.specs.Prelude.{IfOk};
+ghost use Rattle.std.specs.List.{All};
+ghost use Rattle.fzn_meaning.specs.WellFormed.{IsWellFormed};
+ghost use Rattle.fzn_meaning.specs.Solutions.{declared_sets};
+ghost use Rattle.fzn_derive.specs.Derived.{IsDerivable};
+
 use crate::graph::{Edge, Graph};
-use crate::work::Work;
+use crate::testing::tested;
 use fzn_derive::Derivation;
 use fzn_domain::{Memory, VarId};
 use fzn_list::Items;
 use fzn_meaning::Model;
+use fzn_multipliers::Work;
 use std::alloc::Global;
 
 /// A clique of fewer variables says no more than its edges do.
@@ -21,17 +28,20 @@ const MOST_LOOKS: u64 = 1_000_000;
 
 /// Cliques of at least three variables of which constraints tell each two apart (`int_ne`, or `int_lin_ne` of their difference and 0).
 /// Each begins with two that are in none before it, and grows while it can. It answers `Err` where memory runs out.
-pub fn cliques(alloc: Global, model: &Model) -> Result<Items<Derivation>, Memory> {
-    let mut found = Items::new(alloc);
+pub fn cliques(alloc: Global, model: &Model) -> Result<Items<Derivation>, Memory>
+    requires { IsWellFormed model.now }
+    ensures { IfOk result (All (IsDerivable model.now.constraints (declared_sets model.now.vars))) }
+{
+    let mut found = Vec::new(alloc);
     push_cliques(alloc, model, &mut found)?;
-    Ok(found)
+    tested(alloc, model, found)
 }
 
 /// Puts them at the end of the list.
 pub fn push_cliques(
     alloc: Global,
     model: &Model,
-    found: &mut Items<Derivation>,
+    found: &mut Vec<Derivation>,
 ) -> Result<(), Memory> {
     let graph = Graph::of(alloc, model)?;
     let vars = model.vars.len();
@@ -95,7 +105,7 @@ impl Cover {
         alloc: Global,
         graph: &Graph,
         variable: usize,
-        found: &mut Items<Derivation>,
+        found: &mut Vec<Derivation>,
     ) -> Result<(), Memory> {
         let (start, end) = graph.span(variable);
         for place in start..end {
@@ -193,7 +203,7 @@ impl Cover {
         &mut self,
         alloc: Global,
         graph: &Graph,
-        found: &mut Items<Derivation>,
+        found: &mut Vec<Derivation>,
     ) -> Result<(), Memory> {
         let size = self.members.len();
         let pairs = size.saturating_mul(size.saturating_sub(1)) / 2;

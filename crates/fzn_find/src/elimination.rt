@@ -1,11 +1,18 @@
 // Sums of Booleans that are odd or even, solved for as many variables as can be.
+ghost use Rattle.std.specs.Prelude.{IfOk};
+ghost use Rattle.std.specs.List.{All};
+ghost use Rattle.fzn_meaning.specs.WellFormed.{IsWellFormed};
+ghost use Rattle.fzn_meaning.specs.Solutions.{declared_sets};
+ghost use Rattle.fzn_derive.specs.Derived.{IsDerivable};
+
 use crate::matrix::Matrix;
 use crate::parities::Parities;
-use crate::work::Work;
+use crate::testing::tested;
 use fzn_derive::Derivation;
 use fzn_domain::Memory;
 use fzn_list::Items;
 use fzn_meaning::Model;
+use fzn_multipliers::Work;
 use std::alloc::Global;
 
 /// A solved sum of more variables says too little to be found.
@@ -18,17 +25,20 @@ const MOST_NAMED: u64 = 1_000_000;
 /// equalities of Booleans), solved for as many variables as can be, where one of them is of three or more: each solved sum that rests on
 /// several constraints and has at most 30 variables. Where they contradict each other, just the contradiction; where they are too
 /// many, none. It answers `Err` where memory runs out.
-pub fn eliminated(alloc: Global, model: &Model) -> Result<Items<Derivation>, Memory> {
-    let mut found = Items::new(alloc);
+pub fn eliminated(alloc: Global, model: &Model) -> Result<Items<Derivation>, Memory>
+    requires { IsWellFormed model.now }
+    ensures { IfOk result (All (IsDerivable model.now.constraints (declared_sets model.now.vars))) }
+{
+    let mut found = Vec::new(alloc);
     push_eliminated(alloc, model, &mut found)?;
-    Ok(found)
+    tested(alloc, model, found)
 }
 
 /// Puts them at the end of the list.
 pub fn push_eliminated(
     alloc: Global,
     model: &Model,
-    found: &mut Items<Derivation>,
+    found: &mut Vec<Derivation>,
 ) -> Result<(), Memory> {
     let parities = Parities::of(alloc, model)?;
     if let Some(mut matrix) = Matrix::of(alloc, &parities, model.vars.len())?
@@ -43,7 +53,7 @@ fn push_solved(
     alloc: Global,
     parities: &Parities,
     matrix: &Matrix,
-    found: &mut Items<Derivation>,
+    found: &mut Vec<Derivation>,
 ) -> Result<(), Memory> {
     for row in 0..matrix.rows {
         if matrix.is_odd(row) && matrix.len(row) == 0 {

@@ -1,8 +1,8 @@
 // Sums of Booleans as rows of bits, and their elimination.
 use crate::parities::{Parities, Parity};
-use crate::work::Work;
 use fzn_domain::Memory;
 use fzn_list::Items;
+use fzn_multipliers::Work;
 use std::alloc::Global;
 
 /// So many words the rows take at the most.

@@ -1,11 +1,16 @@
 // Sums whose places are put together.
+ghost use Rattle.std.specs.Prelude.{IfOk};
+ghost use Rattle.std.specs.List.{All};
 ghost use Rattle.fzn_meaning.specs.WellFormed.{IsWellFormed};
+ghost use Rattle.fzn_meaning.specs.Solutions.{declared_sets};
+ghost use Rattle.fzn_derive.specs.Derived.{IsDerivable};
 
-use crate::rows::{Row, Rows};
+use crate::testing::tested;
 use fzn_derive::{Derivation, Multiple};
 use fzn_domain::Memory;
 use fzn_list::Items;
 use fzn_meaning::Model;
+use fzn_multipliers::{Row, Rows};
 use std::alloc::Global;
 
 /// No coefficient and no bound of what is found is larger.
@@ -17,19 +22,16 @@ const MOST: i64 = 1_000_000_000;
 /// out.
 pub fn merged(alloc: Global, model: &Model) -> Result<Items<Derivation>, Memory>
     requires { IsWellFormed model.now }
+    ensures { IfOk result (All (IsDerivable model.now.constraints (declared_sets model.now.vars))) }
 {
     let rows = Rows::of(alloc, model)?;
-    let mut found = Items::new(alloc);
+    let mut found = Vec::new(alloc);
     push_merged(alloc, &rows, &mut found)?;
-    Ok(found)
+    tested(alloc, model, found)
 }
 
 /// Puts those of these rows at the end of the list.
-pub fn push_merged(
-    alloc: Global,
-    rows: &Rows,
-    found: &mut Items<Derivation>,
-) -> Result<(), Memory> {
+pub fn push_merged(alloc: Global, rows: &Rows, found: &mut Vec<Derivation>) -> Result<(), Memory> {
     for row in rows.rows.iter() {
         if is_worth(rows, *row) {
             found.push(alone(alloc, row.constraint, 1)?)?;

@@ -20,7 +20,7 @@ use Rattle.fzn_propagator.specs.Clause.{IsWritable}
 use Rattle.fzn_propagator.specs.Left.{IsLeft}
 use Rattle.fzn_propagator.proofs.CallerLemmas.{differs_not, same_value, left_of_more, last_fails, false_of_none, false_push, forcing_push}
 use Rattle.fzn_terms.specs.Values.{IsFixed}
-use Rattle.fzn_fixed.specs.Denial.{IsOnlyLeft, IsOtherValue, IsDenial, IsDenialOr, IsTrueOn}
+use Rattle.fzn_fixed.specs.Denial.{IsOnlyLeft, IsOtherValue, IsDenial, IsDenialOr, IsTrueOnSets}
 
 -- a variable that has one value
 pub other_value_is : (trail : Levels) (term : Term) (var : VarId) (low value : ℤ) → term ≡ Variable var → IsInLimits low → low ≡ least (set_of trail.sets var) → value ≡ low → IsFixed trail.sets term → IsOtherValue trail term (record { var = var; op = NotEqual; value = value })
@@ -77,7 +77,7 @@ module _ (trail : Levels) (terms : List Term) (clause : List Lit) (lit : Lit) (v
   }
 
 -- where its negation is not possible, it is true
-pub true_where_certain : (trail : Levels) (lit : Lit) → is_possible (set_of trail.sets lit.var) (negated lit) ≡ false → IsTrueOn trail.sets lit
+pub true_where_certain : (trail : Levels) (lit : Lit) → is_possible (set_of trail.sets lit.var) (negated lit) ≡ false → IsTrueOnSets trail.sets lit
 true_where_certain trail lit certain v here = elim (cases_Bool (is_true_at lit v)) [
   | inl holds ↦ holds
   | inr fails ↦ absurd (true≢false (sym (possible_when (set_of trail.sets lit.var) (negated lit) v here (is_true_at-negated lit v ∙ ap not fails)) ∙ certain))

@@ -25,7 +25,7 @@ use Rattle.fzn_fixed.specs.declared.pass.Pass.{Pass}
 use Rattle.fzn_fixed.specs.Demand.{AdmitsWhere}
 use Rattle.fzn_fixed.specs.Denial.{IsOnlyLeft, IsDenial, IsDenialOr}
 use Rattle.fzn_fixed.specs.Image.{Admits, IsImage}
-use Rattle.fzn_fixed.specs.Passes.{IsInferred, least_values}
+use Rattle.fzn_fixed.specs.Passes.{IsJustifiedByFixed, least_values}
 use Rattle.fzn_equality.proofs.CallerLemmas.{All-front, All-last}
 
 -- the terms at the first places have these values alone
@@ -116,7 +116,7 @@ none_denied declared clause (Some (Constant k)) image over none = none
 none_denied declared clause (Some (Variable var)) image over none = λ v may. none v (left_of_may clause declared (Variable var) v over may).0
 
 module _ (pass : Pass) (image : Image) (clause : List Lit) (is : IsImage pass.constraint.now (least_values pass) image) where
-  fixed_by : IsForcing pass.trail.now clause → All (IsOnlyLeft pass.trail.now clause) pass.inputs.now → NoneOf (denied pass.trail.now.declared clause) pass.result (Admits image) → IsInferred pass clause
+  fixed_by : IsForcing pass.trail.now clause → All (IsOnlyLeft pass.trail.now clause) pass.inputs.now → NoneOf (denied pass.trail.now.declared clause) pass.result (Admits image) → IsJustifiedByFixed pass clause
   unfolding IsMet
   fixed_by forcing only none =
       let trail = pass.trail.now in
@@ -127,11 +127,11 @@ module _ (pass : Pass) (image : Image) (clause : List Lit) (is : IsImage pass.co
       (record { forcing = forcing; met = λ some. met_by (denied trail.declared clause) pass (least_values pass) image some (length-denied clause trail.declared) (length-map inputs (least_value trail.sets)) is at none })
 
   -- no declared value of the result is admitted
-  pub fixed_denied : NoneOf pass.trail.now.declared pass.result (Admits image) → IsDenial pass.trail.now pass.inputs.now clause → IsInferred pass clause
+  pub fixed_denied : NoneOf pass.trail.now.declared pass.result (Admits image) → IsDenial pass.trail.now pass.inputs.now clause → IsJustifiedByFixed pass clause
   fixed_denied none denial = fixed_by (forcing_of_false pass.trail.now clause denial.still) denial.only (none_denied pass.trail.now.declared clause pass.result image denial.still.over none)
 
   -- those values are admitted at which the literal is true
-  pub fixed_forced : (lit : Lit) → AdmitsWhere pass.trail.now.declared pass.result image lit → IsDenialOr pass.trail.now pass.inputs.now lit clause → IsInferred pass clause
+  pub fixed_forced : (lit : Lit) → AdmitsWhere pass.trail.now.declared pass.result image lit → IsDenialOr pass.trail.now pass.inputs.now lit clause → IsJustifiedByFixed pass clause
   fixed_forced lit where_true denial =
       let sets = denied pass.trail.now.declared clause in
       fixed_by denial.forcing denial.only (subst (λ (of : Option Term). NoneOf sets of (Admits image)) (sym where_true.of_result) (λ v may admitted.

@@ -20,9 +20,9 @@ use Rattle.fzn_fixed.specs.declared.parts.Parts.{Parts}
 use Rattle.fzn_fixed.specs.declared.pass.Pass.{Pass}
 use Rattle.fzn_fixed.specs.Demand.{AdmitsEach, AdmitsWhere}
 use Rattle.fzn_terms.proofs.FixedLemmas.{fixed_to, fixed_ends}
-use Rattle.fzn_fixed.specs.Denial.{IsTrueOn}
+use Rattle.fzn_fixed.specs.Denial.{IsTrueOnSets}
 use Rattle.fzn_fixed.specs.Image.{Admits, IsImage}
-use Rattle.fzn_fixed.specs.Parts.{IsReady}
+use Rattle.fzn_fixed.specs.Parts.{ArePartsReady}
 use Rattle.fzn_fixed.specs.Passes.{HoldsFixed, AreFixed, least_values}
 
 -- the input places and the result's are terms, and their values stand in the constraint's relation where, and only where, the values meet it
@@ -50,10 +50,10 @@ facts_of _ other = tt
 inputs_facts : (c : Constraint) (inputs : List Term) → inputs_of c ≡ Some inputs → form_of c ≡ None → AreInputs c inputs
 inputs_facts c inputs is other = subst (λ (o : Option (List Term)). IfSome o (AreInputs c)) is (facts_of c other)
 
-pub inputs_fit : (count : ℕ) (parts : Parts) → IsReady count parts → All (IsTerm count) parts.inputs
+pub inputs_fit : (count : ℕ) (parts : Parts) → ArePartsReady count parts → All (IsTerm count) parts.inputs
 inputs_fit count parts ready = ((inputs_facts parts.constraint parts.inputs ready.parts_of.inputs ready.other).0 count ready.formed).0
 
-pub result_fits : (count : ℕ) (parts : Parts) → IsReady count parts → IsSwitch count parts.result
+pub result_fits : (count : ℕ) (parts : Parts) → ArePartsReady count parts → IsSwitch count parts.result
 result_fits count parts ready = subst (IsSwitch count) ready.parts_of.result ((inputs_facts parts.constraint parts.inputs ready.parts_of.inputs ready.other).0 count ready.formed).1
 
 module _ (sets : List IntSet) (values : List ℤ) (within : IsWithin sets values) where
@@ -88,7 +88,7 @@ module _ (pass : Pass) (image : Image) (is : IsImage pass.constraint.now (least_
   holds_of_each each = holds_by (λ values declared present. admitted pass.trail.now.declared values declared pass.result image pass.result_fits each)
 
   -- the literal says so, and is true
-  pub holds_of_literal : (lit : Lit) → AdmitsWhere pass.trail.now.declared pass.result image lit → IsTrueOn pass.trail.now.sets lit → HoldsFixed pass
+  pub holds_of_literal : (lit : Lit) → AdmitsWhere pass.trail.now.declared pass.result image lit → IsTrueOnSets pass.trail.now.sets lit → HoldsFixed pass
   holds_of_literal lit where_true holds = holds_by (λ values declared present.
       let variable = where_true.variable in
       let there : contains (set_of pass.trail.now.declared lit.var) (value_of values lit.var) ≡ true = declared.inside (lit.var.0 - 1) (omega arith) in

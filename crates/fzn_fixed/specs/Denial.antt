@@ -35,5 +35,5 @@ pub record IsDenialOr (trail : Levels) (terms : List Term) (lit : Lit) (clause :
   pub literal : (v : ℤ) → IsLeft trail.declared clause (Variable lit.var) v → is_true_at lit v ≡ false
 
 -- the literal is true at each value of its variable
-abbrev pub IsTrueOn : List IntSet → Lit → Type 0
-IsTrueOn sets lit = (v : ℤ) → contains (set_of sets lit.var) v ≡ true → is_true_at lit v ≡ true
+abbrev pub IsTrueOnSets : List IntSet → Lit → Type 0
+IsTrueOnSets sets lit = (v : ℤ) → contains (set_of sets lit.var) v ≡ true → is_true_at lit v ≡ true

@@ -13,7 +13,7 @@ pub record ArePartsOf (constraint : Constraint) (parts : Parts) : Type 0 where
   pub result : result_of constraint ≡ parts.result
 
 -- parts of a constraint on this many variables that is no sum
-pub record IsReady (count : ℕ) (parts : Parts) : Type 0 where
+pub record ArePartsReady (count : ℕ) (parts : Parts) : Type 0 where
   pub formed : IsWellFormed count parts.constraint
   pub parts_of : ArePartsOf parts.constraint parts
   pub other : form_of parts.constraint ≡ None

@@ -10,8 +10,8 @@ use Rattle.fzn_terms.specs.Values.{IsFixed}
 use Rattle.fzn_fixed.specs.declared.pass.Pass.{Pass}
 
 -- the rule `fixed` justifies the clause from the constraint
-abbrev pub IsInferred : Pass → List Lit → Type 0
-IsInferred pass clause = IsJustified pass.trail.now pass.constraint.now Fixed clause
+abbrev pub IsJustifiedByFixed : Pass → List Lit → Type 0
+IsJustifiedByFixed pass clause = IsJustified pass.trail.now pass.constraint.now Fixed clause
 
 -- where all variables are fixed, the constraint holds
 abbrev pub HoldsFixed : Pass → Type 0

@@ -4,9 +4,9 @@ ghost use Rattle.fzn_domain.specs.Narrow.{IsVariable, NoneEmpty};
 ghost use Rattle.fzn_rules.specs.declared.rule.Rule.TheVariants as rule;
 ghost use Rattle.fzn_propagator.specs.Clause.{IsWritable, IsJustified};
 ghost use Rattle.fzn_propagator.specs.Inference.{HoldsWhereFixed};
-ghost use Rattle.fzn_fixed.specs.Denial.{IsDenialOr, IsTrueOn};
-ghost use Rattle.fzn_fixed.specs.Parts.{IsReady};
-ghost use Rattle.fzn_fixed.specs.Passes.{IsInferred, HoldsFixed, AreFixed};
+ghost use Rattle.fzn_fixed.specs.Denial.{IsDenialOr, IsTrueOnSets};
+ghost use Rattle.fzn_fixed.specs.Parts.{ArePartsReady};
+ghost use Rattle.fzn_fixed.specs.Passes.{IsJustifiedByFixed, HoldsFixed, AreFixed};
 
 use crate::demand::Demand;
 use crate::image::image_of;
@@ -25,7 +25,7 @@ pub fn refute_fixed(
     trail: &Trail,
     parts: &Parts,
 ) -> Result<Option<Items<Lit>>, Memory>
-    requires ready { IsReady (length trail.now.declared) parts.now }
+    requires ready { ArePartsReady (length trail.now.declared) parts.now }
     requires filled { NoneEmpty trail.now.sets }
     ensures found { IfOk result (λ found. IfSome found (IsJustified trail.now parts.now.constraint rule.Fixed)) }
     ensures none { IfOk result (λ found. IfNone found (HoldsWhereFixed trail.now parts.now.constraint)) }
@@ -36,7 +36,7 @@ pub fn refute_fixed(
 impl<'a> Pass<'a> {
     /// The clause that an input has another value, or the result is what these give.
     fn refute(&self) -> Result<Option<Items<Lit>>, Memory>
-        ensures found { IfOk result (λ found. IfSome found (IsInferred self.now)) }
+        ensures found { IfOk result (λ found. IfSome found (IsJustifiedByFixed self.now)) }
         ensures none { IfOk result (λ found. IfNone found (HoldsFixed self.now)) }
     {
         if !are_fixed(self.trail, self.inputs) {
@@ -60,7 +60,7 @@ impl<'a> Pass<'a> {
         requires variable { IsVariable (length self.now.trail.now.declared) lit.var }
         requires writable { IsWritable lit }
         ensures found { IfOk result (λ found. IfSome found (IsDenialOr self.now.trail.now self.now.inputs.now lit)) }
-        ensures none { IfOk result (λ found. IfNone found (IsTrueOn self.now.trail.now.sets lit)) }
+        ensures none { IfOk result (λ found. IfNone found (IsTrueOnSets self.now.trail.now.sets lit)) }
     {
         if self.trail.domain(lit.var).is_false(lit.negated()) {
             return Ok(None);

@@ -10,8 +10,8 @@ ghost use Rattle.fzn_rules.specs.declared.rule.Rule.TheVariants as rule;
 ghost use Rattle.fzn_terms.specs.Denied.{IsDenied};
 ghost use Rattle.fzn_propagator.specs.Clause.{IsJustified};
 ghost use Rattle.fzn_fixed.specs.Image.{Admits, IsImage};
-ghost use Rattle.fzn_fixed.specs.Parts.{IsReady};
-ghost use Rattle.fzn_fixed.specs.Passes.{IsInferred};
+ghost use Rattle.fzn_fixed.specs.Parts.{ArePartsReady};
+ghost use Rattle.fzn_fixed.specs.Passes.{IsJustifiedByFixed};
 
 use crate::image::{Image, image_of};
 use crate::parts::Parts;
@@ -30,7 +30,7 @@ const STEPS: usize = 4_096;
 /// gives. None elsewhere. Of its values those are looked at that are less than 4,096 above the least. It answers `Err` where memory runs
 /// out.
 pub fn infer_last(alloc: Global, trail: &Trail, parts: &Parts) -> Result<Option<Items<Lit>>, Memory>
-    requires ready { IsReady (length trail.now.declared) parts.now }
+    requires ready { ArePartsReady (length trail.now.declared) parts.now }
     requires filled { NoneEmpty trail.now.sets }
     ensures { IfOk result (λ found. IfSome found (IsJustified trail.now parts.now.constraint rule.Fixed)) }
 {
@@ -40,7 +40,7 @@ pub fn infer_last(alloc: Global, trail: &Trail, parts: &Parts) -> Result<Option<
 impl<'a> Pass<'a> {
     /// The clause that the one input with several values has not one of them.
     fn refute_last(&self) -> Result<Option<Items<Lit>>, Memory>
-        ensures { IfOk result (λ found. IfSome found (IsInferred self.now)) }
+        ensures { IfOk result (λ found. IfSome found (IsJustifiedByFixed self.now)) }
     {
         if !self.is_settled() {
             return Ok(None);
@@ -122,7 +122,7 @@ impl<'a> Pass<'a> {
         requires one_each { length values.now ≡ length self.now.inputs.now }
         requires in_limits { All IsInLimits values.now }
         requires image { IsImage self.now.constraint.now values.now image }
-        ensures { IfOk result (λ found. IfSome found (IsInferred self.now)) }
+        ensures { IfOk result (λ found. IfSome found (IsJustifiedByFixed self.now)) }
     {
         let Some(claim) = self.admitted(image) else {
             return Ok(None);

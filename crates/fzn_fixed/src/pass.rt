@@ -8,7 +8,7 @@ ghost use Rattle.fzn_meaning.specs.Term.{IsTerm};
 ghost use Rattle.fzn_builtin_rules.specs.Choices.{inputs_of, result_of};
 ghost use Rattle.fzn_builtin_rules.specs.Form.{form_of};
 ghost use Rattle.fzn_terms.specs.Values.{IsTerm-prop, AreTerms-prop};
-ghost use Rattle.fzn_fixed.specs.Parts.{IsReady};
+ghost use Rattle.fzn_fixed.specs.Parts.{ArePartsReady};
 
 use crate::parts::Parts;
 use fzn_meaning::{Constraint, Term};
@@ -35,7 +35,7 @@ pub(crate) struct Pass<'a> {
 
 impl<'a> Pass<'a> {
     pub(crate) fn new(alloc: Global, trail: &'a Trail, parts: &'a Parts) -> Pass<'a>
-        requires ready { IsReady (length trail.now.declared) parts.now }
+        requires ready { ArePartsReady (length trail.now.declared) parts.now }
         requires filled { NoneEmpty trail.now.sets }
         ensures trail { result.trail.now ≡ trail.now }
         ensures constraint { result.constraint.now ≡ parts.now.constraint }

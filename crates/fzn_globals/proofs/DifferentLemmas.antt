@@ -24,7 +24,7 @@ use Rattle.fzn_trail.specs.Levels.{Levels}
 use Rattle.fzn_propagator.specs.Inference.{HoldsWhereFixed}
 use Rattle.fzn_terms.specs.Values.{place_at}
 use Rattle.fzn_terms.proofs.FixedLemmas.{fixed_only, now_fit}
-use Rattle.fzn_globals.specs.Apart.{AreMembers, HasOpen}
+use Rattle.fzn_globals.specs.Apart.{AreMembers, HasOpenPlace}
 
 -- ---- numbers that rise
 
@@ -103,7 +103,7 @@ module _ (trail : Levels) (places : List Term) (fit : All (IsTerm (length trail.
   sorted_met found sorted members same apart fixed values declared present =
       subst IsAllDifferent (sym (only_values trail.sets values present fixed places found (now_fit trail values places declared present fit) members)) (apart_unsorted found sorted same apart)
 
-  pub open_met : HasOpen trail.sets places → HoldsWhereFixed trail (AllDifferent places)
+  pub open_met : HasOpenPlace trail.sets places → HoldsWhereFixed trail (AllDifferent places)
   open_met some fixed values declared present =
       let e : Term = Constant (pos 0) in
       let found = some.2 in

@@ -14,22 +14,22 @@ use Rattle.fzn_propagator.specs.Inference.{AreFoundOf, HoldsWhereFixed}
 use Rattle.fzn_terms.specs.Values.{IsOnly}
 use Rattle.fzn_globals.specs.declared.all_different.span.Span.{Span}
 use Rattle.fzn_globals.specs.declared.all_different.pass.Pass.{Pass}
-use Rattle.fzn_globals.specs.Apart.{AreWithin}
+use Rattle.fzn_globals.specs.Apart.{SaysEachWithin}
 
-abbrev pub constraint_of : Pass → Constraint
-constraint_of pass = AllDifferent pass.places.now
+abbrev pub different_constraint : Pass → Constraint
+different_constraint pass = AllDifferent pass.places.now
 
 -- by the rule `hall` of the numbers from low to high
-abbrev pub IsInferred : Pass → ℤ → ℤ → List Lit → Type 0
-IsInferred pass low high clause = IsJustified pass.trail.now (constraint_of pass) (Hall low high) clause
+abbrev pub IsJustifiedByHall : Pass → ℤ → ℤ → List Lit → Type 0
+IsJustifiedByHall pass low high clause = IsJustified pass.trail.now (different_constraint pass) (Hall low high) clause
 
 -- these are inferences of the pass, which have the number of its constraint
-abbrev pub AreFoundIn : Pass → List Inference → Type 0
-AreFoundIn pass found = AreFoundOf pass.number (constraint_of pass) pass.trail.now found
+abbrev pub AreFoundOfDifferent : Pass → List Inference → Type 0
+AreFoundOfDifferent pass found = AreFoundOf pass.number (different_constraint pass) pass.trail.now found
 
 -- where all variables are fixed, the places are different
 abbrev pub DifferWhereFixed : Pass → Type 0
-DifferWhereFixed pass = HoldsWhereFixed pass.trail.now (constraint_of pass)
+DifferWhereFixed pass = HoldsWhereFixed pass.trail.now (different_constraint pass)
 
 -- where the place at i has this one value, the one at j has not
 abbrev pub IsNotShared : Pass → ℕ → ℕ → ℤ → Type 0
@@ -41,4 +41,4 @@ count_within pass span = count_by (lies_within pass.trail.now.sets span.low span
 
 -- the clause says that each place which lies within it does so
 abbrev pub SaysWithin : Pass → Span → List Lit → Type 0
-SaysWithin pass span clause = AreWithin pass.trail.now clause span.low span.high pass.places.now (length pass.places.now)
+SaysWithin pass span clause = SaysEachWithin pass.trail.now clause span.low span.high pass.places.now (length pass.places.now)

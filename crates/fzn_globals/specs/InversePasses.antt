@@ -12,16 +12,16 @@ use Rattle.fzn_propagator.specs.Inference.{AreFoundOf}
 use Rattle.fzn_globals.specs.declared.inverse.pass.Pass.{Pass}
 use Rattle.fzn_globals.specs.Ways.{inverse_of, AreIndices, LeadsBackFrom, LeadsBackOn}
 
-abbrev pub constraint_of : Pass → Constraint
-constraint_of pass = inverse_of pass.side pass.there.now pass.back.now
+abbrev pub inverse_constraint : Pass → Constraint
+inverse_constraint pass = inverse_of pass.side pass.there.now pass.back.now
 
 -- the rule justifies the clause from the inverse
-abbrev pub IsInferred : Pass → Rule → List Lit → Type 0
-IsInferred pass rule clause = IsJustified pass.trail.now (constraint_of pass) rule clause
+abbrev pub IsJustifiedByInverse : Pass → Rule → List Lit → Type 0
+IsJustifiedByInverse pass rule clause = IsJustified pass.trail.now (inverse_constraint pass) rule clause
 
 -- so of each of these inferences, which have its number
-abbrev pub AreFoundIn : Pass → List Inference → Type 0
-AreFoundIn pass found = AreFoundOf pass.number (constraint_of pass) pass.trail.now found
+abbrev pub AreFoundOfInverse : Pass → List Inference → Type 0
+AreFoundOfInverse pass found = AreFoundOf pass.number (inverse_constraint pass) pass.trail.now found
 
 -- an entry of the list is at this index
 abbrev pub HasEntry : Pass → ℤ → Type 0
@@ -44,5 +44,5 @@ abbrev pub LeadsBackAt : Pass → ℤ → Type 0
 LeadsBackAt pass i = LeadsBackFrom pass.trail.now.sets pass.there.now pass.back.now i
 
 -- so of each entry
-abbrev pub LeadsBack : Pass → Type 0
-LeadsBack pass = LeadsBackOn pass.trail.now.sets pass.there.now pass.back.now
+abbrev pub LeadsBackOnTrail : Pass → Type 0
+LeadsBackOnTrail pass = LeadsBackOn pass.trail.now.sets pass.there.now pass.back.now

@@ -3,7 +3,7 @@ ghost use Rattle.std.specs.Prelude.{ℕ, List};
 ghost use Rattle.fzn_options.specs.declared.solve.Options.{Options};
 ghost use Rattle.fzn_headline.specs.Headline.{Headline};
 
-use fzn_cert::one_verdict;
+use fzn_head::one_outcome;
 use fzn_reading::one_model;
 
 /// For every file and all options: what a run that ends without a fault has printed is a true answer of the file, left open only where the
@@ -13,5 +13,5 @@ pub fn headline()
     ensures { (file : List ℕ) (options : Options) → Headline file options }
 {
     one_model();
-    one_verdict();
+    one_outcome();
 }

@@ -13,7 +13,7 @@ use Rattle.fzn_trail.specs.declared.trail.Reason.{Reason}
 use Rattle.fzn_trail.specs.declared.trail.Reason.TheVariants.{Decision, Clause, Inference}
 use Rattle.fzn_trail.specs.Levels.{Levels, standing, level_of, fresh, pushed, asserted, restored, returned}
 use Rattle.fzn_trail.proofs.CallerLemmas.{returned-present}
-use Rattle.fzn_learned.specs.Reasoned.{Known, IsBelow, cut_at, IsForcedFrom, open_at, IsReason, Leads, Open, opens, IsStanding, IsReasoned, negated_decisions}
+use Rattle.fzn_learned.specs.Reasoned.{Known, IsBelow, cut_at, IsForcedFrom, open_at, IsReason, Leads, Open, opens, IsLevelStanding, IsReasoned, negated_decisions}
 use Rattle.fzn_learned.proofs.KnownLemmas.{grown, stacked_more, All-front}
 pub use Rattle.fzn_learned.proofs.KnownLemmas.{IsKnown-undecided, IsStill}
 use Rattle.fzn_learned.proofs.EntryLemmas.{after, Leads-after, Leads-append, Leads-grown, Leads-stacked, Leads-below, Leads-still, opens-append, front_cases}
@@ -27,7 +27,7 @@ IsReasoned-fresh known declared = record { leads = refl; one_each = refl; standi
 
 -- ---- more known clauses
 
-IsStanding-grown : (known : Known) (more : numbered.Held) (trail : Levels) (k : ℕ) → IsStanding known trail k → IsStanding (grown more known) trail k
+IsStanding-grown : (known : Known) (more : numbered.Held) (trail : Levels) (k : ℕ) → IsLevelStanding known trail k → IsLevelStanding (grown more known) trail k
 IsStanding-grown known more trail k stands = record {
   stood = stands.stood;
   here = stands.here;
@@ -130,7 +130,7 @@ module _ (known : Known) (trail : Levels) (lit : Lit) (reason : Reason) (reasone
       Leads-append known trail.entries (record { lit = lit; reason = reason; level = level } ∷ []) trail.declared trail.sets (narrowed trail.sets lit) reasoned.leads
       (subst (λ (n : ℕ). IsVariable n lit.var) (sym (length-reasoned known trail reasoned)) var, is, refl)
 
-  parts_more : (k : ℕ) (stands : IsStanding known trail k) → trail.entries ++ record { lit = lit; reason = reason; level = level } ∷ [] ≡ stands.stood.entries ++ record { lit = stands.lit; reason = Decision; level = stands.level } ∷ (stands.later ++ record { lit = lit; reason = reason; level = level } ∷ [])
+  parts_more : (k : ℕ) (stands : IsLevelStanding known trail k) → trail.entries ++ record { lit = lit; reason = reason; level = level } ∷ [] ≡ stands.stood.entries ++ record { lit = stands.lit; reason = Decision; level = stands.level } ∷ (stands.later ++ record { lit = lit; reason = reason; level = level } ∷ [])
   parts_more k stands =
       let entry : Entry = record { lit = lit; reason = reason; level = level } in
       let decision : Entry = record { lit = stands.lit; reason = Decision; level = stands.level } in
@@ -216,9 +216,9 @@ IsReasoned-forced known trail lit reason reasoned var forced = record {
 
 -- ---- the way back
 
-module _ (known : Known) (trail : Levels) (level : ℕ) (reasoned : IsReasoned known trail) (within : level < level_of trail) (stands : IsStanding known trail level) where
+module _ (known : Known) (trail : Levels) (level : ℕ) (reasoned : IsReasoned known trail) (within : level < level_of trail) (stands : IsLevelStanding known trail level) where
   -- what stood at a level below, on the way back to this one
-  standing_below : (k : ℕ) → k < level → IsStanding known trail k → IsStanding known (restored level stands.stood trail) k
+  standing_below : (k : ℕ) → k < level → IsLevelStanding known trail k → IsLevelStanding known (restored level stands.stood trail) k
   standing_below k below lower = elim (front_cases lower.stood.entries stands.stood.entries lower.later (record { lit = stands.lit; reason = Decision; level = stands.level } ∷ stands.later) (record { lit = lower.lit; reason = Decision; level = lower.level }) (sym lower.parts ∙ stands.parts)) [
     | inl m ↦ record {
       stood = lower.stood;

@@ -8,7 +8,7 @@ use Rattle.fzn_domain.specs.Narrow.{narrowed}
 use Rattle.fzn_trail.specs.declared.trail.Reason.TheVariants.{Decision}
 use Rattle.fzn_trail.specs.Levels.{Levels, Standing, standing, level_of, restored, returned, IsNarrower, NoneEmpty}
 use Rattle.fzn_trail.proofs.CallerLemmas.{returned-below}
-use Rattle.fzn_learned.specs.Reasoned.{Known, Open, opens, IsStanding, IsReasoned}
+use Rattle.fzn_learned.specs.Reasoned.{Known, Open, opens, IsLevelStanding, IsReasoned}
 use Rattle.fzn_learned.proofs.EntryLemmas.{Leads-after, Leads-length, Leads-narrower, Leads-filled, IsTaken, opens-append, opens-taken}
 
 -- ---- what a reasoned trail says of its sets
@@ -51,7 +51,7 @@ slice_get_take xs n k x below fits h =
 
 -- ---- the decisions of a level
 
-module _ (known : Known) (trail : Levels) (reasoned : IsReasoned known trail) (k : ℕ) (stands : IsStanding known trail k) where
+module _ (known : Known) (trail : Levels) (reasoned : IsReasoned known trail) (k : ℕ) (stands : IsLevelStanding known trail k) where
   pub opens-parts : opens trail.declared trail.entries ≡ opens trail.declared stands.stood.entries ++ record { sets = stands.stood.sets; decision = stands.lit } ∷ opens (narrowed stands.stood.sets stands.lit) stands.later
   opens-parts =
       ap (opens trail.declared) stands.parts

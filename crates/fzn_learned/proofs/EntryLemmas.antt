@@ -15,7 +15,7 @@ use Rattle.fzn_trail.proofs.CallerLemmas.{IsNarrower-narrowed, NoneEmpty-narrowe
 use Rattle.fzn_learned.specs.Learned.{reason_before, reasons}
 use Rattle.fzn_learned.proofs.KnownLemmas.{grown, IsForcedFrom-grown, stacked_more, IsForcedFrom-stacked, IsForcedFrom-below, IsStill, IsForcedFrom-still}
 use Rattle.fzn_learned.specs.Reasoned.{IsBelow, cut_at}
-use Rattle.fzn_learned.specs.Reasoned.{Known, IsKnown, clause_of, IsReason, Leads, Open, open_at, opens}
+use Rattle.fzn_learned.specs.Reasoned.{Known, IsKnown, reason_clause, IsReason, Leads, Open, open_at, opens}
 use Rattle.fzn_learned.proofs.NarrowerLemmas.{IsTrueOn, IsNarrower-self, IsNarrower-through, IsTrueOn-narrower, IsTrueOn-narrowed, possible_if_unit}
 
 -- the sets after these entries
@@ -104,8 +104,8 @@ Leads-still known held (entry ∷ later) from to still leads = (
 
 possible_by_reason : (known : Known) (sets : List IntSet) (lit : Lit) (reason : Reason) → IsReason known sets lit reason → is_possible (set_of sets lit.var) lit ≡ true
 possible_by_reason known sets lit Decision h = h.0
-possible_by_reason known sets lit (Clause id) h = possible_if_unit sets (clause_of known (Clause id)) lit h.1.0
-possible_by_reason known sets lit (Inference place) h = possible_if_unit sets (clause_of known (Inference place)) lit h.1.0
+possible_by_reason known sets lit (Clause id) h = possible_if_unit sets (reason_clause known (Clause id)) lit h.1.0
+possible_by_reason known sets lit (Inference place) h = possible_if_unit sets (reason_clause known (Inference place)) lit h.1.0
 
 pub Leads-filled : (known : Known) (entries : List Entry) (from to : List IntSet) → Leads known from entries to → NoneEmpty from → NoneEmpty to
 Leads-filled known [] from to leads filled = subst NoneEmpty leads filled

@@ -11,7 +11,7 @@ use Rattle.fzn_clauses.specs.Held as numbered
 use Rattle.fzn_clauses.proofs.HeldLemmas as still
 use Rattle.fzn_trail.specs.declared.trail.Reason.{Reason}
 use Rattle.fzn_trail.specs.declared.trail.Reason.TheVariants.{Decision, Clause, Inference}
-use Rattle.fzn_learned.specs.Reasoned.{Known, IsKnown, clause_of, cut_at, IsBelow, IsForcedFrom}
+use Rattle.fzn_learned.specs.Reasoned.{Known, IsKnown, reason_clause, cut_at, IsBelow, IsForcedFrom}
 
 -- more held clauses, and more inferences
 abbrev pub grown : numbered.Held → Known → Known
@@ -20,7 +20,7 @@ grown more known = record known { held = known.held ++ more }
 abbrev pub stacked_more : List (List Lit) → Known → Known
 stacked_more more known = record known { stacked = known.stacked ++ more }
 
-pub clause_of-grown : (known : Known) (more : numbered.Held) (reason : Reason) → IsKnown known reason → clause_of (grown more known) reason ≡ clause_of known reason
+pub clause_of-grown : (known : Known) (more : numbered.Held) (reason : Reason) → IsKnown known reason → reason_clause (grown more known) reason ≡ reason_clause known reason
 clause_of-grown known more Decision h = refl
 clause_of-grown known more (Clause id) h = still.clause_of-grown known.held more id h
 clause_of-grown known more (Inference place) h = refl
@@ -30,7 +30,7 @@ IsKnown-grown known more Decision h = h
 IsKnown-grown known more (Clause id) h = still.IsHeld-grown known.held more id h
 IsKnown-grown known more (Inference place) h = h
 
-pub clause_of-stacked : (known : Known) (more : List (List Lit)) (reason : Reason) → IsKnown known reason → clause_of (stacked_more more known) reason ≡ clause_of known reason
+pub clause_of-stacked : (known : Known) (more : List (List Lit)) (reason : Reason) → IsKnown known reason → reason_clause (stacked_more more known) reason ≡ reason_clause known reason
 clause_of-stacked known more Decision h = refl
 clause_of-stacked known more (Clause id) h = refl
 clause_of-stacked known more (Inference place) h = get_or_append_left known.stacked more [] place h

@@ -21,7 +21,7 @@ use Rattle.fzn_trail.specs.declared.trail.Reason.TheVariants.{Decision, Clause, 
 use Rattle.fzn_trail.specs.Levels.{Levels, level_of, returned, IsNarrower}
 use Rattle.fzn_learned.specs.declared.learned.Learned.{Learned}
 use Rattle.fzn_learned.specs.Learned.{reasons, IsConflicting, IsLearned, IsPlain, ForcesBack}
-use Rattle.fzn_learned.specs.Reasoned.{Known, IsKnown, clause_of, IsForced, IsReason, Open, opens, IsReasoned, negated_decisions}
+use Rattle.fzn_learned.specs.Reasoned.{Known, IsKnown, reason_clause, IsLoneLiteral, IsReason, Open, opens, IsReasoned, negated_decisions}
 use Rattle.fzn_learned.proofs.NarrowerLemmas.{possible-twice}
 use Rattle.fzn_learned.proofs.EntryLemmas.{after, IsTaken, entry_at, opens-append, opens-true, reasons-append, held_reasons}
 use Rattle.fzn_learned.proofs.ChainLemmas.{accepted_plain, negations_false}
@@ -146,7 +146,7 @@ decision_in_limits known trail i entry reasoned limited is e =
 -- ---- what the plain clause promises
 
 -- the negation of an open literal, behind literals that are false, is forced
-forced_there : (sets : List IntSet) (before clause : List Lit) (lit : Lit) → clause ≡ before ++ negated lit ∷ [] → possible_in sets before ≡ [] → IsOpen sets lit → IsForced sets clause (negated lit)
+forced_there : (sets : List IntSet) (before clause : List Lit) (lit : Lit) → clause ≡ before ++ negated lit ∷ [] → possible_in sets before ≡ [] → IsOpen sets lit → IsLoneLiteral sets clause (negated lit)
 forced_there sets before clause lit is none is_open = (
   ap (λ (c : List Lit). possible_in sets c) is
       ∙ filter-append (λ (l : Lit). is_possible (set_of sets l.var) l) before (negated lit ∷ [])
@@ -156,14 +156,14 @@ forced_there sets before clause lit is none is_open = (
 )
 
 module _ (known : Known) (trail : Levels) (conflict : Reason) (learned : Learned) (reasoned : IsReasoned known trail) (limited : All IsLimited trail.declared) (false_there : IsConflicting known trail.sets conflict) (clause_is : learned.clause ≡ negated_decisions trail.declared trail.entries) (antecedents_is : learned.antecedents ≡ reasons trail.entries ++ conflict ∷ []) (level_is : learned.level ≡ level_of trail - 1) where
-  clauses_is : map (clause_of known) learned.antecedents ≡ map (clause_of known) (reasons trail.entries) ++ clause_of known conflict ∷ []
-  clauses_is = ap (map (clause_of known)) antecedents_is ∙ map-append (clause_of known) (reasons trail.entries) (conflict ∷ [])
+  clauses_is : map (reason_clause known) learned.antecedents ≡ map (reason_clause known) (reasons trail.entries) ++ reason_clause known conflict ∷ []
+  clauses_is = ap (map (reason_clause known)) antecedents_is ∙ map-append (reason_clause known) (reasons trail.entries) (conflict ∷ [])
 
-  is_accepted : IsAcceptedFrom trail.declared learned.clause (map (clause_of known) learned.antecedents)
+  is_accepted : IsAcceptedFrom trail.declared learned.clause (map (reason_clause known) learned.antecedents)
   is_accepted =
-      let all = accepted_plain known (clause_of known conflict) trail.entries trail.declared trail.sets reasoned.leads false_there.is_false in
+      let all = accepted_plain known (reason_clause known conflict) trail.entries trail.declared trail.sets reasoned.leads false_there.is_false in
       let with_ids = subst (λ (earlier : List (List Lit)). IsAcceptedFrom trail.declared (negated_decisions trail.declared trail.entries) earlier) (sym clauses_is) all in
-      subst (λ (c : List Lit). IsAcceptedFrom trail.declared c (map (clause_of known) learned.antecedents)) (sym clause_is) with_ids
+      subst (λ (c : List Lit). IsAcceptedFrom trail.declared c (map (reason_clause known) learned.antecedents)) (sym clause_is) with_ids
 
   all_known : All (IsKnown known) learned.antecedents
   all_known =
@@ -213,7 +213,7 @@ module _ (known : Known) (trail : Levels) (conflict : Reason) (learned : Learned
     below = λ above. omega (arith, (forces_back above).one_less);
     forces = λ above.
         let back = forces_back above in
-        inr (negated back.last.decision, subst (λ (s : List IntSet). IsForced s learned.clause (negated back.last.decision)) (sym back.stood) back.forced);
+        inr (negated back.last.decision, subst (λ (s : List IntSet). IsLoneLiteral s learned.clause (negated back.last.decision)) (sym back.stood) back.forced);
   }
 
   pub plain_is : IsPlain trail conflict learned

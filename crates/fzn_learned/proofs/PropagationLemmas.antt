@@ -8,11 +8,11 @@ use Rattle.fzn_trail.specs.Levels.{Levels, asserted}
 use Rattle.fzn_trail.specs.Unit.{IsUnit}
 use Rattle.fzn_clauses.specs.Held.{AllHeld}
 use Rattle.fzn_clauses.specs.Propagation.{Forced, Propagates, IsPropagated}
-use Rattle.fzn_learned.specs.Reasoned.{Known, clause_of, IsForced, opens, IsReasoned}
+use Rattle.fzn_learned.specs.Reasoned.{Known, reason_clause, IsLoneLiteral, opens, IsReasoned}
 use Rattle.fzn_learned.proofs.NarrowerLemmas.{IsVariable-unit}
 use Rattle.fzn_learned.proofs.CallerLemmas.{IsReasoned-forced, IsReasoned-marked, opens-forced}
 
-pub IsForced-from_unit : (sets : List IntSet) (clause : List Lit) (lit : Lit) → IsUnit sets clause lit → IsForced sets clause lit
+pub IsForced-from_unit : (sets : List IntSet) (clause : List Lit) (lit : Lit) → IsUnit sets clause lit → IsLoneLiteral sets clause lit
 IsForced-from_unit sets clause lit unit = (unit.only, unit.not_yet_true)
 
 -- what propagation keeps
@@ -36,10 +36,10 @@ along known [] old new over reasoned is = record {
 }
 along known (forced ∷ rest) old new over reasoned is =
     let unit = is.0.unit in
-    let over_here : IsClauseOver (length old.declared) (clause_of known (Clause forced.id)) = over forced.id is.0.is_held in
-    let var = IsVariable-unit old.sets (clause_of known (Clause forced.id)) forced.lit (length old.declared) over_here unit.only in
+    let over_here : IsClauseOver (length old.declared) (reason_clause known (Clause forced.id)) = over forced.id is.0.is_held in
+    let var = IsVariable-unit old.sets (reason_clause known (Clause forced.id)) forced.lit (length old.declared) over_here unit.only in
     let next : IsReasoned known (asserted forced.lit (Clause forced.id) old) =
-    IsReasoned-forced known old forced.lit (Clause forced.id) reasoned var (is.0.is_held, IsForced-from_unit old.sets (clause_of known (Clause forced.id)) forced.lit unit) in
+    IsReasoned-forced known old forced.lit (Clause forced.id) reasoned var (is.0.is_held, IsForced-from_unit old.sets (reason_clause known (Clause forced.id)) forced.lit unit) in
     let later = along known rest (asserted forced.lit (Clause forced.id) old) new over next is.1 in
     record {
       reasoned = later.reasoned;

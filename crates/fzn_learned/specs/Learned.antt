@@ -11,12 +11,12 @@ use Rattle.fzn_trail.specs.declared.trail.Reason.{Reason}
 use Rattle.fzn_trail.specs.declared.trail.Reason.TheVariants.{Decision, Clause, Inference}
 use Rattle.fzn_trail.specs.Levels.{Levels, level_of, returned}
 use Rattle.fzn_learned.specs.declared.learned.Learned.{Learned}
-use Rattle.fzn_learned.specs.Reasoned.{Known, IsKnown, clause_of, IsForced, Open, opens, negated_decisions}
+use Rattle.fzn_learned.specs.Reasoned.{Known, IsKnown, reason_clause, IsLoneLiteral, Open, opens, negated_decisions}
 
 -- a known clause of which no literal is possible
 pub record IsConflicting (known : Known) (sets : List IntSet) (reason : Reason) : Type 0 where
   pub is_known : IsKnown known reason
-  pub is_false : possible_in sets (clause_of known reason) ≡ []
+  pub is_false : possible_in sets (reason_clause known reason) ≡ []
 
 -- the clause of a reason, before those found further on
 abbrev pub reason_before : Reason → List Reason → List Reason
@@ -31,11 +31,11 @@ reasons (entry ∷ later) = reason_before entry.reason (reasons later)
 
 -- the clause is empty, or it forces a literal on the sets
 abbrev pub IsEmptyOrForces : List IntSet → List Lit → Type 0
-IsEmptyOrForces sets clause = (clause ≡ []) ⊎ ((lit : Lit) × IsForced sets clause lit)
+IsEmptyOrForces sets clause = (clause ≡ []) ⊎ ((lit : Lit) × IsLoneLiteral sets clause lit)
 
 -- unit propagation along its antecedents, which are known, refutes the clause's denial
 pub record IsDerived (known : Known) (declared : List IntSet) (learned : Learned) : Type 0 where
-  pub accepted : IsAcceptedFrom declared learned.clause (map (clause_of known) learned.antecedents)
+  pub accepted : IsAcceptedFrom declared learned.clause (map (reason_clause known) learned.antecedents)
   pub all_known : All (IsKnown known) learned.antecedents
   pub over : IsClauseOver (length declared) learned.clause
   pub in_limits : All (λ lit. IsInLimits lit.value) learned.clause
@@ -43,7 +43,7 @@ pub record IsDerived (known : Known) (declared : List IntSet) (learned : Learned
 -- what every learned clause promises: unit propagation along its antecedents refutes its denial; at level 0 it is
 -- empty, and above it is empty or forces a literal at its level, which is below
 pub record IsLearned (known : Known) (trail : Levels) (learned : Learned) : Type 0 where
-  pub accepted : IsAcceptedFrom trail.declared learned.clause (map (clause_of known) learned.antecedents)
+  pub accepted : IsAcceptedFrom trail.declared learned.clause (map (reason_clause known) learned.antecedents)
   pub all_known : All (IsKnown known) learned.antecedents
   pub over : IsClauseOver (length trail.declared) learned.clause
   pub in_limits : All (λ lit. IsInLimits lit.value) learned.clause
@@ -57,7 +57,7 @@ pub record ForcesBack (trail : Levels) (learned : Learned) : Type 0 where
   pub last : Open
   pub is_last : slice_get (opens trail.declared trail.entries) learned.level ≡ Some last
   pub stood : (returned learned.level trail).sets ≡ last.sets
-  pub forced : IsForced last.sets learned.clause (negated last.decision)
+  pub forced : IsLoneLiteral last.sets learned.clause (negated last.decision)
 
 -- the plain clause says that one of the decisions is wrong, by all reasons and then the conflict
 pub record IsPlain (trail : Levels) (conflict : Reason) (learned : Learned) : Type 0 where

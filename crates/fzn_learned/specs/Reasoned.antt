@@ -37,10 +37,10 @@ IsKnown known Decision = ⊥
 IsKnown known (Clause id) = numbered.IsHeld known.held id
 IsKnown known (Inference place) = place < length known.stacked
 
-abbrev pub clause_of : Known → Reason → List Lit
-clause_of known Decision = []
-clause_of known (Clause id) = numbered.clause_of known.held id
-clause_of known (Inference place) = slice_index_or known.stacked place []
+abbrev pub reason_clause : Known → Reason → List Lit
+reason_clause known Decision = []
+reason_clause known (Clause id) = numbered.clause_of known.held id
+reason_clause known (Inference place) = slice_index_or known.stacked place []
 
 -- with so many inferences left
 abbrev pub cut_at : ℕ → Known → Known
@@ -53,12 +53,12 @@ IsBelow n (Clause id) = Unit {0}
 IsBelow n (Inference place) = place < n
 
 -- the literal is the one possible literal of the clause, and not yet true
-abbrev pub IsForced : List IntSet → List Lit → Lit → Type 0
-IsForced sets clause lit = (possible_in sets clause ≡ lit ∷ []) × (can_fail sets lit ≡ true)
+abbrev pub IsLoneLiteral : List IntSet → List Lit → Lit → Type 0
+IsLoneLiteral sets clause lit = (possible_in sets clause ≡ lit ∷ []) × (can_fail sets lit ≡ true)
 
 -- the literal is forced by a known clause
 abbrev pub IsForcedFrom : Known → List IntSet → Lit → Reason → Type 0
-IsForcedFrom known sets lit reason = IsKnown known reason × IsForced sets (clause_of known reason) lit
+IsForcedFrom known sets lit reason = IsKnown known reason × IsLoneLiteral sets (reason_clause known reason) lit
 
 -- the reason for asserting the literal on these sets: a decision is open there, any other is forced by a known clause
 abbrev pub IsReason : Known → List IntSet → Lit → Reason → Type 0
@@ -88,7 +88,7 @@ opens from [] = []
 opens from (entry ∷ later) = open_at from entry.lit entry.reason (opens (narrowed from entry.lit) later)
 
 -- what stood at each level is what its decision was taken at, after the entries before the decision
-pub record IsStanding (known : Known) (trail : Levels) (k : ℕ) : Type 0 where
+pub record IsLevelStanding (known : Known) (trail : Levels) (k : ℕ) : Type 0 where
   pub stood : Standing
   pub here : slice_get trail.saved k ≡ Some stood
   pub lit : Lit
@@ -102,7 +102,7 @@ pub record IsStanding (known : Known) (trail : Levels) (k : ℕ) : Type 0 where
 pub record IsReasoned (known : Known) (trail : Levels) : Type 0 where
   pub leads : Leads known trail.declared trail.entries trail.sets
   pub one_each : length (opens trail.declared trail.entries) ≡ length trail.saved
-  pub standing : (k : ℕ) → k < length trail.saved → IsStanding known trail k
+  pub standing : (k : ℕ) → k < length trail.saved → IsLevelStanding known trail k
 
 -- the clause that says that one of the decisions is wrong
 abbrev pub negated_decisions : List IntSet → List Entry → List Lit

@@ -1,6 +1,6 @@
 // Where the clause of an antecedent is found.
 ghost use Rattle.std.specs.Prelude.{◌≡◌, ◌<◌, IsTrue, length};
-ghost use Rattle.fzn_learned.specs.Reasoned.{known_of, IsKnown, clause_of};
+ghost use Rattle.fzn_learned.specs.Reasoned.{known_of, IsKnown, reason_clause};
 
 use fzn_clauses::Clauses;
 use fzn_domain::Lit;
@@ -10,7 +10,7 @@ use fzn_trail::Reason;
 /// The clause of a reason that is no decision.
 pub fn clause_of<'a>(clauses: &'a Clauses, inferences: &'a Inferences, reason: Reason) -> &'a [Lit]
     requires { IsKnown (known_of clauses.now inferences.now) reason }
-    ensures { result.now ≡ clause_of (known_of clauses.now inferences.now) reason }
+    ensures { result.now ≡ reason_clause (known_of clauses.now inferences.now) reason }
 {
     match reason {
         Reason::Decision => unreachable!(), // It has no clause.

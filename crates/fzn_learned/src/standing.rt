@@ -5,7 +5,7 @@ ghost use Rattle.fzn_domain.specs.declared.literal.Lit.{Lit};
 ghost use Rattle.fzn_domain.specs.Limits.{IsInLimits};
 ghost use Rattle.fzn_domain.specs.Narrow.{IsVariable, IsClauseOver, set_of, possible_in};
 ghost use Rattle.fzn_trail.specs.Replay.{replayed, variable_at};
-ghost use Rattle.fzn_learned.specs.Reasoned.{IsForced};
+ghost use Rattle.fzn_learned.specs.Reasoned.{IsLoneLiteral};
 
 use fzn_domain::{Domain, Lit, VarId};
 use fzn_trail::Trail;
@@ -16,7 +16,7 @@ pub fn forces_at(trail: &Trail, count: usize, clause: &[Lit]) -> bool
     requires variables { All (λ entry. IsVariable (length trail.now.declared) entry.lit.var) trail.now.entries }
     requires over { IsClauseOver (length trail.now.declared) clause.now }
     requires in_limits { All (λ (lit : Lit). IsInLimits lit.value) clause.now }
-    ensures { IsTrue result → (lit : Lit) × IsForced (replayed trail.now.declared (take count trail.now.entries)) clause.now lit }
+    ensures { IsTrue result → (lit : Lit) × IsLoneLiteral (replayed trail.now.declared (take count trail.now.entries)) clause.now lit }
 {
     match only_possible_at(trail, count, clause) {
         Some(lit) => !set_at(trail, count, lit.var).is_false(lit.negated()),

@@ -8,7 +8,7 @@ ghost use Rattle.fzn_domain.specs.Narrow.{IsVariable, IsClauseOver, IsAcceptedFr
 ghost use Rattle.fzn_sets.specs.Sets.{start};
 ghost use Rattle.fzn_trail.specs.Levels.{level_of};
 ghost use Rattle.fzn_learned.specs.Learned.{IsDerived, IsLearned};
-ghost use Rattle.fzn_learned.specs.Reasoned.{known_of, AreOver, IsKnown, IsReasoned, clause_of};
+ghost use Rattle.fzn_learned.specs.Reasoned.{known_of, AreOver, IsKnown, IsReasoned, reason_clause};
 
 use crate::antecedent::{clause_of, is_known};
 use crate::learned::Learned;
@@ -131,7 +131,7 @@ fn is_refuted(
     requires bounds { All IsBound clause.now }
     requires known { All (IsKnown (known_of clauses.now inferences.now)) antecedents.now }
     requires all_over { AreOver (length sets.old.present) (known_of clauses.now inferences.now) }
-    ensures accepted { IfOk result (λ yes. IsTrue yes → IsAcceptedFrom sets.old.present clause.now (map (clause_of (known_of clauses.now inferences.now)) antecedents.now)) }
+    ensures accepted { IfOk result (λ yes. IsTrue yes → IsAcceptedFrom sets.old.present clause.now (map (reason_clause (known_of clauses.now inferences.now)) antecedents.now)) }
     ensures declared { sets.new.declared ≡ sets.old.declared }
 {
     if deny(sets, clause)? {
@@ -149,7 +149,7 @@ fn ends_well(
 ) -> Result<bool, Memory>
     requires known { All (IsKnown (known_of clauses.now inferences.now)) antecedents.now }
     requires over { AreOver (length sets.old.present) (known_of clauses.now inferences.now) }
-    ensures accepted { IfOk result (λ yes. IsTrue yes → chain_outcome sets.old.present (map (clause_of (known_of clauses.now inferences.now)) antecedents.now) ≡ accepted) }
+    ensures accepted { IfOk result (λ yes. IsTrue yes → chain_outcome sets.old.present (map (reason_clause (known_of clauses.now inferences.now)) antecedents.now) ≡ accepted) }
     ensures declared { sets.new.declared ≡ sets.old.declared }
 {
     for antecedent in antecedents {

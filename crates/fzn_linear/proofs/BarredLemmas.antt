@@ -13,7 +13,7 @@ use Rattle.fzn_sets.specs.Terms.{least_value, greatest_value}
 use Rattle.fzn_sets.proofs.CallerLemmas.{MayBe-term_value, term_between}
 use Rattle.fzn_builtin_rules.specs.Linear.{low_product, high_product, least_sum, greatest_sum}
 use Rattle.fzn_propagator.specs.Barred.{GivesOne, LeavesNoBarred}
-use Rattle.fzn_linear.specs.Opposite.{opposite, opposites}
+use Rattle.fzn_linear.specs.Opposite.{opposite_place, opposites}
 use Rattle.fzn_linear.specs.Refuted.{LeavesSome}
 use Rattle.fzn_linear.specs.Pinned.{IsOpenFrom, IsOnlyOpen, NoneIsBarred}
 use Rattle.fzn_linear.proofs.OppositeLemmas.{low_product-opposite, opposite-twice, least_sum-opposites, sum_at-opposites}
@@ -118,18 +118,18 @@ module _ (sets : List IntSet) (places : List Place) (number : ℤ) (fit : All (I
       let sum = total_but (low_product sets) (product_at values) places j d only.in_places (λ k e below apart. gives sets values within (get_or places k e) (fit k e below) (only.others k e below apart)) in
       none (term_value values place.term) (MayBe-term_value sets values place.term within (fit j d only.in_places).0) (sym sum ∙ is)
 
--- ---- the opposite places
+-- ---- the opposite_place places
 
-one_of_opposite : (sets : List IntSet) (place : Place) → GivesOne sets place → GivesOne sets (opposite place)
+one_of_opposite : (sets : List IntSet) (place : Place) → GivesOne sets place → GivesOne sets (opposite_place place)
 one_of_opposite sets place one =
     let a = low_product-opposite sets place in
-    let b = low_product-opposite sets (opposite place) in
-    let c : low_product sets (opposite (opposite place)) ≡ low_product sets place = ap (low_product sets) (opposite-twice place) in
+    let b = low_product-opposite sets (opposite_place place) in
+    let c : low_product sets (opposite_place (opposite_place place)) ≡ low_product sets place = ap (low_product sets) (opposite-twice place) in
     omega (arith, ints)
 
 pub none_barred_opposites : (sets : List IntSet) (places : List Place) (number : ℤ) → LeavesNoBarred sets (opposites places) (pos 0 -ℤ number) → LeavesNoBarred sets places number
 none_barred_opposites sets places number leaves = λ j values settled within is.
     leaves j values (λ k d below apart.
-    let inside : k < length places = omega (arith, length-map places opposite) in
-    subst (λ (p : Place). GivesOne sets p) (sym (get_or-map opposite places k d d inside)) (one_of_opposite sets (get_or places k d) (settled k d inside apart)))
+    let inside : k < length places = omega (arith, length-map places opposite_place) in
+    subst (λ (p : Place). GivesOne sets p) (sym (get_or-map opposite_place places k d d inside)) (one_of_opposite sets (get_or places k d) (settled k d inside apart)))
     within (sum_at-opposites values places ∙ ap (λ (z : ℤ). pos 0 -ℤ z) is)

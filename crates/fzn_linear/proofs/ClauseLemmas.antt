@@ -15,17 +15,17 @@ use Rattle.fzn_builtin_rules.specs.Linear.{low_product, least_sum}
 use Rattle.fzn_trail.specs.Levels.{Levels}
 use Rattle.fzn_propagator.specs.Left.{IsLeft}
 use Rattle.fzn_propagator.proofs.CallerLemmas.{left_of_more, last_fails, forcing_push}
-use Rattle.fzn_linear.specs.Explained.{IsExplained, IsFloor, IsForced, IsExplanation}
-use Rattle.fzn_linear.specs.Refuted.{IsConflict, IsRefutation}
+use Rattle.fzn_linear.specs.Explained.{IsPlaceExplained, IsFloor, IsForcedBySlack, ExplainsPlaces}
+use Rattle.fzn_linear.specs.Refuted.{IsSumConflict, IsRefutation}
 use Rattle.fzn_linear.proofs.SumLemmas.{total_le, total_lt_at}
 use Rattle.fzn_meaning.specs.declared.relation.Comparison.TheVariants.{AtMost}
 
 -- ---- what explains a place
 
-pub explained_more : (trail : Levels) (clause more : List Lit) (place : Place) → IsExplained trail clause place → IsExplained trail (clause ++ more) place
+pub explained_more : (trail : Levels) (clause more : List Lit) (place : Place) → IsPlaceExplained trail clause place → IsPlaceExplained trail (clause ++ more) place
 explained_more trail clause more place explained = λ v left. explained v (left_of_more trail.declared clause more place.term v left)
 
-pub explained_by_floor : (trail : Levels) (clause : List Lit) (place : Place) (lit : Lit) → IsFloor trail place lit → IsExplained trail (clause ++ lit ∷ []) place
+pub explained_by_floor : (trail : Levels) (clause : List Lit) (place : Place) (lit : Lit) → IsFloor trail place lit → IsPlaceExplained trail (clause ++ lit ∷ []) place
 explained_by_floor trail clause place lit floor = λ v left.
     floor.explains v (last_fails trail.declared clause lit v (subst (λ (t : Term). IsLeft trail.declared (clause ++ lit ∷ []) t v) floor.of_place left))
 
@@ -41,7 +41,7 @@ lt_le : (a b c : ℤ) → a <ℤ b → b ≤ℤ c → a <ℤ c
 lt_le a b c h k = omega (arith, ints)
 
 -- where the least sum exceeds the bound, an explanation of every place refutes
-pub conflict : (trail : Levels) (places : List Place) (bound : ℤ) (clause : List Lit) → bound <ℤ least_sum trail.sets places → IsExplanation trail places (length places) (length places) clause → IsConflict trail AtMost places bound clause
+pub conflict : (trail : Levels) (places : List Place) (bound : ℤ) (clause : List Lit) → bound <ℤ least_sum trail.sets places → ExplainsPlaces trail places (length places) (length places) clause → IsSumConflict trail AtMost places bound clause
 conflict trail places bound clause exceeds explanation = record {
   still = explanation.still;
   rules_out = λ choice left.
@@ -54,7 +54,7 @@ le_of_more : (a b : ℤ) (s : ℕ) → (a +ℤ pos s) <ℤ b → a ≤ℤ b
 le_of_more a b s h = omega (arith, ints)
 
 -- where one place gives more than the slack allows without its literal, the explanation of the others with the literal refutes
-pub forcing : (trail : Levels) (places : List Place) (bound : ℤ) (slack : ℕ) (clause : List Lit) (j : ℕ) (d : Place) (lit : Lit) → bound ≡ least_sum trail.sets places +ℤ pos slack → j < length places → IsPlace (length trail.declared) (get_or places j d) → IsForced trail (get_or places j d) slack lit → IsExplanation trail places (length places) j clause → IsRefutation trail AtMost places bound (clause ++ lit ∷ [])
+pub forcing : (trail : Levels) (places : List Place) (bound : ℤ) (slack : ℕ) (clause : List Lit) (j : ℕ) (d : Place) (lit : Lit) → bound ≡ least_sum trail.sets places +ℤ pos slack → j < length places → IsPlace (length trail.declared) (get_or places j d) → IsForcedBySlack trail (get_or places j d) slack lit → ExplainsPlaces trail places (length places) j clause → IsRefutation trail AtMost places bound (clause ++ lit ∷ [])
 forcing trail places bound slack clause j d lit bound_is in_places fits forced explanation = record {
   forcing = forcing_push trail clause lit explanation.still (variable_of_place (length trail.declared) (get_or places j d) lit.var fits forced.of_place) forced.writable forced.not_yet_true;
   rules_out = λ choice left.

@@ -1,4 +1,4 @@
--- A walk that puts the ends of a sum together, those of the opposite sum, and how far a sum may rise above its least.
+-- A walk that puts the ends of a sum together, those of the opposite_place sum, and how far a sum may rise above its least.
 use Rattle.std.proofs.Common.{◌≡◌, ℕ, ◌+◌, ◌*◌, ◌<◌, ◌≤◌, List, length, get_or, take, ap, subst, ◌∙◌, arith, to_z, of_z, unsigned_abs, ℤ, pos, ◌+ℤ◌, ◌-ℤ◌, ◌≤ℤ◌, All}
 use Rattle.std.specs.Int.{w128}
 use Rattle.std.proofs.lemmas.Int.{ints, to_z-of_z}
@@ -9,20 +9,20 @@ use Rattle.fzn_builtin_rules.specs.Linear.{low_product, high_product, least_sum}
 use Rattle.fzn_builtin_rules.specs.Ends.{AreProducts}
 use Rattle.fzn_builtin_rules.specs.declared.ends.Ends.{Ends}
 use Rattle.fzn_builtin_rules.specs.declared.ends.Products.{Products}
-use Rattle.fzn_propagator.specs.Inference.{IsTight, spread}
+use Rattle.fzn_propagator.specs.Inference.{IsTight, spread_of_place}
 use Rattle.fzn_linear.specs.Ends.{AreEnds}
-use Rattle.fzn_linear.specs.Opposite.{opposite, opposites}
+use Rattle.fzn_linear.specs.Opposite.{opposite_place, opposites}
 use Rattle.fzn_linear.proofs.ClauseLemmas.{fits_sum}
 use Rattle.fzn_linear.proofs.OppositeLemmas.{low_product-opposite, opposite-twice, least_sum-opposites, greatest_sum-opposites}
 use Rattle.fzn_terms.proofs.OrderLemmas.{le_trans}
 
-pub none_wider-more : (sets : List IntSet) (places : List Place) (i : ℕ) (d : Place) (before after : ℤ) → i < length places → before ≤ℤ after → spread sets (get_or places i d) ≤ℤ after → All (λ (p : Place). spread sets p ≤ℤ before) (take i places) → All (λ (p : Place). spread sets p ≤ℤ after) (take (i + 1) places)
+pub none_wider-more : (sets : List IntSet) (places : List Place) (i : ℕ) (d : Place) (before after : ℤ) → i < length places → before ≤ℤ after → spread_of_place sets (get_or places i d) ≤ℤ after → All (λ (p : Place). spread_of_place sets p ≤ℤ before) (take i places) → All (λ (p : Place). spread_of_place sets p ≤ℤ after) (take (i + 1) places)
 none_wider-more sets places i d before after in_places more here covered =
-    All-more (λ (p : Place). spread sets p ≤ℤ after) places i d in_places
-    (All-weaker (λ (p : Place). spread sets p ≤ℤ before) (λ (p : Place). spread sets p ≤ℤ after) (λ p h. le_trans (spread sets p) before after h more) (take i places) covered) here
+    All-more (λ (p : Place). spread_of_place sets p ≤ℤ after) places i d in_places
+    (All-weaker (λ (p : Place). spread_of_place sets p ≤ℤ before) (λ (p : Place). spread_of_place sets p ≤ℤ after) (λ p h. le_trans (spread_of_place sets p) before after h more) (take i places) covered) here
 
--- the spread is between the products
-pub spread_by : (sets : List IntSet) (place : Place) (least greatest after : ℤ) → least ≡ low_product sets place → greatest ≡ high_product sets place → (greatest -ℤ least) ≤ℤ after → spread sets place ≤ℤ after
+-- the spread_of_place is between the products
+pub spread_by : (sets : List IntSet) (place : Place) (least greatest after : ℤ) → least ≡ low_product sets place → greatest ≡ high_product sets place → (greatest -ℤ least) ≤ℤ after → spread_of_place sets place ≤ℤ after
 spread_by sets place least greatest after least_is greatest_is h = omega (arith, ints)
 
 pub still_above : (before after : ℤ) → pos 0 ≤ℤ before → before ≤ℤ after → pos 0 ≤ℤ after
@@ -32,21 +32,21 @@ still_above before after h k = le_trans (pos 0) before after h k
 pub products_on : {place : Place} (old new : List IntSet) (given : Products) → old ≡ new → AreProducts old place given → AreProducts new place given
 products_on {place} old new given is h = subst (λ (all : List IntSet). AreProducts all place given) is h
 
--- ---- the opposite sum
+-- ---- the opposite_place sum
 
-pub spread-opposite : (sets : List IntSet) (place : Place) → spread sets (opposite place) ≡ spread sets place
+pub spread-opposite : (sets : List IntSet) (place : Place) → spread_of_place sets (opposite_place place) ≡ spread_of_place sets place
 spread-opposite sets place =
     let a = low_product-opposite sets place in
-    let b = low_product-opposite sets (opposite place) in
-    let c : low_product sets (opposite (opposite place)) ≡ low_product sets place = ap (low_product sets) (opposite-twice place) in
+    let b = low_product-opposite sets (opposite_place place) in
+    let c : low_product sets (opposite_place (opposite_place place)) ≡ low_product sets place = ap (low_product sets) (opposite-twice place) in
     omega (arith, ints)
 
 pub turned_ends : (sets : List IntSet) (places : List Place) (ends new : Ends) → new.least ≡ pos 0 -ℤ ends.greatest → new.greatest ≡ pos 0 -ℤ ends.least → new.widest ≡ ends.widest → AreEnds sets places ends → AreEnds sets (opposites places) new
 turned_ends sets places ends new least_is greatest_is widest_is are = record {
   least_is = let a = least_sum-opposites sets places in let b = are.greatest_is in omega (arith, ints);
   greatest_is = let a = greatest_sum-opposites sets places in let b = are.least_is in omega (arith, ints);
-  none_wider = All-map (λ (p : Place). spread sets p ≤ℤ new.widest) opposite places
-      (All-weaker (λ (p : Place). spread sets p ≤ℤ ends.widest) (λ (p : Place). spread sets (opposite p) ≤ℤ new.widest) (λ p h. let same = spread-opposite sets p in omega (arith, ints)) places are.none_wider);
+  none_wider = All-map (λ (p : Place). spread_of_place sets p ≤ℤ new.widest) opposite_place places
+      (All-weaker (λ (p : Place). spread_of_place sets p ≤ℤ ends.widest) (λ (p : Place). spread_of_place sets (opposite_place p) ≤ℤ new.widest) (λ p h. let same = spread-opposite sets p in omega (arith, ints)) places are.none_wider);
   not_below = let h = are.not_below in omega (arith, ints);
   least_bounded = bounded_as new.least ends.greatest least_is are.greatest_bounded;
   greatest_bounded = bounded_as new.greatest ends.least greatest_is are.least_bounded;
@@ -68,7 +68,7 @@ le_plus : (a s w : ℤ) → s ≤ℤ w → (a +ℤ s) ≤ℤ (a +ℤ w)
 le_plus a s w h = omega (arith, ints)
 
 -- the slack covers each place
-pub tight_within : (sets : List IntSet) (places : List Place) (slack : ℤ) → pos 0 ≤ℤ slack → All (λ (p : Place). spread sets p ≤ℤ slack) places → IsTight sets places (least_sum sets places +ℤ slack)
+pub tight_within : (sets : List IntSet) (places : List Place) (slack : ℤ) → pos 0 ≤ℤ slack → All (λ (p : Place). spread_of_place sets p ≤ℤ slack) places → IsTight sets places (least_sum sets places +ℤ slack)
 tight_within sets places slack some covered = record {
   least = not_less (least_sum sets places) slack some;
   one_other = λ k d below. le_plus _ _ slack (covered k d below);

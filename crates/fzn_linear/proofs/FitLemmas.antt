@@ -14,9 +14,9 @@ use Rattle.fzn_linear.specs.Opposite.{opposites}
 use Rattle.fzn_linear.proofs.CallerLemmas.{opposites_fit, opposites-twice, length-opposites}
 use Rattle.fzn_linear.specs.declared.form.SumForm.{SumForm}
 use Rattle.fzn_linear.specs.OppositeForm.{other_bound, opposite_form}
-use Rattle.fzn_linear.specs.Kinds.{form_in, IsFormOf, IsReady}
+use Rattle.fzn_linear.specs.Kinds.{form_of_sum, IsFormOf, IsSumReady}
 
-pub fits_of : (count : ℕ) (c : Constraint) (sum : SumForm) → IsFormOf c sum → IsWellFormed count c → Fits count (form_in sum)
+pub fits_of : (count : ℕ) (c : Constraint) (sum : SumForm) → IsFormOf c sum → IsWellFormed count c → Fits count (form_of_sum sum)
 fits_of count c sum same well = subst (λ (f : Option Form). IfSome f (Fits count)) same (form_fits count c well)
 
 -- ---- with its opposite
@@ -26,7 +26,7 @@ small_other AtMost bound h = grind (arith, ints)
 small_other Equal bound h = grind (arith, ints)
 small_other NotEqual bound h = grind (arith, ints)
 
-pub ready_of : (count : ℕ) (sum opposite : SumForm) → Fits count (form_in sum) → form_in opposite ≡ opposite_form (form_in sum) → IsReady count sum opposite
+pub ready_of : (count : ℕ) (sum opposite : SumForm) → Fits count (form_of_sum sum) → form_of_sum opposite ≡ opposite_form (form_of_sum sum) → IsSumReady count sum opposite
 ready_of count sum opposite fits same =
     let places : opposite.places ≡ opposites sum.places = ap (λ (f : Form). f.places) same in
     let bound : opposite.bound ≡ other_bound sum.comparison sum.bound = ap (λ (f : Form). f.bound) same in

@@ -12,7 +12,7 @@ use Rattle.fzn_meaning.specs.Term.{IsPlace}
 use Rattle.fzn_trail.specs.Levels.{Levels}
 use Rattle.fzn_propagator.proofs.CallerLemmas.{false_of_none, false_push}
 use Rattle.fzn_linear.specs.declared.at_most.PlaceFloor.{PlaceFloor}
-use Rattle.fzn_linear.specs.Explained.{IsExplained, IsFloor, IsExplanation, IsFloorAt, AreFloors, HasFloors}
+use Rattle.fzn_linear.specs.Explained.{IsPlaceExplained, IsFloor, ExplainsPlaces, IsFloorAt, AreFloors, HasFloors}
 use Rattle.fzn_linear.proofs.ClauseLemmas.{explained_more, explained_by_floor, variable_of_place}
 
 module _ (trail : Levels) (places : List Place) where
@@ -21,13 +21,13 @@ module _ (trail : Levels) (places : List Place) where
   pub floors_none : AreFloors trail places 0 []
   floors_none = record { each = All-nil (IsFloorAt trail places); explained = λ k e below. absurd (omega arith) }
 
-  pub floors_same : (i : ℕ) (floors : List PlaceFloor) (d : Place) → i < length places → AreFloors trail places i floors → IsExplained trail [] (get_or places i d) → AreFloors trail places (i + 1) floors
+  pub floors_same : (i : ℕ) (floors : List PlaceFloor) (d : Place) → i < length places → AreFloors trail places i floors → IsPlaceExplained trail [] (get_or places i d) → AreFloors trail places (i + 1) floors
   floors_same i floors d in_places before here = record {
     each = before.each;
     explained = λ k e below. elim (cases_eq k i) [
       | inl same ↦
           let at : get_or places i d ≡ get_or places k e = get_or_default places i d e in_places ∙ ap (λ (n : ℕ). get_or places n e) (sym same) in
-          inl (subst (λ (p : Place). IsExplained trail [] p) at here)
+          inl (subst (λ (p : Place). IsPlaceExplained trail [] p) at here)
       | inr other ↦ before.explained k e (omega arith)
     ];
   }
@@ -83,19 +83,19 @@ module _ (trail : Levels) (places : List Place) where
           explained = λ k f e below apart. elim (cases_eq k i) [
             | inl same ↦
                 let is : get_or floors i d ≡ get_or floors k f = get_or_default floors i d f in_floors ∙ ap (λ (n : ℕ). get_or floors n f) (sym same) in
-                subst (λ (x : PlaceFloor). IsExplained trail (clause ++ lit ∷ []) (get_or places x.place e)) is
+                subst (λ (x : PlaceFloor). IsPlaceExplained trail (clause ++ lit ∷ []) (get_or places x.place e)) is
                 (explained_by_floor trail clause (get_or places (get_or floors i d).place e) lit (here.literal e))
             | inr other ↦ explained_more trail clause (lit ∷ []) (get_or places (get_or floors k f).place e) (before.explained k f e (omega arith) apart)
           ];
         }
 
-    pub explanation_of : (clause : List Lit) → AreFloors trail places (length places) floors → HasFloors trail places floors (length floors) except clause → IsExplanation trail places (length places) except clause
+    pub explanation_of : (clause : List Lit) → AreFloors trail places (length places) floors → HasFloors trail places floors (length floors) except clause → ExplainsPlaces trail places (length places) except clause
     explanation_of clause are has =
         let any : PlaceFloor = record { place = 0; lit = record { var = record { 0 = 0 }; op = op.AtMost; value = pos 0 } } in
         record {
           still = has.still;
           explained = λ k e below apart. elim (are.explained k e below) [
             | inl none ↦ explained_more trail [] clause (get_or places k e) none
-            | inr some ↦ subst (λ (n : ℕ). IsExplained trail clause (get_or places n e)) (some.2 any) (has.explained some.0 any e some.1 (λ same. apart (sym (some.2 any) ∙ same)))
+            | inr some ↦ subst (λ (n : ℕ). IsPlaceExplained trail clause (get_or places n e)) (some.2 any) (has.explained some.0 any e some.1 (λ same. apart (sym (some.2 any) ∙ same)))
           ];
         }

@@ -27,7 +27,7 @@ use Rattle.fzn_builtin_rules.proofs.CallerLemmas.{form_meets}
 use Rattle.fzn_rules.specs.Rules.{IsMet}
 use Rattle.fzn_trail.specs.Levels.{Levels}
 use Rattle.fzn_propagator.specs.Clause.{IsJustified}
-use Rattle.fzn_propagator.specs.Inference.{AllFixed, IsTight, IsExhausted}
+use Rattle.fzn_propagator.specs.Inference.{AllFixed, IsTight, IsInferredOut}
 use Rattle.fzn_propagator.specs.Barred.{IsToDiffer, LeavesNoBarred}
 use Rattle.fzn_propagator.proofs.CallerLemmas.{one_end, flat_cond, justified_by}
 use Rattle.fzn_linear.specs.Opposite.{opposites}
@@ -144,7 +144,7 @@ none_barred_by sets comparison places bound (Some term) (inr off) alone =
     none_barred_opposites sets places bound
     (subst (λ (c : Comparison). LeavesEach sets (other_comparison c) (opposites places) (other_bound c bound)) off.1 (alone false off.0)).1
 
-pub sum_alone : (trail : Levels) (found : Form) (constraint : Constraint) → form_of constraint ≡ Some found → HasBooleanSets trail.declared constraint → All (IsPlace (length trail.declared)) found.places → IsSwitch (length trail.declared) found.switch → IsLeftAlone trail.sets found → IsExhausted constraint trail
+pub sum_alone : (trail : Levels) (found : Form) (constraint : Constraint) → form_of constraint ≡ Some found → HasBooleanSets trail.declared constraint → All (IsPlace (length trail.declared)) found.places → IsSwitch (length trail.declared) found.switch → IsLeftAlone trail.sets found → IsInferredOut constraint trail
 sum_alone trail found constraint same booleans fit fits alone = record {
   holds = λ fixed values declared within.
       let counts = sym within.one_each ∙ declared.one_each in

@@ -14,7 +14,7 @@ use Rattle.fzn_propagator.specs.Subscriptions.{terms_in, terms_of, waits_some, A
 use Rattle.fzn_propagator.proofs.CallerLemmas.{all_heard-by, all_heard-each, all_heard-join, all_heard-swap}
 use Rattle.fzn_linear.specs.declared.sum.SumPropagator.{SumPropagator}
 use Rattle.fzn_linear.specs.declared.equality.EqualityPropagator.{EqualityPropagator}
-use Rattle.fzn_linear.specs.Kinds.{form_in, IsFormOf}
+use Rattle.fzn_linear.specs.Kinds.{form_of_sum, IsFormOf}
 use Rattle.fzn_linear.specs.Equality.{EqualityIsFor}
 use Rattle.fzn_linear.specs.Wakes.{event_at, sum_subscriptions}
 
@@ -65,7 +65,7 @@ sum_heard propagator found constraint is of_form =
     let switch = option_to_list propagator.form.switch in
     let by_place = all_heard-by (λ (place : Place). event_at propagator.wake place.coefficient) (λ (place : Place). place.term) places in
     let both = all_heard-join _ (waits_some Any propagator.form.switch) (terms_in places) switch by_place (all_heard-each Any switch) in
-    form_heard found (form_in propagator.form) (subst (λ (xs : List Subscription). AreHeard xs (terms_in places ++ switch)) (sym is) both) constraint of_form
+    form_heard found (form_of_sum propagator.form) (subst (λ (xs : List Subscription). AreHeard xs (terms_in places ++ switch)) (sym is) both) constraint of_form
 
 -- so of what is answered, if anything
 pub answer_heard : {E : Type 0} (propagator : SumPropagator) (answer : Result (List Subscription) E) → IfOk answer (λ found. found ≡ sum_subscriptions propagator) → IfOk answer (λ found. (constraint : Constraint) → IsFormOf constraint propagator.form → AreHeard found (terms_of constraint))

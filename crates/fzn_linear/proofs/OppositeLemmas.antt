@@ -1,4 +1,4 @@
--- The opposite places give the negative sum.
+-- The opposite_place places give the negative sum.
 use Rattle.std.proofs.Common.{◌≡◌, ℕ, zero, suc, ◌≤◌, Bool, true, false, cond, List, [], ◌∷◌, length, refl, sym, ap, ap₂, ◌∙◌, arith, ℤ, pos, negsuc, ◌-ℤ◌, ◌*ℤ◌, unsigned_abs, int_lt, All}
 use Rattle.std.proofs.lemmas.Int.{ints}
 use Rattle.std.proofs.lemmas.List.{length-map}
@@ -9,7 +9,7 @@ use Rattle.fzn_meaning.specs.declared.term.Place.{Place}
 use Rattle.fzn_meaning.specs.Term.{term_value, IsPlace, product_at, sum_at, total_by}
 use Rattle.fzn_sets.specs.Terms.{least_value, greatest_value}
 use Rattle.fzn_builtin_rules.specs.Linear.{low_product, high_product, least_sum, greatest_sum}
-use Rattle.fzn_linear.specs.Opposite.{opposite, opposites}
+use Rattle.fzn_linear.specs.Opposite.{opposite_place, opposites}
 use Rattle.fzn_builtin_rules.proofs.CallerLemmas.{total_by-cons}
 use Rattle.fzn_linear.proofs.ProductLemmas.{no_times}
 
@@ -58,18 +58,18 @@ end_of (negsuc n) low high =
     let f : int_lt (negsuc n) (pos 0) ≡ true = grind (arith, ints) in
     end_by (negsuc n) low high false true e f refl
 
-pub low_product-opposite : (sets : List IntSet) (place : Place) → low_product sets (opposite place) ≡ pos 0 -ℤ high_product sets place
+pub low_product-opposite : (sets : List IntSet) (place : Place) → low_product sets (opposite_place place) ≡ pos 0 -ℤ high_product sets place
 unfolding low_product high_product
 low_product-opposite sets place = end_of place.coefficient (least_value sets place.term) (greatest_value sets place.term)
 
 -- ---- sums
 
-pub total-opposites : (f g : Place → ℤ) → ((place : Place) → f (opposite place) ≡ pos 0 -ℤ g place) → (places : List Place) → total_by f (opposites places) ≡ pos 0 -ℤ total_by g places
+pub total-opposites : (f g : Place → ℤ) → ((place : Place) → f (opposite_place place) ≡ pos 0 -ℤ g place) → (places : List Place) → total_by f (opposites places) ≡ pos 0 -ℤ total_by g places
 total-opposites f g each [] = omega (arith, ints)
 total-opposites f g each (p ∷ places) =
     let rest = total-opposites f g each places in
     let here = each p in
-    let a = total_by-cons f (opposite p) (opposites places) in
+    let a = total_by-cons f (opposite_place p) (opposites places) in
     let b = total_by-cons g p places in
     omega (arith, ints)
 
@@ -81,7 +81,7 @@ sum_at-opposites values places = total-opposites (product_at values) (product_at
 
 -- ---- twice
 
-pub opposite-twice : (place : Place) → opposite (opposite place) ≡ place
+pub opposite-twice : (place : Place) → opposite_place (opposite_place place) ≡ place
 opposite-twice place =
     let e : pos 0 -ℤ (pos 0 -ℤ place.coefficient) ≡ place.coefficient = omega (arith, ints) in
     ap (λ (c : ℤ). record { coefficient = c; term = place.term }) e
@@ -103,10 +103,10 @@ abs_of_neg c = grind (arith, ints)
 
 pub opposites_fit : (count : ℕ) (places : List Place) → All (IsPlace count) places → All (IsPlace count) (opposites places)
 opposites_fit count places fit =
-    All-map (IsPlace count) opposite places (All-weaker (IsPlace count) (λ (p : Place). IsPlace count (opposite p)) (λ p h. (h.0, small p h.1)) places fit)
+    All-map (IsPlace count) opposite_place places (All-weaker (IsPlace count) (λ (p : Place). IsPlace count (opposite_place p)) (λ p h. (h.0, small p h.1)) places fit)
   where
     small : (p : Place) → unsigned_abs p.coefficient ≤ 1000000000 → unsigned_abs (pos 0 -ℤ p.coefficient) ≤ 1000000000
     small p h = let e = abs_of_neg p.coefficient in omega arith
 
 pub length-opposites : (places : List Place) → length (opposites places) ≡ length places
-length-opposites places = length-map places opposite
+length-opposites places = length-map places opposite_place

@@ -8,13 +8,13 @@ use Rattle.fzn_builtin_rules.specs.Form.{Form}
 use Rattle.fzn_meaning.specs.declared.constraint.Constraint.{Constraint}
 use Rattle.fzn_trail.specs.Levels.{Levels}
 use Rattle.fzn_propagator.specs.declared.propagator.Inference.{Inference}
-use Rattle.fzn_propagator.specs.Inference.{IsInference, AreInferencesOf}
+use Rattle.fzn_propagator.specs.Inference.{IsNumberedInference, AreInferencesOf}
 use Rattle.fzn_builtin_rules.specs.declared.ends.Ends.{Ends}
 use Rattle.fzn_linear.specs.declared.form.SumForm.{SumForm}
 use Rattle.fzn_linear.specs.declared.pass.Pass.{Pass}
 use Rattle.fzn_linear.specs.declared.side.Side.{Side}
 use Rattle.fzn_linear.specs.Ends.{AreEnds}
-use Rattle.fzn_linear.specs.Kinds.{form_in, IsFormOf}
+use Rattle.fzn_linear.specs.Kinds.{form_of_sum, IsFormOf}
 use Rattle.fzn_linear.specs.Passes.{AddsInferences}
 use Rattle.fzn_linear.specs.Sum.{IsFormLeft, IsLeftAlone}
 use Rattle.fzn_linear.specs.Switched.{form_where, IsSwitchAt}
@@ -31,7 +31,7 @@ module _ (number : ℕ) (sum : SumForm) (trail : Levels) where
 
   pub still_inferences : (is_for : Constraint → Type 0) → ((constraint : Constraint) → is_for constraint → IsFormOf constraint sum) → (before after : List Inference) → AreInferencesOf number is_for trail before → AddsInferences number sum trail before after → AreInferencesOf number is_for trail after
   still_inferences is_for by_form before after all adds = λ k d below constraint is.
-      (adds.still constraint (by_form constraint is) (record { all = λ i e inside other same. subst (λ (x : Constraint). IsInference number x trail (get_or before i e)) same (all i e inside constraint is) })).all k d below constraint refl
+      (adds.still constraint (by_form constraint is) (record { all = λ i e inside other same. subst (λ (x : Constraint). IsNumberedInference number x trail (get_or before i e)) same (all i e inside constraint is) })).all k d below constraint refl
 
 -- ---- and where nothing is found
 
@@ -55,12 +55,12 @@ both_left sets found on off false is = off is
 
 -- a side of a pass
 module _ (side : Side) (pass : Pass) (on : Bool) (is : (side.pass ≡ pass) × (side.on ≡ on)) where
-  pub side_left : IsFormLeft side.pass.trail.now.sets (form_in side.sum.now) → IsFormLeft pass.trail.now.sets (form_where on (form_in pass.form.now))
+  pub side_left : IsFormLeft side.pass.trail.now.sets (form_of_sum side.sum.now) → IsFormLeft pass.trail.now.sets (form_where on (form_of_sum pass.form.now))
   side_left left =
       let here = subst (λ (f : Form). IsFormLeft side.pass.trail.now.sets f) side.sum_is left in
-      subst (λ (b : Bool). IsFormLeft pass.trail.now.sets (form_where b (form_in pass.form.now))) is.1 (subst (λ (p : Pass). IsFormLeft p.trail.now.sets (form_where side.on (form_in p.form.now))) is.0 here)
+      subst (λ (b : Bool). IsFormLeft pass.trail.now.sets (form_where b (form_of_sum pass.form.now))) is.1 (subst (λ (p : Pass). IsFormLeft p.trail.now.sets (form_where side.on (form_of_sum p.form.now))) is.0 here)
 
-  pub side_ends : (ends : Ends) → AreEnds pass.trail.now.sets (form_where on (form_in pass.form.now)).places ends → AreEnds side.pass.trail.now.sets side.sum.now.places ends
+  pub side_ends : (ends : Ends) → AreEnds pass.trail.now.sets (form_where on (form_of_sum pass.form.now)).places ends → AreEnds side.pass.trail.now.sets side.sum.now.places ends
   side_ends ends are =
-      let there = subst (λ (b : Bool). AreEnds pass.trail.now.sets (form_where b (form_in pass.form.now)).places ends) (sym is.1) are in
-      subst (λ (f : Form). AreEnds side.pass.trail.now.sets f.places ends) (sym side.sum_is) (subst (λ (p : Pass). AreEnds p.trail.now.sets (form_where side.on (form_in p.form.now)).places ends) (sym is.0) there)
+      let there = subst (λ (b : Bool). AreEnds pass.trail.now.sets (form_where b (form_of_sum pass.form.now)).places ends) (sym is.1) are in
+      subst (λ (f : Form). AreEnds side.pass.trail.now.sets f.places ends) (sym side.sum_is) (subst (λ (p : Pass). AreEnds p.trail.now.sets (form_where side.on (form_of_sum p.form.now)).places ends) (sym is.0) there)

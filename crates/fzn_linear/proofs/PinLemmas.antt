@@ -23,8 +23,8 @@ use Rattle.fzn_trail.specs.Levels.{Levels}
 use Rattle.fzn_propagator.specs.Left.{IsLeft}
 use Rattle.fzn_propagator.specs.Barred.{GivesOne}
 use Rattle.fzn_propagator.proofs.CallerLemmas.{left_of_more, last_fails, false_push, forcing_push, value_where_false, denied_one, may_fail}
-use Rattle.fzn_linear.specs.Opposite.{opposite, opposites}
-use Rattle.fzn_linear.specs.Refuted.{RulesOut, IsConflict, IsRefutation}
+use Rattle.fzn_linear.specs.Opposite.{opposite_place, opposites}
+use Rattle.fzn_linear.specs.Refuted.{RulesOut, IsSumConflict, IsRefutation}
 use Rattle.fzn_linear.specs.Pinned.{IsPinned, IsPin, ArePinned, IsBarring}
 use Rattle.fzn_linear.proofs.OppositeLemmas.{neg_times, total-opposites}
 use Rattle.fzn_builtin_rules.proofs.CallerLemmas.{low_up, low_down, high_up, high_down}
@@ -159,16 +159,16 @@ rules_out_at : (trail : Levels) (clause : List Lit) (places : List Place) (numbe
 rules_out_at trail clause places number is = (
   λ choice left. let e = is choice left in omega (arith, ints),
   λ choice left.
-      let e = is (λ (p : Place). choice (opposite p)) (λ k d below. subst (λ (p : Place). IsLeft trail.declared clause p.term (choice p)) (get_or-map opposite places k d d below) (left k d (more k below))) in
-      let o = total-opposites (λ (p : Place). p.coefficient *ℤ choice p) (λ (p : Place). p.coefficient *ℤ choice (opposite p)) (λ p. neg_times p.coefficient (choice (opposite p))) places in
+      let e = is (λ (p : Place). choice (opposite_place p)) (λ k d below. subst (λ (p : Place). IsLeft trail.declared clause p.term (choice p)) (get_or-map opposite_place places k d d below) (left k d (more k below))) in
+      let o = total-opposites (λ (p : Place). p.coefficient *ℤ choice p) (λ (p : Place). p.coefficient *ℤ choice (opposite_place p)) (λ p. neg_times p.coefficient (choice (opposite_place p))) places in
       omega (arith, ints),
 )
   where
     more : (k : ℕ) → k < length places → k < length (opposites places)
-    more k below = omega (arith, length-map places opposite)
+    more k below = omega (arith, length-map places opposite_place)
 
 -- where each place gives its one number, and the sum of them is the number, the clause that pins them is a conflict
-pub conflict_settled : (trail : Levels) (places : List Place) (number : ℤ) (clause : List Lit) → least_sum trail.sets places ≡ number → ArePinned trail places (length places) (length places) clause → IsConflict trail NotEqual places number clause
+pub conflict_settled : (trail : Levels) (places : List Place) (number : ℤ) (clause : List Lit) → least_sum trail.sets places ≡ number → ArePinned trail places (length places) (length places) clause → IsSumConflict trail NotEqual places number clause
 conflict_settled trail places number clause is pins = record {
   still = pins.still;
   rules_out = rules_out_at trail clause places number (λ choice left.

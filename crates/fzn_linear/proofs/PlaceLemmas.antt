@@ -14,9 +14,9 @@ use Rattle.fzn_sets.specs.Terms.{least_value, greatest_value}
 use Rattle.fzn_builtin_rules.specs.Linear.{low_product, high_product}
 use Rattle.fzn_builtin_rules.proofs.CallerLemmas.{low_up, low_down, high_up, high_down}
 use Rattle.fzn_trail.specs.Levels.{Levels}
-use Rattle.fzn_propagator.specs.Inference.{spread}
+use Rattle.fzn_propagator.specs.Inference.{spread_of_place}
 use Rattle.fzn_propagator.specs.Left.{IsLeft}
-use Rattle.fzn_linear.specs.Explained.{IsExplained, IsFloor, IsForced}
+use Rattle.fzn_linear.specs.Explained.{IsPlaceExplained, IsFloor, IsForcedBySlack}
 use Rattle.fzn_terms.proofs.ProductLemmas.{mono_up, mono_down}
 use Rattle.fzn_linear.proofs.ProductLemmas.{past_up, past_down, near_up, near_down}
 use Rattle.fzn_terms.proofs.OrderLemmas.{le_trans, le_same}
@@ -49,7 +49,7 @@ pub both_signs : {P : Type 0} (c : ℤ) → (pos 0 ≤ℤ c → P) → (c <ℤ p
 both_signs (pos n) up down = up (omega (arith, ints))
 both_signs (negsuc m) up down = down (omega (arith, ints))
 
-pub explained_constant : (trail : Levels) (place : Place) (k : ℤ) → place.term ≡ Constant k → IsExplained trail [] place
+pub explained_constant : (trail : Levels) (place : Place) (k : ℤ) → place.term ≡ Constant k → IsPlaceExplained trail [] place
 explained_constant trail place k of = λ value left.
     let is : value ≡ k = subst (λ (t : Term). IsLeft trail.declared [] t value) of left in
     both_signs place.coefficient
@@ -59,13 +59,13 @@ explained_constant trail place k of = λ value left.
 le_from : (a b c : ℤ) → a ≡ b → b ≤ℤ c → a ≤ℤ c
 le_from a b c e h = omega (arith, ints)
 
-pub explained_up : (trail : Levels) (place : Place) (var : VarId) (low bound : ℤ) → pos 0 ≤ℤ place.coefficient → place.term ≡ Variable var → low ≡ least (set_of trail.sets var) → bound ≡ least (set_of trail.declared var) → low ≤ℤ bound → IsExplained trail [] place
+pub explained_up : (trail : Levels) (place : Place) (var : VarId) (low bound : ℤ) → pos 0 ≤ℤ place.coefficient → place.term ≡ Variable var → low ≡ least (set_of trail.sets var) → bound ≡ least (set_of trail.declared var) → low ≤ℤ bound → IsPlaceExplained trail [] place
 explained_up trail place var low bound sign of is declared_is h = λ value left.
     let parts = subst (λ (t : Term). IsLeft trail.declared [] t value) of left in
     let above : bound ≤ℤ value = le_from bound _ value declared_is (least_le (set_of trail.declared var) value parts.0) in
     le_from _ _ _ (product_up trail.sets place var low sign of is) (mono_up place.coefficient low value sign (le_trans low bound value h above))
 
-pub explained_down : (trail : Levels) (place : Place) (var : VarId) (high bound : ℤ) → place.coefficient <ℤ pos 0 → place.term ≡ Variable var → high ≡ greatest (set_of trail.sets var) → bound ≡ greatest (set_of trail.declared var) → bound ≤ℤ high → IsExplained trail [] place
+pub explained_down : (trail : Levels) (place : Place) (var : VarId) (high bound : ℤ) → place.coefficient <ℤ pos 0 → place.term ≡ Variable var → high ≡ greatest (set_of trail.sets var) → bound ≡ greatest (set_of trail.declared var) → bound ≤ℤ high → IsPlaceExplained trail [] place
 explained_down trail place var high bound sign of is declared_is h = λ value left.
     let parts = subst (λ (t : Term). IsLeft trail.declared [] t value) of left in
     let below : value ≤ℤ bound = subst (λ (x : ℤ). value ≤ℤ x) (sym declared_is) (le_greatest (set_of trail.declared var) value parts.0) in
@@ -141,7 +141,7 @@ pub record HasEnds (s : IntSet) (low high : ℤ) : Type 0 where
 ends_ordered : (s : IntSet) (low high : ℤ) → HasEnds s low high → low ≤ℤ high
 ends_ordered s low high ends = le_from low (least s) high ends.low_is (least_le s high ends.high_in)
 
-pub forced_up : (trail : Levels) (place : Place) (slack : ℕ) (var : VarId) (low high value : ℤ) (n step : ℕ) → pos 0 ≤ℤ place.coefficient → place.term ≡ Variable var → HasEnds (set_of trail.sets var) low high → n ≡ unsigned_abs place.coefficient → 0 < n → step ≡ slack / n → step < unsigned_abs (high -ℤ low) → value ≡ low +ℤ pos step → IsForced trail place slack (record { var = var; op = AtMost; value = value })
+pub forced_up : (trail : Levels) (place : Place) (slack : ℕ) (var : VarId) (low high value : ℤ) (n step : ℕ) → pos 0 ≤ℤ place.coefficient → place.term ≡ Variable var → HasEnds (set_of trail.sets var) low high → n ≡ unsigned_abs place.coefficient → 0 < n → step ≡ slack / n → step < unsigned_abs (high -ℤ low) → value ≡ low +ℤ pos step → IsForcedBySlack trail place slack (record { var = var; op = AtMost; value = value })
 forced_up trail place slack var low high value n step sign of ends size some step_is far value_is =
     let ordered = ends_ordered (set_of trail.sets var) low high ends in
     let limits = between low high value step ends.low_limits ends.high_limits ordered far value_is in
@@ -153,7 +153,7 @@ forced_up trail place slack var low high value n step sign of ends size some ste
       exceeds = λ v h. lt_from _ _ (pos slack) _ (product_up trail.sets place var low sign of ends.low_is) (past_up place.coefficient low v n slack step size some sign step_is (past_high low v value step value_is h));
     }
 
-pub forced_down : (trail : Levels) (place : Place) (slack : ℕ) (var : VarId) (low high value : ℤ) (n step : ℕ) → place.coefficient <ℤ pos 0 → place.term ≡ Variable var → HasEnds (set_of trail.sets var) low high → n ≡ unsigned_abs place.coefficient → 0 < n → step ≡ slack / n → step < unsigned_abs (high -ℤ low) → value ≡ high -ℤ pos step → IsForced trail place slack (record { var = var; op = AtLeast; value = value })
+pub forced_down : (trail : Levels) (place : Place) (slack : ℕ) (var : VarId) (low high value : ℤ) (n step : ℕ) → place.coefficient <ℤ pos 0 → place.term ≡ Variable var → HasEnds (set_of trail.sets var) low high → n ≡ unsigned_abs place.coefficient → 0 < n → step ≡ slack / n → step < unsigned_abs (high -ℤ low) → value ≡ high -ℤ pos step → IsForcedBySlack trail place slack (record { var = var; op = AtLeast; value = value })
 forced_down trail place slack var low high value n step sign of ends size some step_is far value_is =
     let ordered = ends_ordered (set_of trail.sets var) low high ends in
     let limits = between_down low high value step ends.low_limits ends.high_limits ordered far value_is in
@@ -167,7 +167,7 @@ forced_down trail place slack var low high value n step sign of ends size some s
 
 -- ---- nothing is forced
 
-pub spread_near : (sets : List IntSet) (place : Place) (slack : ℕ) (var : VarId) (low high : ℤ) → place.term ≡ Variable var → HasEnds (set_of sets var) low high → unsigned_abs place.coefficient * unsigned_abs (high -ℤ low) ≤ slack → spread sets place ≤ℤ pos slack
+pub spread_near : (sets : List IntSet) (place : Place) (slack : ℕ) (var : VarId) (low high : ℤ) → place.term ≡ Variable var → HasEnds (set_of sets var) low high → unsigned_abs place.coefficient * unsigned_abs (high -ℤ low) ≤ slack → spread_of_place sets place ≤ℤ pos slack
 spread_near sets place slack var low high of ends near =
     let ordered = ends_ordered (set_of sets var) low high ends in
     both_signs place.coefficient
@@ -177,7 +177,7 @@ spread_near sets place slack var low high of ends near =
     spread_as : (a b c d s : ℤ) → a ≡ b → c ≡ d → (b -ℤ d) ≤ℤ s → (a -ℤ c) ≤ℤ s
     spread_as a b c d s e f h = omega (arith, ints)
 
-pub spread_constant : (sets : List IntSet) (place : Place) (k : ℤ) (slack : ℕ) → place.term ≡ Constant k → spread sets place ≤ℤ pos slack
+pub spread_constant : (sets : List IntSet) (place : Place) (k : ℤ) (slack : ℕ) → place.term ≡ Constant k → spread_of_place sets place ≤ℤ pos slack
 spread_constant sets place k slack of =
     both_signs place.coefficient
     (λ sign. flat _ _ (place.coefficient *ℤ k) slack (high_up sets place sign ∙ ap (λ (t : Term). place.coefficient *ℤ greatest_value sets t) of) (low_up sets place sign ∙ ap (λ (t : Term). place.coefficient *ℤ least_value sets t) of))

@@ -29,11 +29,11 @@ use Rattle.fzn_linear.specs.declared.form.SumForm.{SumForm}
 use Rattle.fzn_linear.specs.declared.inequality.Inequality.{Inequality}
 use Rattle.fzn_linear.specs.declared.side.Side.{Side}
 use Rattle.fzn_linear.specs.Explained.{Exceeds}
-use Rattle.fzn_linear.specs.Kinds.{form_in}
+use Rattle.fzn_linear.specs.Kinds.{form_of_sum}
 use Rattle.fzn_linear.specs.Opposite.{opposites}
 use Rattle.fzn_linear.specs.OppositeForm.{other_comparison, other_bound}
 use Rattle.fzn_linear.specs.Passes.{IsInferredGuarded, IsBoundOfSide}
-use Rattle.fzn_linear.specs.Refuted.{RulesOut, IsConflict, IsRefutation}
+use Rattle.fzn_linear.specs.Refuted.{RulesOut, IsSumConflict, IsRefutation}
 use Rattle.fzn_linear.specs.Switched.{form_where, value_where, MayBeSwitchAt, IsSwitchFixed, guard_of}
 use Rattle.fzn_linear.proofs.CallerLemmas.{total_le, least_sum-opposites, greatest_sum-opposites, opposites_fit, rules_out-more}
 
@@ -154,13 +154,13 @@ module _ (side : Side) (clause : List Lit) where
     forcing = forcing;
     met = λ some.
         let trail = side.pass.trail.now in
-        let found = form_in side.pass.form.now in
+        let found = form_of_sum side.pass.form.now in
         let more = rules_out-more trail clause (guard_of found.switch side.on) side.sum.now.comparison side.sum.now.places side.sum.now.bound out in
         excluded trail clause found.comparison found.places found.bound side.pass.ready.on.places_fit found.switch side.on side.pass.ready.switch_fits side.may forcing.over some
         (subst (λ (f : Form). RulesOut side.pass.trail.now (clause ++ guard_of side.pass.form.now.switch side.on) f.comparison f.places f.bound) side.sum_is more);
   }
 
-  pub cause_of_conflict : IsConflict side.pass.trail.now side.sum.now.comparison side.sum.now.places side.sum.now.bound clause → IsInferredGuarded side clause
+  pub cause_of_conflict : IsSumConflict side.pass.trail.now side.sum.now.comparison side.sum.now.places side.sum.now.bound clause → IsInferredGuarded side clause
   cause_of_conflict conflict = cause_by (forcing_false side.pass.trail.now clause side.pass.form.now.switch side.on side.pass.ready.switch_fits side.may conflict.still) conflict.rules_out
 
   pub cause_of_refutation : IsSwitchFixed side.pass.trail.now.sets side.pass.form.now.switch → IsRefutation side.pass.trail.now side.sum.now.comparison side.sum.now.places side.sum.now.bound clause → IsInferredGuarded side clause
@@ -168,7 +168,7 @@ module _ (side : Side) (clause : List Lit) where
 
   -- and of a part of it
   module _ (part : Inequality) (is : IsBoundOfSide side part) where
-    pub cause_of_excess : IsConflict part.trail.now AtMost part.places.now part.bound clause → IsInferredGuarded side clause
+    pub cause_of_excess : IsSumConflict part.trail.now AtMost part.places.now part.bound clause → IsInferredGuarded side clause
     cause_of_excess conflict = cause_of_conflict (record {
       still = subst (λ (t : Levels). IsFalseClause t clause) is.trail_is conflict.still;
       rules_out = is.rules_out side.pass.trail.now clause (subst (λ (t : Levels). Exceeds t clause part.places.now part.bound) is.trail_is conflict.rules_out);

@@ -8,7 +8,7 @@ use Rattle.fzn_trail.specs.Levels.{Levels}
 use Rattle.fzn_propagator.proofs.CallerLemmas.{left_of_more, forcing_of_false}
 use Rattle.fzn_linear.specs.Explained.{Exceeds}
 use Rattle.fzn_linear.specs.Opposite.{opposites}
-use Rattle.fzn_linear.specs.Refuted.{RulesOut, IsConflict, IsRefutation}
+use Rattle.fzn_linear.specs.Refuted.{RulesOut, IsSumConflict, IsRefutation}
 
 exceeds-more : (trail : Levels) (clause more : List Lit) (places : List Place) (bound : ℤ) → Exceeds trail clause places bound → Exceeds trail (clause ++ more) places bound
 exceeds-more trail clause more places bound exceeds = λ choice left.
@@ -25,5 +25,5 @@ rules_out-more trail clause more NotEqual places bound out = (
   exceeds-more trail clause more (opposites places) ((pos 0 -ℤ bound) -ℤ pos 1) out.1,
 )
 
-pub refutation_of : (trail : Levels) (comparison : Comparison) (places : List Place) (bound : ℤ) (clause : List Lit) → IsConflict trail comparison places bound clause → IsRefutation trail comparison places bound clause
+pub refutation_of : (trail : Levels) (comparison : Comparison) (places : List Place) (bound : ℤ) (clause : List Lit) → IsSumConflict trail comparison places bound clause → IsRefutation trail comparison places bound clause
 refutation_of trail comparison places bound clause conflict = record { forcing = forcing_of_false trail clause conflict.still; rules_out = conflict.rules_out }

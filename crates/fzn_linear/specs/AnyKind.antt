@@ -6,7 +6,7 @@ use Rattle.fzn_linear.specs.declared.kinds.ArithPropagator.{ArithPropagator}
 use Rattle.fzn_linear.specs.declared.kinds.ArithPropagator.TheVariants.{Sum, Equality}
 use Rattle.fzn_linear.specs.declared.form.SumForm.{SumForm}
 use Rattle.fzn_linear.specs.declared.sum.SumPropagator.{SumPropagator}
-use Rattle.fzn_linear.specs.Kinds.{IsFormOf, IsReady}
+use Rattle.fzn_linear.specs.Kinds.{IsFormOf, IsSumReady}
 use Rattle.fzn_linear.specs.Equality.{equality_number, EqualityIsFor, EqualityFits}
 
 abbrev pub sum_in : ArithPropagator → SumPropagator
@@ -27,5 +27,5 @@ KindIsFor (Sum p) constraint = IsFormOf constraint p.form
 KindIsFor (Equality p) constraint = EqualityIsFor p constraint
 
 abbrev pub KindFits : ArithPropagator → List IntSet → Type 0
-KindFits (Sum p) declared = IsReady (length declared) p.form p.opposite
+KindFits (Sum p) declared = IsSumReady (length declared) p.form p.opposite
 KindFits (Equality p) declared = EqualityFits p declared

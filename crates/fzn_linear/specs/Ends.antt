@@ -7,14 +7,14 @@ use Rattle.fzn_meaning.specs.declared.term.Place.{Place}
 use Rattle.fzn_meaning.specs.Term.{IsPlace}
 use Rattle.fzn_terms.specs.Values.{IsTerm-prop}
 use Rattle.fzn_builtin_rules.specs.Linear.{least_sum, greatest_sum}
-use Rattle.fzn_propagator.specs.Inference.{spread}
+use Rattle.fzn_propagator.specs.Inference.{spread_of_place}
 use Rattle.fzn_builtin_rules.specs.declared.ends.Ends.{Ends}
 
 -- the least and the greatest sum, and no place gives more above its least than the widest
 pub record AreEnds (sets : List IntSet) (places : List Place) (ends : Ends) : Type 0 where
   pub least_is : ends.least ≡ least_sum sets places
   pub greatest_is : ends.greatest ≡ greatest_sum sets places
-  pub none_wider : All (λ place. spread sets place ≤ℤ ends.widest) places
+  pub none_wider : All (λ place. spread_of_place sets place ≤ℤ ends.widest) places
   pub not_below : pos 0 ≤ℤ ends.widest
   pub least_bounded : unsigned_abs ends.least ≤ 200000 * 1000000000000000000
   pub greatest_bounded : unsigned_abs ends.greatest ≤ 200000 * 1000000000000000000

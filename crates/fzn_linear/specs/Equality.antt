@@ -6,7 +6,7 @@ use Rattle.fzn_meaning.specs.declared.constraint.Constraint.TheVariants.{Compare
 use Rattle.fzn_meaning.specs.Meaning.{IsSwitch}
 use Rattle.fzn_meaning.specs.Term.{IsTerm}
 use Rattle.fzn_linear.specs.declared.equality.EqualityPropagator.{EqualityPropagator}
-use Rattle.fzn_linear.specs.Kinds.{IsFormOf, IsReady}
+use Rattle.fzn_linear.specs.Kinds.{IsFormOf, IsSumReady}
 
 abbrev pub equality_number : EqualityPropagator → ℕ
 equality_number propagator = propagator.sum.number
@@ -21,4 +21,4 @@ pub record EqualityFits (propagator : EqualityPropagator) (declared : List IntSe
   pub left_fits : IsTerm (length declared) propagator.left
   pub right_fits : IsTerm (length declared) propagator.right
   pub switch_fits : IsSwitch (length declared) propagator.switch
-  pub sum_fits : IsReady (length declared) propagator.sum.form propagator.sum.opposite
+  pub sum_fits : IsSumReady (length declared) propagator.sum.form propagator.sum.opposite

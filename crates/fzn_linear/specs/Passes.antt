@@ -10,7 +10,7 @@ use Rattle.fzn_linear.specs.declared.inequality.Inequality.{Inequality}
 use Rattle.fzn_linear.specs.declared.pass.Pass.{Pass}
 use Rattle.fzn_linear.specs.declared.side.Side.{Side}
 use Rattle.fzn_linear.specs.Explained.{Exceeds}
-use Rattle.fzn_linear.specs.Kinds.{form_in, IsFormOf}
+use Rattle.fzn_linear.specs.Kinds.{form_of_sum, IsFormOf}
 use Rattle.fzn_linear.specs.Refuted.{RulesOut}
 use Rattle.fzn_linear.specs.Sum.{IsFound}
 use Rattle.fzn_linear.specs.Switched.{guard_of}
@@ -25,7 +25,7 @@ AddsFound pass before after = AddsInferences pass.number pass.form.now pass.trai
 
 -- with the literal that the switch has another value behind it, the clause is an inference
 abbrev pub IsInferredGuarded : Side → List Lit → Type 0
-IsInferredGuarded side clause = IsFound side.pass.trail.now (form_in side.pass.form.now) (clause ++ guard_of side.pass.form.now.switch side.on)
+IsInferredGuarded side clause = IsFound side.pass.trail.now (form_of_sum side.pass.form.now) (clause ++ guard_of side.pass.form.now.switch side.on)
 
 -- an inequality on the trail of the side: what rules it out rules out the side
 pub record IsBoundOfSide (side : Side) (part : Inequality) : Type 0 where

@@ -20,7 +20,7 @@ RulesOut trail clause Equal places bound = Exceeds trail clause places bound ⊎
 RulesOut trail clause NotEqual places bound = Exceeds trail clause places (bound -ℤ pos 1) × Exceeds trail clause (opposites places) ((pos 0 -ℤ bound) -ℤ pos 1)
 
 -- a clause that is false and rules that out
-pub record IsConflict (trail : Levels) (comparison : Comparison) (places : List Place) (bound : ℤ) (clause : List Lit) : Type 0 where
+pub record IsSumConflict (trail : Levels) (comparison : Comparison) (places : List Place) (bound : ℤ) (clause : List Lit) : Type 0 where
   pub still : IsFalseClause trail clause
   pub rules_out : RulesOut trail clause comparison places bound
 

@@ -16,7 +16,7 @@ use Rattle.fzn_linear.specs.Switched.{form_where, IsSwitchAt}
 use Rattle.fzn_linear.specs.declared.form.SumForm.{SumForm}
 
 -- a sum over some of this many variables, with its opposite places
-pub record IsSum (count : ℕ) (sum : SumForm) (opposite : List Place) : Type 0 where
+pub record IsSumWithOpposite (count : ℕ) (sum : SumForm) (opposite : List Place) : Type 0 where
   pub places_fit : All (IsPlace count) sum.places
   pub opposite_fit : All (IsPlace count) opposite
   pub short : length sum.places ≤ 200000
@@ -24,7 +24,7 @@ pub record IsSum (count : ℕ) (sum : SumForm) (opposite : List Place) : Type 0 
   pub opposite_is : opposite ≡ opposites sum.places
   pub bounded : unsigned_abs sum.bound ≤ 1000000001
 
-pub IsSum-prop : (count : ℕ) (sum : SumForm) (opposite : List Place) → IsProp (IsSum count sum opposite)
+pub IsSum-prop : (count : ℕ) (sum : SumForm) (opposite : List Place) → IsProp (IsSumWithOpposite count sum opposite)
 IsSum-prop count sum opposite = Prim.hlevel (props, IsTerm-prop)
 
 -- a clause that is false or forces one literal, and on whose denied sets the form is met by the rule

@@ -5,9 +5,9 @@ ghost use Rattle.fzn_domain.specs.Narrow.{NoneEmpty};
 ghost use Rattle.fzn_meaning.specs.declared.term.Place.{Place};
 ghost use Rattle.fzn_meaning.specs.Term.{IsPlace};
 ghost use Rattle.fzn_builtin_rules.specs.Linear.{least_sum};
-ghost use Rattle.fzn_propagator.specs.Inference.{spread};
+ghost use Rattle.fzn_propagator.specs.Inference.{spread_of_place};
 ghost use Rattle.fzn_trail.specs.Levels.{Levels};
-ghost use Rattle.fzn_linear.specs.Explained.{IsExplained, IsFloor, IsForced, IsForcedAt, IsExplanation, AreFloors};
+ghost use Rattle.fzn_linear.specs.Explained.{IsPlaceExplained, IsFloor, IsForcedBySlack, IsForcedAt, ExplainsPlaces, AreFloors};
 ghost use Rattle.fzn_linear.specs.Refuted.{IsRefutation};
 ghost use Rattle.fzn_meaning.specs.declared.relation.Comparison.TheVariants as sum;
 
@@ -25,7 +25,7 @@ fn floor(trail: &Trail, place: Place) -> Option<Lit>
     requires place { IsPlace (length trail.now.declared) place }
     requires filled { NoneEmpty trail.now.sets }
     ensures found { IfSome result (IsFloor trail.now place) }
-    ensures none { IfNone result (IsExplained trail.now [] place) }
+    ensures none { IfNone result (IsPlaceExplained trail.now [] place) }
 {
     let Term::Variable(var) = place.term else {
         return None;
@@ -59,8 +59,8 @@ fn floor(trail: &Trail, place: Place) -> Option<Lit>
 fn force(trail: &Trail, place: Place, slack: u128) -> Option<Lit>
     requires place { IsPlace (length trail.now.declared) place }
     requires filled { NoneEmpty trail.now.sets }
-    ensures found { IfSome result (IsForced trail.now place slack) }
-    ensures none { IfNone result (spread trail.now.sets place ≤ℤ pos slack) }
+    ensures found { IfSome result (IsForcedBySlack trail.now place slack) }
+    ensures none { IfNone result (spread_of_place trail.now.sets place ≤ℤ pos slack) }
 {
     let Term::Variable(var) = place.term else {
         return None;
@@ -104,8 +104,8 @@ pub fn next_forced(trail: &Trail, places: &[Place], slack: u128, from: usize) ->
     requires places { All (IsPlace (length trail.now.declared)) places.now }
     requires filled { NoneEmpty trail.now.sets }
     ensures found { IfSome result (IsForcedAt trail.now places.now slack) }
-    ensures before { IfSome result (λ forced. AllWithin (λ place. spread trail.now.sets place ≤ℤ pos slack) places.now from forced.place) }
-    ensures none { IfNone result (AllWithin (λ place. spread trail.now.sets place ≤ℤ pos slack) places.now from (length places.now)) }
+    ensures before { IfSome result (λ forced. AllWithin (λ place. spread_of_place trail.now.sets place ≤ℤ pos slack) places.now from forced.place) }
+    ensures none { IfNone result (AllWithin (λ place. spread_of_place trail.now.sets place ≤ℤ pos slack) places.now from (length places.now)) }
 {
     for i in from..places.len() {
         if let Some(lit) = force(trail, places[i], slack) {
@@ -147,7 +147,7 @@ pub(crate) fn explain(
     floors: &[PlaceFloor],
     except: usize,
 ) -> Result<Items<Lit>, Memory>
-    ensures { IfOk result (λ clause. (trail : Levels) (places : List Place) → All (IsPlace (length trail.declared)) places → AreFloors trail places (length places) floors.now → IsExplanation trail places (length places) except clause) }
+    ensures { IfOk result (λ clause. (trail : Levels) (places : List Place) → All (IsPlace (length trail.declared)) places → AreFloors trail places (length places) floors.now → ExplainsPlaces trail places (length places) except clause) }
 {
     let mut clause = Items::with_capacity(alloc, floors.len().saturating_add(1))?;
     for i in 0..floors.len() {
@@ -173,7 +173,7 @@ pub fn refute_place(
     requires place { place < length places.now }
     requires filled { NoneEmpty trail.now.sets }
     ensures found { IfOk result (λ found. IfSome found (IsRefutation trail.now sum.AtMost places.now (least_sum trail.now.sets places.now +ℤ pos slack))) }
-    ensures none { IfOk result (λ found. IfNone found ((default : Place) → spread trail.now.sets (slice_index_or places.now place default) ≤ℤ pos slack)) }
+    ensures none { IfOk result (λ found. IfNone found ((default : Place) → spread_of_place trail.now.sets (slice_index_or places.now place default) ≤ℤ pos slack)) }
 {
     let Some(lit) = force(trail, places[place], slack) else {
         return Ok(None);

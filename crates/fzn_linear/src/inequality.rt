@@ -8,7 +8,7 @@ ghost use Rattle.fzn_builtin_rules.specs.Linear.{least_sum};
 ghost use Rattle.fzn_propagator.specs.Inference.{IsTight};
 ghost use Rattle.fzn_linear.specs.Ends.{AreEnds, AreEnds-prop, ArePlaces-prop};
 ghost use Rattle.fzn_linear.specs.Opposite.{opposites, AreOpposite};
-ghost use Rattle.fzn_linear.specs.Refuted.{IsConflict, IsRefutation, LeavesEach};
+ghost use Rattle.fzn_linear.specs.Refuted.{IsSumConflict, IsRefutation, LeavesEach};
 
 use crate::at_most::{explain, floors_of, next_forced};
 use crate::ends::{ends_of, turned};
@@ -71,7 +71,7 @@ impl<'a> Inequality<'a> {
 
     /// A clause that is false on the trail, where the least sum exceeds the bound.
     pub(crate) fn conflict(&self, alloc: Global) -> Result<Option<Items<Lit>>, Memory>
-        ensures found { IfOk result (λ found. IfSome found (IsConflict self.now.trail.now AtMost self.now.places.now self.now.bound)) }
+        ensures found { IfOk result (λ found. IfSome found (IsSumConflict self.now.trail.now AtMost self.now.places.now self.now.bound)) }
         ensures none { IfOk result (λ found. IfNone found (least_sum self.now.trail.now.sets self.now.places.now ≤ℤ self.now.bound)) }
     {
         if self.ends.least <= self.bound {
@@ -129,7 +129,7 @@ pub fn conflict_at_most(
     requires places { All (IsPlace (length trail.now.declared)) places.now }
     requires short { length places.now ≤ 200000 }
     requires filled { NoneEmpty trail.now.sets }
-    ensures found { IfOk result (λ found. IfSome found (IsConflict trail.now AtMost places.now bound)) }
+    ensures found { IfOk result (λ found. IfSome found (IsSumConflict trail.now AtMost places.now bound)) }
     ensures none { IfOk result (λ found. IfNone found (least_sum trail.now.sets places.now ≤ℤ bound)) }
 {
     Inequality::new(trail, places, bound).conflict(alloc)

@@ -8,7 +8,7 @@ ghost use Rattle.fzn_meaning.specs.Meaning.{IsWellFormed as IsFormed};
 ghost use Rattle.fzn_meaning.specs.WellFormed.{IsWellFormed};
 ghost use Rattle.fzn_builtin_rules.specs.Form.{form_of};
 ghost use Rattle.fzn_propagator.specs.Subscriptions.{terms_of, AreHeard};
-ghost use Rattle.fzn_linear.specs.Kinds.{form_in, IsFormOf, IsReady};
+ghost use Rattle.fzn_linear.specs.Kinds.{form_of_sum, IsFormOf, IsSumReady};
 ghost use Rattle.fzn_linear.specs.Costs.{kind_cost};
 ghost use Rattle.fzn_linear.specs.AnyKind.{kind_number, KindIsFor, KindFits, sum_in, form_alone};
 ghost use Rattle.fzn_linear.specs.Wakes.{wake_of, sum_subscriptions};
@@ -95,7 +95,7 @@ pub fn propagator_of(
     ensures is_for { IfOk result (λ found. IfSome found (λ propagator. (default : Constraint) → KindIsFor propagator (slice_index_or model.now.constraints (c - 1) default))) }
     ensures fits { IfOk result (λ found. IfSome found (λ propagator. KindFits propagator (declared_sets model.now.vars))) }
     ensures none { IfOk result (λ found. IfNone found ((default : Constraint) → form_of (slice_index_or model.now.constraints (c - 1) default) ≡ None)) }
-    ensures wake { IfOk result (λ found. IfSome found (λ propagator. (default : Constraint) → (sum_in propagator).wake ≡ wake_of (slice_index_or model.now.constraints (c - 1) default) (form_in (sum_in propagator).form))) }
+    ensures wake { IfOk result (λ found. IfSome found (λ propagator. (default : Constraint) → (sum_in propagator).wake ≡ wake_of (slice_index_or model.now.constraints (c - 1) default) (form_of_sum (sum_in propagator).form))) }
 {
     let constraint = &model.constraints.as_slice()[c - 1];
     let Some(form) = form_of(alloc, constraint)? else {
@@ -116,7 +116,7 @@ fn with_form(
     ensures number { IfOk result (λ propagator. kind_number propagator ≡ number) }
     ensures is_for { IfOk result (λ propagator. KindIsFor propagator constraint.now) }
     ensures fits { IfOk result (λ propagator. (declared : List IntSet) → IsFormed (length declared) constraint.now → KindFits propagator declared) }
-    ensures wake { IfOk result (λ propagator. (sum_in propagator).wake ≡ wake_of constraint.now (form_in (sum_in propagator).form)) }
+    ensures wake { IfOk result (λ propagator. (sum_in propagator).wake ≡ wake_of constraint.now (form_of_sum (sum_in propagator).form)) }
 {
     let opposite = opposite_of(alloc, &form)?;
     let wake = wake_of(constraint, &form);
@@ -135,7 +135,7 @@ fn kind_of(constraint: &Constraint, sum: SumPropagator) -> ArithPropagator
     ensures number { kind_number result ≡ sum.number }
     ensures sum { sum_in result ≡ sum }
     ensures is_for { IsFormOf constraint.now sum.form → KindIsFor result constraint.now }
-    ensures fits { (declared : List IntSet) → IsFormed (length declared) constraint.now → IsReady (length declared) sum.form sum.opposite → KindFits result declared }
+    ensures fits { (declared : List IntSet) → IsFormed (length declared) constraint.now → IsSumReady (length declared) sum.form sum.opposite → KindFits result declared }
 {
     let Constraint::Compare {
         relation,

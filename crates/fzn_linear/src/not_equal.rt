@@ -9,7 +9,7 @@ ghost use Rattle.fzn_meaning.specs.declared.relation.Comparison.TheVariants.{Not
 ghost use Rattle.fzn_builtin_rules.specs.Linear.{low_product, least_sum};
 ghost use Rattle.fzn_propagator.specs.Barred.{GivesOne, AreSettledBut};
 ghost use Rattle.fzn_linear.specs.Pinned.{IsOpenFrom, IsOnlyOpen, IsPin, IsPinned, ArePinned, IsBarring, NoneIsBarred};
-ghost use Rattle.fzn_linear.specs.Refuted.{IsConflict, IsRefutation, LeavesSome, LeavesEach};
+ghost use Rattle.fzn_linear.specs.Refuted.{IsSumConflict, IsRefutation, LeavesSome, LeavesEach};
 
 use crate::ends::{least_sum, low_product};
 use fzn_domain::{Lit, Memory, Op};
@@ -177,7 +177,7 @@ pub fn conflict_not_equal(
     requires places { All (IsPlace (length trail.now.declared)) places.now }
     requires short { length places.now ≤ 200000 }
     requires filled { NoneEmpty trail.now.sets }
-    ensures found { IfOk result (λ found. IfSome found (IsConflict trail.now NotEqual places.now number)) }
+    ensures found { IfOk result (λ found. IfSome found (IsSumConflict trail.now NotEqual places.now number)) }
     ensures none { IfOk result (λ found. IfNone found (LeavesSome trail.now.sets NotEqual places.now number)) }
 {
     if let Some(_) = next_open(trail, places, 0) {

@@ -3,7 +3,7 @@ ghost use Rattle.std.specs.Prelude.{◌≡◌, IfOk};
 ghost use Rattle.std.specs.List.{All};
 ghost use Rattle.fzn_domain.specs.Limits.{IsSmall};
 ghost use Rattle.fzn_linear.specs.Opposite.{opposites};
-ghost use Rattle.fzn_linear.specs.Kinds.{form_in};
+ghost use Rattle.fzn_linear.specs.Kinds.{form_of_sum};
 ghost use Rattle.fzn_linear.specs.OppositeForm.{other_comparison, other_bound, opposite_form};
 
 use crate::form::SumForm;
@@ -16,7 +16,7 @@ use std::alloc::Global;
 pub fn opposite_of(alloc: Global, form: &SumForm) -> Result<SumForm, Memory>
     requires places { All (λ place. IsSmall place.coefficient) form.now.places }
     requires bounded { IsSmall form.now.bound }
-    ensures { IfOk result (λ other. form_in other ≡ opposite_form (form_in form.now)) }
+    ensures { IfOk result (λ other. form_of_sum other ≡ opposite_form (form_of_sum form.now)) }
 {
     Ok(SumForm {
         places: opposites(alloc, form.places.as_slice())?,

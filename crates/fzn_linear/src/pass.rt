@@ -1,7 +1,7 @@
 // One pass over a sum, and by which value of the switch what has to hold.
 ghost use Rattle.std.specs.Prelude.{◌≡◌, length, IfSome, IfNone, OnOk, MatchBool, Bool};
 ghost use Rattle.fzn_domain.specs.Narrow.{NoneEmpty};
-ghost use Rattle.fzn_linear.specs.Kinds.{IsReady, IsReady-prop};
+ghost use Rattle.fzn_linear.specs.Kinds.{IsSumReady, IsReady-prop};
 ghost use Rattle.fzn_linear.specs.Switched.{form_where, IsSwitchAt, MayBeSwitchAt, IsSwitchFixed};
 
 use crate::ends::{ends_of, turned};
@@ -26,7 +26,7 @@ pub(crate) struct Pass<'a> {
     pub form: &'a SumForm,
     /// The form that has to hold where the switch is 0.
     pub opposite: &'a SumForm,
-    ghost ready: { IsReady (length trail.now.declared) form.now opposite.now } by { IsReady-prop _ _ _ },
+    ghost ready: { IsSumReady (length trail.now.declared) form.now opposite.now } by { IsReady-prop _ _ _ },
     ghost filled: { NoneEmpty trail.now.sets },
 }
 
@@ -34,7 +34,7 @@ impl<'a> Pass<'a> {
     ghost use Rattle.std.specs.Prelude.{[]};
     ghost use Rattle.fzn_builtin_rules.specs.Linear.{least_sum};
     ghost use Rattle.fzn_linear.specs.Ends.{AreEnds};
-    ghost use Rattle.fzn_linear.specs.Kinds.{form_in};
+    ghost use Rattle.fzn_linear.specs.Kinds.{form_of_sum};
     ghost use Rattle.fzn_linear.specs.Passes.{AddsFound};
     ghost use Rattle.fzn_linear.specs.Sum.{IsFormLeft, IsLeftAlone};
 
@@ -43,7 +43,7 @@ impl<'a> Pass<'a> {
     #[tactic(auto, using(crate::proofs::PassLemmas::adds_none, crate::proofs::PassLemmas::adds_both))]
     pub(crate) fn find(&self, found: &mut Findings) -> Result<(), Memory>
         ensures found { AddsFound self.now found.old found.new }
-        ensures none { OnOk result (found.new ≡ [] → IsLeftAlone self.now.trail.now.sets (form_in self.now.form.now)) }
+        ensures none { OnOk result (found.new ≡ [] → IsLeftAlone self.now.trail.now.sets (form_of_sum self.now.form.now)) }
     {
         if self.is_decided() {
             self.hold(true, found)?;
@@ -117,7 +117,7 @@ impl<'a> Pass<'a> {
     fn hold(&self, on: bool, found: &mut Findings) -> Result<(), Memory>
         requires { IsSwitchFixed self.now.trail.now.sets self.now.form.now.switch }
         ensures found { AddsFound self.now found.old found.new }
-        ensures none { OnOk result (found.new ≡ [] → IsSwitchAt self.now.trail.now.sets self.now.form.now.switch on → IsFormLeft self.now.trail.now.sets (form_where on (form_in self.now.form.now))) }
+        ensures none { OnOk result (found.new ≡ [] → IsSwitchAt self.now.trail.now.sets self.now.form.now.switch on → IsFormLeft self.now.trail.now.sets (form_where on (form_of_sum self.now.form.now))) }
     {
         match self.side(on) {
             Some(side) => side.hold(found),
@@ -128,7 +128,7 @@ impl<'a> Pass<'a> {
     /// Finds that the switch has not this value, where the ends of the sum that has to hold for it leave nothing of that.
     #[tactic(auto, using(crate::proofs::PassLemmas::adds_none, crate::proofs::PassLemmas::adds_both))]
     fn decide(&self, on: bool, ends: Ends, found: &mut Findings) -> Result<(), Memory>
-        requires { AreEnds self.now.trail.now.sets (form_where on (form_in self.now.form.now)).places ends }
+        requires { AreEnds self.now.trail.now.sets (form_where on (form_of_sum self.now.form.now)).places ends }
         ensures { AddsFound self.now found.old found.new }
     {
         match self.side(on) {

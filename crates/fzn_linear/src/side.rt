@@ -1,8 +1,8 @@
 // What has to hold where the switch of a sum has one value.
 ghost use Rattle.std.specs.Prelude.{◌≡◌, ◌++◌, ◌≤ℤ◌, [], length, None, IfOk, IfSome, OnOk};
 ghost use Rattle.std.proofs.Props.{props};
-ghost use Rattle.fzn_linear.specs.Kinds.{form_in};
-ghost use Rattle.fzn_linear.specs.Sum.{IsSum, IsSum-prop};
+ghost use Rattle.fzn_linear.specs.Kinds.{form_of_sum};
+ghost use Rattle.fzn_linear.specs.Sum.{IsSumWithOpposite, IsSum-prop};
 ghost use Rattle.fzn_linear.specs.Switched.{form_where, MayBeSwitchAt, MayBeSwitchAt-prop, IsSwitchFixed, guard_of};
 
 use crate::at_most::{floors_of, refute_place};
@@ -28,8 +28,8 @@ pub(crate) struct Side<'a> {
     pub sum: &'a SumForm,
     /// And the opposite sum not so with its own.
     pub opposite: &'a SumForm,
-    ghost fits: { IsSum (length pass.trail.now.declared) sum.now opposite.now.places } by { IsSum-prop _ _ _ },
-    ghost sum_is: { form_in sum.now ≡ form_where on (form_in pass.form.now) } by { Prim.hlevel props },
+    ghost fits: { IsSumWithOpposite (length pass.trail.now.declared) sum.now opposite.now.places } by { IsSum-prop _ _ _ },
+    ghost sum_is: { form_of_sum sum.now ≡ form_where on (form_of_sum pass.form.now) } by { Prim.hlevel props },
     ghost may: { MayBeSwitchAt pass.trail.now.sets pass.form.now.switch on } by { MayBeSwitchAt-prop _ _ _ },
 }
 
@@ -45,7 +45,7 @@ impl<'a> Side<'a> {
     pub(crate) fn hold(&self, found: &mut Findings) -> Result<(), Memory>
         requires { IsSwitchFixed self.now.pass.trail.now.sets self.now.pass.form.now.switch }
         ensures found { AddsFound self.now.pass found.old found.new }
-        ensures none { OnOk result (found.new ≡ [] → IsFormLeft self.now.pass.trail.now.sets (form_in self.now.sum.now)) }
+        ensures none { OnOk result (found.new ≡ [] → IsFormLeft self.now.pass.trail.now.sets (form_of_sum self.now.sum.now)) }
     {
         match self.sum.comparison {
             Comparison::AtMost => self.keep(&self.above(self.ends()), found),

@@ -6,7 +6,7 @@ ghost use Rattle.fzn_meaning.specs.declared.constraint.Constraint.{Constraint};
 ghost use Rattle.fzn_propagator.specs.Inference.{AreExhausted};
 ghost use Rattle.fzn_propagator.specs.Subscriptions.{terms_of, AreHeard};
 ghost use Rattle.fzn_linear.specs.Costs.{cost_of};
-ghost use Rattle.fzn_linear.specs.Kinds.{IsFormOf, IsReady};
+ghost use Rattle.fzn_linear.specs.Kinds.{IsFormOf, IsSumReady};
 ghost use Rattle.fzn_linear.specs.Passes.{AddsInferences};
 ghost use Rattle.fzn_linear.specs.Wakes.{sum_subscriptions};
 
@@ -37,7 +37,7 @@ pub struct SumPropagator {
 impl SumPropagator {
     /// Appends what one pass infers to `found`.
     pub fn infer(&self, alloc: Global, trail: &Trail, found: &mut Findings) -> Result<(), Memory>
-        requires ready { IsReady (length trail.now.declared) self.now.form self.now.opposite }
+        requires ready { IsSumReady (length trail.now.declared) self.now.form self.now.opposite }
         requires filled { NoneEmpty trail.now.sets }
         ensures adds { AddsInferences self.now.number self.now.form trail.now found.old found.new }
         ensures none { OnOk result (found.new ≡ [] → AreExhausted (λ constraint. IsFormOf constraint self.now.form) trail.now) }
@@ -58,12 +58,12 @@ impl Propagator for SumPropagator {
 
     ghost is_for = { λ propagator constraint. IsFormOf constraint propagator.form };
 
-    ghost fits = { λ propagator declared. IsReady (length declared) propagator.form propagator.opposite };
+    ghost fits = { λ propagator declared. IsSumReady (length declared) propagator.form propagator.opposite };
 
     ghost costs = { λ propagator. cost_of (length propagator.form.places) };
 
     fn subscriptions(&self, alloc: Global) -> Result<Subscriptions, Memory>
-        requires fits { (declared : List IntSet) × IsReady (length declared) self.now.form self.now.opposite }
+        requires fits { (declared : List IntSet) × IsSumReady (length declared) self.now.form self.now.opposite }
         ensures value { IfOk result (λ subscriptions. subscriptions ≡ sum_subscriptions self.now) }
         ensures heard { IfOk result (λ subscriptions. (constraint : Constraint) → IsFormOf constraint self.now.form → AreHeard subscriptions (terms_of constraint)) }
     {

@@ -1,6 +1,6 @@
 // The changes that the propagator of a sum waits for.
 ghost use Rattle.std.specs.Prelude.{◌≡◌, IfOk};
-ghost use Rattle.fzn_linear.specs.Kinds.{form_in};
+ghost use Rattle.fzn_linear.specs.Kinds.{form_of_sum};
 ghost use Rattle.fzn_linear.specs.Wakes.{event_at, equal_event, wake_of, sum_subscriptions};
 
 use crate::form::SumForm;
@@ -39,7 +39,7 @@ impl Wake {
 
 /// What wakes the propagator of the constraint of this form.
 pub fn wake_of(constraint: &Constraint, form: &SumForm) -> Wake
-    ensures { result ≡ wake_of constraint.now (form_in form.now) }
+    ensures { result ≡ wake_of constraint.now (form_of_sum form.now) }
 {
     match (form.comparison, form.switch) {
         (Comparison::AtMost, None) => Wake::Rising,

@@ -3,7 +3,8 @@ ghost use Rattle.fzn_meaning.specs.WellFormed.{IsWellFormed};
 
 use crate::kinds::model_of;
 use fzn_derive::{
-    Derivation, DeriveFault, Deriver, Multiple, derived_is_formed, derived_is_met, one_derived,
+    Derivation, DeriveFault, Deriver, Multiple, derivable, derived_is_formed, derived_is_met,
+    one_derived,
 };
 use fzn_domain::{Memory, VarId};
 use fzn_list::Items;
@@ -97,6 +98,32 @@ fn variables_told_apart(rt: HostRuntime) -> Result<(), Fail> {
         Err(_) => false,
     };
     assert!(rt; is_right);
+    Ok(())
+}
+
+/// A sum and two variables apart that follow from `SUMS`, and between them a sum that does not.
+fn candidates(alloc: Global) -> Result<Vec<Derivation>, Memory> {
+    let mut candidates = Vec::new(alloc);
+    candidates.push(sum_of(alloc, [1, 1, 1].as_slice())?)?;
+    candidates.push(sum_of(alloc, [1, -1].as_slice())?)?;
+    candidates.push(apart(alloc, 2, 1, 4)?)?;
+    Ok(candidates)
+}
+
+#[test]
+fn derivations_that_give_a_constraint(rt: HostRuntime) -> Result<(), Fail> {
+    let model = model_of(rt.alloc(), SUMS)?;
+    let found = derivable(
+        rt.alloc(),
+        model.constraints.as_slice(),
+        model.vars.as_slice(),
+        candidates(rt.alloc())?,
+    )?;
+    let are_right = match found.as_slice() {
+        [Derivation::Sum(multiples), Derivation::AllDifferent { .. }] => multiples.len() == 3,
+        _ => false,
+    };
+    assert!(rt; are_right);
     Ok(())
 }
 

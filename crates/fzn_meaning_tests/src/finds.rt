@@ -2,7 +2,8 @@
 use crate::kinds::model_of;
 use fzn_derive::{Derivation, Multiple};
 use fzn_domain::Memory;
-use fzn_find::{cliques, eliminated, found, merged, multipliers};
+use fzn_find::{cliques, eliminated, found, merged};
+use fzn_multipliers::{Rows, multipliers};
 use std::alloc::Global;
 use std::fmt::Write;
 use std::test::*;
@@ -122,9 +123,10 @@ fn is_refuting(multiples: &[Multiple]) -> bool {
 #[test]
 fn a_sum_that_nothing_meets(rt: HostRuntime) -> Result<(), Fail> {
     let model = model_of(rt.alloc(), CROWDED)?;
-    let derivations = multipliers(rt.alloc(), &model)?;
-    let is_refuted = match derivations.as_slice() {
-        [Derivation::Sum(multiples)] => is_refuting(multiples.as_slice()),
+    let rows = Rows::of(rt.alloc(), &model)?;
+    let sum = multipliers(rt.alloc(), &model, rows)?;
+    let is_refuted = match &sum {
+        Some(Derivation::Sum(multiples)) => is_refuting(multiples.as_slice()),
         _ => false,
     };
     assert!(rt; is_refuted);

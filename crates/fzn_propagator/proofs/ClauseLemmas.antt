@@ -15,8 +15,8 @@ use Rattle.fzn_builtin_rules.specs.Form.{form_of}
 use Rattle.fzn_rules.specs.declared.rule.Rule.{Rule}
 use Rattle.fzn_rules.specs.Rules.{IsMet}
 use Rattle.fzn_trail.specs.Levels.{Levels}
-use Rattle.fzn_propagator.specs.Clause.{IsWritable, IsFalseClause, IsForcing, AreLeft, Says, IsJustifiedBy, IsJustified}
-use Rattle.fzn_propagator.specs.Inference.{IsHint, HoldsWhereFixed, IsExhausted}
+use Rattle.fzn_propagator.specs.Clause.{IsWritable, IsFalseClause, IsForcing, AreLeftByClause, Says, IsJustifiedBy, IsJustified}
+use Rattle.fzn_propagator.specs.Inference.{IsHint, HoldsWhereFixed, IsInferredOut}
 use Rattle.fzn_propagator.proofs.LeftLemmas.{left_of_may, left_of_more, none_left}
 
 -- ---- on the trail
@@ -52,7 +52,7 @@ module _ (trail : Levels) (clause : List Lit) (lit : Lit) (still : IsFalseClause
 -- ---- on denied sets
 
 -- sets that the longer clause leaves
-pub left-more : (declared : List IntSet) (clause more : List Lit) (sets : List IntSet) → AreLeft declared (clause ++ more) sets → AreLeft declared clause sets
+pub left-more : (declared : List IntSet) (clause more : List Lit) (sets : List IntSet) → AreLeftByClause declared (clause ++ more) sets → AreLeftByClause declared clause sets
 left-more declared clause more sets all = record {
   one_each = all.one_each;
   filled = all.filled;
@@ -60,7 +60,7 @@ left-more declared clause more sets all = record {
 }
 
 -- the denied sets are so left
-pub left_denied : (declared : List IntSet) (clause : List Lit) → IsClauseOver (length declared) clause → is_some_empty (denied declared clause) ≡ false → AreLeft declared clause (denied declared clause)
+pub left_denied : (declared : List IntSet) (clause : List Lit) → IsClauseOver (length declared) clause → is_some_empty (denied declared clause) ≡ false → AreLeftByClause declared clause (denied declared clause)
 left_denied declared clause over filled = record {
   one_each = length-denied clause declared;
   filled = filled;
@@ -91,9 +91,9 @@ hint_of v limits = (omega (arith, ints, limits.0), omega (arith, ints, limits.1)
 -- ---- by the law of propagators
 
 -- a constraint that is no sum
-pub exhausted : (trail : Levels) (C constraint : Constraint) → form_of C ≡ None → C ≡ constraint → HoldsWhereFixed trail C → IsExhausted constraint trail
+pub exhausted : (trail : Levels) (C constraint : Constraint) → form_of C ≡ None → C ≡ constraint → HoldsWhereFixed trail C → IsInferredOut constraint trail
 exhausted trail C constraint no_form same holds =
-    subst (λ (x : Constraint). IsExhausted x trail) same (record {
+    subst (λ (x : Constraint). IsInferredOut x trail) same (record {
       holds = holds;
       strong = λ form is. absurd (none-some form (sym no_form ∙ is));
       none_barred = λ form is. absurd (none-some form (sym no_form ∙ is));

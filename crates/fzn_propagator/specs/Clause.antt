@@ -36,18 +36,18 @@ pub record IsForcing (trail : Levels) (clause : List Lit) : Type 0 where
 -- ---- what it says where it is denied
 
 -- as many sets as are declared, none of them empty, in which each term has only values that the clause leaves
-pub record AreLeft (declared : List IntSet) (clause : List Lit) (sets : List IntSet) : Type 0 where
+pub record AreLeftByClause (declared : List IntSet) (clause : List Lit) (sets : List IntSet) : Type 0 where
   pub one_each : length sets ≡ length declared
   pub filled : is_some_empty sets ≡ false
   pub left : (term : Term) (v : ℤ) → IsTerm (length declared) term → MayBe sets term v → IsLeft declared clause term v
 
 -- so it is of all such sets
 abbrev pub Says : List IntSet → List Lit → (List IntSet → Type 0) → Type 0
-Says declared clause P = (sets : List IntSet) → AreLeft declared clause sets → P sets
+Says declared clause P = (sets : List IntSet) → AreLeftByClause declared clause sets → P sets
 
 -- what the old clause says, the new one says too
 abbrev pub Keeps : List IntSet → List Lit → List Lit → Type 0
-Keeps declared old new = Says declared new (AreLeft declared old)
+Keeps declared old new = Says declared new (AreLeftByClause declared old)
 
 -- ---- what justifies it
 

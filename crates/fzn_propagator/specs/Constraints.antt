@@ -13,7 +13,7 @@ use Rattle.fzn_trail.specs.Unit.{IsFalseOrUnit}
 use Rattle.fzn_propagator.specs.declared.propagator.Inference.{Inference}
 
 -- the clause is justified by the rule
-pub record IsJustified (model : Model) (inference : Inference) : Type 0 where
+pub record IsInferenceJustified (model : Model) (inference : Inference) : Type 0 where
   pub over : IsClauseOver (length model.vars) inference.clause
   pub numbered : IsConstraintNumber model inference.constraint
   pub justified : IsInferredBy model inference.constraint inference.rule inference.clause
@@ -21,7 +21,7 @@ pub record IsJustified (model : Model) (inference : Inference) : Type 0 where
 
 -- and is false or forces one literal on the trail
 pub record IsInference (model : Model) (trail : Levels) (inference : Inference) : Type 0 where
-  pub stands : IsJustified model inference
+  pub stands : IsInferenceJustified model inference
   pub forces : IsFalseOrUnit trail.sets inference.clause
 
 -- where each variable has one value, these values meet every constraint

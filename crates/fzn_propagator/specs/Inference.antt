@@ -24,14 +24,14 @@ HasWritableHints (Cut places) = All IsHint places × IsAscending places
 HasWritableHints rule = All IsHint (hints_of rule)
 
 -- the rule justifies the clause from the constraint, which has this number
-pub record IsInference (number : ℕ) (constraint : Constraint) (trail : Levels) (inference : Inference) : Type 0 where
+pub record IsNumberedInference (number : ℕ) (constraint : Constraint) (trail : Levels) (inference : Inference) : Type 0 where
   pub of_constraint : inference.constraint ≡ number
   pub hints : HasWritableHints inference.rule
   pub justified : IsJustified trail constraint inference.rule inference.clause
 
 -- so of each of these constraints
 abbrev pub IsInferenceOf : ℕ → (Constraint → Type 0) → Levels → Inference → Type 0
-IsInferenceOf number is_for trail inference = (constraint : Constraint) → is_for constraint → IsInference number constraint trail inference
+IsInferenceOf number is_for trail inference = (constraint : Constraint) → is_for constraint → IsNumberedInference number constraint trail inference
 
 -- so is each of these
 abbrev pub AreInferencesOf : ℕ → (Constraint → Type 0) → Levels → List Inference → Type 0
@@ -42,13 +42,13 @@ pub record AreFoundOf (number : ℕ) (constraint : Constraint) (trail : Levels) 
   pub all : AreInferencesOf number (λ other. constraint ≡ other) trail found
 
 -- how much more a place may give than its least
-abbrev pub spread : List IntSet → Place → ℤ
-spread sets place = high_product sets place -ℤ low_product sets place
+abbrev pub spread_of_place : List IntSet → Place → ℤ
+spread_of_place sets place = high_product sets place -ℤ low_product sets place
 
 -- neither the least sum exceeds the bound, nor does it with any one place at its other end
 pub record IsTight (sets : List IntSet) (places : List Place) (bound : ℤ) : Type 0 where
   pub least : least_sum sets places ≤ℤ bound
-  pub one_other : All (λ place. (least_sum sets places +ℤ spread sets place) ≤ℤ bound) places
+  pub one_other : All (λ place. (least_sum sets places +ℤ spread_of_place sets place) ≤ℤ bound) places
 
 -- the strength that is promised of a sum that is at most a bound
 abbrev pub HasStrength : Constraint → List IntSet → Type 0
@@ -65,11 +65,11 @@ HoldsWhereFixed trail constraint =
     AllFixed trail.sets → (values : List ℤ) → IsWithin trail.declared values → IsWithin trail.sets values → Meets constraint values
 
 -- no inference is left: where all variables are fixed the constraint holds, and the strength is reached
-pub record IsExhausted (constraint : Constraint) (trail : Levels) : Type 0 where
+pub record IsInferredOut (constraint : Constraint) (trail : Levels) : Type 0 where
   pub holds : HoldsWhereFixed trail constraint
   pub strong : HasStrength constraint trail.sets
   pub none_barred : HasNoBarred constraint trail.sets
 
 -- so of each of these constraints whose Boolean terms are declared so
 abbrev pub AreExhausted : (Constraint → Type 0) → Levels → Type 0
-AreExhausted is_for trail = (constraint : Constraint) → is_for constraint → HasBooleanSets trail.declared constraint → IsExhausted constraint trail
+AreExhausted is_for trail = (constraint : Constraint) → is_for constraint → HasBooleanSets trail.declared constraint → IsInferredOut constraint trail

@@ -16,8 +16,8 @@ use Rattle.fzn_rules.specs.Rules.{IsAcceptedBy}
 use Rattle.fzn_cert.specs.Accepted.{IsInferredBy}
 use Rattle.fzn_trail.specs.Levels.{Levels, IsNarrower}
 use Rattle.fzn_propagator.specs.declared.propagator.Inference.{Inference}
-use Rattle.fzn_propagator.specs.Inference.{IsInferenceOf, AreInferencesOf, AreExhausted, IsInference as IsFound}
-use Rattle.fzn_propagator.specs.Constraints.{IsInference, IsJustified, IsQuiet}
+use Rattle.fzn_propagator.specs.Inference.{IsInferenceOf, AreInferencesOf, AreExhausted, IsNumberedInference as IsFound}
+use Rattle.fzn_propagator.specs.Constraints.{IsInference, IsInferenceJustified, IsQuiet}
 use Rattle.fzn_propagators.specs.Propagators.{IsPropagatorOf, AreFor}
 use Rattle.fzn_propagators.proofs.MadeLemmas.{some_member}
 use Rattle.fzn_propagators.proofs.SpelledLemmas.{rule-spelled, few-number, literals-spelled}
@@ -39,7 +39,7 @@ module _ (model : Model) (trail : Levels) (declared : trail.declared ≡ declare
       let here : slice_get model.constraints (c - 1) ≡ Some (get_or model.constraints k constraint) = ap (slice_get model.constraints) place ∙ slice_get-get_or model.constraints k constraint inside in
       subst P (sym here) (subst A declared accepted)
 
-  justified-by : (k : ℕ) (constraint : Constraint) (found : Inference) → length model.vars ≤ 100000 → length model.constraints ≤ 100000 → k < length model.constraints → IsFound (k + 1) (get_or model.constraints k constraint) trail found → IsJustified model found
+  justified-by : (k : ℕ) (constraint : Constraint) (found : Inference) → length model.vars ≤ 100000 → length model.constraints ≤ 100000 → k < length model.constraints → IsFound (k + 1) (get_or model.constraints k constraint) trail found → IsInferenceJustified model found
   justified-by k constraint found few_vars few_constraints inside h =
       let number = h.of_constraint in
       let over = subst (λ (n : ℕ). IsClauseOver n found.clause) as-many h.justified.forcing.over in
@@ -80,7 +80,7 @@ module _ (model : Model) (trail : Levels) (declared : trail.declared ≡ declare
           let constraint = get_or model.constraints k some_constraint in
           subst (λ (n : ℕ). IsFound n constraint trail found) here.numbered (h constraint here.is_for)
 
-      found-justified : (found : Inference) → IsInferenceOf (number p) (IsFor p) trail found → IsJustified model found
+      found-justified : (found : Inference) → IsInferenceOf (number p) (IsFor p) trail found → IsInferenceJustified model found
       found-justified found h = justified-by k some_constraint found are.few_vars are.few_constraints inside (found-at found h)
 
       found-inference : (found : Inference) → IsInferenceOf (number p) (IsFor p) trail found → IsInference model trail found
@@ -90,7 +90,7 @@ module _ (model : Model) (trail : Levels) (declared : trail.declared ≡ declare
       pub all-found : (found : List Inference) → AreInferencesOf (number p) (IsFor p) trail found → All (IsInference model trail) found
       all-found found h = λ i d below. found-inference (get_or found i d) (h i d below)
 
-      pub all-justified : (found : List Inference) → AreInferencesOf (number p) (IsFor p) trail found → All (IsJustified model) found
+      pub all-justified : (found : List Inference) → AreInferencesOf (number p) (IsFor p) trail found → All (IsInferenceJustified model) found
       all-justified found h = λ i d below. found-justified (get_or found i d) (h i d below)
 
     pub none-quiet : IsNarrower trail.sets trail.declared → (i : ℕ) → length items ≤ i → AllWithin (λ (p : P). AreExhausted (IsFor p) trail) items 0 i → IsQuiet model trail

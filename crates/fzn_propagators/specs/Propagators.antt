@@ -7,7 +7,7 @@ use Rattle.fzn_meaning.specs.declared.constraint.Constraint.{Constraint}
 use Rattle.fzn_meaning.specs.declared.model.Model.{Model}
 use Rattle.fzn_meaning.specs.Meaning.{HasBooleanSets, longest}
 use Rattle.fzn_meaning.specs.Solutions.{declared_sets}
-use Rattle.fzn_propagator.specs.Constraints.{IsJustified}
+use Rattle.fzn_propagator.specs.Constraints.{IsInferenceJustified}
 use Rattle.fzn_propagators.specs.declared.propagators.Propagators.{Propagators}
 
 -- the propagator of the model's constraint with this number
@@ -30,4 +30,4 @@ pub record AreFor {P : Type 0} (number_of : P → ℕ) (IsFor : P → Constraint
 -- those propagators of a search, whichever of them are to be asked next, and what they found that is not handed over yet
 pub record StandFor {P : Type 0} (number_of : P → ℕ) (IsFor : P → Constraint → Type 0) (Fits : P → List IntSet → Type 0) (propagators : Propagators P) (model : Model) : Type 0 where
   pub items : AreFor number_of IsFor Fits propagators.items model
-  pub found : All (IsJustified model) propagators.found
+  pub found : All (IsInferenceJustified model) propagators.found

@@ -1,7 +1,7 @@
 // What was found before the trail grew, and is still worth to be handed over.
 ghost use Rattle.std.specs.Prelude.{◌≡◌, IsTrue, IfSome};
 ghost use Rattle.std.specs.List.{All};
-ghost use Rattle.fzn_propagator.specs.Constraints.{IsInference, IsJustified};
+ghost use Rattle.fzn_propagator.specs.Constraints.{IsInference, IsInferenceJustified};
 ghost use Rattle.fzn_meaning.specs.Solutions.{declared_sets};
 
 use fzn_meaning::Model;
@@ -11,7 +11,7 @@ use fzn_trail::Trail;
 /// Whether it is an inference of the trail as it stands.
 fn is_standing(model: &Model, trail: &Trail, inference: &Inference) -> bool
     requires declared { trail.now.declared ≡ declared_sets model.now.vars }
-    requires justified { IsJustified model.now inference.now }
+    requires justified { IsInferenceJustified model.now inference.now }
     ensures { IsTrue result → IsInference model.now trail.now inference.now }
 {
     is_forcing(trail, inference.clause.as_slice())
@@ -20,9 +20,9 @@ fn is_standing(model: &Model, trail: &Trail, inference: &Inference) -> bool
 /// The first of these whose clause is false or forces a literal. Those before it are dropped.
 pub(crate) fn take_forcing(model: &Model, trail: &Trail, found: &mut Findings) -> Option<Inference>
     requires declared { trail.now.declared ≡ declared_sets model.now.vars }
-    requires justified { All (IsJustified model.now) found.old }
+    requires justified { All (IsInferenceJustified model.now) found.old }
     ensures first { IfSome result (IsInference model.now trail.now) }
-    ensures justified { All (IsJustified model.now) found.new }
+    ensures justified { All (IsInferenceJustified model.now) found.new }
 {
     for _ in 0..found.len() {
         let inference = found.take_first()?;

@@ -4,9 +4,7 @@ ghost use Rattle.fzn_meaning.specs.declared.constraint.Constraint.{Constraint};
 ghost use Rattle.fzn_builtin_rules.specs.Choices.{inputs_of};
 ghost use Rattle.fzn_meaning.specs.Solutions.{declared_sets};
 ghost use Rattle.fzn_meaning.specs.WellFormed.{IsWellFormed};
-ghost use Rattle.fzn_propagators.specs.Sums.{sum_in_either};
 
-use crate::counters::MayBeSum;
 use crate::either::Either;
 use crate::propagators::Complete;
 use fzn_builtin::BuiltinPropagator;
@@ -14,7 +12,7 @@ use fzn_circuit::CircuitPropagator;
 use fzn_cumulative::CumulativePropagator;
 use fzn_domain::Memory;
 use fzn_globals::GlobalPropagator;
-use fzn_linear::{ArithPropagator, SumForm};
+use fzn_linear::ArithPropagator;
 use fzn_meaning::{Constraint, Model};
 use fzn_propagator::Propagator;
 use fzn_table::TablePropagator;
@@ -115,16 +113,5 @@ fn plain_of(
     match fzn_builtin::propagator_of(alloc, model, c)? {
         Some(propagator) => Ok(Either::Other(Either::This(propagator))),
         None => unreachable!(), // A builtin that is no sum has inputs.
-    }
-}
-
-impl<B> MayBeSum for Either<ArithPropagator, B> {
-    ghost sum = { sum_in_either };
-
-    fn sum(&self) -> Option<&SumForm> {
-        match self {
-            Either::This(propagator) => propagator.form(),
-            Either::Other(_) => None,
-        }
     }
 }

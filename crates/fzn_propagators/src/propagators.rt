@@ -6,13 +6,12 @@ ghost use Rattle.fzn_meaning.specs.Solutions.{declared_sets};
 ghost use Rattle.fzn_meaning.specs.WellFormed.{IsWellFormed};
 ghost use Rattle.fzn_trail.specs.Levels.{NoneEmpty};
 ghost use Rattle.fzn_propagator.specs.Inference.{AreExhausted};
-ghost use Rattle.fzn_propagator.specs.Constraints.{IsInference, IsJustified, IsQuiet};
+ghost use Rattle.fzn_propagator.specs.Constraints.{IsInference, IsInferenceJustified, IsQuiet};
 ghost use Rattle.fzn_propagators.specs.Propagators.{AreFor, StandFor};
 
-use crate::agenda::Agenda;
-use crate::counters::MayBeSum;
 use crate::forcing::take_forcing;
 use crate::kinds::AnyPropagator;
+use fzn_agenda::{Agenda, Counted};
 use fzn_domain::Memory;
 use fzn_list::Items;
 use fzn_meaning::Model;
@@ -40,7 +39,7 @@ pub struct Propagators<P = AnyPropagator> {
     agenda: Agenda,
 }
 
-impl<P: Complete + MayBeSum + Drop> Propagators<P> {
+impl<P: Complete + Counted + Drop> Propagators<P> {
     /// Made once, before the search. It answers `Err` where memory runs out.
     pub fn new(alloc: Global, model: &Model) -> Result<Propagators<P>, Memory>
         requires model { IsWellFormed model.now }
@@ -151,7 +150,7 @@ fn ask<P: Propagator>(
     requires empty { found.old ≡ [] }
     ensures first { IfOk result (λ first. IfSome first (IsInference model.now trail.now)) }
     ensures none { IfOk result (λ first. IfNone first (HoldsAt (λ p. AreExhausted (P.is_for p) trail.now) items.now place)) }
-    ensures rest { All (IsJustified model.now) found.new }
+    ensures rest { All (IsInferenceJustified model.now) found.new }
     ensures left { IfOk result (λ first. IfNone first (found.new ≡ [])) }
 {
     let propagator = &items.as_slice()[place];
@@ -170,10 +169,10 @@ fn ask_all<P: Propagator>(
     requires is_for { AreFor P.number P.is_for P.fits items.now model.now }
     requires declared { trail.now.declared ≡ declared_sets model.now.vars }
     requires not_empty { NoneEmpty trail.now.sets }
-    requires before { All (IsJustified model.now) found.old }
+    requires before { All (IsInferenceJustified model.now) found.old }
     ensures first { IfOk result (λ first. IfSome first (IsInference model.now trail.now)) }
     ensures none { IfOk result (λ first. IfNone first (IsQuiet model.now trail.now)) }
-    ensures rest { All (IsJustified model.now) found.new }
+    ensures rest { All (IsInferenceJustified model.now) found.new }
 {
     found.clear();
     let _entries = trail.len(); // Each present set lies within its declared one.

@@ -1,10 +1,9 @@
--- Variables with one value, and literals that split a set.
+-- Variables with one value, and the state of a search.
 use Rattle.std.specs.Prelude.{◌≡◌, ℕ, ◌+◌, ◌<◌, ℤ, List, length, slice_index_or}
-use Rattle.fzn_domain.specs.declared.literal.Lit.{Lit}
 use Rattle.fzn_domain.specs.IntSet.{IntSet, size, no_values}
-use Rattle.fzn_domain.specs.Limits.{IsInLimits}
-use Rattle.fzn_domain.specs.Narrow.{IsVariable, IsOpen, IsWithin}
+use Rattle.fzn_domain.specs.Narrow.{IsWithin}
 pub use Rattle.fzn_domain.specs.Narrow.{AllFixed}
+pub use Rattle.fzn_activity.specs.Splits.{Splits}
 
 -- a search over this many variables, and the decisions that it has made
 pub record Searching : Type 0 where
@@ -18,12 +17,6 @@ counted search = record search { nodes = search.nodes + 1 }
 -- some set has more than one value
 abbrev pub HasMany : List IntSet → Type 0
 HasMany sets = (k : ℕ) × (k < length sets) × (1 < size (slice_index_or sets k no_values))
-
--- some values of the variable's set make the literal true, and others false
-pub record Splits (sets : List IntSet) (lit : Lit) : Type 0 where
-  pub variable : IsVariable (length sets) lit.var
-  pub is_open : IsOpen sets lit
-  pub in_limits : IsInLimits lit.value
 
 -- no other values lie in the sets
 abbrev pub IsOnlyWithin : List IntSet → List ℤ → Type 0

@@ -2,15 +2,12 @@
 // whoever asks tests the answer.
 ghost use Rattle.std.specs.Prelude.{◌≡◌, length};
 
-use crate::choice::{Choice, Ties};
-use crate::comparisons::Comparisons;
-use crate::costs::Costs;
-use crate::heap::Heap;
-use crate::open::{greatest_value, least_value, open_domain, value_left};
+use crate::choice::Choice;
 use crate::order::Order;
-use crate::pricing::costs_of;
 use crate::probes::Probes;
 use crate::restarts::Restarts;
+use fzn_activity::{Comparisons, Heap, Ties, greatest_value, least_value, open_domain, value_left};
+use fzn_costs::{Costs, costs_of};
 use fzn_domain::{Domain, GREATEST_VALUE, LEAST_VALUE, Lit, Memory, Op, VarId};
 use fzn_meaning::{Goal, Model, Var};
 use fzn_strategy::Annotation;

@@ -2,8 +2,8 @@
 //!
 //! In: a model, search annotations and what is asked besides; the trail; which entries of it are about to be dropped; the literals that
 //! a conflict rests on. Out: a literal that is neither true nor false on the trail, where some variable has more than one value, and
-//! else the values; after a conflict whether to restart. The definitions are in `specs/Fixed.antt`. The clause that a solution adds is
-//! `cut`.
+//! else the values; after a conflict whether to restart. Proved against `specs/Fixed.antt`, and against `fzn_activity`'s
+//! `specs/Splits.antt`: what a decision has to be. The clause that a solution adds is `cut`.
 //!
 //! Contracts see the number of variables and of decisions alone. All else steers: the order of the annotations, the activity of
 //! comparisons and of variables, the values that variables had last and in the last solution, what values cost. None of it is trusted; a
@@ -17,14 +17,8 @@ pub use restarts::next_interval;
 pub use search::{Search, values_of};
 
 mod choice;
-mod comparisons;
-mod costs;
 mod guide;
-mod heap;
-mod open;
 mod order;
-mod pool;
-mod pricing;
 mod probes;
 mod restarts;
 mod search;

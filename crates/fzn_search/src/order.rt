@@ -1,10 +1,7 @@
 // The order of the annotations.
 ghost use Rattle.std.specs.Prelude.{◌≡◌, length};
 
-use crate::choice::Ties;
-use crate::heap::Heap;
-use crate::open::open_domain;
-use crate::pool::Pool;
+use fzn_activity::{Heap, Pool, Ties, open_domain};
 use fzn_domain::{Domain, Lit, Memory, VarId};
 use fzn_strategy::{Annotation, ValueChoice, VarChoice};
 use fzn_trail::Trail;

@@ -2,7 +2,7 @@
 // refuted the search learns a bound, which stands on the certificate as a clause of one literal.
 ghost use Rattle.std.specs.Prelude.{◌≡◌, length};
 
-use crate::open::open_domain;
+use fzn_activity::open_domain;
 use fzn_domain::{Domain, Lit, Op, VarId};
 use fzn_meaning::Goal;
 use fzn_trail::Trail;

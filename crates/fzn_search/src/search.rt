@@ -7,7 +7,7 @@ ghost use Rattle.fzn_search.specs.Fixed.{AllFixed, HasMany, IsOnlyWithin, Splits
 
 use crate::choice::Choice;
 use crate::guide::Guide;
-use crate::open::splits;
+use fzn_activity::splits;
 use fzn_domain::{Lit, Memory, Op, VarId};
 use fzn_list::Items;
 use fzn_meaning::Model;

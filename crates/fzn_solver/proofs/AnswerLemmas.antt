@@ -18,7 +18,7 @@ use Rattle.fzn_strategy.specs.declared.learn.Learn.{Learn}
 use Rattle.fzn_engine.specs.declared.limits.Limits.{Limits}
 use Rattle.fzn_engine.specs.declared.report.Report.{Report}
 use Rattle.fzn_state.specs.Volume.{volume}
-use Rattle.fzn_engine.specs.Outcome.{HasRoom, IsReached, EndsTruly as EndsTrulyThere, IsOutcome}
+use Rattle.fzn_engine.specs.Outcome.{HasRoomForMore, IsReached, StopsTruly as EndsTrulyThere, IsOutcome}
 use Rattle.fzn_printer.specs.declared.printer.Ending.{Ending}
 use Rattle.fzn_printer.specs.declared.printer.Ending.TheVariants.{Complete, Unsatisfiable, NodeLimit, SolutionLimit}
 use Rattle.fzn_printer.specs.Printer.{out_contents}
@@ -27,7 +27,7 @@ use Rattle.fzn_printer.specs.Shown.{ending_text, is_closed}
 use Rattle.fzn_solver.specs.declared.writers.Writers.{Writers}
 use Rattle.fzn_solver.specs.Standing.{found_by, is_alone, early, late, certificate, shown_all}
 use Rattle.fzn_solver.specs.Answer.{wanted, EndsTruly, IsAnswer}
-use Rattle.fzn_solver.specs.Writers.{taken, at_first, origin, IsFresh, IsClosed}
+use Rattle.fzn_solver.specs.Writers.{taken, at_first, origin, IsUnwritten, IsAnswerClosed}
 use Rattle.fzn_options.specs.declared.solve.Options.{Options}
 
 -- ---- the verdict on the certificate
@@ -72,11 +72,11 @@ some-found found some none = let l = ap length none in absurd (omega arith)
 
 pub ends-truly : (model : Model) (options : Options) (learn : Learn) (limits : Limits) (steps : List Step) (nodes : ℕ) (ending : Ending) → limits.nodes ≡ options.nodes → limits.solutions ≡ wanted options.all options.limit → EndsTrulyThere model learn limits steps nodes ending → EndsTruly model options (found_by model steps) nodes ending
 ends-truly model options learn limits steps nodes Complete limit_is most truly =
-    let H : Option ℕ → Type 0 = λ m. HasRoom model.goal m (length (found_by model steps)) in
+    let H : Option ℕ → Type 0 = λ m. HasRoomForMore model.goal m (length (found_by model steps)) in
     (some-found (found_by model steps) truly.1, subst H most truly.2)
 ends-truly model options learn limits steps nodes Unsatisfiable limit_is most truly = none-found (found_by model steps) truly.1
 ends-truly model options learn limits steps nodes NodeLimit limit_is most truly =
-    let H : Option ℕ → Type 0 = λ m. HasRoom model.goal m (length (found_by model steps)) in
+    let H : Option ℕ → Type 0 = λ m. HasRoomForMore model.goal m (length (found_by model steps)) in
     (truly.0 ∙ limit_is, subst H most truly.2)
 ends-truly model options learn limits steps nodes SolutionLimit limit_is most truly =
     let R : Option ℕ → Type 0 = λ m. IsReached model.goal m (length (found_by model steps)) in
@@ -91,8 +91,8 @@ closed-refuted model learn limits steps nodes SolutionLimit truly closed = cc
 -- ---- all of it
 
 module _ {W C P : Type 0} (outs : W → Option (List ℕ)) (certs : C → Option (List ℕ)) (model : Model) (options : Options) where
-  pub answer-of : IsWellFormed model → (before searched after : Writers W C P) (limits : Limits) (report : Report) → IsFresh outs certs before → before.alone ≡ is_alone model.goal options.all → origin searched ≡ origin before → limits.nodes ≡ options.nodes → limits.solutions ≡ wanted options.all options.limit
-      → AllAccepted model (taken searched) → IsOutcome model options.learn limits (taken searched) report.nodes report.ending → report.solutions ≡ length (found_by model (taken searched)) → IsClosed outs certs model (is_closed report.ending) searched after
+  pub answer-of : IsWellFormed model → (before searched after : Writers W C P) (limits : Limits) (report : Report) → IsUnwritten outs certs before → before.alone ≡ is_alone model.goal options.all → origin searched ≡ origin before → limits.nodes ≡ options.nodes → limits.solutions ≡ wanted options.all options.limit
+      → AllAccepted model (taken searched) → IsOutcome model options.learn limits (taken searched) report.nodes report.ending → report.solutions ≡ length (found_by model (taken searched)) → IsAnswerClosed outs certs model (is_closed report.ending) searched after
       → IsAnswer model options (out_contents outs before.out) (out_contents outs after.out) (cert_contents certs before.cert) (cert_contents certs after.cert) report
   answer-of formed before searched after limits report fresh alone same limit_is most all_accepted outcome count closed =
       let steps = taken searched in
@@ -126,7 +126,7 @@ module _ {W C P : Type 0} (outs : W → Option (List ℕ)) (certs : C → Option
       }
 
 -- at first there is room for a solution
-pub room-at_first : (goal : Goal) (all : Bool) (limit : Option ℕ) → HasRoom goal (wanted all limit) 0
+pub room-at_first : (goal : Goal) (all : Bool) (limit : Option ℕ) → HasRoomForMore goal (wanted all limit) 0
 room-at_first Satisfy all (Some limit) = let more = le-max_right limit 1 in omega arith
 room-at_first Satisfy true None = tt
 room-at_first Satisfy false None = omega arith

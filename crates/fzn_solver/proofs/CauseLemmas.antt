@@ -13,11 +13,11 @@ use Rattle.fzn_state.specs.declared.fault.Fault.{Fault}
 use Rattle.fzn_state.specs.declared.fault.Fault.TheVariants as engine
 use Rattle.fzn_printer.specs.Printer.{is_open, out_failed}
 use Rattle.fzn_solver.specs.declared.writers.Writers.{Writers}
-use Rattle.fzn_solver.specs.Causes.{IsTooLong, HasCause, IsCause, IsLineCause, AreOpen}
+use Rattle.fzn_solver.specs.Causes.{IsTooLong, HasCause, IsCause, IsLineCause, AreWritersOpen}
 use Rattle.fzn_reading.specs.declared.fault.ModelFault.{ModelFault}
 use Rattle.fzn_reading.specs.declared.fault.ModelFault.TheVariants as reading
 use Rattle.fzn_solver.specs.FaultsFrom.{fault_of_certificate, fault_of_engine, fault_of_model}
-use Rattle.fzn_solver.specs.Left.{HasLines, IsLater, IsLeft}
+use Rattle.fzn_solver.specs.Left.{HasLines, IsLater, IsLeftByRun}
 use Rattle.fzn_solver.specs.Run.{IsDue}
 use Rattle.fzn_solver.specs.declared.fault.RunFault.{RunFault}
 use Rattle.fzn_solver.specs.declared.fault.RunFault.TheVariants as run
@@ -63,9 +63,9 @@ module _ {W C P : Type 0} (outs : W → Bool) (certs : C → Bool) (model : Mode
   fault-cause now (Some fault) cause = cause
 
 -- the line of a step that is no solution, taken or not
-pub line-taken : {W C P : Type 0} (outs : W → Option (List ℕ)) (certs : C → Option (List ℕ)) (outs_failed : W → Bool) (certs_failed : C → Bool) (model : Model) (step : Step) (old new : Writers W C P) (result : Result Unit Fault) → AllAccepted model (taken old ++ step ∷ []) → IsKept outs certs model old → AreOpen old
+pub line-taken : {W C P : Type 0} (outs : W → Option (List ℕ)) (certs : C → Option (List ℕ)) (outs_failed : W → Bool) (certs_failed : C → Bool) (model : Model) (step : Step) (old new : Writers W C P) (result : Result Unit Fault) → AllAccepted model (taken old ++ step ∷ []) → IsKept outs certs model old → AreWritersOpen old
     → OnOk result (IsLineTaken certs step old new) → OnErr result (IsLineRefused certs step old new) → IfErr result (IsLineCause certs_failed step (step_count old.cert) new.cert)
-    → OnOk result (AreOpen new) × IfErr result (IsCause outs_failed certs_failed model new) × (new.out ≡ old.out)
+    → OnOk result (AreWritersOpen new) × IfErr result (IsCause outs_failed certs_failed model new) × (new.out ≡ old.out)
 line-taken outs certs outs_failed certs_failed model step old new (Ok v) accepted kept opened line refused cause = ((line.stays_open, ap is_open line.same_rest.out ∙ opened.1), tt, line.same_rest.out)
 line-taken outs certs outs_failed certs_failed model step old new (Err e) accepted kept opened line refused cause =
     (tt, step-cause outs_failed certs_failed model step (taken old) (step_count old.cert) new e accepted (kept.cert_in_step opened.0).counted (ap items_of refused.taken) cause, refused.same_rest.out)
@@ -84,7 +84,7 @@ later-due read out cert file cert_old cert_new model run.WriteOutput states late
 later-due read out cert file cert_old cert_new model run.WriteCert states later cause = (model, states, cause)
 later-due read out cert file cert_old cert_new model run.StepTooLong states later cause = (model, states, cause)
 
-pub each-due : {A : Type 0} (result : Result A RunFault) (all : Bool) (read out cert : Bool) (file out_old out_new cert_old cert_new : Option (List ℕ)) (model : Model) → States file model → IfErr result (IsLeft model all out_old out_new cert_old cert_new) → IfErr result (HasCause out cert model cert_old cert_new)
+pub each-due : {A : Type 0} (result : Result A RunFault) (all : Bool) (read out cert : Bool) (file out_old out_new cert_old cert_new : Option (List ℕ)) (model : Model) → States file model → IfErr result (IsLeftByRun model all out_old out_new cert_old cert_new) → IfErr result (HasCause out cert model cert_old cert_new)
     → IfErr result (IsDue read out cert file cert_old cert_new)
 each-due (Ok value) all read out cert file out_old out_new cert_old cert_new model states left cause = tt
 each-due (Err fault) all read out cert file out_old out_new cert_old cert_new model states left cause = later-due read out cert file cert_old cert_new model fault states left.0 cause

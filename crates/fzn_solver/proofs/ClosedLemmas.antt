@@ -23,7 +23,7 @@ use Rattle.fzn_printer.specs.Shown.{shown, ending_text}
 use Rattle.fzn_solver.specs.declared.writers.Writers.{Writers}
 use Rattle.fzn_solver.specs.Standing.{found_by, early, late, begun_certificate, shown_all, IsOutInStep}
 use Rattle.fzn_solver.proofs.StandingLemmas.{front-kept}
-use Rattle.fzn_solver.specs.Writers.{taken, at_first, IsKept, IsLastShown, IsClosed, IsCutOff}
+use Rattle.fzn_solver.specs.Writers.{taken, at_first, IsKept, IsLastShown, IsAnswerClosed, IsCutOff}
 
 -- a solution was printed early or waits exactly where there is one
 some-waits : (last : Option (List ℤ)) (xs : List (List ℤ)) → option_to_list last ≡ xs → is_some last ≡ not (length xs == 0)
@@ -114,7 +114,7 @@ module _ {W C P : Type 0} (outs : W → Option (List ℕ)) (certs : C → Option
       → (¬ (stage_of old.cert ≡ Open) → finished ≡ Err Failed) → finished ≡ Ok v → (is_open mid.out ≡ false → (ended ≡ Err NoMore) × K) → ended ≡ Ok w
       → Appends (cert_contents certs old.cert) (cert_contents certs new.cert) (end_line closed)
       → IsLastShown outs model old.last.now old.out mid.out → Appends (out_contents outs mid.out) (out_contents outs new.out) (ending_text closed (has_printed mid.out))
-      → IsClosed outs certs model closed old new
+      → IsAnswerClosed outs certs model closed old new
   closed-by old mid new finished ended v w kept shut finished_is over ended_is end last ending =
       let opened = open-before (stage_of old.cert) finished v shut finished_is in
       let still = open-print (is_open mid.out) ended w over ended_is in

@@ -23,15 +23,15 @@ use Rattle.fzn_printer.specs.Printer.{out_contents, is_open, has_printed}
 use Rattle.fzn_printer.specs.Shown.{ending_text, is_closed}
 use Rattle.fzn_solver.specs.declared.writers.Writers.{Writers}
 use Rattle.fzn_solver.specs.FaultsFrom.{fault_of_model, fault_of_engine}
-use Rattle.fzn_solver.specs.Standing.{found_by, is_alone, early, late, begun_certificate, certificate, shown_all, IsStanding}
+use Rattle.fzn_solver.specs.Standing.{found_by, is_alone, early, late, begun_certificate, certificate, shown_all, AreLinesStanding}
 use Rattle.fzn_reading.specs.declared.fault.ModelFault.{ModelFault}
 use Rattle.fzn_reading.specs.declared.fault.ModelFault.TheVariants as reading
 use Rattle.fzn_reading.specs.Reads.{Answers, States}
 use Rattle.fzn_solver.specs.declared.fault.RunFault.{RunFault}
 use Rattle.fzn_solver.specs.declared.fault.RunFault.TheVariants as run
 use Rattle.fzn_solver.specs.Run.{IsRunFault}
-use Rattle.fzn_solver.specs.Left.{HasLines, IsStopped, IsLater, IsLeft}
-use Rattle.fzn_solver.specs.Writers.{taken, at_first, origin, IsFresh, IsKept, IsUnbegun, IsUnclosed}
+use Rattle.fzn_solver.specs.Left.{HasLines, IsStopped, IsLater, IsLeftByRun}
+use Rattle.fzn_solver.specs.Writers.{taken, at_first, origin, IsUnwritten, IsKept, IsUnbegun, IsUnclosed}
 use Rattle.fzn_solver.proofs.StandingLemmas.{standing-refused}
 use Rattle.fzn_solver.proofs.WritersLemmas.{Keeps-same}
 use Rattle.fzn_solver.proofs.ClosedLemmas.{answer-front}
@@ -55,7 +55,7 @@ pub memory-fault : (file : Option (List ℕ)) (all : Bool) (out cert : Option (L
 unfolding IsRunFault
 memory-fault file all out cert = inl (Keeps-same out, Keeps-same cert)
 
-pub later-fault : (file : Option (List ℕ)) (all : Bool) (out_old out_new cert_old cert_new : Option (List ℕ)) (model : Model) (fault : RunFault) → States file model → IsLeft model all out_old out_new cert_old cert_new fault → IsRunFault file all out_old out_new cert_old cert_new fault
+pub later-fault : (file : Option (List ℕ)) (all : Bool) (out_old out_new cert_old cert_new : Option (List ℕ)) (model : Model) (fault : RunFault) → States file model → IsLeftByRun model all out_old out_new cert_old cert_new fault → IsRunFault file all out_old out_new cert_old cert_new fault
 unfolding IsRunFault
 later-fault file all out_old out_new cert_old cert_new model (run.File fault) states left = absurd left.0
 later-fault file all out_old out_new cert_old cert_new model run.Read states left = absurd left.0
@@ -64,7 +64,7 @@ later-fault file all out_old out_new cert_old cert_new model run.WriteOutput sta
 later-fault file all out_old out_new cert_old cert_new model run.WriteCert states left = (model, states, left)
 later-fault file all out_old out_new cert_old cert_new model run.StepTooLong states left = (model, states, left)
 
-pub each-fault : {A : Type 0} (result : Result A RunFault) (file : Option (List ℕ)) (all : Bool) (out_old out_new cert_old cert_new : Option (List ℕ)) (model : Model) → States file model → IfErr result (IsLeft model all out_old out_new cert_old cert_new) → IfErr result (IsRunFault file all out_old out_new cert_old cert_new)
+pub each-fault : {A : Type 0} (result : Result A RunFault) (file : Option (List ℕ)) (all : Bool) (out_old out_new cert_old cert_new : Option (List ℕ)) (model : Model) → States file model → IfErr result (IsLeftByRun model all out_old out_new cert_old cert_new) → IfErr result (IsRunFault file all out_old out_new cert_old cert_new)
 each-fault (Ok value) file all out_old out_new cert_old cert_new model states left = tt
 each-fault (Err fault) file all out_old out_new cert_old cert_new model states left = later-fault file all out_old out_new cert_old cert_new model fault states left
 
@@ -75,7 +75,7 @@ later engine.WriteCert = tt
 later engine.StepTooLong = tt
 
 stopped-by : (model : Model) (all alone : Bool) (steps : List Step) (cert_first cert_old cert_new out_first out_old out_new : Option (List ℕ)) → IsWellFormed model → AllAccepted model steps → alone ≡ is_alone model.goal all → cert_first ≡ cert_old → out_first ≡ out_old
-    → IsStanding model alone steps cert_first cert_new out_first out_new → IsStopped model all out_old out_new cert_old cert_new
+    → AreLinesStanding model alone steps cert_first cert_new out_first out_new → IsStopped model all out_old out_new cert_old cert_new
 stopped-by model all alone steps cert_first cert_old cert_new out_first out_old out_new formed all_accepted is cert_is out_is standing =
     let K : Option (List ℕ) → Type 0 = λ o. Appends o cert_new (begun_certificate model steps ++ standing.more) in
     let O : Option (List ℕ) → Type 0 = λ o. AppendsFront o out_new (shown_all model (early alone (found_by model steps))) in
@@ -88,7 +88,7 @@ stopped-by model all alone steps cert_first cert_old cert_new out_first out_old 
 
 module _ {W C P : Type 0} (outs : W → Option (List ℕ)) (certs : C → Option (List ℕ)) (model : Model) (all : Bool) where
   abbrev Left : Writers W C P → Writers W C P → Fault → Type 0
-  Left before after fault = IsLeft model all (out_contents outs before.out) (out_contents outs after.out) (cert_contents certs before.cert) (cert_contents certs after.cert) (fault_of_engine fault)
+  Left before after fault = IsLeftByRun model all (out_contents outs before.out) (out_contents outs after.out) (cert_contents certs before.cert) (cert_contents certs after.cert) (fault_of_engine fault)
 
   -- before the first step
   pub left-unbegun : (before after : Writers W C P) (fault : Fault) → IsWellFormed model → IsUnbegun certs model before after → Left before after fault
@@ -103,22 +103,22 @@ module _ {W C P : Type 0} (outs : W → Option (List ℕ)) (certs : C → Option
         }),
       )
 
-  certs-first : (before now : Writers W C P) (fresh : IsFresh outs certs before) → origin now ≡ origin before → certs (at_first now).1 ≡ cert_contents certs before.cert
+  certs-first : (before now : Writers W C P) (fresh : IsUnwritten outs certs before) → origin now ≡ origin before → certs (at_first now).1 ≡ cert_contents certs before.cert
   certs-first before now fresh same =
       ap (λ (o : (W × C) × Bool × GName × GName × GName). certs o.0.1) same ∙ sym fresh.same_cert
 
-  outs-first : (before now : Writers W C P) (fresh : IsFresh outs certs before) → origin now ≡ origin before → outs (at_first now).0 ≡ out_contents outs before.out
+  outs-first : (before now : Writers W C P) (fresh : IsUnwritten outs certs before) → origin now ≡ origin before → outs (at_first now).0 ≡ out_contents outs before.out
   outs-first before now fresh same =
       ap (λ (o : (W × C) × Bool × GName × GName × GName). outs o.0.0) same ∙ sym fresh.same_out
 
   -- the lines of the steps stand
-  pub lines-kept : (before now : Writers W C P) → IsFresh outs certs before → origin now ≡ origin before → IsKept outs certs model now → HasLines model (taken now) (cert_contents certs before.cert) (cert_contents certs now.cert)
+  pub lines-kept : (before now : Writers W C P) → IsUnwritten outs certs before → origin now ≡ origin before → IsKept outs certs model now → HasLines model (taken now) (cert_contents certs before.cert) (cert_contents certs now.cert)
   lines-kept before now fresh same kept =
       let K : Option (List ℕ) → Type 0 = λ o. Appends o (cert_contents certs now.cert) (begun_certificate model (taken now) ++ kept.standing.more) in
       inr (kept.standing.more, subst K (certs-first before now fresh same) kept.standing.lines)
 
   -- and after a fault at the end
-  pub lines-unclosed : (before now after : Writers W C P) (closed : Bool) (fault : Fault) → IsFresh outs certs before → origin now ≡ origin before → IsKept outs certs model now → taken after ≡ taken now → IsUnclosed outs certs model closed now after fault
+  pub lines-unclosed : (before now after : Writers W C P) (closed : Bool) (fault : Fault) → IsUnwritten outs certs before → origin now ≡ origin before → IsKept outs certs model now → taken after ≡ taken now → IsUnclosed outs certs model closed now after fault
       → HasLines model (taken after) (cert_contents certs before.cert) (cert_contents certs after.cert)
   lines-unclosed before now after closed fault fresh same kept same_taken (inl unfinished) =
       let L : List Step → Type 0 = λ steps. HasLines model steps (cert_contents certs before.cert) (cert_contents certs after.cert) in
@@ -132,7 +132,7 @@ module _ {W C P : Type 0} (outs : W → Option (List ℕ)) (certs : C → Option
       subst L (sym same_taken) (inr (end_line closed, subst K (certs-first before now fresh same) (Appends-then (certs (at_first now).1) (cert_contents certs now.cert) (cert_contents certs after.cert) (begun_certificate model (taken now)) (end_line closed) in_step.lines cut.end)))
 
   -- on the way
-  pub left-on_way : (before now : Writers W C P) (fault : Fault) → IsWellFormed model → IsFresh outs certs before → before.alone ≡ is_alone model.goal all → origin now ≡ origin before → AllAccepted model (taken now) → IsKept outs certs model now → Left before now fault
+  pub left-on_way : (before now : Writers W C P) (fault : Fault) → IsWellFormed model → IsUnwritten outs certs before → before.alone ≡ is_alone model.goal all → origin now ≡ origin before → AllAccepted model (taken now) → IsKept outs certs model now → Left before now fault
   left-on_way before now fault formed fresh alone same all_accepted kept = (
     later fault,
     inl (stopped-by model all now.alone (taken now) (certs (at_first now).1) (cert_contents certs before.cert) (cert_contents certs now.cert) (outs (at_first now).0) (out_contents outs before.out) (out_contents outs now.out) formed all_accepted
@@ -140,10 +140,10 @@ module _ {W C P : Type 0} (outs : W → Option (List ℕ)) (certs : C → Option
   )
 
   -- at the end
-  pub left-at_end : (before now after : Writers W C P) (fault : Fault) (learn : Learn) (limits : Limits) (nodes : ℕ) (ending : Ending) → IsWellFormed model → IsFresh outs certs before → before.alone ≡ is_alone model.goal all → origin now ≡ origin before → AllAccepted model (taken now)
+  pub left-at_end : (before now after : Writers W C P) (fault : Fault) (learn : Learn) (limits : Limits) (nodes : ℕ) (ending : Ending) → IsWellFormed model → IsUnwritten outs certs before → before.alone ≡ is_alone model.goal all → origin now ≡ origin before → AllAccepted model (taken now)
       → IsOutcome model learn limits (taken now) nodes ending → IsKept outs certs model now → IsUnclosed outs certs model (is_closed ending) now after fault → Left before after fault
   left-at_end before now after fault learn limits nodes ending formed fresh alone same all_accepted outcome kept (inl unfinished) =
-      let O : Printer W → Type 0 = λ p. IsStanding model now.alone (taken now) (certs (at_first now).1) (cert_contents certs after.cert) (outs (at_first now).0) (out_contents outs p) in (
+      let O : Printer W → Type 0 = λ p. AreLinesStanding model now.alone (taken now) (certs (at_first now).1) (cert_contents certs after.cert) (outs (at_first now).0) (out_contents outs p) in (
         later fault,
         inl (stopped-by model all now.alone (taken now) (certs (at_first now).1) (cert_contents certs before.cert) (cert_contents certs after.cert) (outs (at_first now).0) (out_contents outs before.out) (out_contents outs after.out) formed all_accepted
             (ap (λ (o : (W × C) × Bool × GName × GName × GName). o.1) same ∙ alone) (certs-first before now fresh same) (outs-first before now fresh same)

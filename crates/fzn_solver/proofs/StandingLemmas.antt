@@ -17,7 +17,7 @@ use Rattle.fzn_cert.specs.Accepted.{IsAccepted, AllAcceptedAfter, after_step, pa
 use Rattle.fzn_cert.specs.Spelling.{step_line, header_lines, IsSpelled, HasLineRoom, HasLine}
 use Rattle.fzn_cert.specs.Verdict.{header_of, lines_of, AllHaveLines}
 use Rattle.fzn_printer.specs.Shown.{shown}
-use Rattle.fzn_solver.specs.Standing.{found_by, early, begun_certificate, shown_all, IsStanding, IsCertInStep, IsOutInStep}
+use Rattle.fzn_solver.specs.Standing.{found_by, early, begun_certificate, shown_all, AreLinesStanding, IsCertInStep, IsOutInStep}
 
 -- ---- the certificate
 
@@ -126,7 +126,7 @@ out-kept model alone found first old new printed last in_step kept = record {
 
 -- ---- what stands
 
-pub standing-in_step : (model : Model) (alone : Bool) (steps : List Step) (cert_first cert_now out_first out_now : Option (List ℕ)) (written : ℕ) → IsCertInStep model steps cert_first cert_now written → AppendsFront out_first out_now (shown_all model (early alone (found_by model steps))) → IsStanding model alone steps cert_first cert_now out_first out_now
+pub standing-in_step : (model : Model) (alone : Bool) (steps : List Step) (cert_first cert_now out_first out_now : Option (List ℕ)) (written : ℕ) → IsCertInStep model steps cert_first cert_now written → AppendsFront out_first out_now (shown_all model (early alone (found_by model steps))) → AreLinesStanding model alone steps cert_first cert_now out_first out_now
 standing-in_step model alone steps cert_first cert_now out_first out_now written in_step front = record {
   more = [];
   lines = rw (append-nil (begun_certificate model steps)) in_step.lines;
@@ -137,7 +137,7 @@ Appends-front : (a b c : Option (List ℕ)) (x y : List ℕ) → Appends a b x �
 Appends-front a b c x y h k = (take k.0 y, Appends-then a b c x (take k.0 y) h k.2)
 
 -- a beginning of a line more
-pub standing-refused : (model : Model) (alone : Bool) (steps : List Step) (cert_first cert_old cert_new out_first out_now : Option (List ℕ)) (text : List ℕ) → IsStanding model alone steps cert_first cert_old out_first out_now → AppendsFront cert_old cert_new text → IsStanding model alone steps cert_first cert_new out_first out_now
+pub standing-refused : (model : Model) (alone : Bool) (steps : List Step) (cert_first cert_old cert_new out_first out_now : Option (List ℕ)) (text : List ℕ) → AreLinesStanding model alone steps cert_first cert_old out_first out_now → AppendsFront cert_old cert_new text → AreLinesStanding model alone steps cert_first cert_new out_first out_now
 standing-refused model alone steps cert_first cert_old cert_new out_first out_now text standing front =
     let more = Appends-front cert_first cert_old cert_new (begun_certificate model steps ++ standing.more) text standing.lines front in record {
       more = standing.more ++ more.0;

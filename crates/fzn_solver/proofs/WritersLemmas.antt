@@ -26,7 +26,7 @@ use Rattle.fzn_printer.specs.Shown.{shown}
 use Rattle.fzn_solver.specs.Standing.{found_by, early, shown_all, IsCertInStep, IsOutInStep}
 use Rattle.fzn_solver.specs.declared.ghost_list.GhostList.{GhostList}
 use Rattle.fzn_solver.specs.declared.writers.Writers.{Writers}
-use Rattle.fzn_solver.specs.Writers.{taken, at_first, origin, IsLogged, IsKeptBy, IsKept, IsFresh, IsLineTaken, IsLineRefused, IsRestSame, IsAllSame, IsPrinted, IsUntold}
+use Rattle.fzn_solver.specs.Writers.{taken, at_first, origin, IsLogged, IsStandingKept, IsKept, IsUnwritten, IsLineTaken, IsLineRefused, IsRestSame, IsAllSame, IsPrinted, IsUntold}
 use Rattle.fzn_solver.proofs.StandingLemmas.{cert-push, found-solution, found-infer, last-accepted, out-held, out-printed, standing-in_step, standing-refused, front-kept, front-found, front-printed, Appends-kept}
 
 shut_open : Shut ≡ Open → ⊥
@@ -51,7 +51,7 @@ module _ {W C : Type 0} (outs : W → Option (List ℕ)) (certs : C → Option (
   -- the first two lines
   pub kept-begun : (old new : StepWriter C) (out : Printer W) (alone : Bool) (first : W × C) → cert_contents certs old ≡ certs first.1 → out_contents outs out ≡ outs first.0
       → has_printed out ≡ false → version_of new ≡ Two → step_count new ≡ 0
-      → Appends (cert_contents certs old) (cert_contents certs new) (header_text Two (length model.vars) (length model.constraints)) → IsKeptBy outs certs model new out alone None [] first
+      → Appends (cert_contents certs old) (cert_contents certs new) (header_text Two (length model.vars) (length model.constraints)) → IsStandingKept outs certs model new out alone None [] first
   kept-begun old new out alone first cert_is out_is none_shown version none header =
       let H : Option (List ℕ) → Type 0 = λ o. Appends o (cert_contents certs new) (header_text Two (length model.vars) (length model.constraints)) in
       let F : Option (List ℕ) → Type 0 = λ o. AppendsFront o (out_contents outs out) (shown_all model (early alone [])) in
@@ -76,8 +76,8 @@ module _ {W C : Type 0} (outs : W → Option (List ℕ)) (certs : C → Option (
       nothing false = record { text = no_text (out_contents outs out); has_shown = none_shown; waits = refl }
 
   -- a line that was not taken
-  pub kept-refused : (old new : StepWriter C) (out : Printer W) (alone : Bool) (last : Option (List ℤ)) (steps : List Step) (first : W × C) (text : List ℕ) → IsKeptBy outs certs model old out alone last steps first → version_of new ≡ version_of old → stage_of new ≡ Shut
-      → AppendsFront (cert_contents certs old) (cert_contents certs new) text → IsKeptBy outs certs model new out alone last steps first
+  pub kept-refused : (old new : StepWriter C) (out : Printer W) (alone : Bool) (last : Option (List ℤ)) (steps : List Step) (first : W × C) (text : List ℕ) → IsStandingKept outs certs model old out alone last steps first → version_of new ≡ version_of old → stage_of new ≡ Shut
+      → AppendsFront (cert_contents certs old) (cert_contents certs new) text → IsStandingKept outs certs model new out alone last steps first
   kept-refused old new out alone last steps first text kept version shut front = record {
     version = version ∙ kept.version;
     assignment = kept.assignment;
@@ -87,9 +87,9 @@ module _ {W C : Type 0} (outs : W → Option (List ℕ)) (certs : C → Option (
   }
 
   -- the line of a step that is no solution
-  pub kept-line : (old new : StepWriter C) (out : Printer W) (alone : Bool) (last : Option (List ℤ)) (steps : List Step) (first : W × C) (step : Step) → IsKeptBy outs certs model old out alone last steps first → ((values : List ℤ) → step ≢ Solution values) → IsSpelled Two step
+  pub kept-line : (old new : StepWriter C) (out : Printer W) (alone : Bool) (last : Option (List ℤ)) (steps : List Step) (first : W × C) (step : Step) → IsStandingKept outs certs model old out alone last steps first → ((values : List ℤ) → step ≢ Solution values) → IsSpelled Two step
       → version_of new ≡ version_of old → stage_of old ≡ Open → step_count new ≡ step_count old + 1 → HasLineRoom (step_count old) step → Appends (cert_contents certs old) (cert_contents certs new) (step_line step)
-      → IsKeptBy outs certs model new out alone last (steps ++ step ∷ []) first
+      → IsStandingKept outs certs model new out alone last (steps ++ step ∷ []) first
   kept-line old new out alone last steps first step kept other spelled version was_open counted room line =
       let N : ℕ → Type 0 = λ n. IsCertInStep model (steps ++ step ∷ []) (certs first.1) (cert_contents certs new) n in
       let in_step = subst N (sym counted) (cert-push model steps step (certs first.1) (cert_contents certs old) (cert_contents certs new) (step_count old) (kept.cert_in_step was_open) spelled room line) in
@@ -105,12 +105,12 @@ module _ {W C : Type 0} (outs : W → Option (List ℕ)) (certs : C → Option (
       }
 
   -- The line of a solution, flushed. The output follows behind it: `front` and `goes` say what is known of it then.
-  pub kept-solution : (old new : StepWriter C) (out after : Printer W) (alone : Bool) (last waiting : Option (List ℤ)) (steps : List Step) (first : W × C) (values : List ℤ) → IsKeptBy outs certs model old out alone last steps first → IsSpelled Two (Solution values)
+  pub kept-solution : (old new : StepWriter C) (out after : Printer W) (alone : Bool) (last waiting : Option (List ℤ)) (steps : List Step) (first : W × C) (values : List ℤ) → IsStandingKept outs certs model old out alone last steps first → IsSpelled Two (Solution values)
       → version_of new ≡ version_of old → stage_of old ≡ Open → (stage_of new ≡ Open → step_count new ≡ step_count old + 1) → HasLineRoom (step_count old) (Solution values) → Appends (cert_contents certs old) (cert_contents certs new) (step_line (Solution values))
       → IfSome waiting (IsAssignment model)
       → ((o : Option (List ℕ)) → AppendsFront o (out_contents outs out) (shown_all model (early alone (found_by model steps))) → (is_open out ≡ true → Appends o (out_contents outs out) (shown_all model (early alone (found_by model steps)))) → AppendsFront o (out_contents outs after) (shown_all model (early alone (found_by model steps ++ values ∷ []))))
       → ((o : Option (List ℕ)) → stage_of new ≡ Open → is_open after ≡ true → (is_open out ≡ true → IsOutInStep model alone (found_by model steps) o (out_contents outs out) (has_printed out) last) → IsOutInStep model alone (found_by model steps ++ values ∷ []) o (out_contents outs after) (has_printed after) waiting)
-      → IsKeptBy outs certs model new after alone waiting (steps ++ Solution values ∷ []) first
+      → IsStandingKept outs certs model new after alone waiting (steps ++ Solution values ∷ []) first
   kept-solution old new out after alone last waiting steps first values kept spelled version was_open counted room line assignment front goes =
       let N : ℕ → Type 0 = λ n. IsCertInStep model (steps ++ Solution values ∷ []) (certs first.1) (cert_contents certs new) n in
       let in_step = cert-push model steps (Solution values) (certs first.1) (cert_contents certs old) (cert_contents certs new) (step_count old) (kept.cert_in_step was_open) spelled room line in
@@ -127,13 +127,13 @@ module _ {W C : Type 0} (outs : W → Option (List ℕ)) (certs : C → Option (
       }
 
   moved : (cert : StepWriter C) (out out' : Printer W) (alone alone' : Bool) (last last' : Option (List ℤ)) (steps steps' : List Step) (first first' : W × C) → out' ≡ out → alone' ≡ alone → last' ≡ last → steps' ≡ steps → first' ≡ first
-      → IsKeptBy outs certs model cert out alone last steps first → IsKeptBy outs certs model cert out' alone' last' steps' first'
+      → IsStandingKept outs certs model cert out alone last steps first → IsStandingKept outs certs model cert out' alone' last' steps' first'
   moved cert out out' alone alone' last last' steps steps' first first' e f g h i kept =
-      let O : Printer W → Type 0 = λ x. IsKeptBy outs certs model cert x alone last steps first in
-      let A : Bool → Type 0 = λ x. IsKeptBy outs certs model cert out' x last steps first in
-      let L : Option (List ℤ) → Type 0 = λ x. IsKeptBy outs certs model cert out' alone' x steps first in
-      let S : List Step → Type 0 = λ x. IsKeptBy outs certs model cert out' alone' last' x first in
-      let F : W × C → Type 0 = λ x. IsKeptBy outs certs model cert out' alone' last' steps' x in
+      let O : Printer W → Type 0 = λ x. IsStandingKept outs certs model cert x alone last steps first in
+      let A : Bool → Type 0 = λ x. IsStandingKept outs certs model cert out' x last steps first in
+      let L : Option (List ℤ) → Type 0 = λ x. IsStandingKept outs certs model cert out' alone' x steps first in
+      let S : List Step → Type 0 = λ x. IsStandingKept outs certs model cert out' alone' last' x first in
+      let F : W × C → Type 0 = λ x. IsStandingKept outs certs model cert out' alone' last' steps' x in
       subst F (sym i) (subst S (sym h) (subst L (sym g) (subst A (sym f) (subst O (sym e) kept))))
 
   pub assignment-of : (steps : List Step) (values : List ℤ) → AllAccepted model (steps ++ Solution values ∷ []) → IsAssignment model values
@@ -186,7 +186,7 @@ module _ {W C P : Type 0} (outs : W → Option (List ℕ)) (certs : C → Option
       → Keeps (cert_contents certs mid.cert) (cert_contents certs new.cert) → (stage_of new.cert ≡ Open → step_count new.cert ≡ step_count mid.cert) → version_of new.cert ≡ version_of mid.cert
       → new.out ≡ mid.out → new.alone ≡ mid.alone → new.last.now ≡ Some values → at_first new ≡ at_first mid → new.taken ≡ mid.taken → IsKept outs certs model new
   held-kept values old mid new alone assignment spelled kept line nothing counted version out_is alone_is last_is first_is taken_is =
-      let A : Bool → Type 0 = λ b. IsKeptBy outs certs model old.cert old.out b old.last.now (taken old) (at_first old) in
+      let A : Bool → Type 0 = λ b. IsStandingKept outs certs model old.cert old.out b old.last.now (taken old) (at_first old) in
       moved outs certs model new.cert old.out new.out true new.alone (Some values) new.last.now (taken old ++ Solution values ∷ []) (taken new) (at_first old) (at_first new)
       (out_is ∙ line.same_rest.out) (alone_is ∙ line.same_rest.alone ∙ alone) last_is (ap taken_by taken_is ∙ line.taken) (first_is ∙ line.same_rest.first)
       (kept-solution outs certs model old.cert new.cert old.out old.out true old.last.now (Some values) (taken old) (at_first old) values (subst A alone kept) spelled (version ∙ line.same_version) line.was_open
@@ -198,7 +198,7 @@ module _ {W C P : Type 0} (outs : W → Option (List ℕ)) (certs : C → Option
       → Keeps (cert_contents certs mid.cert) (cert_contents certs new.cert) → (stage_of new.cert ≡ Open → step_count new.cert ≡ step_count mid.cert) → version_of new.cert ≡ version_of mid.cert
       → IsPrinted outs model values (stage_of new.cert ≡ Open) mid.out new.out → new.alone ≡ mid.alone → new.last ≡ mid.last → at_first new ≡ at_first mid → new.taken ≡ mid.taken → IsKept outs certs model new
   printed-kept values old mid new alone spelled kept line nothing counted version printed alone_is last_is first_is taken_is =
-      let A : Bool → Type 0 = λ b. IsKeptBy outs certs model old.cert old.out b old.last.now (taken old) (at_first old) in
+      let A : Bool → Type 0 = λ b. IsStandingKept outs certs model old.cert old.out b old.last.now (taken old) (at_first old) in
       let O : Printer W → Type 0 = λ p. IsPrinted outs model values (stage_of new.cert ≡ Open) p new.out in
       let behind : IsPrinted outs model values (stage_of new.cert ≡ Open) old.out new.out = subst O line.same_rest.out printed in
       moved outs certs model new.cert new.out new.out false new.alone old.last.now new.last.now (taken old ++ Solution values ∷ []) (taken new) (at_first old) (at_first new)
@@ -215,7 +215,7 @@ module _ {W C P : Type 0} (outs : W → Option (List ℕ)) (certs : C → Option
       subst B (sym known.2) (out-printed model (found_by model (taken old)) values o (out_contents outs old.out) (out_contents outs new.out) (has_printed old.out) old.last.now (step known.0) known.1)))
 
   -- the first two lines stand
-  pub begun-kept : (cert : StepWriter C) (old : Writers W C P) → IsFresh outs certs old → version_of cert ≡ Two → step_count cert ≡ 0
+  pub begun-kept : (cert : StepWriter C) (old : Writers W C P) → IsUnwritten outs certs old → version_of cert ≡ Two → step_count cert ≡ 0
       → Appends (cert_contents certs old.cert) (cert_contents certs cert) (header_text Two (length model.vars) (length model.constraints)) → IsKept outs certs model (record old { cert = cert })
   begun-kept cert old fresh version none header =
       moved outs certs model cert old.out old.out old.alone old.alone None old.last.now [] (taken old) (at_first old) (at_first old)

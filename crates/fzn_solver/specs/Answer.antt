@@ -10,8 +10,8 @@ use Rattle.fzn_printer.specs.declared.printer.Ending.TheVariants.{Complete, Unsa
 use Rattle.fzn_printer.specs.Answer.{answer_text}
 use Rattle.fzn_printer.specs.Shown.{is_closed}
 use Rattle.fzn_state.specs.Resolved.{resolved, FreshAfter}
-use Rattle.fzn_state.specs.Volume.{volume, spread}
-use Rattle.fzn_engine.specs.Wanted.{HasRoom, IsReached}
+use Rattle.fzn_state.specs.Volume.{volume, slack_of_sets}
+use Rattle.fzn_engine.specs.Wanted.{HasRoomForMore, IsReached}
 use Rattle.fzn_engine.specs.declared.report.Report.{Report}
 use Rattle.fzn_solver.specs.Standing.{found_by, certificate}
 use Rattle.fzn_strategy.specs.declared.learn.Learn.TheVariants.{Plain}
@@ -26,13 +26,13 @@ wanted false None = Some 1
 -- Complete after a solution and unsatisfiable without, and neither limit reached; open where as many decisions were made as the node limit
 -- says, or where there are as many solutions as are wanted.
 abbrev pub EndsTruly : Model → Options → List (List ℤ) → ℕ → Ending → Type 0
-EndsTruly model options found nodes Complete = (found ≢ []) × HasRoom model.goal (wanted options.all options.limit) (length found)
+EndsTruly model options found nodes Complete = (found ≢ []) × HasRoomForMore model.goal (wanted options.all options.limit) (length found)
 EndsTruly model options found nodes Unsatisfiable = found ≡ []
-EndsTruly model options found nodes NodeLimit = (nodes ≡ options.nodes) × HasRoom model.goal (wanted options.all options.limit) (length found)
+EndsTruly model options found nodes NodeLimit = (nodes ≡ options.nodes) × HasRoomForMore model.goal (wanted options.all options.limit) (length found)
 EndsTruly model options found nodes SolutionLimit = IsReached model.goal (wanted options.all options.limit) (length found)
 
 -- These steps are the certificate: its verdict is accepted, and what is printed is the answer of the verdict.
-pub record IsCertified (model : Model) (steps : List Step) (all closed : Bool) (out_old out_new cert_old cert_new : Option (List ℕ)) : Type 0 where
+pub record IsAnswerCertified (model : Model) (steps : List Step) (all closed : Bool) (out_old out_new cert_old cert_new : Option (List ℕ)) : Type 0 where
   pub written : Appends cert_old cert_new (certificate model steps closed)
   pub verdict : Verdict model (certificate model steps closed) (accepted (found_by model steps) closed)
   pub printed : Appends out_old out_new (answer_text model (found_by model steps) closed all)
@@ -42,12 +42,12 @@ pub record IsCertified (model : Model) (steps : List Step) (all closed : Bool) (
 pub record IsBounded (model : Model) (steps : List Step) (options : Options) (report : Report) : Type 0 where
   pub by_limit : report.nodes ≤ options.nodes
   pub by_choices : options.learn ≡ Plain → volume (declared_sets model.vars) - 1 ≤ options.nodes → report.ending ≢ NodeLimit
-  pub by_conflicts : report.nodes ≤ (length (resolved steps) + 1) * spread (declared_sets model.vars)
+  pub by_conflicts : report.nodes ≤ (length (resolved steps) + 1) * slack_of_sets (declared_sets model.vars)
   pub fresh : options.learn ≡ Plain → 0 < volume (declared_sets model.vars) → FreshAfter (declared_sets model.vars) [] (resolved steps)
 
 pub record IsAnswer (model : Model) (options : Options) (out_old out_new cert_old cert_new : Option (List ℕ)) (report : Report) : Type 0 where
   pub steps : List Step
-  pub certified : IsCertified model steps options.all (is_closed report.ending) out_old out_new cert_old cert_new
+  pub certified : IsAnswerCertified model steps options.all (is_closed report.ending) out_old out_new cert_old cert_new
   pub proper : IsProper model (found_by model steps)
   pub exhausted : is_closed report.ending ≡ true → IsExhausted model (found_by model steps)
   pub solutions : report.solutions ≡ length (found_by model steps)

@@ -46,12 +46,12 @@ IsLineCause certs step count cert engine.WriteCert = cert_failed certs cert ≡ 
 IsLineCause certs step count cert engine.StepTooLong = ¬ HasLineRoom count step
 
 -- both writers can go on
-abbrev pub AreOpen : {W C P : Type 0} → Writers W C P → Type 0
-AreOpen now = (stage_of now.cert ≡ Open) × (is_open now.out ≡ true)
+abbrev pub AreWritersOpen : {W C P : Type 0} → Writers W C P → Type 0
+AreWritersOpen now = (stage_of now.cert ≡ Open) × (is_open now.out ≡ true)
 
 -- both writers can go on, unless a fault stopped them, which has its cause
 pub record IsUnderWay {W C P : Type 0} (outs : W → Bool) (certs : C → Bool) (model : Model) (now : Writers W C P) : Type 0 where
-  pub goes_on : now.stopped ≡ None → AreOpen now
+  pub goes_on : now.stopped ≡ None → AreWritersOpen now
   pub cause : IfSome now.stopped (IsCause outs certs model now)
 
 -- both write to the same streams

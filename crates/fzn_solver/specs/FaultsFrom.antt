@@ -30,10 +30,10 @@ fault_of_engine engine.WriteCert = WriteCert
 fault_of_engine engine.StepTooLong = StepTooLong
 
 -- the exit status of a program that answers the fault
-abbrev pub status_of : RunFault → ℕ
-status_of (File fault) = 2
-status_of Memory = stop_status stops.Memory
-status_of Read = stop_status stops.Read
-status_of WriteOutput = stop_status stops.WriteOutput
-status_of WriteCert = stop_status stops.WriteCert
-status_of StepTooLong = stop_status stops.StepTooLong
+abbrev pub status_of_run : RunFault → ℕ
+status_of_run (File fault) = 2
+status_of_run Memory = stop_status stops.Memory
+status_of_run Read = stop_status stops.Read
+status_of_run WriteOutput = stop_status stops.WriteOutput
+status_of_run WriteCert = stop_status stops.WriteCert
+status_of_run StepTooLong = stop_status stops.StepTooLong

@@ -46,6 +46,6 @@ IsLater StepTooLong = Unit {0}
 IsLater _ = ⊥
 
 -- the end of the certificate stands only where the output failed behind it
-abbrev pub IsLeft : Model → Bool → Option (List ℕ) → Option (List ℕ) → Option (List ℕ) → Option (List ℕ) → RunFault → Type 0
-IsLeft model all out_old out_new cert_old cert_new fault =
+abbrev pub IsLeftByRun : Model → Bool → Option (List ℕ) → Option (List ℕ) → Option (List ℕ) → Option (List ℕ) → RunFault → Type 0
+IsLeftByRun model all out_old out_new cert_old cert_new fault =
     IsLater fault × (IsStopped model all out_old out_new cert_old cert_new ⊎ ((fault ≡ WriteOutput) × IsInterrupted model all out_old out_new cert_old cert_new))

@@ -9,7 +9,7 @@ use Rattle.fzn_solver.specs.declared.fault.RunFault.{RunFault}
 use Rattle.fzn_solver.specs.declared.fault.RunFault.TheVariants.{File, Memory, Read}
 use Rattle.fzn_solver.specs.Answer.{IsAnswer}
 use Rattle.fzn_solver.specs.Causes.{HasCause}
-use Rattle.fzn_solver.specs.Left.{IsLeft}
+use Rattle.fzn_solver.specs.Left.{IsLeftByRun}
 use Rattle.fzn_options.specs.declared.solve.Options.{Options}
 
 -- the file states a model, and its answer and certificate stand
@@ -20,7 +20,7 @@ pub record IsRun (file : Option (List ℕ)) (options : Options) (out_old out_new
 
 -- a fault that came once the model was read
 abbrev pub IsLeftOf : Option (List ℕ) → Bool → Option (List ℕ) → Option (List ℕ) → Option (List ℕ) → Option (List ℕ) → RunFault → Type 0
-IsLeftOf file all out_old out_new cert_old cert_new fault = (model : Model) × States file model × IsLeft model all out_old out_new cert_old cert_new fault
+IsLeftOf file all out_old out_new cert_old cert_new fault = (model : Model) × States file model × IsLeftByRun model all out_old out_new cert_old cert_new fault
 
 -- The file's first fault, and that of a failed read, leave both writers as they were.
 unfoldable pub IsRunFault : Option (List ℕ) → Bool → Option (List ℕ) → Option (List ℕ) → Option (List ℕ) → Option (List ℕ) → RunFault → Type 0

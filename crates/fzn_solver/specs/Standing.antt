@@ -48,7 +48,7 @@ shown_all model found = flat_map (shown model) found
 
 -- The lines of the steps stand whole on the certificate, and perhaps a beginning of another text; on the output a beginning of the
 -- text of their solutions.
-pub record IsStanding (model : Model) (alone : Bool) (steps : List Step) (cert_first cert_now out_first out_now : Option (List ℕ)) : Type 0 where
+pub record AreLinesStanding (model : Model) (alone : Bool) (steps : List Step) (cert_first cert_now out_first out_now : Option (List ℕ)) : Type 0 where
   pub more : List ℕ
   pub lines : Appends cert_first cert_now (begun_certificate model steps ++ more)
   pub shown : AppendsFront out_first out_now (shown_all model (early alone (found_by model steps)))

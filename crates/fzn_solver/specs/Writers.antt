@@ -19,7 +19,7 @@ use Rattle.fzn_printer.specs.declared.printer.Printer.{Printer}
 use Rattle.fzn_printer.specs.Printer.{out_contents, out_name, is_open, has_printed}
 use Rattle.fzn_printer.specs.Shown.{shown, ending_text}
 use Rattle.fzn_solver.specs.declared.writers.Writers.{Writers}
-use Rattle.fzn_solver.specs.Standing.{certificate, shown_all, early, late, found_by, IsStanding, IsCertInStep, IsOutInStep}
+use Rattle.fzn_solver.specs.Standing.{certificate, shown_all, early, late, found_by, AreLinesStanding, IsCertInStep, IsOutInStep}
 use Rattle.fzn_solver.specs.Told.{IsTold}
 
 -- the steps that were taken
@@ -43,7 +43,7 @@ abbrev pub IsUntold : {W C P : Type 0} → Writers W C P → Writers W C P → T
 IsUntold old new = (new.observer ≡ old.observer) × (new.progress ≡ old.progress)
 
 -- nothing was written
-pub record IsFresh {W C P : Type 0} (outs : W → Option (List ℕ)) (certs : C → Option (List ℕ)) (now : Writers W C P) : Type 0 where
+pub record IsUnwritten {W C P : Type 0} (outs : W → Option (List ℕ)) (certs : C → Option (List ℕ)) (now : Writers W C P) : Type 0 where
   pub same_cert : cert_contents certs now.cert ≡ certs now.first_cert.value
   pub same_out : out_contents outs now.out ≡ outs now.first_out.value
   pub stage : stage_of now.cert ≡ Fresh
@@ -54,15 +54,15 @@ pub record IsFresh {W C P : Type 0} (outs : W → Option (List ℕ)) (certs : C 
   pub none_stopped : now.stopped ≡ None
 
 -- What stands, after a fault too; and while the writers can go on, just what these steps ask for.
-pub record IsKeptBy {W C : Type 0} (outs : W → Option (List ℕ)) (certs : C → Option (List ℕ)) (model : Model) (cert : StepWriter C) (out : Printer W) (alone : Bool) (last : Option (List ℤ)) (steps : List Step) (first : W × C) : Type 0 where
+pub record IsStandingKept {W C : Type 0} (outs : W → Option (List ℕ)) (certs : C → Option (List ℕ)) (model : Model) (cert : StepWriter C) (out : Printer W) (alone : Bool) (last : Option (List ℤ)) (steps : List Step) (first : W × C) : Type 0 where
   pub version : version_of cert ≡ Two
-  pub standing : IsStanding model alone steps (certs first.1) (cert_contents certs cert) (outs first.0) (out_contents outs out)
+  pub standing : AreLinesStanding model alone steps (certs first.1) (cert_contents certs cert) (outs first.0) (out_contents outs out)
   pub assignment : IfSome last (IsAssignment model)
   pub cert_in_step : stage_of cert ≡ Open → IsCertInStep model steps (certs first.1) (cert_contents certs cert) (step_count cert)
   pub out_in_step : stage_of cert ≡ Open → is_open out ≡ true → IsOutInStep model alone (found_by model steps) (outs first.0) (out_contents outs out) (has_printed out) last
 
 abbrev pub IsKept : {W C P : Type 0} → (W → Option (List ℕ)) → (C → Option (List ℕ)) → Model → Writers W C P → Type 0
-IsKept outs certs model now = IsKeptBy outs certs model now.cert now.out now.alone now.last.now (taken now) (at_first now)
+IsKept outs certs model now = IsStandingKept outs certs model now.cert now.out now.alone now.last.now (taken now) (at_first now)
 
 -- all but the certificate and the steps
 pub record IsRestSame {W C P : Type 0} (old new : Writers W C P) : Type 0 where
@@ -129,7 +129,7 @@ pub record IsLastShown {W : Type 0} (outs : W → Option (List ℕ)) (model : Mo
   pub nothing : is_open old ≡ false → Keeps (out_contents outs old) (out_contents outs new)
 
 -- the end of the certificate stands, and the whole answer
-pub record IsClosed {W C P : Type 0} (outs : W → Option (List ℕ)) (certs : C → Option (List ℕ)) (model : Model) (closed : Bool) (old new : Writers W C P) : Type 0 where
+pub record IsAnswerClosed {W C P : Type 0} (outs : W → Option (List ℕ)) (certs : C → Option (List ℕ)) (model : Model) (closed : Bool) (old new : Writers W C P) : Type 0 where
   pub have_lines : AllHaveLines Two 0 (taken old)
   pub cert : Appends (certs (at_first old).1) (cert_contents certs new.cert) (certificate model (taken old) closed)
   pub out :

@@ -5,10 +5,10 @@ ghost use Rattle.fzn_cert.specs.Writer.{contents_of as cert_contents, cert_name,
 ghost use Rattle.fzn_printer.specs.Printer.{out_contents, out_name, out_failed};
 ghost use Rattle.fzn_solver.specs.Answer.{wanted, IsAnswer};
 ghost use Rattle.fzn_solver.specs.Causes.{HasCause, AreSameStreams, AreStreamsAsAtFirst};
-ghost use Rattle.fzn_solver.specs.Left.{IsLeft};
+ghost use Rattle.fzn_solver.specs.Left.{IsLeftByRun};
 ghost use Rattle.fzn_solver.specs.Standing.{is_alone};
 ghost use Rattle.fzn_solver.specs.Told.{IsTold};
-ghost use Rattle.fzn_solver.specs.Writers.{IsFresh};
+ghost use Rattle.fzn_solver.specs.Writers.{IsUnwritten};
 ghost use Rattle.fzn_solver.specs.Run.{IsRun, IsRunFault, IsDue};
 
 use crate::choice::choice_for;
@@ -112,11 +112,11 @@ fn search<W: TrackedWrite, C: TrackedWrite, P: Observer>(
 ) -> Result<Report, RunFault>
     requires model { IsWellFormed model.now }
     requires propagators { ⟦<Propagators as Constraints>⟧.is_for propagators.old model.now }
-    requires fresh { IsFresh W.contents C.contents writers.old }
+    requires fresh { IsUnwritten W.contents C.contents writers.old }
     requires at_first { AreStreamsAsAtFirst W.stream C.stream writers.old }
     requires alone { writers.old.alone ≡ is_alone model.now.goal options.now.all }
     ensures answer { IfOk result (IsAnswer model.now options.now (out_contents W.contents writers.old.out) (out_contents W.contents writers.new.out) (cert_contents C.contents writers.old.cert) (cert_contents C.contents writers.new.cert)) }
-    ensures left { IfErr result (IsLeft model.now options.now.all (out_contents W.contents writers.old.out) (out_contents W.contents writers.new.out) (cert_contents C.contents writers.old.cert) (cert_contents C.contents writers.new.cert)) }
+    ensures left { IfErr result (IsLeftByRun model.now options.now.all (out_contents W.contents writers.old.out) (out_contents W.contents writers.new.out) (cert_contents C.contents writers.old.cert) (cert_contents C.contents writers.new.cert)) }
     ensures cause { IfErr result (HasCause (out_failed W.has_failed writers.new.out) (cert_failed C.has_failed writers.new.cert) model.now (cert_contents C.contents writers.old.cert) (cert_contents C.contents writers.new.cert)) }
     ensures same_streams { AreSameStreams W.stream C.stream writers.old writers.new }
     ensures same_out { out_name writers.new.out ≡ out_name writers.old.out }

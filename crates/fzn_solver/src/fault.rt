@@ -1,7 +1,7 @@
 // Why a run has no answer.
 ghost use Rattle.std.specs.Prelude.{◌≡◌};
 ghost use Rattle.fzn_solver.specs.declared.fault.RunFault.TheVariants.{Memory};
-ghost use Rattle.fzn_solver.specs.FaultsFrom.{fault_of_model, fault_of_engine, status_of};
+ghost use Rattle.fzn_solver.specs.FaultsFrom.{fault_of_model, fault_of_engine, status_of_run};
 
 use fzn_fault::Stop;
 use fzn_lexer::Fault;
@@ -37,7 +37,7 @@ impl RunFault {
     /// The exit status of a program that answers it: 2 for a fault of the file, 4 for a failed read or write, 5 for want of memory and for
     /// a step that is too long.
     pub fn status(self) -> u8
-        ensures { result ≡ status_of self }
+        ensures { result ≡ status_of_run self }
     {
         match self {
             RunFault::File(_) => 2,

@@ -14,10 +14,10 @@ ghost use Rattle.fzn_printer.specs.Printer.{out_contents, out_name, out_stream, 
 ghost use Rattle.std.specs.Option.{option_to_list};
 ghost use Rattle.fzn_state.specs.declared.fault.Fault.TheVariants.{Memory as OutOfMemory, WriteOutput, WriteCert};
 ghost use Rattle.fzn_printer.specs.Shown.{is_closed};
-ghost use Rattle.fzn_solver.specs.Causes.{IsCause, IsLineCause, IsUnderWay, AreOpen, AreSameStreams, AreStreamsAsAtFirst};
+ghost use Rattle.fzn_solver.specs.Causes.{IsCause, IsLineCause, IsUnderWay, AreWritersOpen, AreSameStreams, AreStreamsAsAtFirst};
 ghost use Rattle.fzn_solver.specs.FaultsFrom.{fault_of_certificate};
 ghost use Rattle.fzn_solver.specs.Standing.{is_alone, shown_all};
-ghost use Rattle.fzn_solver.specs.Writers.{taken, origin, IsFresh, IsKept, IsLineTaken, IsLineRefused, IsLogged, IsRestSame, IsAllSame, IsPrinted, IsLastShown, IsClosed, IsUnbegun, IsUnprinted, IsUnclosed, HasTold, IsUntold};
+ghost use Rattle.fzn_solver.specs.Writers.{taken, origin, IsUnwritten, IsKept, IsLineTaken, IsLineRefused, IsLogged, IsRestSame, IsAllSame, IsPrinted, IsLastShown, IsAnswerClosed, IsUnbegun, IsUnprinted, IsUnclosed, HasTold, IsUntold};
 
 use crate::ghost_list::{GhostList, Initial};
 use crate::progress::{Observer, Progress, with_solution};
@@ -60,7 +60,7 @@ impl<W: TrackedWrite, C: TrackedWrite, P: Observer> Writers<'_, '_, '_, '_, W, C
     /// Writes the first two lines of the certificate, and tells that nothing was decided yet.
     pub fn begin(&mut self, alloc: Global, model: &Model) -> Result<(), Fault>
         requires model { IsWellFormed model.now }
-        requires fresh { IsFresh W.contents C.contents self.old }
+        requires fresh { IsUnwritten W.contents C.contents self.old }
         ensures kept { OnOk result (IsKept W.contents C.contents model.now self.new) }
         ensures under_way { OnOk result (IsUnderWay W.has_failed C.has_failed model.now self.new) }
         ensures cause { IfErr result (IsCause W.has_failed C.has_failed model.now self.new) }
@@ -115,9 +115,9 @@ impl<W: TrackedWrite, C: TrackedWrite, P: Observer> Writers<'_, '_, '_, '_, W, C
         requires spelled { IsSpelled Two step.now }
         requires accepted { AllAccepted model.now (taken self.old ++ step.now ∷ []) }
         requires kept { IsKept W.contents C.contents model.now self.old }
-        requires open { AreOpen self.old }
+        requires open { AreWritersOpen self.old }
         requires is { (step.now ≡ Solution values.now) × (self.old.alone ≡ true) }
-        ensures open { OnOk result (AreOpen self.new) }
+        ensures open { OnOk result (AreWritersOpen self.new) }
         ensures cause { IfErr result (IsCause W.has_failed C.has_failed model.now self.new) }
         ensures same_streams { AreSameStreams W.stream C.stream self.old self.new }
         ensures same_stopped { self.new.stopped ≡ self.old.stopped }
@@ -146,9 +146,9 @@ impl<W: TrackedWrite, C: TrackedWrite, P: Observer> Writers<'_, '_, '_, '_, W, C
         requires spelled { IsSpelled Two step.now }
         requires accepted { AllAccepted model.now (taken self.old ++ step.now ∷ []) }
         requires kept { IsKept W.contents C.contents model.now self.old }
-        requires open { AreOpen self.old }
+        requires open { AreWritersOpen self.old }
         requires is { (step.now ≡ Solution values.now) × (self.old.alone ≡ false) }
-        ensures open { OnOk result (AreOpen self.new) }
+        ensures open { OnOk result (AreWritersOpen self.new) }
         ensures cause { IfErr result (IsCause W.has_failed C.has_failed model.now self.new) }
         ensures same_streams { AreSameStreams W.stream C.stream self.old self.new }
         ensures same_stopped { self.new.stopped ≡ self.old.stopped }
@@ -170,8 +170,8 @@ impl<W: TrackedWrite, C: TrackedWrite, P: Observer> Writers<'_, '_, '_, '_, W, C
         requires spelled { IsSpelled Two step.now }
         requires accepted { AllAccepted model.now (taken self.old ++ step.now ∷ []) }
         requires kept { IsKept W.contents C.contents model.now self.old }
-        requires open { AreOpen self.old }
-        ensures open { OnOk result (AreOpen self.new) }
+        requires open { AreWritersOpen self.old }
+        ensures open { OnOk result (AreWritersOpen self.new) }
         ensures cause { IfErr result (IsCause W.has_failed C.has_failed model.now self.new) }
         ensures same_streams { AreSameStreams W.stream C.stream self.old self.new }
         ensures same_stopped { self.new.stopped ≡ self.old.stopped }
@@ -231,7 +231,7 @@ impl<W: TrackedWrite, C: TrackedWrite, P: Observer> Writers<'_, '_, '_, '_, W, C
         ensures cause { IfErr result (IsCause W.has_failed C.has_failed model.now self.new) }
         ensures same_streams { AreSameStreams W.stream C.stream self.old self.new }
         ensures same_taken { taken self.new ≡ taken self.old }
-        ensures closed { OnOk result (IsClosed W.contents C.contents model.now (is_closed ending) self.old self.new) }
+        ensures closed { OnOk result (IsAnswerClosed W.contents C.contents model.now (is_closed ending) self.old self.new) }
         ensures err { IfErr result (IsUnclosed W.contents C.contents model.now (is_closed ending) self.old self.new) }
         ensures same_writers { (cert_name self.new.cert ≡ cert_name self.old.cert) × (out_name self.new.out ≡ out_name self.old.out) }
         ensures untold { IsUntold self.old self.new }

@@ -2,7 +2,7 @@
 ghost use Rattle.std.specs.Prelude.{◌≡◌, IfOk, IsTrue};
 ghost use Rattle.fzn_cert.specs.declared.step.Step.{Step};
 ghost use Rattle.fzn_meaning.specs.WellFormed.{IsWellFormed};
-ghost use Rattle.fzn_engine.specs.Outcome.{HasRoom};
+ghost use Rattle.fzn_engine.specs.Outcome.{HasRoomForMore};
 
 use crate::models::model_of;
 use fzn_cert::Step;
@@ -68,7 +68,7 @@ fn copied(alloc: Global, step: &Step) -> Result<Step, Fault>
 
 /// Whether more solutions than none may be found.
 fn has_room(goal: Goal, solutions: Option<u64>) -> bool
-    ensures { IsTrue result → HasRoom goal solutions 0 }
+    ensures { IsTrue result → HasRoomForMore goal solutions 0 }
 {
     match (goal, solutions) {
         (Goal::Satisfy, Some(most)) => most > 0,
@@ -84,7 +84,7 @@ fn report_of(
     restart_after: Option<u64>,
 ) -> Result<Report, Fault>
     requires model { IsWellFormed model.now }
-    requires room { HasRoom model.now.goal limits.solutions 0 }
+    requires room { HasRoomForMore model.now.goal limits.solutions 0 }
 {
     let mut propagators: Propagators = Propagators::new(alloc, model)?;
     let mut log = Log {

@@ -28,9 +28,9 @@ use Rattle.fzn_learned.proofs.CallerLemmas.{IsReasoned-returned, opens-forced}
 use Rattle.fzn_reduction.specs.Forgetting.{is_cut}
 use Rattle.fzn_state.specs.Volume.{volume, slack}
 use Rattle.fzn_state.specs.Learned.{resolved, FreshAfter, negations}
-use Rattle.fzn_state.specs.State.{Stock, known_in, with_held, with_cuts, with_inference, with_stack, IsHeldCut, IsJustified, CoreOf, PlainOf, StateOf}
+use Rattle.fzn_state.specs.State.{Stock, known_in, with_held, with_cuts, with_inference, with_stack, IsHeldCut, IsInferredJustified, CoreOf, PlainOf, StateOf}
 use Rattle.fzn_state.specs.Search.{work}
-use Rattle.fzn_state.specs.Certified.{IsCertified, IsRefuted}
+use Rattle.fzn_state.specs.Certified.{IsRunCertified, HasEmptyClause}
 use Rattle.fzn_state.proofs.AcceptedLemmas.{past_after-push, AllAccepted-push, resolved-append}
 use Rattle.fzn_state.proofs.HeldCutLemmas.{IsHeldCut-grown, IsHeldCut-flagged}
 use Rattle.fzn_state.proofs.VolumeLemmas.{volume-narrowed_le, slack-narrowed_le, slack-narrowed_lt, work-less, work-lower, spread-filled}
@@ -142,7 +142,7 @@ module _ {model : Model} {learn : Learn} {stock : Stock} {steps : List Step} {tr
 
   -- ---- inferences
 
-  pub State-stacked : (it : Inferred) → IsJustified model (past_after model steps) it → StateOf model learn (with_inference it stock) steps trail nodes
+  pub State-stacked : (it : Inferred) → IsInferredJustified model (past_after model steps) it → StateOf model learn (with_inference it stock) steps trail nodes
   State-stacked it justified = record { core = Core-stacked h.core it justified; plain = h.plain }
 
   pub State-cut : (count : ℕ) → All (λ (entry : Entry). IsBelow count entry.reason) trail.entries → StateOf model learn (with_stack count stock) steps trail nodes
@@ -200,7 +200,7 @@ module _ {model : Model} {learn : Learn} {stock : Stock} {steps : List Step} {tr
 
   -- ---- the end
 
-  certified_by : (all : List Step) → AllAccepted model all → (learn ≡ Plain → FreshAfter trail.declared [] (resolved all)) → nodes ≤ (length (resolved all) + 1) * slack trail.declared → IsCertified model learn all nodes
+  certified_by : (all : List Step) → AllAccepted model all → (learn ≡ Plain → FreshAfter trail.declared [] (resolved all)) → nodes ≤ (length (resolved all) + 1) * slack trail.declared → IsRunCertified model learn all nodes
   certified_by all accepted fresh bound =
       let F : List IntSet → Type 0 = λ d. FreshAfter d [] (resolved all) in
       let E : List IntSet → Type 0 = λ d. NoneEmpty d in
@@ -214,11 +214,11 @@ module _ {model : Model} {learn : Learn} {stock : Stock} {steps : List Step} {tr
         nodes_by_conflicts = subst M (sym same) (subst N e bound);
       }
 
-  pub State-certified : IsCertified model learn steps nodes
+  pub State-certified : IsRunCertified model learn steps nodes
   State-certified = let conflicts = h.core.nodes_by_conflicts in certified_by steps h.core.accepted (λ in_plain. (h.plain in_plain).fresh) (omega arith)
 
   -- an empty clause was learned
-  pub State-closed : (learn ≡ Plain → [] ≡ negations (opens trail.declared trail.entries)) → (ids : List ℕ) → IsAccepted model (past_after model steps) (Resolve [] ids) → IsCertified model learn (steps ++ Resolve [] ids ∷ []) nodes × IsRefuted model (steps ++ Resolve [] ids ∷ [])
+  pub State-closed : (learn ≡ Plain → [] ≡ negations (opens trail.declared trail.entries)) → (ids : List ℕ) → IsAccepted model (past_after model steps) (Resolve [] ids) → IsRunCertified model learn (steps ++ Resolve [] ids ∷ []) nodes × HasEmptyClause model (steps ++ Resolve [] ids ∷ [])
   State-closed clause_is ids accepted =
       let F : List Lit → Type 0 = λ c. FreshAfter trail.declared [] (resolved steps ++ c ∷ []) in
       let G : List (List Lit) → Type 0 = λ cs. FreshAfter trail.declared [] cs in

@@ -25,7 +25,7 @@ use Rattle.fzn_state.specs.Volume.{slack}
 use Rattle.fzn_state.specs.Learned.{resolved}
 use Rattle.fzn_state.specs.Changes.{IsReduced}
 use Rattle.fzn_state.specs.Search.{IsAfter, stock_of}
-use Rattle.fzn_state.specs.State.{Stock, AreNumbered, IsGivenBy, IsJustified, CoreOf, PlainOf, StateOf}
+use Rattle.fzn_state.specs.State.{Stock, AreNumbered, IsGivenBy, IsInferredJustified, CoreOf, PlainOf, StateOf}
 use Rattle.fzn_state.proofs.AcceptedLemmas.{resolved-append, logged-accepted, length-past_of}
 use Rattle.fzn_state.proofs.StateLemmas.{Core-more}
 use Rattle.fzn_state.proofs.SolverLemmas.{order-step}
@@ -80,10 +80,10 @@ module _ {model : Model} {stock : Stock} {steps : List Step} {trail : Levels} {n
     gives = λ id is. clause_held-left past ids ones (get_or stock.numbers id.0 0) (clause_of stock.held id) (apart (get_or stock.numbers id.0 0) (inl (id, is, refl))) (core.numbered.gives id is);
   }
 
-  justified_left : All (IsJustified model now) stock.stack
-  justified_left = All-from_get_or (IsJustified model now) stock.stack _ (λ i below. left i below (All-get_or (IsJustified model past) stock.stack i _ below core.justified))
+  justified_left : All (IsInferredJustified model now) stock.stack
+  justified_left = All-from_get_or (IsInferredJustified model now) stock.stack _ (λ i below. left i below (All-get_or (IsInferredJustified model past) stock.stack i _ below core.justified))
     where
-      left : (i : ℕ) → i < length stock.stack → IsJustified model past (inference_at stock.stack i) → IsJustified model now (inference_at stock.stack i)
+      left : (i : ℕ) → i < length stock.stack → IsInferredJustified model past (inference_at stock.stack i) → IsInferredJustified model now (inference_at stock.stack i)
       left i below j =
           let it = inference_at stock.stack i in
           record {
@@ -102,7 +102,7 @@ module _ {model : Model} {stock : Stock} {steps : List Step} {trail : Levels} {n
   used_left n (inl h) = subst (IsGiven now) h.2 (ap is_some (numbered_left.gives h.0 h.1))
   used_left n (inr h) =
       let it = inference_at stock.stack h.0 in
-      let j = All-get_or (IsJustified model now) stock.stack h.0 _ h.1 justified_left in
+      let j = All-get_or (IsInferredJustified model now) stock.stack h.0 _ h.1 justified_left in
       let W : Option ℕ → Type 0 = λ o. IfSome o (λ k. clause_held now k ≡ Some it.clause) in
       ap is_some (subst W h.2 j.written)
 

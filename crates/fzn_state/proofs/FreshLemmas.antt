@@ -8,7 +8,7 @@ use Rattle.fzn_domain.specs.IntSet.{IntSet, least}
 use Rattle.fzn_domain.specs.Narrow.{IsVariable, IsWithin, NoneEmpty, value_of, narrowed, is_literal_true, is_clause_true}
 use Rattle.fzn_domain.proofs.SetLemmas.{is_true_at-negated}
 use Rattle.fzn_learned.specs.Reasoned.{Open}
-use Rattle.fzn_state.specs.Learned.{IsFresh, FreshAfter, HasCertain, HasLiteral, negations, IsBacked, LevelsBacked, AllCertain}
+use Rattle.fzn_state.specs.Learned.{SaysMore, FreshAfter, HasCertain, HasLiteral, negations, IsBacked, LevelsBacked, AllCertain}
 use Rattle.fzn_state.proofs.WithinLemmas.{Within, Within-narrowed, IsWithin-least, IsWithin-larger, certain-true, HasCertain-within, HasCertain-asserted}
 
 both_false : (a b : Bool) → a ≡ false → b ≡ false → (a || b) ≡ false
@@ -26,10 +26,10 @@ negations-fail sets a (at ∷ taken) h c =
     (negations-fail sets a taken h c.2)
 
 -- one more clause at the end of a list of fresh ones
-FreshAfter-push : (declared : List IntSet) (before clauses : List (List Lit)) (clause : List Lit) → FreshAfter declared before clauses → IsFresh declared (before ++ clauses) clause → FreshAfter declared before (clauses ++ clause ∷ [])
-FreshAfter-push declared before [] clause h w = let P : List (List Lit) → Type 0 = λ bs. IsFresh declared bs clause in (subst P (append-nil before) w, tt)
+FreshAfter-push : (declared : List IntSet) (before clauses : List (List Lit)) (clause : List Lit) → FreshAfter declared before clauses → SaysMore declared (before ++ clauses) clause → FreshAfter declared before (clauses ++ clause ∷ [])
+FreshAfter-push declared before [] clause h w = let P : List (List Lit) → Type 0 = λ bs. SaysMore declared bs clause in (subst P (append-nil before) w, tt)
 FreshAfter-push declared before (first ∷ clauses) clause h w =
-    let P : List (List Lit) → Type 0 = λ bs. IsFresh declared bs clause in
+    let P : List (List Lit) → Type 0 = λ bs. SaysMore declared bs clause in
     (h.0, FreshAfter-push declared (before ++ first ∷ []) clauses clause h.1 (subst P (sym (append_assoc before (first ∷ []) clauses)) w))
 
 pub learned-fresh : (declared sets : List IntSet) (clauses : List (List Lit)) (taken : List Open) → length sets ≡ length declared → Within sets declared → NoneEmpty sets → AllCertain (length declared) sets taken → All (HasCertain (length declared) sets) clauses → FreshAfter declared [] clauses → FreshAfter declared [] (clauses ++ negations taken ∷ [])

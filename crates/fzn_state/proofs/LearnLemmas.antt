@@ -19,39 +19,39 @@ use Rattle.fzn_strategy.specs.declared.learn.Learn.{Learn}
 use Rattle.fzn_strategy.specs.declared.learn.Learn.TheVariants.{Plain}
 use Rattle.fzn_learned.specs.declared.learned.Learned.{Learned}
 use Rattle.fzn_learned.specs.Learned.{IsEmptyOrForces, IsLearned, IsPlain}
-use Rattle.fzn_learned.specs.Reasoned.{IsKnown, clause_of, IsForced, IsReasoned}
+use Rattle.fzn_learned.specs.Reasoned.{IsKnown, reason_clause, IsLoneLiteral, IsReasoned}
 use Rattle.fzn_learned.proofs.CallerLemmas.{IsReasoned-grown, IsReasoned-returned, IsReasoned-forced, IsKnown-undecided}
 use Rattle.fzn_state.specs.State.{Stock, known_in, with_held, StateOf}
 use Rattle.fzn_state.specs.Search.{work}
 use Rattle.fzn_state.specs.Antecedents.{GiveAntecedents}
-use Rattle.fzn_state.specs.Certified.{IsCertified, IsRefuted}
+use Rattle.fzn_state.specs.Certified.{IsRunCertified, HasEmptyClause}
 use Rattle.fzn_state.proofs.NumberLemmas.{Give-chain}
 use Rattle.fzn_state.proofs.VariableLemmas.{variable-of}
 use Rattle.fzn_state.proofs.TakenLemmas.{forced-possible}
 use Rattle.fzn_state.proofs.ChangeLemmas.{slack-stood, slack-returned, Core-resolved, Plain-back, work-learned, work-restarted, State-closed, State-asserted, work-asserted, State-length}
 
 -- a known clause that forces a literal
-module _ {model : Model} {learn : Learn} {stock : Stock} {steps : List Step} {trail : Levels} {nodes : ℕ} (h : StateOf model learn stock steps trail nodes) (reason : Reason) (lit : Lit) (known : IsKnown (known_in stock) reason) (over : IsClauseOver (length trail.declared) (clause_of (known_in stock) reason)) (forced : IsForced trail.sets (clause_of (known_in stock) reason) lit) where
+module _ {model : Model} {learn : Learn} {stock : Stock} {steps : List Step} {trail : Levels} {nodes : ℕ} (h : StateOf model learn stock steps trail nodes) (reason : Reason) (lit : Lit) (known : IsKnown (known_in stock) reason) (over : IsClauseOver (length trail.declared) (reason_clause (known_in stock) reason)) (forced : IsLoneLiteral trail.sets (reason_clause (known_in stock) reason) lit) where
   pub forced-state : StateOf model learn stock steps (asserted lit reason trail) nodes
   forced-state =
       State-asserted h lit reason (IsKnown-undecided (known_in stock) reason known)
-      (IsReasoned-forced (known_in stock) trail lit reason h.core.reasoned (variable-of trail.sets (length trail.declared) (clause_of (known_in stock) reason) lit [] over forced.0) (known, forced))
+      (IsReasoned-forced (known_in stock) trail lit reason h.core.reasoned (variable-of trail.sets (length trail.declared) (reason_clause (known_in stock) reason) lit [] over forced.0) (known, forced))
 
   pub forced-works : (limit : ℕ) → work limit nodes (asserted lit reason trail) < work limit nodes trail
   forced-works limit =
-      let O : ℕ → Type 0 = λ n. IsClauseOver n (clause_of (known_in stock) reason) in
-      let var = variable-of trail.sets (length trail.sets) (clause_of (known_in stock) reason) lit [] (subst O (sym (State-length h)) over) forced.0 in
-      work-asserted limit nodes trail lit reason var (forced-possible trail.sets (clause_of (known_in stock) reason) lit forced.0) forced.1
+      let O : ℕ → Type 0 = λ n. IsClauseOver n (reason_clause (known_in stock) reason) in
+      let var = variable-of trail.sets (length trail.sets) (reason_clause (known_in stock) reason) lit [] (subst O (sym (State-length h)) over) forced.0 in
+      work-asserted limit nodes trail lit reason var (forced-possible trail.sets (reason_clause (known_in stock) reason) lit forced.0) forced.1
 
 -- a clause that follows from its antecedents is an accepted step
-module _ {model : Model} {learn : Learn} {stock : Stock} {steps : List Step} {trail : Levels} {nodes : ℕ} (h : StateOf model learn stock steps trail nodes) (clause : List Lit) (antecedents : List Reason) (over : IsClauseOver (length trail.declared) clause) (follows : IsAcceptedFrom trail.declared clause (map (clause_of (known_in stock)) antecedents)) (numbers : List ℕ) (give : GiveAntecedents (past_after model steps) (known_in stock) numbers antecedents) where
+module _ {model : Model} {learn : Learn} {stock : Stock} {steps : List Step} {trail : Levels} {nodes : ℕ} (h : StateOf model learn stock steps trail nodes) (clause : List Lit) (antecedents : List Reason) (over : IsClauseOver (length trail.declared) clause) (follows : IsAcceptedFrom trail.declared clause (map (reason_clause (known_in stock)) antecedents)) (numbers : List ℕ) (give : GiveAntecedents (past_after model steps) (known_in stock) numbers antecedents) where
   pub derived-accepted : IsAccepted model (past_after model steps) (Resolve clause numbers)
   derived-accepted =
       let e = h.core.declared in
       let sizes : length trail.declared ≡ length model.vars = ap length e ∙ length-map model.vars (λ var. var.domain) in
       let O : ℕ → Type 0 = λ n. IsClauseOver n clause in
-      let A : List IntSet → Type 0 = λ d. IsAcceptedFrom d clause (map (clause_of (known_in stock)) antecedents) in
-      let chain = Give-chain (past_after model steps) numbers (map (clause_of (known_in stock)) antecedents) give in
+      let A : List IntSet → Type 0 = λ d. IsAcceptedFrom d clause (map (reason_clause (known_in stock)) antecedents) in
+      let chain = Give-chain (past_after model steps) numbers (map (reason_clause (known_in stock)) antecedents) give in
       (subst O sizes over, chain.0, subst (IsAcceptedFrom (declared_sets model.vars) clause) (sym chain.1) (subst A e follows))
 
 module _ {model : Model} {learn : Learn} {stock : Stock} {steps : List Step} {trail : Levels} {nodes : ℕ} (h : StateOf model learn stock steps trail nodes) (learned : Learned) (conflict : Reason) (is : IsLearned (known_in stock) trail learned) (plain : learn ≡ Plain → IsPlain trail conflict learned) (numbers : List ℕ) (give : GiveAntecedents (past_after model steps) (known_in stock) numbers learned.antecedents) where
@@ -60,10 +60,10 @@ module _ {model : Model} {learn : Learn} {stock : Stock} {steps : List Step} {tr
   learned-accepted = derived-accepted h learned.clause learned.antecedents is.over is.accepted numbers give
 
   -- where it is empty nothing is left
-  pub learned-closed : learned.clause ≡ [] → IsCertified model learn (steps ++ Resolve learned.clause numbers ∷ []) nodes × IsRefuted model (steps ++ Resolve learned.clause numbers ∷ [])
+  pub learned-closed : learned.clause ≡ [] → IsRunCertified model learn (steps ++ Resolve learned.clause numbers ∷ []) nodes × HasEmptyClause model (steps ++ Resolve learned.clause numbers ∷ [])
   learned-closed none =
       let A : List Lit → Type 0 = λ c. IsAccepted model (past_after model steps) (Resolve c numbers) in
-      let C : List Lit → Type 0 = λ c. IsCertified model learn (steps ++ Resolve c numbers ∷ []) nodes × IsRefuted model (steps ++ Resolve c numbers ∷ []) in
+      let C : List Lit → Type 0 = λ c. IsRunCertified model learn (steps ++ Resolve c numbers ∷ []) nodes × HasEmptyClause model (steps ++ Resolve c numbers ∷ []) in
       subst C (sym none) (State-closed h (λ in_plain. sym none ∙ (plain in_plain).clause) numbers (subst A none learned-accepted))
 
   -- else it forces a literal at a lower level
@@ -75,18 +75,18 @@ module _ {model : Model} {learn : Learn} {stock : Stock} {steps : List Step} {tr
         positive zero k = absurd (k refl)
         positive (suc n) k = omega arith
 
-    pub learned-forces : (lit : Lit) × IsForced (returned learned.level trail).sets learned.clause lit
+    pub learned-forces : (lit : Lit) × IsLoneLiteral (returned learned.level trail).sets learned.clause lit
     learned-forces = by (is.forces learned-above)
       where
-        by : IsEmptyOrForces (returned learned.level trail).sets learned.clause → (lit : Lit) × IsForced (returned learned.level trail).sets learned.clause lit
+        by : IsEmptyOrForces (returned learned.level trail).sets learned.clause → (lit : Lit) × IsLoneLiteral (returned learned.level trail).sets learned.clause lit
         by (inl none) = absurd (some none)
         by (inr one) = one
 
     module _ (lit : Lit) (rest : List Lit) (possible : possible_in (returned learned.level trail).sets learned.clause ≡ lit ∷ rest) (id : ClauseId) (newest : id.0 ≡ length stock.held) (number : ℕ) (next : number ≡ length steps + 1) where
-      forced_there : IsForced (returned learned.level trail).sets learned.clause lit
+      forced_there : IsLoneLiteral (returned learned.level trail).sets learned.clause lit
       forced_there =
           let there = learned-forces.1 in
-          let L : Lit → Type 0 = λ l. IsForced (returned learned.level trail).sets learned.clause l in
+          let L : Lit → Type 0 = λ l. IsLoneLiteral (returned learned.level trail).sets learned.clause l in
           subst L (sym (first_same lit learned-forces.0 rest (sym possible ∙ there.0))) there
         where
           first_same : (a b : Lit) (more : List Lit) → a ∷ more ≡ b ∷ [] → a ≡ b
@@ -99,8 +99,8 @@ module _ {model : Model} {learn : Learn} {stock : Stock} {steps : List Step} {tr
           let grown = IsReasoned-grown (known_in stock) (Some learned.clause ∷ []) trail h.core.reasoned in
           let returned_too = IsReasoned-returned more trail learned.level grown (omega arith) in
           let there = returned learned.level trail in
-          let F : List Lit → Type 0 = λ c. IsForced there.sets c lit in
-          let forced : IsForced there.sets (clause_of more (Clause id)) lit = subst F (sym (clause_of-newest stock.held learned.clause id newest)) forced_there in
+          let F : List Lit → Type 0 = λ c. IsLoneLiteral there.sets c lit in
+          let forced : IsLoneLiteral there.sets (reason_clause more (Clause id)) lit = subst F (sym (clause_of-newest stock.held learned.clause id newest)) forced_there in
           let Var : List IntSet → Type 0 = λ d. IsVariable (length d) lit.var in
           let var = variable-of there.sets (length trail.declared) learned.clause lit [] is.over forced_there.0 in
           let known = IsHeld-newest stock.held learned.clause id newest in

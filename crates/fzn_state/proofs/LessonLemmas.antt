@@ -16,13 +16,13 @@ use Rattle.fzn_trail.specs.Levels.{Levels}
 use Rattle.fzn_strategy.specs.declared.learn.Learn.TheVariants.{Plain}
 use Rattle.fzn_learned.specs.declared.learned.Learned.{Learned}
 use Rattle.fzn_learned.specs.Learned.{IsDerived, IsLearned, IsPlain}
-use Rattle.fzn_learned.specs.Reasoned.{Known, clause_of}
+use Rattle.fzn_learned.specs.Reasoned.{Known, reason_clause}
 use Rattle.fzn_reduction.specs.declared.notes.Notes.{Notes}
 use Rattle.fzn_state.specs.declared.solver.Solver.{Solver}
-use Rattle.fzn_state.specs.Certified.{count, IsCertified, IsRefuted}
-use Rattle.fzn_state.specs.Changes.{IsClosed, Holds}
+use Rattle.fzn_state.specs.Certified.{count, IsRunCertified, HasEmptyClause}
+use Rattle.fzn_state.specs.Changes.{LeavesNothing, Holds}
 use Rattle.fzn_state.specs.Search.{stock_of, Tally}
-use Rattle.fzn_state.specs.Antecedents.{GiveAntecedents, IsWritten, Derives, Learns}
+use Rattle.fzn_state.specs.Antecedents.{GiveAntecedents, AreInferencesWritten, Derives, Learns}
 use Rattle.fzn_state.specs.State.{known_in}
 use Rattle.fzn_state.proofs.AcceptedLemmas.{past_after-push, logged-accepted, length-past_of}
 use Rattle.fzn_state.proofs.LearnLemmas.{derived-accepted, learned-closed}
@@ -30,18 +30,18 @@ use Rattle.fzn_state.proofs.SpelledLemmas.{resolve-spelled}
 use Rattle.fzn_state.proofs.SolverLemmas.{holds-tally}
 
 -- inferences are written whatever the sets on which learned clauses are tested, and whatever is noted
-pub written-beside : {model : Model} {first : List Step} (old : Solver) {new : Solver} (scratch : Narrowed) (notes : Notes) {steps : List Step} → IsWritten model first (record old { scratch = scratch; notes = notes }) new steps → IsWritten model first old new steps
+pub written-beside : {model : Model} {first : List Step} (old : Solver) {new : Solver} (scratch : Narrowed) (notes : Notes) {steps : List Step} → AreInferencesWritten model first (record old { scratch = scratch; notes = notes }) new steps → AreInferencesWritten model first old new steps
 written-beside old scratch notes w = record { state = w.state; kept = w.kept; known = w.known; trail = w.trail; tally = w.tally }
 
 -- what follows from the antecedents still does once they are written
-pub derives : {model : Model} {first : List Step} {old new : Solver} {steps : List Step} {learned : Learned} → IsWritten model first old new steps → IsDerived (known_in (stock_of old)) old.trail.declared learned → (numbers : List ℕ) → GiveAntecedents (past_after model steps) (known_in (stock_of old)) numbers learned.antecedents → Derives model new steps learned numbers
+pub derives : {model : Model} {first : List Step} {old new : Solver} {steps : List Step} {learned : Learned} → AreInferencesWritten model first old new steps → IsDerived (known_in (stock_of old)) old.trail.declared learned → (numbers : List ℕ) → GiveAntecedents (past_after model steps) (known_in (stock_of old)) numbers learned.antecedents → Derives model new steps learned numbers
 derives {model = model} {old = old} {new = new} {steps = steps} {learned = learned} written is numbers give =
     let T : Levels → Type 0 = λ t. IsDerived (known_in (stock_of old)) t.declared learned in
     let K : Known → Type 0 = λ k. IsDerived k new.trail.declared learned in
     let G : Known → Type 0 = λ k. GiveAntecedents (past_after model steps) k numbers learned.antecedents in
     record { state = written.state; derived = subst K (sym written.known) (subst T (sym written.trail) is); give = subst G (sym written.known) give }
 
-pub learns : {model : Model} {first : List Step} {old new : Solver} {steps : List Step} {learned : Learned} → IsWritten model first old new steps → IsLearned (known_in (stock_of old)) old.trail learned → (conflict : Reason) → (old.learn ≡ Plain → IsPlain old.trail conflict learned) → (numbers : List ℕ) → GiveAntecedents (past_after model steps) (known_in (stock_of old)) numbers learned.antecedents → Learns model new steps conflict learned numbers
+pub learns : {model : Model} {first : List Step} {old new : Solver} {steps : List Step} {learned : Learned} → AreInferencesWritten model first old new steps → IsLearned (known_in (stock_of old)) old.trail learned → (conflict : Reason) → (old.learn ≡ Plain → IsPlain old.trail conflict learned) → (numbers : List ℕ) → GiveAntecedents (past_after model steps) (known_in (stock_of old)) numbers learned.antecedents → Learns model new steps conflict learned numbers
 learns {old = old} {new = new} {learned = learned} written is conflict plain numbers give =
     let T : Levels → Type 0 = λ t. IsLearned (known_in (stock_of old)) t learned in
     let K : Known → Type 0 = λ k. IsLearned k new.trail learned in
@@ -63,7 +63,7 @@ module _ {model : Model} {mid : Solver} {before : List Step} {learned : Learned}
       let sizes : length mid.trail.declared ≡ length model.vars = ap length h.state.state.core.declared ∙ length-map model.vars (λ var. var.domain) in
       let each = length-past_of model before in
       let room = h.state.few_steps in
-      resolve-spelled (length mid.trail.declared) (past_after model before) learned.clause numbers (map (clause_of (known_in (stock_of mid))) learned.antecedents) (omega arith) (few_by (length (past_after model before).clauses) (length before) each room) h.derived.over h.derived.in_limits h.give
+      resolve-spelled (length mid.trail.declared) (past_after model before) learned.clause numbers (map (reason_clause (known_in (stock_of mid))) learned.antecedents) (omega arith) (few_by (length (past_after model before).clauses) (length before) each room) h.derived.over h.derived.in_limits h.give
     where
       few_by : (a b : ℕ) → a ≡ b → b < 10 ^ 18 → a < 10 ^ 18
       few_by a b e k = omega arith
@@ -79,12 +79,12 @@ module _ {model : Model} {mid : Solver} {before : List Step} {learned : Learned}
     derives-now now_is = now_is ∙ ap (λ (s : Step). before ++ s ∷ []) is
 
 module _ {model : Model} {mid : Solver} {before : List Step} {conflict : Reason} {learned : Learned} {numbers : List ℕ} (h : Learns model mid before conflict learned numbers) {now : List Step} (now_is : now ≡ before ++ Resolve learned.clause numbers ∷ []) where
-  pub learn-closed : learned.clause ≡ [] → (new : Solver) → Holds learned.clause mid new → IsClosed model mid new now
+  pub learn-closed : learned.clause ≡ [] → (new : Solver) → Holds learned.clause mid new → LeavesNothing model mid new now
   learn-closed none new holds =
       let end = learned-closed h.state.state learned conflict h.is h.plain numbers h.give none in
-      let C : List Step → Type 0 = λ s. IsCertified model mid.learn s mid.search.nodes in
-      let N : ℕ → Type 0 = λ n. IsCertified model mid.learn now n in
-      let R : List Step → Type 0 = λ s. IsRefuted model s in
+      let C : List Step → Type 0 = λ s. IsRunCertified model mid.learn s mid.search.nodes in
+      let N : ℕ → Type 0 = λ n. IsRunCertified model mid.learn now n in
+      let R : List Step → Type 0 = λ s. HasEmptyClause model s in
       let nodes : new.search.nodes ≡ mid.search.nodes = ap (λ (s : Searching). s.nodes) holds.search in
       record {
         certified = subst N (sym nodes) (subst C (sym now_is) end.0);

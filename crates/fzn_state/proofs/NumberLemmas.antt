@@ -12,7 +12,7 @@ use Rattle.fzn_propagator.specs.declared.inferences.Inferred.{Inferred}
 use Rattle.fzn_clauses.specs.Held.{Held, clause_of}
 use Rattle.fzn_clauses.proofs.HeldLemmas.{IsHeld-within, IsHeld-cases, clause_of-grown, clause_of-newest}
 use Rattle.fzn_reduction.specs.declared.written.Given.{Given}
-use Rattle.fzn_state.specs.State.{Give, AreNumbered, IsJustified, IsGivenBy}
+use Rattle.fzn_state.specs.State.{Give, AreNumbered, IsInferredJustified, IsGivenBy}
 
 -- a past with one more entry among the clauses
 abbrev pub Grows : StepsPast → StepsPast → Option (List Lit) → Type 0
@@ -108,7 +108,7 @@ AreNumbered-push past numbers held n clause h one = record {
 }
 
 -- an inference stays justified
-pub IsJustified-grown : (model : Model) (old new : StepsPast) (entry : Option (List Lit)) (it : Inferred) → Grows old new entry → IsJustified model old it → IsJustified model new it
+pub IsJustified-grown : (model : Model) (old new : StepsPast) (entry : Option (List Lit)) (it : Inferred) → Grows old new entry → IsInferredJustified model old it → IsInferredJustified model new it
 IsJustified-grown model old new entry it grows h = record {
   over = h.over;
   numbered = h.numbered;

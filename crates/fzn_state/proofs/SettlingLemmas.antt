@@ -30,9 +30,9 @@ use Rattle.fzn_reduction.specs.declared.notes.Notes.{Notes}
 use Rattle.fzn_state.specs.declared.solver.Solver.{Solver}
 use Rattle.fzn_state.specs.Volume.{slack}
 use Rattle.fzn_state.specs.Learned.{resolved}
-use Rattle.fzn_state.specs.Changes.{IsKeptBy, IsReduced, Holds, HasDropped}
+use Rattle.fzn_state.specs.Changes.{IsStateKept, IsReduced, Holds, HasDropped}
 use Rattle.fzn_state.specs.Search.{IsAfter, stock_of, Tally, work, work_of}
-use Rattle.fzn_state.specs.State.{Stock, known_in, with_held, IsHeldCut, IsJustified, IsStocked, StateOf}
+use Rattle.fzn_state.specs.State.{Stock, known_in, with_held, IsHeldCut, IsInferredJustified, IsStocked, StateOf}
 use Rattle.fzn_state.proofs.AcceptedLemmas.{resolved-append, length-past_of}
 use Rattle.fzn_state.proofs.ChangeLemmas.{Core-resolved, State-cut}
 use Rattle.fzn_state.proofs.HeldCutLemmas.{IsHeldCut-put}
@@ -44,13 +44,13 @@ use Rattle.fzn_state.proofs.TakenLemmas.{Leads-slack}
 
 -- ---- one after the other
 
-pub reduced-kept : {model : Model} {old new : Solver} {steps : List Step} → IsReduced model old new steps → IsKeptBy model steps old new
+pub reduced-kept : {model : Model} {old new : Solver} {steps : List Step} → IsReduced model old new steps → IsStateKept model steps old new
 reduced-kept {old = old} {new = new} t =
     let T : Levels → Type 0 = λ trail. (limit : ℕ) → work limit new.search.nodes trail ≤ work_of limit old in
     let N : Tally → Type 0 = λ tally. (limit : ℕ) → work limit tally.nodes old.trail ≤ work_of limit old in
     record { state = t.state; less = subst T (sym t.trail) (subst N (sym t.tally) (λ limit. omega arith)); tally = t.tally }
 
-pub kept-through : {model : Model} {old mid new : Solver} {before now : List Step} → IsKeptBy model before old mid → IsKeptBy model now mid new → IsKeptBy model now old new
+pub kept-through : {model : Model} {old mid new : Solver} {before now : List Step} → IsStateKept model before old mid → IsStateKept model now mid new → IsStateKept model now old new
 kept-through a b = record {
   state = b.state;
   less = λ limit. let first = a.less limit in let second = b.less limit in le_by first second;
@@ -112,7 +112,7 @@ module _ {model : Model} {old : Solver} {steps : List Step} (h : IsAfter model o
       let D : List IntSet → Type 0 = λ ds. ((limit - old.search.nodes) + length old.trail.saved) * (slack ds + 1) + slack trail.sets ≤ work_of limit old in
       subst L (sym levels) (subst D (sym stands.1) (omega (arith, less)))
 
-  pub renewed-kept : (notes : Notes) → IsKeptBy model steps old (record old { clauses = clauses; trail = trail; notes = notes })
+  pub renewed-kept : (notes : Notes) → IsStateKept model steps old (record old { clauses = clauses; trail = trail; notes = notes })
   renewed-kept notes =
       let C : Held → Type 0 = λ held. StateOf model old.learn (record (stock_of old) { held = held }) steps trail old.search.nodes in
       let state : C (held_by old.clauses) = record {
@@ -201,7 +201,7 @@ module _ {model : Model} {old : Solver} {steps : List Step} (h : IsAfter model o
         let Cut : List ℤ → Type 0 = λ values. IsHeldCut (set (held_by old.clauses) id.0 (Some clause)) old.cuts (cut_of model values) in
         record {
           numbered = AreNumbered-put held id clause free within now old.numbers (old.steps + 1) (AreNumbered-grown past now (Some clause) old.numbers held refl core.numbered) gives;
-          justified = All-weaker (IsJustified model past) (IsJustified model now) (λ it j. IsJustified-grown model past now (Some clause) it refl j) old.inferences core.justified;
+          justified = All-weaker (IsInferredJustified model past) (IsInferredJustified model now) (λ it j. IsJustified-grown model past now (Some clause) it refl j) old.inferences core.justified;
           written = AreGivenBy-grown model past now (Some clause) old.written refl core.written;
           alive = AreGiven-push past now old.alive (old.steps + 1) clause refl core.alive gives;
           cuts_held = All-weaker (λ values. IsHeldCut held old.cuts (cut_of model values)) Cut

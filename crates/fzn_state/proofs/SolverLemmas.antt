@@ -20,10 +20,10 @@ use Rattle.fzn_strategy.specs.declared.learn.Learn.{Learn}
 use Rattle.fzn_learned.specs.Reasoned.{AreOver, IsReasoned}
 use Rattle.fzn_learned.proofs.CallerLemmas.{IsReasoned-grown}
 use Rattle.fzn_state.specs.declared.solver.Solver.{Solver}
-use Rattle.fzn_state.specs.Certified.{count, IsCertified}
-use Rattle.fzn_state.specs.Changes.{IsClosed, IsKeptBy, Holds}
-use Rattle.fzn_state.specs.Search.{IsInOrder, IsAfter, stock_of, Tally, tally_of}
-use Rattle.fzn_state.specs.State.{Stock, known_in, IsJustified, StateOf}
+use Rattle.fzn_state.specs.Certified.{count, IsRunCertified}
+use Rattle.fzn_state.specs.Changes.{LeavesNothing, IsStateKept, Holds}
+use Rattle.fzn_state.specs.Search.{IsTestedInOrder, IsAfter, stock_of, Tally, tally_of}
+use Rattle.fzn_state.specs.State.{Stock, known_in, IsInferredJustified, StateOf}
 use Rattle.fzn_state.proofs.AcceptedLemmas.{past_after-push}
 use Rattle.fzn_state.proofs.PropagationLemmas.{State-propagated}
 
@@ -35,14 +35,14 @@ pub holds-tally : {clause : List Lit} {old new : Solver} → Holds clause old ne
 holds-tally holds = λ i. record { nodes = (holds.search i).nodes; found = holds.found i; learn = holds.learn i }
 
 -- one more step, which is no solution
-module _ {model : Model} {tested : Narrowed} {variables solutions number : ℕ} {before : List Step} (h : IsInOrder model tested variables solutions number before) {now : List Step} (step : Step) (now_is : now ≡ before ++ step ∷ []) (few : length now < 10 ^ 18) where
+module _ {model : Model} {tested : Narrowed} {variables solutions number : ℕ} {before : List Step} (h : IsTestedInOrder model tested variables solutions number before) {now : List Step} (step : Step) (now_is : now ≡ before ++ step ∷ []) (few : length now < 10 ^ 18) where
   count-after : count model now ≡ length (after_step model (past_after model before) step).solutions
   count-after = ap (λ (s : List Step). length (past_after model s).solutions) now_is ∙ ap (λ (p : StepsPast). length p.solutions) (past_after-push model before step)
 
   lengths : length now ≡ length before + 1
   lengths = ap length now_is ∙ length_push before step
 
-  pub order-step : (after_step model (past_after model before) step).solutions ≡ (past_after model before).solutions → (next : ℕ) → next ≡ number + 1 → IsInOrder model tested variables solutions next now
+  pub order-step : (after_step model (past_after model before) step).solutions ≡ (past_after model before).solutions → (next : ℕ) → next ≡ number + 1 → IsTestedInOrder model tested variables solutions next now
   order-step same next next_is = record {
     scratch = h.scratch;
     vars = h.vars;
@@ -53,7 +53,7 @@ module _ {model : Model} {tested : Narrowed} {variables solutions number : ℕ} 
   }
 
   -- or is one
-  pub order-found : (values : List ℤ) → (after_step model (past_after model before) step).solutions ≡ (past_after model before).solutions ++ values ∷ [] → IsInOrder model tested variables (solutions + 1) (number + 1) now
+  pub order-found : (values : List ℤ) → (after_step model (past_after model before) step).solutions ≡ (past_after model before).solutions ++ values ∷ [] → IsTestedInOrder model tested variables (solutions + 1) (number + 1) now
   order-found values more = record {
     scratch = h.scratch;
     vars = h.vars;
@@ -78,12 +78,12 @@ known-over {model = model} {solver = solver} {steps = steps} h =
     record {
       held = h.state.core.held_over;
       stacked = subst O (sym sizes) (All-map (IsClauseOver (length model.vars)) (λ (it : Inferred). it.clause) solver.inferences
-          (All-weaker (IsJustified model (past_after model steps)) (λ (it : Inferred). IsClauseOver (length model.vars) it.clause) (λ it j. j.over) solver.inferences h.state.core.justified));
+          (All-weaker (IsInferredJustified model (past_after model steps)) (λ (it : Inferred). IsClauseOver (length model.vars) it.clause) (λ it j. j.over) solver.inferences h.state.core.justified));
     }
 
 -- ---- propagation
 
-pub propagated-kept : {model : Model} {steps : List Step} {old : Solver} → IsAfter model old steps → (trail : Levels) (clauses : Clauses) → held_by clauses ≡ held_by old.clauses → IsPropagated (held_by old.clauses) old.trail trail → IsWatching clauses trail → IsKeptBy model steps old (record old { trail = trail; clauses = clauses })
+pub propagated-kept : {model : Model} {steps : List Step} {old : Solver} → IsAfter model old steps → (trail : Levels) (clauses : Clauses) → held_by clauses ≡ held_by old.clauses → IsPropagated (held_by old.clauses) old.trail trail → IsWatching clauses trail → IsStateKept model steps old (record old { trail = trail; clauses = clauses })
 propagated-kept {model = model} {steps = steps} {old = old} h trail clauses same run watching =
     let kept = State-propagated model old.learn (stock_of old) steps old.search.nodes old.trail trail run h.state in
     let C : Numbered → Type 0 = λ cs. StateOf model old.learn (record (stock_of old) { held = cs }) steps trail old.search.nodes in
@@ -92,7 +92,7 @@ propagated-kept {model = model} {steps = steps} {old = old} h trail clauses same
 -- ---- going on
 
 -- a change before it that leaves the tally as it is
-pub closed-from : {model : Model} {old mid new : Solver} {steps : List Step} → tally_of mid ≡ tally_of old → IsClosed model mid new steps → IsClosed model old new steps
+pub closed-from : {model : Model} {old mid new : Solver} {steps : List Step} → tally_of mid ≡ tally_of old → LeavesNothing model mid new steps → LeavesNothing model old new steps
 closed-from {model = model} {new = new} {steps = steps} tally end =
-    let L : Tally → Type 0 = λ t. IsCertified model t.learn steps new.search.nodes in
+    let L : Tally → Type 0 = λ t. IsRunCertified model t.learn steps new.search.nodes in
     record { certified = subst L tally end.certified; refuted = end.refuted; tally = end.tally ∙ tally; found_is = end.found_is }

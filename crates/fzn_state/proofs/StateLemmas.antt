@@ -19,7 +19,7 @@ use Rattle.fzn_learned.specs.Reasoned.{IsBelow, IsReasoned, Open}
 use Rattle.fzn_learned.proofs.CallerLemmas.{IsReasoned-stacked, IsReasoned-cut}
 use Rattle.fzn_state.specs.Volume.{volume, slack}
 use Rattle.fzn_state.specs.Learned.{resolved, FreshAfter, negations, AllCertain, left_open, other_part}
-use Rattle.fzn_state.specs.State.{Stock, known_in, with_held, with_cuts, with_inference, with_stack, IsHeldCut, IsJustified, IsStocked, CoreOf, PlainOf}
+use Rattle.fzn_state.specs.State.{Stock, known_in, with_held, with_cuts, with_inference, with_stack, IsHeldCut, IsInferredJustified, IsStocked, CoreOf, PlainOf}
 use Rattle.fzn_state.proofs.AcceptedLemmas.{past_after-push, AllAccepted-push, length-past_of}
 use Rattle.fzn_state.proofs.HeldCutLemmas.{IsHeldCut-grown}
 use Rattle.fzn_state.proofs.NumberLemmas.{Grows, clause_held-newest, AreGiven-push, AreNumbered-grown, AreNumbered-push, IsJustified-grown, AreGivenBy-grown}
@@ -34,7 +34,7 @@ module _ {model : Model} {past : StepsPast} {variables : ℕ} {stock : Stock} (h
   pub Stocked-held : (now : StepsPast) (clause : List Lit) (number : ℕ) (flags : List Bool) → Grows past now (Some clause) → clause_held now number ≡ Some clause → All (λ values. IsHeldCut (stock.held ++ Some clause ∷ []) flags (cut_of model values)) now.solutions → IsClauseOver variables clause → IsStocked model now variables (with_cuts flags (with_held clause number stock))
   Stocked-held now clause number flags grows gives cuts over = record {
     numbered = AreNumbered-push now stock.numbers stock.held number clause (AreNumbered-grown past now (Some clause) stock.numbers stock.held grows h.numbered) gives;
-    justified = All-weaker (IsJustified model past) (IsJustified model now) (λ it j. IsJustified-grown model past now (Some clause) it grows j) stock.stack h.justified;
+    justified = All-weaker (IsInferredJustified model past) (IsInferredJustified model now) (λ it j. IsJustified-grown model past now (Some clause) it grows j) stock.stack h.justified;
     written = AreGivenBy-grown model past now (Some clause) stock.written grows h.written;
     alive = AreGiven-push past now stock.alive number clause grows h.alive gives;
     cuts_held = cuts;
@@ -48,7 +48,7 @@ module _ {model : Model} {past : StepsPast} {variables : ℕ} {stock : Stock} (h
       (λ values cut. IsHeldCut-grown stock.held stock.cuts (cut_of model values) cut (Some clause ∷ [])) past.solutions h.cuts_held
 
   -- another stack
-  pub Stocked-over : (stack : List Inferred) → All (IsJustified model past) stack → IsStocked model past variables (record stock { stack = stack })
+  pub Stocked-over : (stack : List Inferred) → All (IsInferredJustified model past) stack → IsStocked model past variables (record stock { stack = stack })
   Stocked-over stack justified = record { numbered = h.numbered; justified = justified; written = h.written; alive = h.alive; cuts_held = h.cuts_held; held_over = h.held_over }
 
 -- ---- the search
@@ -99,17 +99,17 @@ module _ {model : Model} {stock : Stock} {steps : List Step} {trail : Levels} {n
       Core-more step accepted (with_cuts flags (with_held clause number stock)) (Stocked-held h.stocked now clause number flags grows gives cuts over) new e reasoned less
 
   -- one more inference
-  pub Core-stacked : (it : Inferred) → IsJustified model (past_after model steps) it → CoreOf model (with_inference it stock) steps trail nodes
+  pub Core-stacked : (it : Inferred) → IsInferredJustified model (past_after model steps) it → CoreOf model (with_inference it stock) steps trail nodes
   Core-stacked it justified =
       let K : List (List Lit) → Type 0 = λ cs. IsReasoned (record { held = stock.held; stacked = cs }) trail in
-      Core-restocked (with_inference it stock) (Stocked-over h.stocked (stock.stack ++ it ∷ []) (All-push (IsJustified model (past_after model steps)) stock.stack it h.justified justified))
+      Core-restocked (with_inference it stock) (Stocked-over h.stocked (stock.stack ++ it ∷ []) (All-push (IsInferredJustified model (past_after model steps)) stock.stack it h.justified justified))
       (subst K (sym (map-append (λ (i : Inferred). i.clause) stock.stack (it ∷ []))) (IsReasoned-stacked (known_in stock) (it.clause ∷ []) trail h.reasoned))
 
   -- fewer inferences, where no entry rests on the others
   pub Core-cut : (count : ℕ) → All (λ (entry : Entry). IsBelow count entry.reason) trail.entries → CoreOf model (with_stack count stock) steps trail nodes
   Core-cut count enough =
       let K : List (List Lit) → Type 0 = λ cs. IsReasoned (record { held = stock.held; stacked = cs }) trail in
-      Core-restocked (with_stack count stock) (Stocked-over h.stocked (take count stock.stack) (All-take (IsJustified model (past_after model steps)) count stock.stack h.justified))
+      Core-restocked (with_stack count stock) (Stocked-over h.stocked (take count stock.stack) (All-take (IsInferredJustified model (past_after model steps)) count stock.stack h.justified))
       (subst K (take-map (λ (i : Inferred). i.clause) count stock.stack) (IsReasoned-cut (known_in stock) count trail enough h.reasoned))
 
 -- ---- plain learning

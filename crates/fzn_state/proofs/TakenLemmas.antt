@@ -13,9 +13,9 @@ use Rattle.fzn_trail.specs.declared.trail.Reason.{Reason}
 use Rattle.fzn_trail.specs.declared.trail.Reason.TheVariants.{Decision, Clause, Inference}
 use Rattle.fzn_trail.specs.Levels.{Levels, Standing, standing, restored, returned}
 use Rattle.fzn_trail.proofs.CallerLemmas.{NoneEmpty-narrowed, returned-below}
-use Rattle.fzn_learned.specs.Reasoned.{Known, clause_of, IsReason, Leads, Open, open_at, opens, IsReasoned}
+use Rattle.fzn_learned.specs.Reasoned.{Known, reason_clause, IsReason, Leads, Open, open_at, opens, IsReasoned}
 use Rattle.fzn_state.specs.Volume.{slack}
-use Rattle.fzn_state.specs.Learned.{IsCertain, AllCertain, negations}
+use Rattle.fzn_state.specs.Learned.{IsTrueAtEach, AllCertain, negations}
 use Rattle.fzn_state.proofs.VolumeLemmas.{slack-narrowed_le}
 use Rattle.fzn_state.proofs.WithinLemmas.{Within, Within-self, Within-through, Within-narrowed, IsCertain-within, IsCertain-narrowed, impossible-negated}
 
@@ -28,8 +28,8 @@ forced-possible sets clause lit e =
 
 reason-possible : (known : Known) (sets : List IntSet) (lit : Lit) (reason : Reason) → IsReason known sets lit reason → is_possible (set_of sets lit.var) lit ≡ true
 reason-possible known sets lit Decision h = h.0
-reason-possible known sets lit (Clause id) h = forced-possible sets (clause_of known (Clause id)) lit h.1.0
-reason-possible known sets lit (Inference place) h = forced-possible sets (clause_of known (Inference place)) lit h.1.0
+reason-possible known sets lit (Clause id) h = forced-possible sets (reason_clause known (Clause id)) lit h.1.0
+reason-possible known sets lit (Inference place) h = forced-possible sets (reason_clause known (Inference place)) lit h.1.0
 
 module _ (known : Known) where
   pub Leads-within : (from : List IntSet) (entries : List Entry) (to : List IntSet) → Leads known from entries to → Within to from
@@ -53,7 +53,7 @@ module _ (known : Known) where
       let first = slack-narrowed_le from entry.lit in
       omega arith
 
-  certain_at : (count : ℕ) (from to : List IntSet) (lit : Lit) (reason : Reason) (later : List Open) → IsVariable count lit.var → IsCertain to lit → AllCertain count to later → AllCertain count to (open_at from lit reason later)
+  certain_at : (count : ℕ) (from to : List IntSet) (lit : Lit) (reason : Reason) (later : List Open) → IsVariable count lit.var → IsTrueAtEach to lit → AllCertain count to later → AllCertain count to (open_at from lit reason later)
   certain_at count from to lit Decision later var certain rest = (var, certain, rest)
   certain_at count from to lit (Clause id) later var certain rest = rest
   certain_at count from to lit (Inference place) later var certain rest = rest

@@ -9,7 +9,7 @@ use Rattle.fzn_domain.specs.Narrow.{IsVariable, IsOpen, NoneEmpty, set_of, narro
 use Rattle.fzn_domain.proofs.SetLemmas.{size-kept_parts, size-kept_le}
 use Rattle.fzn_sets.proofs.CallerLemmas.{none_empty}
 use Rattle.fzn_trail.proofs.CallerLemmas.{NoneEmpty-narrowed}
-use Rattle.fzn_state.specs.Volume.{volume, slack, spread}
+use Rattle.fzn_state.specs.Volume.{volume, slack, slack_of_sets}
 
 share_left : (a b c v : ℕ) → a + b ≡ c → a * v + b * v ≡ c * v
 share_left a b c v e = omega (arith, ap (λ x. x * v) e)
@@ -81,7 +81,7 @@ decided-accounts sets lit filled var either =
     let other = volume-filled (narrowed sets (negated lit)) (NoneEmpty-narrowed sets (negated lit) either.1 filled) in
     omega arith
 
-pub spread-filled : (sets : List IntSet) → NoneEmpty sets → spread sets ≡ slack sets
+pub spread-filled : (sets : List IntSet) → NoneEmpty sets → slack_of_sets sets ≡ slack sets
 spread-filled sets h = ap (λ (b : Bool). cond b 0 (slack sets)) (none_empty sets h)
 
 -- where a set is empty there is no choice

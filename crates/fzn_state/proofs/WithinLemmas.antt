@@ -9,7 +9,7 @@ use Rattle.fzn_domain.specs.IntSet.{IntSet, contains, size, no_values, kept, is_
 use Rattle.fzn_domain.specs.Narrow.{IsVariable, IsWithin, NoneEmpty, value_of, set_of, narrowed, is_literal_true, is_clause_true}
 use Rattle.fzn_domain.proofs.SetLemmas.{kept_within, contains-no_values, is_true_at-negated, impossible_when, member_of_size, contains-least}
 use Rattle.fzn_domain.proofs.NarrowLemmas.{length-narrowed, set_of-narrowed, other_set-narrowed}
-use Rattle.fzn_state.specs.Learned.{IsCertain, HasCertain, HasLiteral}
+use Rattle.fzn_state.specs.Learned.{IsTrueAtEach, HasCertain, HasLiteral}
 
 -- each set of the first list lies within that of the second
 abbrev pub Within : List IntSet → List IntSet → Type 0
@@ -39,14 +39,14 @@ Within-narrowed sets lit k v h = elim (cases_eq k (lit.var.0 - 1)) [
   ]
 ]
 
-pub IsCertain-within : (small large : List IntSet) (lit : Lit) → Within small large → IsCertain large lit → IsCertain small lit
+pub IsCertain-within : (small large : List IntSet) (lit : Lit) → Within small large → IsTrueAtEach large lit → IsTrueAtEach small lit
 IsCertain-within small large lit w t v h = t v (w (lit.var.0 - 1) v h)
 
-pub IsCertain-narrowed : (sets : List IntSet) (lit : Lit) → IsVariable (length sets) lit.var → IsCertain (narrowed sets lit) lit
+pub IsCertain-narrowed : (sets : List IntSet) (lit : Lit) → IsVariable (length sets) lit.var → IsTrueAtEach (narrowed sets lit) lit
 IsCertain-narrowed sets lit var v h = (kept_within (set_of sets lit.var) lit v (ap (λ (s : IntSet). contains s v) (sym (set_of-narrowed sets lit var)) ∙ h)).1
 
 -- the negation of a certain literal is not possible
-pub impossible-negated : (sets : List IntSet) (lit : Lit) → IsCertain sets lit → is_possible (set_of sets lit.var) (negated lit) ≡ false
+pub impossible-negated : (sets : List IntSet) (lit : Lit) → IsTrueAtEach sets lit → is_possible (set_of sets lit.var) (negated lit) ≡ false
 impossible-negated sets lit t = impossible_when (set_of sets lit.var) (negated lit) (λ v h. is_true_at-negated lit v ∙ ap not (t v h))
 
 -- sets that are not empty hold an assignment
@@ -74,7 +74,7 @@ certain-true sets a (lit ∷ clause) h (inl t) =
     or_left (is_literal_true a lit) (is_clause_true a clause) (t.1 (value_of a lit.var) (h.inside (lit.var.0 - 1) index))
 certain-true sets a (lit ∷ clause) h (inr t) = or_right (is_literal_true a lit) (is_clause_true a clause) (certain-true sets a clause h t)
 
-HasCertain-by : (count : ℕ) (small large : List IntSet) (clause : List Lit) → ((lit : Lit) → IsCertain large lit → IsCertain small lit) → HasCertain count large clause → HasCertain count small clause
+HasCertain-by : (count : ℕ) (small large : List IntSet) (clause : List Lit) → ((lit : Lit) → IsTrueAtEach large lit → IsTrueAtEach small lit) → HasCertain count large clause → HasCertain count small clause
 HasCertain-by count small large [] f t = t
 HasCertain-by count small large (lit ∷ clause) f (inl t) = inl (t.0, f lit t.1)
 HasCertain-by count small large (lit ∷ clause) f (inr t) = inr (HasCertain-by count small large clause f t)
@@ -89,7 +89,7 @@ backed-within count small large clauses w h = All-weaker (HasCertain count large
 pub HasCertain-asserted : (count : ℕ) (sets : List IntSet) (lit : Lit) (clause : List Lit) → length sets ≡ count → IsVariable count lit.var → HasLiteral lit clause → HasCertain count (narrowed sets lit) clause
 HasCertain-asserted count sets lit [] e var h = absurd h
 HasCertain-asserted count sets lit (other ∷ clause) e var (inl same) =
-    let P : Lit → Type 0 = λ l. IsVariable count l.var × IsCertain (narrowed sets lit) l in
+    let P : Lit → Type 0 = λ l. IsVariable count l.var × IsTrueAtEach (narrowed sets lit) l in
     let there : IsVariable (length sets) lit.var = (omega arith, omega arith) in
     inl (subst P same (var, IsCertain-narrowed sets lit there))
 HasCertain-asserted count sets lit (other ∷ clause) e var (inr h) = inr (HasCertain-asserted count sets lit clause e var h)

@@ -15,7 +15,7 @@ use Rattle.fzn_trail.specs.Levels.{Levels}
 use Rattle.fzn_learned.specs.Reasoned.{Known, IsReasoned}
 use Rattle.fzn_state.specs.Volume.{slack}
 use Rattle.fzn_state.specs.Learned.{resolved}
-use Rattle.fzn_state.specs.State.{Stock, known_in, with_given, with_step, IsGivenBy, IsJustified, CoreOf}
+use Rattle.fzn_state.specs.State.{Stock, known_in, with_given, with_step, IsGivenBy, IsInferredJustified, CoreOf}
 use Rattle.fzn_state.proofs.AcceptedLemmas.{past_after-push, resolved-append, length-past_of}
 use Rattle.fzn_state.proofs.StateLemmas.{Core-more, Core-restocked, Stocked-over}
 use Rattle.fzn_state.proofs.NumberLemmas.{clause_held-grown, clause_held-newest, AreGiven-push, AreNumbered-grown, IsJustified-grown, AreGivenBy-grown}
@@ -27,8 +27,8 @@ module _ {model : Model} {stock : Stock} {steps : List Step} {trail : Levels} {n
   abbrev pub step : Step
   step = Infer it.constraint it.rule it.clause
 
-  is_justified : IsJustified model (past_after model steps) it
-  is_justified = All-get_or (IsJustified model (past_after model steps)) stock.stack place _ stacked core.justified
+  is_justified : IsInferredJustified model (past_after model steps) it
+  is_justified = All-get_or (IsInferredJustified model (past_after model steps)) stock.stack place _ stacked core.justified
 
   pub infer-accepted : IsAccepted model (past_after model steps) step
   infer-accepted = (is_justified.over, is_justified.numbered, is_justified.justified)
@@ -55,7 +55,7 @@ module _ {model : Model} {stock : Stock} {steps : List Step} {trail : Levels} {n
   still-gives n clause gives =
       ap (λ (p : StepsPast). clause_held p n) (past_after-push model steps step) ∙ clause_held-grown (past_after model steps) (after_step model (past_after model steps) step) (Some it.clause) n clause refl gives
 
-  newest : (number : ℕ) → number ≡ length steps + 1 → IsJustified model (after_step model (past_after model steps) step) (with_number number it)
+  newest : (number : ℕ) → number ≡ length steps + 1 → IsInferredJustified model (after_step model (past_after model steps) step) (with_number number it)
   newest number e =
       let later = IsJustified-grown model (past_after model steps) (after_step model (past_after model steps) step) (Some it.clause) it refl is_justified in
       record { over = later.over; numbered = later.numbered; justified = later.justified; spelled = later.spelled; written = gives-now number e }
@@ -63,14 +63,14 @@ module _ {model : Model} {stock : Stock} {steps : List Step} {trail : Levels} {n
   pub Core-written : (number : ℕ) → number ≡ length steps + 1 → CoreOf model (with_step place number stock) (steps ++ step ∷ []) trail nodes
   Core-written number e =
       let now = after_step model (past_after model steps) step in
-      let J : Inferred → Type 0 = IsJustified model now in
+      let J : Inferred → Type 0 = IsInferredJustified model now in
       let N : List (List Lit) → Type 0 = λ cs. nodes + slack trail.sets ≤ (length cs + 1) * slack trail.declared in
       let R : Known → Type 0 = λ k. IsReasoned k trail in
       Core-more core step infer-accepted (with_step place number stock)
       (record {
         numbered = AreNumbered-grown (past_after model steps) now (Some it.clause) stock.numbers stock.held refl core.numbered;
         justified = All-set J stock.stack place (with_number number it) (newest number e)
-            (All-weaker (IsJustified model (past_after model steps)) J (λ i j. IsJustified-grown model (past_after model steps) now (Some it.clause) i refl j) stock.stack core.justified);
+            (All-weaker (IsInferredJustified model (past_after model steps)) J (λ i j. IsJustified-grown model (past_after model steps) now (Some it.clause) i refl j) stock.stack core.justified);
         written = All-push (IsGivenBy model now) stock.written (record { clause = it.clause; number = number })
             (AreGivenBy-grown model (past_after model steps) now (Some it.clause) stock.written refl core.written) (is_justified.over, gives-now number e);
         alive = AreGiven-push (past_after model steps) now stock.alive number it.clause refl core.alive (gives-now number e);
@@ -82,7 +82,7 @@ module _ {model : Model} {stock : Stock} {steps : List Step} {trail : Levels} {n
   -- a step that was written before gives its clause
   pub Core-given : (number : ℕ) → clause_held (past_after model steps) number ≡ Some it.clause → CoreOf model (with_given place number stock) steps trail nodes
   Core-given number gives =
-      let J : Inferred → Type 0 = IsJustified model (past_after model steps) in
+      let J : Inferred → Type 0 = IsInferredJustified model (past_after model steps) in
       let R : Known → Type 0 = λ k. IsReasoned k trail in
       let one : J (with_number number it) = record { over = is_justified.over; numbered = is_justified.numbered; justified = is_justified.justified; spelled = is_justified.spelled; written = gives } in
       Core-restocked core (with_given place number stock)

@@ -9,14 +9,14 @@ use Rattle.fzn_strategy.specs.declared.learn.Learn.TheVariants.{Plain}
 use Rattle.fzn_trail.specs.declared.trail.Reason.{Reason}
 use Rattle.fzn_learned.specs.declared.learned.Learned.{Learned}
 use Rattle.fzn_learned.specs.Learned.{IsDerived, IsLearned, IsPlain}
-use Rattle.fzn_learned.specs.Reasoned.{Known, clause_of}
+use Rattle.fzn_learned.specs.Reasoned.{Known, reason_clause}
 use Rattle.fzn_state.specs.State.{known_in, Give}
 use Rattle.fzn_state.specs.declared.solver.Solver.{Solver}
 use Rattle.fzn_state.specs.Search.{stock_of, IsAfter, tally_of}
 
 -- the steps of these numbers give the clauses of these antecedents
 abbrev pub GiveAntecedents : StepsPast → Known → List ℕ → List Reason → Type 0
-GiveAntecedents past known numbers antecedents = Give past numbers (map (clause_of known) antecedents)
+GiveAntecedents past known numbers antecedents = Give past numbers (map (reason_clause known) antecedents)
 
 -- each number that gave a clause after the first steps gives it after the others
 abbrev pub StillGive : Model → List Step → List Step → Type 0
@@ -24,7 +24,7 @@ StillGive model before steps =
     (n : ℕ) (clause : List Lit) → clause_held (past_after model before) n ≡ Some clause → clause_held (past_after model steps) n ≡ Some clause
 
 -- inferences were written, and nothing else was changed
-pub record IsWritten (model : Model) (before : List Step) (old new : Solver) (steps : List Step) : Type 0 where
+pub record AreInferencesWritten (model : Model) (before : List Step) (old new : Solver) (steps : List Step) : Type 0 where
   pub state : IsAfter model new steps
   pub kept : StillGive model before steps
   pub known : known_in (stock_of new) ≡ known_in (stock_of old)

@@ -6,7 +6,7 @@ use Rattle.fzn_cert.specs.declared.step.Step.{Step}
 use Rattle.fzn_cert.specs.Accepted.{AllAccepted, past_after}
 use Rattle.fzn_strategy.specs.declared.learn.Learn.{Learn}
 use Rattle.fzn_strategy.specs.declared.learn.Learn.TheVariants.{Plain}
-use Rattle.fzn_state.specs.Volume.{volume, spread}
+use Rattle.fzn_state.specs.Volume.{volume, slack_of_sets}
 use Rattle.fzn_state.specs.Resolved.{resolved, FreshAfter}
 
 -- the solutions among the steps
@@ -14,13 +14,13 @@ abbrev pub count : Model → List Step → ℕ
 count model steps = length (past_after model steps).solutions
 
 -- some step gave the empty clause
-abbrev pub IsRefuted : Model → List Step → Type 0
-IsRefuted model steps = (past_after model steps).refuted ≡ true
+abbrev pub HasEmptyClause : Model → List Step → Type 0
+HasEmptyClause model steps = (past_after model steps).refuted ≡ true
 
 -- what a run has written at any moment
-pub record IsCertified (model : Model) (learn : Learn) (steps : List Step) (nodes : ℕ) : Type 0 where
+pub record IsRunCertified (model : Model) (learn : Learn) (steps : List Step) (nodes : ℕ) : Type 0 where
   pub accepted : AllAccepted model steps
   -- in plain learning each learned clause is false at an assignment at which those before it are true
   pub fresh : learn ≡ Plain → 0 < volume (declared_sets model.vars) → FreshAfter (declared_sets model.vars) [] (resolved steps)
   -- the decisions are bounded by the conflicts
-  pub nodes_by_conflicts : nodes ≤ (length (resolved steps) + 1) * spread (declared_sets model.vars)
+  pub nodes_by_conflicts : nodes ≤ (length (resolved steps) + 1) * slack_of_sets (declared_sets model.vars)

@@ -11,11 +11,11 @@ use Rattle.fzn_strategy.specs.declared.learn.Learn.TheVariants.{First}
 use Rattle.fzn_learned.specs.declared.learned.Learned.{Learned}
 use Rattle.fzn_learned.specs.Reasoned.{IsBelow}
 use Rattle.fzn_state.specs.State.{with_held}
-use Rattle.fzn_state.specs.Certified.{count, IsCertified, IsRefuted}
+use Rattle.fzn_state.specs.Certified.{count, IsRunCertified, HasEmptyClause}
 use Rattle.fzn_state.specs.declared.learning.Lesson.{Lesson}
 use Rattle.fzn_state.specs.declared.solver.Solver.{Solver}
 use Rattle.fzn_state.specs.Search.{stock_of, IsAfter, tally_of, work_of}
-use Rattle.fzn_state.specs.Antecedents.{IsWritten, Learns}
+use Rattle.fzn_state.specs.Antecedents.{AreInferencesWritten, Learns}
 use Rattle.std.specs.List.{All}
 use Rattle.fzn_trail.specs.declared.trail.Entry.{Entry}
 use Rattle.fzn_clauses.specs.Kept.{KeepsWatching}
@@ -42,9 +42,9 @@ abbrev pub IsNoted : Solver → Solver → Type 0
 IsNoted old new = new ≡ record old { notes = new.notes }
 
 -- nothing is left
-pub record IsClosed (model : Model) (old new : Solver) (steps : List Step) : Type 0 where
-  pub certified : IsCertified model old.learn steps new.search.nodes
-  pub refuted : IsRefuted model steps
+pub record LeavesNothing (model : Model) (old new : Solver) (steps : List Step) : Type 0 where
+  pub certified : IsRunCertified model old.learn steps new.search.nodes
+  pub refuted : HasEmptyClause model steps
   pub tally : tally_of new ≡ tally_of old
   pub found_is : new.found ≡ count model steps
 
@@ -54,7 +54,7 @@ pub record HasLearned (model : Model) (first : List Step) (old new : Solver) (st
   pub before : List Step
   pub learned : Learned
   pub numbers : List ℕ
-  pub written : IsWritten model first old mid before
+  pub written : AreInferencesWritten model first old mid before
   pub learns : Learns model mid before conflict learned numbers
   pub now_is : steps ≡ before ++ Resolve learned.clause numbers ∷ []
   pub few : length steps < 10 ^ 18
@@ -64,11 +64,11 @@ pub record HasLearned (model : Model) (first : List Step) (old new : Solver) (st
   pub level : lesson.level ≡ learned.level
 
 abbrev pub Teaches : Model → List Step → Solver → Solver → List Step → Reason → Option Lesson → Type 0
-Teaches model first old new steps conflict None = IsClosed model old new steps
+Teaches model first old new steps conflict None = LeavesNothing model old new steps
 Teaches model first old new steps conflict (Some lesson) = HasLearned model first old new steps conflict lesson
 
 -- no literal was decided, and no more work is left
-pub record IsKeptBy (model : Model) (steps : List Step) (old new : Solver) : Type 0 where
+pub record IsStateKept (model : Model) (steps : List Step) (old new : Solver) : Type 0 where
   pub state : IsAfter model new steps
   pub less : (limit : ℕ) → work_of limit new ≤ work_of limit old
   pub tally : tally_of new ≡ tally_of old

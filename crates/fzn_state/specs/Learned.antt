@@ -6,17 +6,17 @@ use Rattle.fzn_domain.specs.Literal.{is_true_at, negated}
 use Rattle.fzn_domain.specs.IntSet.{IntSet, contains}
 use Rattle.fzn_domain.specs.Narrow.{IsVariable, set_of, narrowed}
 use Rattle.fzn_learned.specs.Reasoned.{Open}
-pub use Rattle.fzn_state.specs.Resolved.{resolved, IsFresh, FreshAfter}
+pub use Rattle.fzn_state.specs.Resolved.{resolved, SaysMore, FreshAfter}
 use Rattle.fzn_state.specs.Volume.{volume}
 
 -- each value of its variable's set makes the literal true
-abbrev pub IsCertain : List IntSet → Lit → Type 0
-IsCertain sets lit = (v : ℤ) → contains (set_of sets lit.var) v ≡ true → is_true_at lit v ≡ true
+abbrev pub IsTrueAtEach : List IntSet → Lit → Type 0
+IsTrueAtEach sets lit = (v : ℤ) → contains (set_of sets lit.var) v ≡ true → is_true_at lit v ≡ true
 
 -- one of the clause's literals, of one of this many variables, is true on the sets
 abbrev pub HasCertain : ℕ → List IntSet → List Lit → Type 0
 HasCertain count sets [] = ⊥
-HasCertain count sets (lit ∷ clause) = (IsVariable count lit.var × IsCertain sets lit) ⊎ HasCertain count sets clause
+HasCertain count sets (lit ∷ clause) = (IsVariable count lit.var × IsTrueAtEach sets lit) ⊎ HasCertain count sets clause
 
 abbrev pub HasLiteral : Lit → List Lit → Type 0
 HasLiteral lit [] = ⊥
@@ -38,7 +38,7 @@ LevelsBacked count clauses (at ∷ later) = All (IsBacked count at) clauses × L
 -- each decision is of one of this many variables, and true on these sets
 abbrev pub AllCertain : ℕ → List IntSet → List Open → Type 0
 AllCertain count sets [] = Unit {0}
-AllCertain count sets (at ∷ later) = IsVariable count at.decision.var × IsCertain sets at.decision × AllCertain count sets later
+AllCertain count sets (at ∷ later) = IsVariable count at.decision.var × IsTrueAtEach sets at.decision × AllCertain count sets later
 
 -- the part that a decision left aside
 abbrev pub other_part : Open → List IntSet

@@ -16,7 +16,7 @@ resolved (Solution values ∷ later) = resolved later
 resolved (Delete ids ∷ later) = resolved later
 
 -- an assignment at which the clause is false and those before it are true
-pub record IsFresh (sets : List IntSet) (before : List (List Lit)) (clause : List Lit) : Type 0 where
+pub record SaysMore (sets : List IntSet) (before : List (List Lit)) (clause : List Lit) : Type 0 where
   pub witness : List ℤ
   pub within : IsWithin sets witness
   pub true_before : All (λ earlier. is_clause_true witness earlier ≡ true) before
@@ -25,4 +25,4 @@ pub record IsFresh (sets : List IntSet) (before : List (List Lit)) (clause : Lis
 -- each clause is false at an assignment at which those before it are true
 abbrev pub FreshAfter : List IntSet → List (List Lit) → List (List Lit) → Type 0
 FreshAfter sets before [] = Unit {0}
-FreshAfter sets before (clause ∷ later) = IsFresh sets before clause × FreshAfter sets (before ++ clause ∷ []) later
+FreshAfter sets before (clause ∷ later) = SaysMore sets before clause × FreshAfter sets (before ++ clause ∷ []) later

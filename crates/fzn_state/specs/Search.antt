@@ -19,7 +19,7 @@ abbrev pub stock_of : Solver → Stock
 stock_of solver = record { held = held_by solver.clauses; numbers = solver.numbers; cuts = solver.cuts; stack = solver.inferences; written = solver.written; alive = solver.alive }
 
 -- the sets on which learned clauses are tested, and what is counted, are in order after these steps
-pub record IsInOrder (model : Model) (tested : Narrowed) (variables solutions number : ℕ) (steps : List Step) : Type 0 where
+pub record IsTestedInOrder (model : Model) (tested : Narrowed) (variables solutions number : ℕ) (steps : List Step) : Type 0 where
   pub scratch : tested ≡ start (declared_sets model.vars)
   pub vars : variables ≡ length model.vars
   pub found_is : solutions ≡ count model steps
@@ -32,18 +32,18 @@ pub record IsAfter (model : Model) (solver : Solver) (steps : List Step) : Type 
   pub state : StateOf model solver.learn (stock_of solver) steps solver.trail solver.search.nodes
   -- the clauses are watched on the trail
   pub watching : IsWatching solver.clauses solver.trail
-  pub order : IsInOrder model solver.scratch solver.search.vars solver.found solver.steps steps
+  pub order : IsTestedInOrder model solver.scratch solver.search.vars solver.found solver.steps steps
   pub open order use *
 
 -- what each function of a search asks of the model, the search and the steps that it has written, and that the taker of steps is as it
 -- should be
-pub record IsReady (model : Model) (solver : Solver) (steps : List Step) (Kept : Type 0) : Type 0 where
+pub record IsSearchReady (model : Model) (solver : Solver) (steps : List Step) (Kept : Type 0) : Type 0 where
   pub good : IsWellFormed model
   pub state : IsAfter model solver steps
   pub kept : Kept
 
 -- what each leaves, whether it could go on or not: accepted steps, and the taker of steps as it should be, where it began
-pub record IsLeft (model : Model) (steps : List Step) (Kept Same : Type 0) : Type 0 where
+pub record IsLeftBySearch (model : Model) (steps : List Step) (Kept Same : Type 0) : Type 0 where
   pub accepted : AllAccepted model steps
   pub kept : Kept
   pub same : Same

@@ -81,7 +81,7 @@ pub record AreNumbered (past : StepsPast) (numbers : List ℕ) (held : Held) : T
       → clause_held past (slice_index_or numbers id.0 0) ≡ Some (clause_of held id)
 
 -- the inference's step would be accepted whatever steps stand before it, and where it was written its step gives its clause
-pub record IsJustified (model : Model) (past : StepsPast) (it : Inferred) : Type 0 where
+pub record IsInferredJustified (model : Model) (past : StepsPast) (it : Inferred) : Type 0 where
   pub over : IsClauseOver (length model.vars) it.clause
   pub numbered : IsConstraintNumber model it.constraint
   pub justified : IsInferredBy model it.constraint it.rule it.clause
@@ -100,7 +100,7 @@ IsHeldCut held cuts clause = (id : ClauseId) × (is_cut cuts id ≡ true) × (at
 pub record IsStocked (model : Model) (past : StepsPast) (variables : ℕ) (stock : Stock) : Type 0 where
   -- each held clause has the number of its step, and each inference is justified
   pub numbered : AreNumbered past stock.numbers stock.held
-  pub justified : All (IsJustified model past) stock.stack
+  pub justified : All (IsInferredJustified model past) stock.stack
   -- each written clause is given by its step
   pub written : All (IsGivenBy model past) stock.written
   -- each step that may be deleted gives a clause

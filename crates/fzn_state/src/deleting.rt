@@ -2,7 +2,7 @@
 ghost use Rattle.std.specs.Prelude.{◌≡◌, OnOk};
 ghost use Rattle.fzn_meaning.specs.declared.model.Model.{Model};
 ghost use Rattle.fzn_state.specs.Changes.{IsReduced};
-ghost use Rattle.fzn_state.specs.Search.{IsReady, IsLeft};
+ghost use Rattle.fzn_state.specs.Search.{IsSearchReady, IsLeftBySearch};
 
 use crate::fault::Fault;
 use crate::sink::Sink;
@@ -21,9 +21,9 @@ impl Solver {
         model: &Model,
         sink: &mut S,
     ) -> Result<(), Fault>
-        requires ready { IsReady model.now self.old (S.written sink.old) (S.keeps model.now sink.old) }
+        requires ready { IsSearchReady model.now self.old (S.written sink.old) (S.keeps model.now sink.old) }
         ensures reduced { OnOk result (IsReduced model.now self.old self.new (S.written sink.new)) }
-        ensures left { IsLeft model.now (S.written sink.new) (S.keeps model.now sink.new) (S.origin sink.new ≡ S.origin sink.old) }
+        ensures left { IsLeftBySearch model.now (S.written sink.new) (S.keeps model.now sink.new) (S.origin sink.new ≡ S.origin sink.old) }
     {
         self.notes.cited.clear(); // The places of written clauses change.
         let found = next_deletion(

@@ -6,8 +6,8 @@ ghost use Rattle.fzn_cert.specs.declared.step.Step.TheVariants.{Resolve};
 ghost use Rattle.fzn_learned.specs.Learned.{IsConflicting};
 ghost use Rattle.fzn_state.specs.State.{known_in};
 ghost use Rattle.fzn_state.specs.Changes.{Teaches};
-ghost use Rattle.fzn_state.specs.Search.{stock_of, IsReady, IsLeft};
-ghost use Rattle.fzn_state.specs.Antecedents.{IsWritten, Learns};
+ghost use Rattle.fzn_state.specs.Search.{stock_of, IsSearchReady, IsLeftBySearch};
+ghost use Rattle.fzn_state.specs.Antecedents.{AreInferencesWritten, Learns};
 
 use crate::fault::Fault;
 use crate::sink::Sink;
@@ -39,11 +39,11 @@ impl Solver {
         sink: &mut S,
         conflict: Reason,
     ) -> Result<(Learned, Items<u64>), Fault>
-        requires ready { IsReady model.now self.old (S.written sink.old) (S.keeps model.now sink.old) }
+        requires ready { IsSearchReady model.now self.old (S.written sink.old) (S.keeps model.now sink.old) }
         requires conflict { IsConflicting (known_in (stock_of self.old)) self.old.trail.sets conflict }
-        ensures written { IfOk result (λ _. IsWritten model.now (S.written sink.old) self.old self.new (S.written sink.new)) }
+        ensures written { IfOk result (λ _. AreInferencesWritten model.now (S.written sink.old) self.old self.new (S.written sink.new)) }
         ensures learns { IfOk result (λ derived. Learns model.now self.new (S.written sink.new) conflict derived.0 derived.1) }
-        ensures left { IsLeft model.now (S.written sink.new) (S.keeps model.now sink.new) (S.origin sink.new ≡ S.origin sink.old) }
+        ensures left { IsLeftBySearch model.now (S.written sink.new) (S.keeps model.now sink.new) (S.origin sink.new ≡ S.origin sink.old) }
     {
         let learned = analyse(
             alloc,
@@ -67,10 +67,10 @@ impl Solver {
         sink: &mut S,
         conflict: Reason,
     ) -> Result<Option<Lesson>, Fault>
-        requires ready { IsReady model.now self.old (S.written sink.old) (S.keeps model.now sink.old) }
+        requires ready { IsSearchReady model.now self.old (S.written sink.old) (S.keeps model.now sink.old) }
         requires conflict { IsConflicting (known_in (stock_of self.old)) self.old.trail.sets conflict }
         ensures learned { IfOk result (Teaches model.now (S.written sink.old) self.old self.new (S.written sink.new) conflict) }
-        ensures left { IsLeft model.now (S.written sink.new) (S.keeps model.now sink.new) (S.origin sink.new ≡ S.origin sink.old) }
+        ensures left { IsLeftBySearch model.now (S.written sink.new) (S.keeps model.now sink.new) (S.origin sink.new ≡ S.origin sink.old) }
     {
         let (learned, ids) = self.analyse(alloc, model, sink, conflict)?;
         let Learned {

@@ -4,9 +4,9 @@ ghost use Rattle.fzn_meaning.specs.declared.model.Model.{Model};
 ghost use Rattle.fzn_cert.specs.declared.step.Step.{Step};
 ghost use Rattle.fzn_strategy.specs.declared.learn.Learn.TheVariants.{First};
 ghost use Rattle.fzn_sets.specs.Sets.{start};
-ghost use Rattle.fzn_state.specs.Changes.{HoldsNext, IsKeptBy, IsReduced, IsNoted};
-ghost use Rattle.fzn_state.specs.Search.{IsReady, IsLeft};
-ghost use Rattle.fzn_state.specs.Antecedents.{IsWritten, Derives};
+ghost use Rattle.fzn_state.specs.Changes.{HoldsNext, IsStateKept, IsReduced, IsNoted};
+ghost use Rattle.fzn_state.specs.Search.{IsSearchReady, IsLeftBySearch};
+ghost use Rattle.fzn_state.specs.Antecedents.{AreInferencesWritten, Derives};
 
 use crate::fault::Fault;
 use crate::learning::step_of;
@@ -33,9 +33,9 @@ impl Solver {
         model: &Model,
         sink: &mut S,
     ) -> Result<(), Fault>
-        requires ready { IsReady model.now self.old (S.written sink.old) (S.keeps model.now sink.old) }
-        ensures kept { OnOk result (IsKeptBy model.now (S.written sink.new) self.old self.new) }
-        ensures left { IsLeft model.now (S.written sink.new) (S.keeps model.now sink.new) (S.origin sink.new ≡ S.origin sink.old) }
+        requires ready { IsSearchReady model.now self.old (S.written sink.old) (S.keeps model.now sink.old) }
+        ensures kept { OnOk result (IsStateKept model.now (S.written sink.new) self.old self.new) }
+        ensures left { IsLeftBySearch model.now (S.written sink.new) (S.keeps model.now sink.new) (S.origin sink.new ≡ S.origin sink.old) }
     {
         self.hold_cited()?;
         self.prove_units(alloc, model, sink)?;
@@ -59,9 +59,9 @@ impl Solver {
         model: &Model,
         sink: &mut S,
     ) -> Result<(), Fault>
-        requires ready { IsReady model.now self.old (S.written sink.old) (S.keeps model.now sink.old) }
+        requires ready { IsSearchReady model.now self.old (S.written sink.old) (S.keeps model.now sink.old) }
         ensures reduced { OnOk result (IsReduced model.now self.old self.new (S.written sink.new)) }
-        ensures left { IsLeft model.now (S.written sink.new) (S.keeps model.now sink.new) (S.origin sink.new ≡ S.origin sink.old) }
+        ensures left { IsLeftBySearch model.now (S.written sink.new) (S.keeps model.now sink.new) (S.origin sink.new ≡ S.origin sink.old) }
     {
         match self.learn {
             Learn::Plain => Ok(()),
@@ -108,10 +108,10 @@ impl Solver {
         model: &Model,
         sink: &mut S,
     ) -> Result<(), Fault>
-        requires ready { IsReady model.now self.old (S.written sink.old) (S.keeps model.now sink.old) }
+        requires ready { IsSearchReady model.now self.old (S.written sink.old) (S.keeps model.now sink.old) }
         requires first { self.old.learn ≡ First }
         ensures reduced { OnOk result (IsReduced model.now self.old self.new (S.written sink.new)) }
-        ensures left { IsLeft model.now (S.written sink.new) (S.keeps model.now sink.new) (S.origin sink.new ≡ S.origin sink.old) }
+        ensures left { IsLeftBySearch model.now (S.written sink.new) (S.keeps model.now sink.new) (S.origin sink.new ≡ S.origin sink.old) }
     {
         'wanted: for _ in 0..self.trail.len() {
             let Some(next) = self.notes.marks.next_wanted() else {
@@ -130,10 +130,10 @@ impl Solver {
         sink: &mut S,
         wanted: Wanted,
     ) -> Result<Option<(Learned, Items<u64>)>, Fault>
-        requires ready { IsReady model.now self.old (S.written sink.old) (S.keeps model.now sink.old) }
-        ensures written { IfOk result (λ _. IsWritten model.now (S.written sink.old) self.old self.new (S.written sink.new)) }
+        requires ready { IsSearchReady model.now self.old (S.written sink.old) (S.keeps model.now sink.old) }
+        ensures written { IfOk result (λ _. AreInferencesWritten model.now (S.written sink.old) self.old self.new (S.written sink.new)) }
         ensures derives { IfOk result (λ found. IfSome found (λ derived. Derives model.now self.new (S.written sink.new) derived.0 derived.1)) }
-        ensures left { IsLeft model.now (S.written sink.new) (S.keeps model.now sink.new) (S.origin sink.new ≡ S.origin sink.old) }
+        ensures left { IsLeftBySearch model.now (S.written sink.new) (S.keeps model.now sink.new) (S.origin sink.new ≡ S.origin sink.old) }
     {
         let found = unit_of(
             alloc,
@@ -175,10 +175,10 @@ impl Solver {
         sink: &mut S,
         wanted: Wanted,
     ) -> Result<(), Fault>
-        requires ready { IsReady model.now self.old (S.written sink.old) (S.keeps model.now sink.old) }
+        requires ready { IsSearchReady model.now self.old (S.written sink.old) (S.keeps model.now sink.old) }
         requires first { self.old.learn ≡ First }
         ensures reduced { OnOk result (IsReduced model.now self.old self.new (S.written sink.new)) }
-        ensures left { IsLeft model.now (S.written sink.new) (S.keeps model.now sink.new) (S.origin sink.new ≡ S.origin sink.old) }
+        ensures left { IsLeftBySearch model.now (S.written sink.new) (S.keeps model.now sink.new) (S.origin sink.new ≡ S.origin sink.old) }
     {
         let found = self.derive_unit(alloc, model, sink, wanted)?;
         let Some(derived) = found else {

@@ -10,8 +10,8 @@ ghost use Rattle.fzn_clauses.specs.Watching.{held_by, IsWatching};
 ghost use Rattle.fzn_strategy.specs.declared.learn.Learn.TheVariants.{First};
 ghost use Rattle.fzn_trail.specs.Levels.{fresh, level_of};
 ghost use Rattle.fzn_state.specs.Volume.{slack};
-ghost use Rattle.fzn_state.specs.Changes.{IsKeptBy};
-ghost use Rattle.fzn_state.specs.Search.{IsAfter, IsReady, IsLeft};
+ghost use Rattle.fzn_state.specs.Changes.{IsStateKept};
+ghost use Rattle.fzn_state.specs.Search.{IsAfter, IsSearchReady, IsLeftBySearch};
 
 use crate::fault::Fault;
 use crate::sink::Sink;
@@ -34,9 +34,9 @@ impl Solver {
         model: &Model,
         sink: &mut S,
     ) -> Result<(), Fault>
-        requires ready { IsReady model.now self.old (S.written sink.old) (S.keeps model.now sink.old) }
-        ensures kept { OnOk result (IsKeptBy model.now (S.written sink.new) self.old self.new) }
-        ensures left { IsLeft model.now (S.written sink.new) (S.keeps model.now sink.new) (S.origin sink.new ≡ S.origin sink.old) }
+        requires ready { IsSearchReady model.now self.old (S.written sink.old) (S.keeps model.now sink.old) }
+        ensures kept { OnOk result (IsStateKept model.now (S.written sink.new) self.old self.new) }
+        ensures left { IsLeftBySearch model.now (S.written sink.new) (S.keeps model.now sink.new) (S.origin sink.new ≡ S.origin sink.old) }
     {
         if !self.is_settling_due(model.vars.len()) {
             return Ok(());
@@ -73,7 +73,7 @@ impl Solver {
         requires first { self.old.learn ≡ First }
         requires level { level_of self.old.trail ≡ 0 }
         requires state { (steps : List Step) × IsAfter model.now self.old steps }
-        ensures kept { OnOk result ((steps : List Step) → IsAfter model.now self.old steps → IsKeptBy model.now steps self.old self.new) }
+        ensures kept { OnOk result ((steps : List Step) → IsAfter model.now self.old steps → IsStateKept model.now steps self.old self.new) }
     {
         self.notes.settling.expect_entries(self.trail.len());
         self.clauses.look_at_all()?;

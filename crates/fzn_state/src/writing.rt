@@ -6,11 +6,11 @@ ghost use Rattle.fzn_cert.specs.declared.step.Step.{Step};
 ghost use Rattle.fzn_cert.specs.Accepted.{past_after};
 ghost use Rattle.fzn_cert.specs.Past.{clause_held};
 ghost use Rattle.fzn_propagator.specs.Inferences.{IsStacked, inferred_clause};
-ghost use Rattle.fzn_learned.specs.Reasoned.{IsKnown, clause_of};
+ghost use Rattle.fzn_learned.specs.Reasoned.{IsKnown, reason_clause};
 ghost use Rattle.fzn_state.specs.State.{known_in};
 ghost use Rattle.fzn_reduction.specs.Written.{IsGivenAt};
-ghost use Rattle.fzn_state.specs.Search.{stock_of, IsAfter, IsReady, IsLeft};
-ghost use Rattle.fzn_state.specs.Antecedents.{GiveAntecedents, IsWritten};
+ghost use Rattle.fzn_state.specs.Search.{stock_of, IsAfter, IsSearchReady, IsLeftBySearch};
+ghost use Rattle.fzn_state.specs.Antecedents.{GiveAntecedents, AreInferencesWritten};
 
 use crate::fault::Fault;
 use crate::sink::Sink;
@@ -33,11 +33,11 @@ impl Solver {
         sink: &mut S,
         antecedents: &[Reason],
     ) -> Result<Items<u64>, Fault>
-        requires ready { IsReady model.now self.old (S.written sink.old) (S.keeps model.now sink.old) }
+        requires ready { IsSearchReady model.now self.old (S.written sink.old) (S.keeps model.now sink.old) }
         requires known { All (IsKnown (known_in (stock_of self.old))) antecedents.now }
-        ensures written { IfOk result (λ _. IsWritten model.now (S.written sink.old) self.old self.new (S.written sink.new)) }
+        ensures written { IfOk result (λ _. AreInferencesWritten model.now (S.written sink.old) self.old self.new (S.written sink.new)) }
         ensures numbers { IfOk result (λ numbers. GiveAntecedents (past_after model.now (S.written sink.new)) (known_in (stock_of self.old)) numbers antecedents.now) }
-        ensures left { IsLeft model.now (S.written sink.new) (S.keeps model.now sink.new) (S.origin sink.new ≡ S.origin sink.old) }
+        ensures left { IsLeftBySearch model.now (S.written sink.new) (S.keeps model.now sink.new) (S.origin sink.new ≡ S.origin sink.old) }
     {
         let mut numbers = Items::with_capacity(alloc, antecedents.len())?;
         for antecedent in antecedents {
@@ -55,11 +55,11 @@ impl Solver {
         sink: &mut S,
         antecedent: Reason,
     ) -> Result<u64, Fault>
-        requires ready { IsReady model.now self.old (S.written sink.old) (S.keeps model.now sink.old) }
+        requires ready { IsSearchReady model.now self.old (S.written sink.old) (S.keeps model.now sink.old) }
         requires known { IsKnown (known_in (stock_of self.old)) antecedent }
-        ensures written { IfOk result (λ _. IsWritten model.now (S.written sink.old) self.old self.new (S.written sink.new)) }
-        ensures number { IfOk result (λ number. clause_held (past_after model.now (S.written sink.new)) number ≡ Some (clause_of (known_in (stock_of self.old)) antecedent)) }
-        ensures left { IsLeft model.now (S.written sink.new) (S.keeps model.now sink.new) (S.origin sink.new ≡ S.origin sink.old) }
+        ensures written { IfOk result (λ _. AreInferencesWritten model.now (S.written sink.old) self.old self.new (S.written sink.new)) }
+        ensures number { IfOk result (λ number. clause_held (past_after model.now (S.written sink.new)) number ≡ Some (reason_clause (known_in (stock_of self.old)) antecedent)) }
+        ensures left { IsLeftBySearch model.now (S.written sink.new) (S.keeps model.now sink.new) (S.origin sink.new ≡ S.origin sink.old) }
     {
         match antecedent {
             Reason::Decision => unreachable!(), // It has no clause.
@@ -79,11 +79,11 @@ impl Solver {
         sink: &mut S,
         place: usize,
     ) -> Result<u64, Fault>
-        requires ready { IsReady model.now self.old (S.written sink.old) (S.keeps model.now sink.old) }
+        requires ready { IsSearchReady model.now self.old (S.written sink.old) (S.keeps model.now sink.old) }
         requires stacked { IsStacked self.old.inferences place }
-        ensures written { IfOk result (λ _. IsWritten model.now (S.written sink.old) self.old self.new (S.written sink.new)) }
+        ensures written { IfOk result (λ _. AreInferencesWritten model.now (S.written sink.old) self.old self.new (S.written sink.new)) }
         ensures number { IfOk result (λ number. clause_held (past_after model.now (S.written sink.new)) number ≡ Some (inferred_clause self.old.inferences place)) }
-        ensures left { IsLeft model.now (S.written sink.new) (S.keeps model.now sink.new) (S.origin sink.new ≡ S.origin sink.old) }
+        ensures left { IsLeftBySearch model.now (S.written sink.new) (S.keeps model.now sink.new) (S.origin sink.new ≡ S.origin sink.old) }
     {
         match self
             .written
@@ -98,7 +98,7 @@ impl Solver {
     fn give_again(&mut self, place: usize, known: usize) -> Result<u64, Memory>
         requires stacked { IsStacked self.old.inferences place }
         requires given { IsGivenAt self.old.written known (inferred_clause self.old.inferences place) }
-        ensures written { IfOk result (λ _. (model : Model) (steps : List Step) → IsAfter model self.old steps → IsWritten model steps self.old self.new steps) }
+        ensures written { IfOk result (λ _. (model : Model) (steps : List Step) → IsAfter model self.old steps → AreInferencesWritten model steps self.old self.new steps) }
         ensures number { IfOk result (λ number. (model : Model) (steps : List Step) → IsAfter model self.old steps → clause_held (past_after model steps) number ≡ Some (inferred_clause self.old.inferences place)) }
     {
         let given = self.written.get(known).number;
@@ -115,11 +115,11 @@ impl Solver {
         sink: &mut S,
         place: usize,
     ) -> Result<u64, Fault>
-        requires ready { IsReady model.now self.old (S.written sink.old) (S.keeps model.now sink.old) }
+        requires ready { IsSearchReady model.now self.old (S.written sink.old) (S.keeps model.now sink.old) }
         requires stacked { IsStacked self.old.inferences place }
-        ensures written { IfOk result (λ _. IsWritten model.now (S.written sink.old) self.old self.new (S.written sink.new)) }
+        ensures written { IfOk result (λ _. AreInferencesWritten model.now (S.written sink.old) self.old self.new (S.written sink.new)) }
         ensures number { IfOk result (λ number. clause_held (past_after model.now (S.written sink.new)) number ≡ Some (inferred_clause self.old.inferences place)) }
-        ensures left { IsLeft model.now (S.written sink.new) (S.keeps model.now sink.new) (S.origin sink.new ≡ S.origin sink.old) }
+        ensures left { IsLeftBySearch model.now (S.written sink.new) (S.keeps model.now sink.new) (S.origin sink.new ≡ S.origin sink.old) }
     {
         let Inferred {
             constraint,

@@ -17,7 +17,7 @@ use Rattle.fzn_builtin_rules.specs.Form.{form_of}
 use Rattle.fzn_rules.specs.declared.rule.Rule.TheVariants as rule
 use Rattle.fzn_rules.specs.Rules.{IsMet}
 use Rattle.fzn_trail.specs.Levels.{Levels}
-use Rattle.fzn_propagator.specs.Inference.{AllFixed, HoldsWhereFixed, IsExhausted}
+use Rattle.fzn_propagator.specs.Inference.{AllFixed, HoldsWhereFixed, IsInferredOut}
 use Rattle.fzn_propagator.specs.Clause.{IsJustifiedBy, IsJustified}
 use Rattle.fzn_propagator.proofs.CallerLemmas.{justified_by, exhausted}
 use Rattle.fzn_terms.proofs.FixedLemmas.{fixed_only, now_fit}
@@ -60,6 +60,6 @@ table_met trail places rows fit some supported fixed values declared present = t
 
 -- ---- by the law of propagators
 
-pub table_exhausted : (trail : Levels) (places : List Term) (rows : List ℤ) → All (IsTerm (length trail.declared)) places → 0 < length places → AreSupported trail places rows (length places) → (constraint : Constraint) → Table places rows ≡ constraint → IsExhausted constraint trail
+pub table_exhausted : (trail : Levels) (places : List Term) (rows : List ℤ) → All (IsTerm (length trail.declared)) places → 0 < length places → AreSupported trail places rows (length places) → (constraint : Constraint) → Table places rows ≡ constraint → IsInferredOut constraint trail
 unfolding form_of
 table_exhausted trail places rows fit some supported constraint same = exhausted trail (Table places rows) constraint refl same (table_met trail places rows fit some supported)

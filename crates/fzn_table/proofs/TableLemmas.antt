@@ -21,9 +21,9 @@ use Rattle.fzn_trail.specs.Levels.{Levels}
 use Rattle.fzn_propagator.specs.Clause.{IsJustifiedBy, Says, Keeps}
 use Rattle.fzn_propagator.proofs.CallerLemmas.{left_denied}
 use Rattle.fzn_terms.specs.Values.{place_at}
-use Rattle.fzn_terms.specs.Denied.{that, IsForced}
+use Rattle.fzn_terms.specs.Denied.{that, IsClaimForced}
 use Rattle.fzn_table.specs.declared.pass.Pass.{Pass}
-use Rattle.fzn_table.specs.Passes.{IsRow}
+use Rattle.fzn_table.specs.Passes.{IsRowOfTable}
 use Rattle.fzn_table.specs.Supports.{AreRowsOutOn, number_at, IsWhole, AreMatchesOut}
 
 pub unequal : (v k : ℤ) → v ≢ k → int_eq v k ≡ false
@@ -63,14 +63,14 @@ span_computed low high l h = (λ told. grind (arith, ints, l.0, l.1, h.0, h.1), 
 
 -- ---- rows
 
-pub row_below : (pass : Pass) (r : ℕ) → r < length pass.rows.now / length pass.places.now → IsRow pass r
+pub row_below : (pass : Pass) (r : ℕ) → r < length pass.rows.now / length pass.places.now → IsRowOfTable pass r
 row_below pass r below =
     let some = pass.some in
     let as_many = length-map pass.rows.now number_in in
     let fits : r * length pass.places.now + length pass.places.now ≤ length pass.rows.now = search rules in
     omega (arith, fits, as_many)
 
-pub below_count : (pass : Pass) (r : ℕ) → IsRow pass r → r < length pass.rows.now / length pass.places.now
+pub below_count : (pass : Pass) (r : ℕ) → IsRowOfTable pass r → r < length pass.rows.now / length pass.places.now
 below_count pass r whole =
     let some = pass.some in
     let as_many = length-map pass.rows.now number_in in
@@ -99,7 +99,7 @@ module _ (places : List Term) (rows : List ℤ) (p : ℕ) (op : Op) (bound : ℤ
   ]
 
 -- the rows whose value stands so to the bound are out, and each value of the place stands so
-pub claim_explained : (trail : Levels) (places : List Term) (rows : List ℤ) (p : ℕ) (op : Op) (bound : ℤ) (old new : List Lit) (count : ℕ) → p < length places → ((r : ℕ) → IsWhole places rows r → r < count) → Says trail.declared old (λ sets. AreMatchesOut sets places rows p op bound count) → IsForced trail (that (place_at places p) op bound) old new → IsJustifiedBy trail (AreRowsOutOn places rows) new
+pub claim_explained : (trail : Levels) (places : List Term) (rows : List ℤ) (p : ℕ) (op : Op) (bound : ℤ) (old new : List Lit) (count : ℕ) → p < length places → ((r : ℕ) → IsWhole places rows r → r < count) → Says trail.declared old (λ sets. AreMatchesOut sets places rows p op bound count) → IsClaimForced trail (that (place_at places p) op bound) old new → IsJustifiedBy trail (AreRowsOutOn places rows) new
 claim_explained trail places rows p op bound old new count below counted out forced = record {
   forcing = forced.forcing;
   met = λ some r whole.

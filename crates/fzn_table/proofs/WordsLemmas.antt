@@ -10,7 +10,7 @@ use Rattle.std.proofs.lemmas.Nat.Bits.{bit_at-zero, bit_at-lt, bit_at_and, bit_a
 use Rattle.std.proofs.lemmas.List.{get_or_past, get_or-take, get_or-drop}
 use Rattle.fzn_domain.specs.Bits.{has_bit}
 use Rattle.fzn_domain.proofs.BitLemmas.{has_bit_at}
-use Rattle.fzn_table.specs.Words.{IsCommon, IsFirstCommon, NoneCommon, AreApart}
+use Rattle.fzn_table.specs.Words.{IsCommon, IsFirstCommon, NoneCommon, HaveNoCommonBit}
 
 -- ---- the bits of a word
 
@@ -33,12 +33,12 @@ module _ (words others : List ℕ) where
       bit_at_and (get_or words (place / 64) 0) (get_or others (place / 64) 0) (place % 64)
       ∙ both_one _ _ (eqb-true _ 1 common.0) (eqb-true _ 1 common.1)
 
-  none_below : (count : ℕ) → AreApart words others count → (place : ℕ) → place < count * 64 → IsCommon words others place → ⊥
+  none_below : (count : ℕ) → HaveNoCommonBit words others count → (place : ℕ) → place < count * 64 → IsCommon words others place → ⊥
   none_below count apart place below common =
       zero_and_one _ (ap (λ (n : ℕ). bit_at n (place % 64)) (apart (place / 64) (omega arith)) ∙ bit_at-zero (place % 64)) (common_in_word place common)
 
   -- the lowest bit in common of the first two words with one
-  pub found_in_word : (q : ℕ) → AreApart words others q → get_or words q 0 < 2 ^ 64 → get_or others q 0 < 2 ^ 64 → both q ≢ 0 → IsFirstCommon words others (q * 64 + trailing_zeros w64 (both q))
+  pub found_in_word : (q : ℕ) → HaveNoCommonBit words others q → get_or words q 0 < 2 ^ 64 → get_or others q 0 < 2 ^ 64 → both q ≢ 0 → IsFirstCommon words others (q * 64 + trailing_zeros w64 (both q))
   found_in_word q apart fits others_fit some =
       let t = trailing_zeros w64 (both q) in
       let found = bit_at-trailing_zeros w64 (both q) (omega arith) (and_lt 64 (get_or words q 0) (get_or others q 0) fits others_fit) in
@@ -72,7 +72,7 @@ each_and (x ∷ xs) (y ∷ ys) zero = refl
 each_and (x ∷ xs) (y ∷ ys) (suc q) = each_and xs ys q
 
 -- no bit of all lanes together is set
-pub lanes_apart : (xs ys : List ℕ) → fold_l bit_or 0 (zip2 bit_and xs ys) ≡ 0 → (count : ℕ) → AreApart xs ys count
+pub lanes_apart : (xs ys : List ℕ) → fold_l bit_or 0 (zip2 bit_and xs ys) ≡ 0 → (count : ℕ) → HaveNoCommonBit xs ys count
 lanes_apart xs ys none count q below =
     let here = each_and xs ys q in
     omega (arith, here, fold_each 0 (zip2 bit_and xs ys) q)
@@ -88,7 +88,7 @@ in_block xs (suc count) (suc i) q d below inside =
     in_block (drop 4 xs) count i q d (omega arith) inside ∙ get_or-drop 4 xs (i * 4 + q) 0 ∙ ap (λ (k : ℕ). get_or xs k 0) at
 
 -- one block more
-pub apart_more : (words others : List ℕ) (blocks other_blocks : List (List ℕ)) (count other_count i : ℕ) (d e : List ℕ) → blocks ≡ first_chunks 4 count words → other_blocks ≡ first_chunks 4 other_count others → i < count → i < other_count → AreApart words others (i * 4) → AreApart (get_or blocks i d) (get_or other_blocks i e) 4 → AreApart words others ((i + 1) * 4)
+pub apart_more : (words others : List ℕ) (blocks other_blocks : List (List ℕ)) (count other_count i : ℕ) (d e : List ℕ) → blocks ≡ first_chunks 4 count words → other_blocks ≡ first_chunks 4 other_count others → i < count → i < other_count → HaveNoCommonBit words others (i * 4) → HaveNoCommonBit (get_or blocks i d) (get_or other_blocks i e) 4 → HaveNoCommonBit words others ((i + 1) * 4)
 apart_more words others blocks other_blocks count other_count i d e is other_is below other_below before block q inside = elim (cases_lt q (i * 4)) [
   | inl lt ↦ before q lt
   | inr ge ↦
@@ -109,7 +109,7 @@ beyond words others q h = elim (cases_lt q (length words)) [
   | inr ge ↦ rw (get_or_past words q 0 ge) (and_zero_l (get_or others q 0))
 ]
 
-pub none_common : (words others : List ℕ) (count : ℕ) → min (length words) (length others) ≤ count → AreApart words others count → NoneCommon words others
+pub none_common : (words others : List ℕ) (count : ℕ) → min (length words) (length others) ≤ count → HaveNoCommonBit words others count → NoneCommon words others
 none_common words others count whole apart place =
     none_below words others (place / 64 + 1) (λ q below. elim (cases_lt q count) [
       | inl lt ↦ apart q lt

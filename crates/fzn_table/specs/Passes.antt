@@ -14,7 +14,7 @@ use Rattle.fzn_propagator.specs.Clause.{IsJustified}
 use Rattle.fzn_propagator.specs.Inference.{AreFoundOf}
 use Rattle.fzn_terms.specs.Values.{place_at}
 use Rattle.fzn_table.specs.declared.pass.Pass.{Pass}
-use Rattle.fzn_table.specs.Supports.{number_at, IsWhole, IsOpenUpTo, AreOpen, IsSupported, HasSupportThat}
+use Rattle.fzn_table.specs.Supports.{number_at, IsWhole, IsOpenUpTo, AreMarkedRowsOpen, IsSupported, HasSupportThat}
 
 -- its constraint
 abbrev pub table_of : Pass → Constraint
@@ -25,8 +25,8 @@ abbrev pub MayHave : Pass → ℕ → ℤ → Type 0
 MayHave pass k value = MayBe pass.trail.now.sets (place_at pass.places.now k) value
 
 -- there is a row of this number, counted from 0
-abbrev pub IsRow : Pass → ℕ → Type 0
-IsRow pass r = IsWhole pass.places.now (numbers_in pass.rows.now) r
+abbrev pub IsRowOfTable : Pass → ℕ → Type 0
+IsRowOfTable pass r = IsWhole pass.places.now (numbers_in pass.rows.now) r
 
 -- the number of row r at place k
 abbrev pub number_in_row : Pass → ℕ → ℕ → ℤ
@@ -38,7 +38,7 @@ IsOpenRow pass r = IsOpenUpTo pass.trail.now.sets pass.places.now (numbers_in pa
 
 -- so it is of each row that is marked
 abbrev pub AreOpenRows : Pass → List Bool → Type 0
-AreOpenRows pass marks = AreOpen pass.trail.now.sets pass.places.now (numbers_in pass.rows.now) marks
+AreOpenRows pass marks = AreMarkedRowsOpen pass.trail.now.sets pass.places.now (numbers_in pass.rows.now) marks
 
 -- on these sets some place has not the value of the row there
 abbrev pub IsOutOn : Pass → ℕ → List IntSet → Type 0
@@ -53,9 +53,9 @@ abbrev pub IsClaimSupported : Pass → ℕ → Op → ℤ → Type 0
 IsClaimSupported pass p op bound = HasSupportThat pass.trail.now.sets pass.places.now (numbers_in pass.rows.now) p op bound
 
 -- the rule `rows` justifies the clause from the table
-abbrev pub IsInferred : Pass → List Lit → Type 0
-IsInferred pass clause = IsJustified pass.trail.now (table_of pass) Rows clause
+abbrev pub IsJustifiedByTable : Pass → List Lit → Type 0
+IsJustifiedByTable pass clause = IsJustified pass.trail.now (table_of pass) Rows clause
 
 -- so of each of these inferences, which have its number
-abbrev pub AreFoundIn : Pass → List Inference → Type 0
-AreFoundIn pass found = AreFoundOf pass.number (table_of pass) pass.trail.now found
+abbrev pub AreFoundOfTable : Pass → List Inference → Type 0
+AreFoundOfTable pass found = AreFoundOf pass.number (table_of pass) pass.trail.now found

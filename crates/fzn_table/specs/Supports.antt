@@ -35,8 +35,8 @@ abbrev pub IsOpenUpTo : List IntSet → List Term → List ℤ → ℕ → ℕ �
 IsOpenUpTo sets places rows r count = (k : ℕ) → k < count → MayBe sets (place_at places k) (number_at places rows r k)
 
 -- each value of each row that is marked is in its place's set
-abbrev pub AreOpen : List IntSet → List Term → List ℤ → List Bool → Type 0
-AreOpen sets places rows marks = (r : ℕ) → slice_index_or marks r false ≡ true → IsOpenUpTo sets places rows r (length places)
+abbrev pub AreMarkedRowsOpen : List IntSet → List Term → List ℤ → List Bool → Type 0
+AreMarkedRowsOpen sets places rows marks = (r : ℕ) → slice_index_or marks r false ≡ true → IsOpenUpTo sets places rows r (length places)
 
 -- some row has the value at the place, and each of its values in its place's set
 pub record IsSupport (sets : List IntSet) (places : List Term) (rows : List ℤ) (p : ℕ) (value : ℤ) (r : ℕ) : Type 0 where

@@ -16,5 +16,5 @@ pub record IsFirstCommon (words others : List ℕ) (place : ℕ) : Type 0 where
   pub none_below : (before : ℕ) → before < place → IsCommon words others before → ⊥
 
 -- each of the first words has no bit in common with the other list's word of its index
-abbrev pub AreApart : List ℕ → List ℕ → ℕ → Type 0
-AreApart words others count = (q : ℕ) → q < count → bit_and (slice_index words q) (slice_index others q) ≡ 0
+abbrev pub HaveNoCommonBit : List ℕ → List ℕ → ℕ → Type 0
+HaveNoCommonBit words others count = (q : ℕ) → q < count → bit_and (slice_index words q) (slice_index others q) ≡ 0

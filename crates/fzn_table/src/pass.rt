@@ -38,7 +38,7 @@ pub(crate) struct Pass<'a> {
 }
 
 impl<'a> Pass<'a> {
-    ghost use Rattle.fzn_table.specs.Passes.{IsRow, number_in_row};
+    ghost use Rattle.fzn_table.specs.Passes.{IsRowOfTable, number_in_row};
 
     /// How many rows there are.
     pub(crate) fn count(&self) -> usize
@@ -49,7 +49,7 @@ impl<'a> Pass<'a> {
 
     /// The number of row r at place k, both counted from 0.
     pub(crate) fn number_at(&self, r: usize, k: usize) -> i64
-        requires row { IsRow self.now r }
+        requires row { IsRowOfTable self.now r }
         requires in_range { k < length self.now.places.now }
         ensures { result ≡ number_in_row self.now r k }
     {

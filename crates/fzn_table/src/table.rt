@@ -11,7 +11,7 @@ ghost use Rattle.fzn_terms.specs.Values.{place_at};
 ghost use Rattle.fzn_terms.specs.Denied.{IsEntailed, IsGrown};
 ghost use Rattle.fzn_terms.specs.Intervals.{IsLimitedInterval, ends_of};
 ghost use Rattle.fzn_table.specs.Supports.{IsOutAt, IsDeclaredNarrow, IsClosePlace, MayStand, HasSupports, AreSupported, IsBarred};
-ghost use Rattle.fzn_table.specs.Passes.{MayHave, IsRow, number_in_row, IsOpenRow, AreOpenRows, IsOutOn, HasSupport, IsClaimSupported, IsInferred, AreFoundIn};
+ghost use Rattle.fzn_table.specs.Passes.{MayHave, IsRowOfTable, number_in_row, IsOpenRow, AreOpenRows, IsOutOn, HasSupport, IsClaimSupported, IsJustifiedByTable, AreFoundOfTable};
 
 use crate::pass::Pass;
 use fzn_domain::{Domain, GREATEST_BOUND, LEAST_BOUND, Lit, Memory, Op, VarId};
@@ -166,7 +166,7 @@ fn explain_out(pass: &Pass, k: usize, value: &i64, clause: &mut Items<Lit>) -> R
 
 /// A place that the row's value there is out of: one of which the clause says so, where there is one, else the first.
 fn place_out(pass: &Pass, r: usize, clause: &Items<Lit>) -> Option<usize>
-    requires whole { IsRow pass.now r }
+    requires whole { IsRowOfTable pass.now r }
     ensures found { IfSome result (IsOutAt pass.now.trail.now.sets pass.now.places.now (numbers_in pass.now.rows.now) r) }
     ensures none { IfNone result (IsOpenRow pass.now r) }
 {
@@ -187,7 +187,7 @@ fn place_out(pass: &Pass, r: usize, clause: &Items<Lit>) -> Option<usize>
 
 /// The same, but this place before all others.
 fn first_place_out(pass: &Pass, r: usize, p: usize, clause: &Items<Lit>) -> Option<usize>
-    requires whole { IsRow pass.now r }
+    requires whole { IsRowOfTable pass.now r }
     requires in_range { p < length pass.now.places.now }
     ensures found { IfSome result (IsOutAt pass.now.trail.now.sets pass.now.places.now (numbers_in pass.now.rows.now) r) }
     ensures none { IfNone result (IsOpenRow pass.now r) }
@@ -201,7 +201,7 @@ fn first_place_out(pass: &Pass, r: usize, p: usize, clause: &Items<Lit>) -> Opti
 /// Adds to a false clause what it takes to say that some value of the row is not in its place's set, at this place where it can be. `false`
 /// where each is.
 fn refute_row(pass: &Pass, r: usize, p: usize, clause: &mut Items<Lit>) -> Result<bool, Memory>
-    requires whole { IsRow pass.now r }
+    requires whole { IsRowOfTable pass.now r }
     requires in_range { p < length pass.now.places.now }
     requires still { IsFalseClause pass.now.trail.now clause.old }
     ensures { IfOk result (λ out. MatchBool out (IsGrown pass.now.trail.now (IsOutOn pass.now r) clause.old clause.new) (IsOpenRow pass.now r)) }
@@ -215,7 +215,7 @@ fn refute_row(pass: &Pass, r: usize, p: usize, clause: &mut Items<Lit>) -> Resul
 
 /// Whether the row's value at the place stands so to the bound.
 fn row_stands(pass: &Pass, r: usize, p: usize, op: Op, bound: &i64) -> bool
-    requires whole { IsRow pass.now r }
+    requires whole { IsRowOfTable pass.now r }
     requires in_range { p < length pass.now.places.now }
     ensures { result ≡ compares op (number_in_row pass.now r p) bound.now }
 {
@@ -224,7 +224,7 @@ fn row_stands(pass: &Pass, r: usize, p: usize, op: Op, bound: &i64) -> bool
 
 /// Whether each value of the row is in its place's set.
 fn is_open(pass: &Pass, r: usize) -> bool
-    requires whole { IsRow pass.now r }
+    requires whole { IsRowOfTable pass.now r }
     ensures { IsTrue result → IsOpenRow pass.now r }
 {
     for k in 0..pass.places.len() {
@@ -269,7 +269,7 @@ fn explain_claim(pass: &Pass, p: usize, op: Op, bound: &i64) -> Result<Option<It
     requires in_range { p < length pass.now.places.now }
     requires near { IsNearLimits bound.now }
     requires may_stand { MayStand pass.now.trail.now.sets (place_at pass.now.places.now p) op bound.now }
-    ensures found { IfOk result (λ found. IfSome found (IsInferred pass.now)) }
+    ensures found { IfOk result (λ found. IfSome found (IsJustifiedByTable pass.now)) }
     ensures none { IfOk result (λ found. IfNone found (IsClaimSupported pass.now p op bound.now)) }
 {
     let mut clause = Items::new(pass.alloc);
@@ -295,7 +295,7 @@ fn explain_claim(pass: &Pass, p: usize, op: Op, bound: &i64) -> Result<Option<It
 
 /// Whether each value of the row is in its place's set. A row that is marked is not looked at again.
 fn is_open_row(pass: &Pass, r: usize, marks: &mut Vec<bool>) -> bool
-    requires whole { IsRow pass.now r }
+    requires whole { IsRowOfTable pass.now r }
     requires marks { AreOpenRows pass.now marks.old.items }
     ensures open { IsTrue result → IsOpenRow pass.now r }
     ensures marks { AreOpenRows pass.now marks.new.items }
@@ -341,8 +341,8 @@ fn bar_claim(
     requires in_range { p < length pass.now.places.now }
     requires near { IsNearLimits bound.now }
     requires may_stand { MayStand pass.now.trail.now.sets (place_at pass.now.places.now p) op bound.now }
-    requires before { AreFoundIn pass.now found.old }
-    ensures found { AreFoundIn pass.now found.new }
+    requires before { AreFoundOfTable pass.now found.old }
+    ensures found { AreFoundOfTable pass.now found.new }
     ensures kept { found.new ≡ [] → found.old ≡ [] }
     ensures some { IfOk result (λ barred. IsTrue barred → found.new ≢ []) }
     ensures none { IfOk result (λ barred. barred ≡ false → IsClaimSupported pass.now p op bound.now) }
@@ -359,8 +359,8 @@ fn bar_value(pass: &Pass, p: usize, value: &i64, found: &mut Findings) -> Result
     requires in_range { p < length pass.now.places.now }
     requires limits { IsInLimits value.now }
     requires may { MayHave pass.now p value.now }
-    requires before { AreFoundIn pass.now found.old }
-    ensures found { AreFoundIn pass.now found.new }
+    requires before { AreFoundOfTable pass.now found.old }
+    ensures found { AreFoundOfTable pass.now found.new }
     ensures kept { found.new ≡ [] → found.old ≡ [] }
     ensures some { IfOk result (λ barred. IsTrue barred → found.new ≢ []) }
     ensures none { OnOk result (found.new ≡ [] → HasSupport pass.now p value.now) }
@@ -381,8 +381,8 @@ fn test_value(
     requires limits { IsInLimits value.now }
     requires may { MayHave pass.now p value.now }
     requires marks { AreOpenRows pass.now marks.old.items }
-    requires before { AreFoundIn pass.now found.old }
-    ensures found { AreFoundIn pass.now found.new }
+    requires before { AreFoundOfTable pass.now found.old }
+    ensures found { AreFoundOfTable pass.now found.new }
     ensures kept { found.new ≡ [] → found.old ≡ [] }
     ensures none { OnOk result (found.new ≡ [] → HasSupport pass.now p value.now) }
     ensures marks { AreOpenRows pass.now marks.new.items }
@@ -403,8 +403,8 @@ fn bar_values(
 ) -> Result<(), Memory>
     requires in_range { p < length pass.now.places.now }
     requires marks { AreOpenRows pass.now marks.old.items }
-    requires before { AreFoundIn pass.now found.old }
-    ensures found { AreFoundIn pass.now found.new }
+    requires before { AreFoundOfTable pass.now found.old }
+    ensures found { AreFoundOfTable pass.now found.new }
     ensures kept { found.new ≡ [] → found.old ≡ [] }
     ensures none { OnOk result (found.new ≡ [] → (v : ℤ) → MayHave pass.now p v → HasSupport pass.now p v) }
     ensures marks { AreOpenRows pass.now marks.new.items }
@@ -432,8 +432,8 @@ fn bar_beyond(
 ) -> Result<bool, Memory>
     requires in_range { p < length pass.now.places.now }
     requires may { MayHave pass.now p end.now }
-    requires before { AreFoundIn pass.now found.old }
-    ensures found { AreFoundIn pass.now found.new }
+    requires before { AreFoundOfTable pass.now found.old }
+    ensures found { AreFoundOfTable pass.now found.new }
     ensures kept { found.new ≡ [] → found.old ≡ [] }
     ensures some { IfOk result (λ barred. IsTrue barred → found.new ≢ []) }
 {
@@ -459,8 +459,8 @@ fn bar_end(
     requires limits { IsInLimits end.now }
     requires may { MayHave pass.now p end.now }
     requires marks { AreOpenRows pass.now marks.old.items }
-    requires before { AreFoundIn pass.now found.old }
-    ensures found { AreFoundIn pass.now found.new }
+    requires before { AreFoundOfTable pass.now found.old }
+    ensures found { AreFoundOfTable pass.now found.new }
     ensures kept { found.new ≡ [] → found.old ≡ [] }
     ensures some { IfOk result (λ barred. IsTrue barred → found.new ≢ []) }
     ensures none { OnOk result (found.new ≡ [] → HasSupport pass.now p end.now) }
@@ -487,8 +487,8 @@ fn bar_ends(
     requires limited { IsLimitedInterval ends }
     requires may { MayHave pass.now p ends.low × MayHave pass.now p ends.high }
     requires marks { AreOpenRows pass.now marks.old.items }
-    requires before { AreFoundIn pass.now found.old }
-    ensures found { AreFoundIn pass.now found.new }
+    requires before { AreFoundOfTable pass.now found.old }
+    ensures found { AreFoundOfTable pass.now found.new }
     ensures kept { found.new ≡ [] → found.old ≡ [] }
     ensures some { IfOk result (λ barred. IsTrue barred → found.new ≢ []) }
     ensures none { OnOk result (found.new ≡ [] → HasSupport pass.now p ends.low × HasSupport pass.now p ends.high) }
@@ -515,8 +515,8 @@ fn bar_place(
 ) -> Result<(), Memory>
     requires in_range { p < length pass.now.places.now }
     requires marks { AreOpenRows pass.now marks.old.items }
-    requires before { AreFoundIn pass.now found.old }
-    ensures found { AreFoundIn pass.now found.new }
+    requires before { AreFoundOfTable pass.now found.old }
+    ensures found { AreFoundOfTable pass.now found.new }
     ensures kept { found.new ≡ [] → found.old ≡ [] }
     ensures none { OnOk result (found.new ≡ [] → HasSupports pass.now.trail.now pass.now.places.now (numbers_in pass.now.rows.now) p) }
     ensures marks { AreOpenRows pass.now marks.new.items }
@@ -536,8 +536,8 @@ fn bar_place(
 
 /// An inference for each value of a narrow place, and for each end of a wide one, that no row supports.
 pub(crate) fn bar_unsupported(pass: &Pass, found: &mut Findings) -> Result<(), Memory>
-    requires before { AreFoundIn pass.now found.old }
-    ensures found { AreFoundIn pass.now found.new }
+    requires before { AreFoundOfTable pass.now found.old }
+    ensures found { AreFoundOfTable pass.now found.new }
     ensures none { OnOk result (found.new ≡ [] → AreSupported pass.now.trail.now pass.now.places.now (numbers_in pass.now.rows.now) (length pass.now.places.now)) }
 {
     let mut marks = Vec::from_elem(pass.alloc, false, pass.supports.rows())?;

@@ -1,6 +1,6 @@
 // Bits that two lists of words have in common.
 ghost use Rattle.std.specs.Prelude.{◌≡◌, ◌≤◌, ℕ, false, length, min, IfNone, IfSome};
-ghost use Rattle.fzn_table.specs.Words.{IsFirstCommon, NoneCommon, AreApart};
+ghost use Rattle.fzn_table.specs.Words.{IsFirstCommon, NoneCommon, HaveNoCommonBit};
 
 use std::simd::prelude::*;
 
@@ -23,7 +23,7 @@ pub fn first_common(words: &[u64], others: &[u64]) -> Option<usize>
 /// Four words at a time are passed over that have no bit in common: where the first four begin that have one, or fewer than four are left.
 fn first_block(words: &[u64], others: &[u64]) -> usize
     ensures in_words { result ≤ min (length words.now) (length others.now) }
-    ensures none { AreApart words.now others.now result }
+    ensures none { HaveNoCommonBit words.now others.now result }
 {
     let (blocks, _) = words.as_chunks::<4>();
     let (other_blocks, _) = others.as_chunks::<4>();
@@ -38,7 +38,7 @@ fn first_block(words: &[u64], others: &[u64]) -> usize
 
 /// Whether a bit is set in both lists of four words.
 fn has_common(words: [u64; 4], others: [u64; 4]) -> bool
-    ensures { result ≡ false → AreApart words others 4 }
+    ensures { result ≡ false → HaveNoCommonBit words others 4 }
 {
     let both = u64x4::from_array(words) & u64x4::from_array(others);
     both.reduce_or() != 0

@@ -15,9 +15,9 @@ use Rattle.fzn_meaning.specs.declared.term.Term.{Term}
 use Rattle.fzn_meaning.specs.declared.term.Term.TheVariants.{Constant, Variable}
 use Rattle.fzn_sets.specs.Terms.{MayBe}
 use Rattle.fzn_trail.specs.Levels.{Levels, IsNarrower}
-use Rattle.fzn_propagator.specs.Clause.{IsWritable, IsFalseClause, AreLeft}
+use Rattle.fzn_propagator.specs.Clause.{IsWritable, IsFalseClause, AreLeftByClause}
 use Rattle.fzn_propagator.proofs.CallerLemmas.{last_fails, some_value, forcing_of_false, false_push, forcing_push, left-more}
-use Rattle.fzn_terms.specs.Denied.{IsEntailed, IsDenied, IsExplained, IsForced}
+use Rattle.fzn_terms.specs.Denied.{IsEntailed, IsDenied, IsClaimExplained, IsClaimForced}
 use Rattle.fzn_terms.specs.declared.claim.Claim.{Claim}
 use Rattle.fzn_terms.proofs.ExplanationLemmas.{literal_of, never_variable}
 
@@ -36,7 +36,7 @@ possible_of trail claim var of may = elim (cases_Bool (is_possible (set_of trail
 
 module _ (trail : Levels) (claim : Claim) (old : List Lit) (still : IsFalseClause trail old) where
   -- nothing is to be added for a constant
-  pub explained_constant : (k : ℤ) → claim.term ≡ Constant k → IsEntailed trail.sets claim → IsExplained trail claim old old
+  pub explained_constant : (k : ℤ) → claim.term ≡ Constant k → IsEntailed trail.sets claim → IsClaimExplained trail claim old old
   explained_constant k of present = record {
     still = still;
     keeps = λ sets left. left;
@@ -44,7 +44,7 @@ module _ (trail : Levels) (claim : Claim) (old : List Lit) (still : IsFalseClaus
         present v (subst (λ (t : Term). MayBe trail.sets t v) (sym of) (subst (λ (t : Term). MayBe sets t v) of may));
   }
 
-  pub forced_constant : (k : ℤ) (r : Bool) → claim.term ≡ Constant k → r ≡ compares claim.op k claim.number → r ≡ true → IsForced trail claim old old
+  pub forced_constant : (k : ℤ) (r : Bool) → claim.term ≡ Constant k → r ≡ compares claim.op k claim.number → r ≡ true → IsClaimForced trail claim old old
   forced_constant k r of is told = record {
     forcing = forcing_of_false trail old still;
     keeps = λ sets left. left;
@@ -70,7 +70,7 @@ module _ (trail : Levels) (claim : Claim) (old : List Lit) (still : IsFalseClaus
     false_where_holds v h = is_true_at-negated (literal_of claim var) v ∙ ap not h
 
     -- the declared set says it
-    says_declared : is_possible (set_of trail.declared var) (negated (literal_of claim var)) ≡ false → (sets : List IntSet) → AreLeft trail.declared old sets → IsEntailed sets claim
+    says_declared : is_possible (set_of trail.declared var) (negated (literal_of claim var)) ≡ false → (sets : List IntSet) → AreLeftByClause trail.declared old sets → IsEntailed sets claim
     says_declared impossible sets left v may =
         let there = (left.left (Variable var) v variable (subst (λ (t : Term). MayBe sets t v) of may)).0 in
         elim (cases_Bool (is_true_at (negated (literal_of claim var)) v)) [
@@ -78,7 +78,7 @@ module _ (trail : Levels) (claim : Claim) (old : List Lit) (still : IsFalseClaus
           | inr fails ↦ holds_where_false v fails
         ]
 
-    says_pushed : (sets : List IntSet) → AreLeft trail.declared (old ++ negated (literal_of claim var) ∷ []) sets → IsEntailed sets claim
+    says_pushed : (sets : List IntSet) → AreLeftByClause trail.declared (old ++ negated (literal_of claim var) ∷ []) sets → IsEntailed sets claim
     says_pushed sets left v may =
         holds_where_false v (last_fails trail.declared old (negated (literal_of claim var)) v (left.left (Variable var) v variable (subst (λ (t : Term). MayBe sets t v) of may)))
 
@@ -93,7 +93,7 @@ module _ (trail : Levels) (claim : Claim) (old : List Lit) (still : IsFalseClaus
           writable_of claim.op var claim.number v w.0 (limited v (declared_of v here)) (limited w.0 w.1) holds (fails_where_true w.0 w.2)
 
       -- the present set says it: the opposite literal is not possible
-      pub explained_push : NoneEmpty trail.sets → IsEntailed trail.sets claim → is_possible (set_of trail.declared var) (negated (literal_of claim var)) ≡ true → IsExplained trail claim old (old ++ negated (literal_of claim var) ∷ [])
+      pub explained_push : NoneEmpty trail.sets → IsEntailed trail.sets claim → is_possible (set_of trail.declared var) (negated (literal_of claim var)) ≡ true → IsClaimExplained trail claim old (old ++ negated (literal_of claim var) ∷ [])
       explained_push filled present possible =
           let all : (v : ℤ) → contains (set_of trail.sets var) v ≡ true → compares claim.op v claim.number ≡ true = λ v h. present v (subst (λ (t : Term). MayBe trail.sets t v) (sym of) h) in
           let some = member_of_size (set_of trail.sets var) (some_value trail.sets trail.declared var variable narrower filled) in
@@ -105,7 +105,7 @@ module _ (trail : Levels) (claim : Claim) (old : List Lit) (still : IsFalseClaus
           }
 
       -- some present value makes it so
-      pub forced_push : is_possible (set_of trail.sets var) (literal_of claim var) ≡ true → is_possible (set_of trail.declared var) (negated (literal_of claim var)) ≡ true → IsForced trail claim old (old ++ negated (literal_of claim var) ∷ [])
+      pub forced_push : is_possible (set_of trail.sets var) (literal_of claim var) ≡ true → is_possible (set_of trail.declared var) (negated (literal_of claim var)) ≡ true → IsClaimForced trail claim old (old ++ negated (literal_of claim var) ∷ [])
       forced_push able possible =
           let lit : Lit = negated (literal_of claim var) in
           let some = witness (set_of trail.sets var) (literal_of claim var) able in
@@ -116,10 +116,10 @@ module _ (trail : Levels) (claim : Claim) (old : List Lit) (still : IsFalseClaus
             says = says_pushed;
           }
 
-    pub explained_declared : is_possible (set_of trail.declared var) (negated (literal_of claim var)) ≡ false → IsExplained trail claim old old
+    pub explained_declared : is_possible (set_of trail.declared var) (negated (literal_of claim var)) ≡ false → IsClaimExplained trail claim old old
     explained_declared impossible = record { still = still; keeps = λ sets left. left; says = says_declared impossible }
 
-    pub forced_declared : is_possible (set_of trail.declared var) (negated (literal_of claim var)) ≡ false → IsForced trail claim old old
+    pub forced_declared : is_possible (set_of trail.declared var) (negated (literal_of claim var)) ≡ false → IsClaimForced trail claim old old
     forced_declared impossible = record {
       forcing = forcing_of_false trail old still;
       keeps = λ sets left. left;

@@ -19,7 +19,7 @@ use Rattle.fzn_propagator.specs.Clause.{Says, IsJustified}
 use Rattle.fzn_propagator.specs.Left.{IsLeft}
 use Rattle.fzn_propagator.proofs.CallerLemmas.{last_fails, left-more, justified_where}
 use Rattle.fzn_terms.specs.declared.claim.Claim.{Claim}
-use Rattle.fzn_terms.specs.Denied.{opposite, IsDenied, Refute, IsSaid, IsExplanation}
+use Rattle.fzn_terms.specs.Denied.{claim_turned_round, IsDenied, Refute, IsSaid, ExplainsClaims}
 
 -- ---- one more literal
 
@@ -68,18 +68,18 @@ says_more declared claims i d old new below before said sets left = All-more (Is
 -- ---- what becomes of a clause
 
 -- where the claims are denied the rule is met
-pub justified : (trail : Levels) (claims : List Claim) (constraint : Constraint) (rule : Rule) → Refute (length trail.declared) claims constraint rule → (clause : List Lit) → IsExplanation trail claims clause → IsJustified trail constraint rule clause
+pub justified : (trail : Levels) (claims : List Claim) (constraint : Constraint) (rule : Rule) → Refute (length trail.declared) claims constraint rule → (clause : List Lit) → ExplainsClaims trail claims clause → IsJustified trail constraint rule clause
 justified trail claims constraint rule refute clause explains =
     justified_where trail constraint rule clause explains.forcing (λ sets left. refute sets (record { one_each = left.one_each; filled = left.filled; denied = explains.denies sets left }))
 
 -- so it is of the clause that is found, if any
-pub justified_found : {E : Type 0} (found : Result (Option (List Lit)) E) (trail : Levels) (claims : List Claim) (constraint : Constraint) (rule : Rule) → Refute (length trail.declared) claims constraint rule → IfOk found (λ o. IfSome o (IsExplanation trail claims)) → IfOk found (λ o. IfSome o (IsJustified trail constraint rule))
+pub justified_found : {E : Type 0} (found : Result (Option (List Lit)) E) (trail : Levels) (claims : List Claim) (constraint : Constraint) (rule : Rule) → Refute (length trail.declared) claims constraint rule → IfOk found (λ o. IfSome o (ExplainsClaims trail claims)) → IfOk found (λ o. IfSome o (IsJustified trail constraint rule))
 justified_found (Ok (Some clause)) trail claims constraint rule refute explains = justified trail claims constraint rule refute clause explains
 justified_found (Ok None) trail claims constraint rule refute explains = explains
 justified_found (Err e) trail claims constraint rule refute explains = explains
 
--- a value of which a claim and its opposite are both denied
-pub are_opposite : (sets : List IntSet) (claim : Claim) (term : Term) → IsDenied sets claim → IsDenied sets (opposite claim term) → (v : ℤ) → MayBe sets claim.term v → MayBe sets term v → ⊥
+-- a value of which a claim and its claim_turned_round are both denied
+pub are_opposite : (sets : List IntSet) (claim : Claim) (term : Term) → IsDenied sets claim → IsDenied sets (claim_turned_round claim term) → (v : ℤ) → MayBe sets claim.term v → MayBe sets term v → ⊥
 are_opposite sets claim term one other v may also =
     let first : is_true_at (literal_of claim (record { 0 = 1 })) v ≡ false = one v may in
     let second = other v also in

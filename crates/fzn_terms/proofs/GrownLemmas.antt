@@ -8,7 +8,7 @@ use Rattle.fzn_domain.specs.IntSet.{IntSet}
 use Rattle.fzn_trail.specs.Levels.{Levels}
 use Rattle.fzn_propagator.specs.Clause.{IsFalseClause}
 use Rattle.fzn_terms.specs.declared.claim.Claim.{Claim}
-use Rattle.fzn_terms.specs.Denied.{IsEntailed, AreEntailedBut, IsExplained, IsForced, IsGrown, IsGrownToForce}
+use Rattle.fzn_terms.specs.Denied.{IsEntailed, AreEntailedBut, IsClaimExplained, IsClaimForced, IsGrown, IsGrownToForce}
 
 -- those below an index, but for the one at another
 abbrev pub AreEntailedBelow : ℕ → ℕ → List Claim → List IntSet → Type 0
@@ -19,7 +19,7 @@ module _ (trail : Levels) (claims : List Claim) (except : ℕ) (old : List Lit) 
   said_none still = record { still = still; keeps = λ sets left. left; says = λ sets left k d below. absurd (omega arith) }
 
   module _ (i : ℕ) (clause : List Lit) (before : IsGrown trail (AreEntailedBelow i except claims) old clause) where
-    pub said_more : (new : List Lit) (e : Claim) → i < length claims → IsExplained trail (get_or claims i e) clause new → IsGrown trail (AreEntailedBelow (i + 1) except claims) old new
+    pub said_more : (new : List Lit) (e : Claim) → i < length claims → IsClaimExplained trail (get_or claims i e) clause new → IsGrown trail (AreEntailedBelow (i + 1) except claims) old new
     said_more new e inside explained = record {
       still = explained.still;
       keeps = λ sets left. before.keeps sets (explained.keeps sets left);
@@ -40,7 +40,7 @@ module _ (trail : Levels) (claims : List Claim) (except : ℕ) (old : List Lit) 
     }
 
   -- the others, and the one that is forced
-  pub said_forced : (clause new : List Lit) (e : Claim) → except < length claims → IsGrown trail (AreEntailedBut except claims) old clause → IsForced trail (get_or claims except e) clause new → IsGrownToForce trail (λ sets. All (IsEntailed sets) claims) old new
+  pub said_forced : (clause new : List Lit) (e : Claim) → except < length claims → IsGrown trail (AreEntailedBut except claims) old clause → IsClaimForced trail (get_or claims except e) clause new → IsGrownToForce trail (λ sets. All (IsEntailed sets) claims) old new
   said_forced clause new e inside before forced = record {
     forcing = forced.forcing;
     keeps = λ sets left. before.keeps sets (forced.keeps sets left);

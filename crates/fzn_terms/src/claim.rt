@@ -4,7 +4,7 @@ ghost use Rattle.fzn_domain.specs.IntSet.{IntSet};
 ghost use Rattle.fzn_meaning.specs.Term.{IsTerm};
 ghost use Rattle.fzn_sets.specs.Terms.{MayBe};
 ghost use Rattle.fzn_domain.specs.declared.literal.Op.TheVariants.{AtLeast, AtMost, Equal, NotEqual};
-ghost use Rattle.fzn_terms.specs.Denied.{opposite, that, IsDenied};
+ghost use Rattle.fzn_terms.specs.Denied.{claim_turned_round, that, IsDenied};
 
 use fzn_domain::{Lit, Op, VarId};
 use fzn_meaning::Term;
@@ -104,7 +104,7 @@ impl Claim {
 
     /// The opposite claim, of another term: one of the two is true where the terms have the same value. Nothing at the ends of `i64`.
     pub fn opposite(self, term: Term) -> Option<Claim>
-        ensures { IfSome result (λ claim. claim ≡ opposite self term) }
+        ensures { IfSome result (λ claim. claim ≡ claim_turned_round self term) }
     {
         if self.number == i64::MIN || self.number == i64::MAX {
             return None;

@@ -5,7 +5,7 @@ ghost use Rattle.fzn_domain.specs.Narrow.{IsClauseOver, NoneEmpty};
 ghost use Rattle.fzn_meaning.specs.Term.{IsTerm};
 ghost use Rattle.fzn_propagator.specs.Clause.{IsFalseClause, IsWritable, IsForcing};
 ghost use Rattle.fzn_terms.specs.declared.claim.Claim.{Claim};
-ghost use Rattle.fzn_terms.specs.Denied.{IsEntailed, AreEntailedBut, IsDenied, IsSayable, IsSaid, IsExplanation, IsGrown, IsGrownToForce, IsExplained, IsForced};
+ghost use Rattle.fzn_terms.specs.Denied.{IsEntailed, AreEntailedBut, IsDenied, IsSayable, IsSaid, ExplainsClaims, IsGrown, IsGrownToForce, IsClaimExplained, IsClaimForced};
 
 use crate::claim::Claim;
 use fzn_domain::{GREATEST_BOUND, LEAST_BOUND, Lit, Memory};
@@ -23,7 +23,7 @@ pub fn explanation_of(
     claims: &[Claim],
 ) -> Result<Option<Items<Lit>>, Memory>
     requires { All (λ claim. IsTerm (length trail.now.declared) claim.term) claims.now }
-    ensures { IfOk result (λ found. IfSome found (IsExplanation trail.now claims.now)) }
+    ensures { IfOk result (λ found. IfSome found (ExplainsClaims trail.now claims.now)) }
 {
     let mut clause = Items::with_capacity(alloc, claims.len())?;
     for claim in claims {
@@ -47,7 +47,7 @@ pub fn explain(trail: &Trail, claim: Claim, clause: &mut Items<Lit>) -> Result<(
     requires below { claim.number ≤ℤ pos 4000000000 }
     requires present { IsEntailed trail.now.sets claim }
     requires still { IsFalseClause trail.now clause.old }
-    ensures { OnOk result (IsExplained trail.now claim clause.old clause.new) }
+    ensures { OnOk result (IsClaimExplained trail.now claim clause.old clause.new) }
 {
     let Term::Variable(var) = claim.term else {
         return Ok(());
@@ -76,7 +76,7 @@ pub fn force(trail: &Trail, claim: Claim, clause: &mut Items<Lit>) -> Result<boo
     requires above { negsuc 3999999999 ≤ℤ claim.number }
     requires below { claim.number ≤ℤ pos 4000000000 }
     requires still { IsFalseClause trail.now clause.old }
-    ensures { IfOk result (λ forces. MatchBool forces (IsForced trail.now claim clause.old clause.new) (IsDenied trail.now.sets claim)) }
+    ensures { IfOk result (λ forces. MatchBool forces (IsClaimForced trail.now claim clause.old clause.new) (IsDenied trail.now.sets claim)) }
 {
     if is_denied(trail, claim) {
         return Ok(false);
@@ -95,7 +95,7 @@ pub fn force_possible(trail: &Trail, claim: Claim, clause: &mut Items<Lit>) -> R
     requires below { claim.number ≤ℤ pos 4000000000 }
     requires possible { IsDenied trail.now.sets claim → ⊥ }
     requires still { IsFalseClause trail.now clause.old }
-    ensures { OnOk result (IsForced trail.now claim clause.old clause.new) }
+    ensures { OnOk result (IsClaimForced trail.now claim clause.old clause.new) }
 {
     let Term::Variable(var) = claim.term else {
         return Ok(());

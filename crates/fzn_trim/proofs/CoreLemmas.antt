@@ -1,5 +1,5 @@
 -- Why an answer follows from the constraints that its steps infer from.
-use Rattle.std.proofs.Common.{◌≡◌, ℕ, ◌+◌, ◌-◌, Bool, true, false, List, [], ◌∷◌, ℤ, length, get_or, Option, Some, IfSome, slice_get, refl, ap, subst, sym, ◌∙◌, arith, inl, inr}
+use Rattle.std.proofs.Common.{◌≡◌, ℕ, ◌+◌, ◌-◌, ◌≤◌, Bool, true, false, List, [], ◌∷◌, ℤ, length, get_or, Option, Some, IfSome, slice_get, refl, ap, subst, sym, ◌∙◌, arith, inl, inr}
 use Rattle.std.specs.Prelude.{Contains, ◌↔◌}
 use Rattle.std.specs.List.{All, filter_map, fold}
 use Rattle.std.specs.List.Sorted.{IsStrictlyIncreasing}
@@ -11,6 +11,7 @@ use Rattle.fzn_meaning.specs.declared.model.Model.{Model}
 use Rattle.fzn_meaning.specs.Meaning.{Meets, HasBooleanSets, IsWellFormed as IsWellFormedConstraint}
 use Rattle.fzn_meaning.specs.Solutions.{declared_sets, IsExhausted}
 use Rattle.fzn_meaning.specs.WellFormed.{IsWellFormed}
+use Rattle.fzn_derive.specs.declared.derivation.Derivation.{Derivation}
 use Rattle.fzn_rules.specs.declared.rule.Rule.{Rule}
 use Rattle.fzn_rules.specs.Rules.{IsAcceptedBy}
 use Rattle.fzn_cert.specs.declared.step.Step.{Step}
@@ -19,10 +20,12 @@ use Rattle.fzn_cert.specs.Past.{StepsPast, no_past}
 use Rattle.fzn_cert.specs.Accepted.{IsAccepted, IsConstraintNumber, AllAcceptedAfter, AllAccepted, after_step, past_after}
 use Rattle.fzn_cert.specs.Sound.{IsSound}
 use Rattle.fzn_cert.proofs.SoundLaws.{sound-start, sound-after, exhausted-sound}
+use Rattle.fzn_head.specs.Extended.{Extends}
 use Rattle.fzn_checker.specs.declared.hold.Held.{Held}
 use Rattle.fzn_trim.specs.Kept.{IsTrimOf}
-use Rattle.fzn_trim.specs.Core.{only, inferred_from, RestsOn, IsCore}
+use Rattle.fzn_trim.specs.Core.{only, inferred_from, IsNeeded, IsCore}
 use Rattle.fzn_trim.proofs.ListLemmas.{picked-all, picked-contains, picked-few}
+use Rattle.fzn_trim.proofs.NeededLemmas.{needed-same, needed-exhausted}
 
 -- ---- the numbers
 
@@ -92,30 +95,39 @@ module _ (model : Model) (numbers : List ℕ) (wf : IsWellFormed model) (rising 
 
 -- ---- the core
 
-pub rests-on : (model : Model) (steps : List Step) (found : List (List ℤ)) (numbers : List ℕ) → IsWellFormed model → AllAccepted model steps → (past_after model steps).solutions ≡ found → (past_after model steps).refuted ≡ true
-    → ((number : ℕ) → Contains numbers number ↔ Contains (filter_map inferred_from steps) number) → IsStrictlyIncreasing numbers → RestsOn model found numbers
-rests-on model steps found numbers wf accepted found_are refuted cited rising =
+steps-exhausted : (model : Model) (steps : List Step) (found : List (List ℤ)) (numbers : List ℕ) → IsWellFormed model → AllAccepted model steps → (past_after model steps).solutions ≡ found → (past_after model steps).refuted ≡ true
+    → ((number : ℕ) → Contains numbers number ↔ Contains (filter_map inferred_from steps) number) → IsStrictlyIncreasing numbers → IsExhausted (only model numbers) found
+steps-exhausted model steps found numbers wf accepted found_are refuted cited rising =
     let all_cited = filter_map inferred_from steps in
     let cited_within : All (IsConstraintNumber model) all_cited = cited-within model no_past steps accepted in
     let within : All (IsConstraintNumber model) numbers =
     λ k d lt. All-contains (IsConstraintNumber model) all_cited (get_or numbers k d) cited_within ((cited (get_or numbers k d)).0 (Contains-get_or numbers k d lt)) in
     let listed : All (Contains numbers) all_cited = λ k d lt. (cited (get_or all_cited k d)).1 (Contains-get_or all_cited k d lt) in
     let sound : IsSound (only model numbers) (past_after model steps) = sound-steps model numbers wf rising within no_past steps (sound-start (only model numbers)) accepted listed in
-    record {
-      steps = steps;
-      accepted = accepted;
-      solutions = found_are;
-      refuted = refuted;
-      cited = cited;
+    subst (IsExhausted (only model numbers)) found_are (exhausted-sound (only model numbers) (past_after model steps) sound refuted)
+
+-- the cited numbers of a list are those of the steps, so what is needed for them is needed for these
+pub closed-core : (model after : Model) (read : List Derivation) (held : Held) (kept : List Step) (own : ℕ) (cites numbers : List ℕ) → IsWellFormed model → IsWellFormed after → Extends model read after → own ≡ length model.constraints → held.closed ≡ true → IsTrimOf after held kept
+    → ((number : ℕ) → Contains cites number ↔ Contains (filter_map inferred_from kept) number) → IsStrictlyIncreasing cites
+    → ((number : ℕ) → Contains numbers number ↔ ((1 ≤ number) × (number ≤ own) × IsNeeded own read cites number)) → IsStrictlyIncreasing numbers → IsCore model after read held.solutions.items held.closed numbers
+closed-core model after read held kept own cites numbers wf formed extends own_is closed trim cited cites_rise needed rising =
+    let count = length model.constraints in
+    let here : (number : ℕ) → Contains numbers number ↔ ((1 ≤ number) × (number ≤ count) × IsNeeded count read cites number) =
+    subst (λ (n : ℕ). (number : ℕ) → Contains numbers number ↔ ((1 ≤ number) × (number ≤ n) × IsNeeded n read cites number)) own_is needed in
+    let exhausted = steps-exhausted after kept held.solutions.items cites formed trim.accepted trim.found (trim.may_end closed) cited cites_rise in
+    subst (λ (b : Bool). IsCore model after read held.solutions.items b numbers) (sym closed) (record {
+      extends = extends;
+      steps = kept;
+      accepted = trim.accepted;
+      solutions = trim.found;
+      refuted = trim.may_end closed;
+      needed = λ n. (
+        λ listed. let h = (here n).0 listed in (h.0, h.1, needed-same count read cites (filter_map inferred_from kept) n (λ m. (cited m).0) h.2),
+        λ h. (here n).1 (h.0, h.1, needed-same count read (filter_map inferred_from kept) cites n (λ m. (cited m).1) h.2),
+      );
       rising = rising;
-      exhausted = subst (IsExhausted (only model numbers)) found_are (exhausted-sound (only model numbers) (past_after model steps) sound refuted);
-    }
+      exhausted = needed-exhausted model after read numbers cites (record { formed = wf.constraints; booleans = wf.booleans }) extends here held.solutions.items exhausted;
+    })
 
-pub closed-core : (model : Model) (held : Held) (kept : List Step) (numbers : List ℕ) → IsWellFormed model → held.closed ≡ true → IsTrimOf model held kept
-    → ((number : ℕ) → Contains numbers number ↔ Contains (filter_map inferred_from kept) number) → IsStrictlyIncreasing numbers → IsCore model held.solutions.items held.closed numbers
-closed-core model held kept numbers wf closed trim cited rising =
-    subst (λ (b : Bool). IsCore model held.solutions.items b numbers) (sym closed)
-    (rests-on model kept held.solutions.items numbers wf trim.accepted trim.found (trim.may_end closed) cited rising)
-
-pub open-core : (model : Model) (found : List (List ℤ)) (closed : Bool) → closed ≡ false → IsCore model found closed []
-open-core model found closed is = subst (λ (b : Bool). IsCore model found b []) (sym is) refl
+pub open-core : (model after : Model) (read : List Derivation) (found : List (List ℤ)) (closed : Bool) → closed ≡ false → IsCore model after read found closed []
+open-core model after read found closed is = subst (λ (b : Bool). IsCore model after read found b []) (sym is) refl

@@ -1,6 +1,9 @@
 mod CoreLemmas
 mod ListLemmas
 mod ListingLemmas
+mod MarksLemmas
+mod NeededLemmas
+mod ShowsLemmas
 mod TrialLemmas
 mod TrimLemmas
 mod WriteLemmas

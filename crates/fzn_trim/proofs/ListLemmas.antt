@@ -9,7 +9,7 @@ use Rattle.std.proofs.lemmas.List.Elements.{All-nil, All-append, filter_map-appe
 use Rattle.std.proofs.lemmas.List.Kept.{AllPairs-from_increasing}
 use Rattle.std.proofs.lemmas.Option.{same_Some}
 
-one-at : {A : Type 0} (xs : List A) (i : ℕ) (x : A) → slice_get xs i ≡ Some x → take 1 (drop i xs) ≡ x ∷ []
+pub one-at : {A : Type 0} (xs : List A) (i : ℕ) (x : A) → slice_get xs i ≡ Some x → take 1 (drop i xs) ≡ x ∷ []
 one-at [] i x e = cc
 one-at (y ∷ xs) zero x e = ap (λ z. z ∷ []) (same_Some y x e)
 one-at (y ∷ xs) (suc i) x e = one-at xs i x e
@@ -24,6 +24,10 @@ short-take (suc n) (x ∷ xs) = omega (arith, short-take n xs)
 pub flat-all : {A B : Type 0} (P : B → Type 0) (f : A → List B) (xs : List A) → ((x : A) → All P (f x)) → All P (flat_map f xs)
 flat-all P f [] h = All-nil P
 flat-all P f (x ∷ xs) h = All-append P (f x) (flat_map f xs) (h x) (flat-all P f xs h)
+
+pub flat-in : {A B : Type 0} (P : B → Type 0) (f : A → List B) (xs : List A) → ((x : A) → Contains xs x → All P (f x)) → All P (flat_map f xs)
+flat-in P f [] h = All-nil P
+flat-in P f (x ∷ xs) h = All-append P (f x) (flat_map f xs) (h x (Contains-append_left (x ∷ []) xs x (Contains-push [] x))) (flat-in P f xs (λ y listed. h y (Contains-append_right (x ∷ []) xs y listed)))
 
 flat-short : {A B : Type 0} (f : A → List B) (xs : List A) → ((x : A) → length (f x) ≤ 1) → length (flat_map f xs) ≤ length xs
 flat-short f [] h = omega arith

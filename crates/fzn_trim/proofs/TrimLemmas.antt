@@ -1,49 +1,77 @@
 -- What the steps that are left make of a whole certificate, and what a fault leaves.
-use Rattle.std.proofs.Common.{◌≡◌, ℕ, List, ℤ, length, Option, Some, Err, IfSome, refl, sym, subst, inl, inr}
+use Rattle.std.proofs.Common.{◌≡◌, ℕ, ◌-◌, List, [], ◌∷◌, ◌++◌, ℤ, length, Option, Some, Err, IfSome, refl, sym, ap, ap₂, subst, ◌∙◌, inl, inr, arith, append_assoc}
 use Rattle.std.proofs.KnownBytes.{Keeps-refl}
 use Rattle.fzn_streams.specs.Output.{AppendsFront}
 use Rattle.fzn_meaning.specs.declared.model.Model.{Model}
-use Rattle.fzn_meaning.specs.Solutions.{IsProper, IsExhausted}
 use Rattle.fzn_meaning.specs.WellFormed.{IsWellFormed}
 use Rattle.fzn_reading.specs.declared.fault.ModelFault.{ModelFault}
 use Rattle.fzn_reading.specs.declared.fault.ModelFault.TheVariants as reading
 use Rattle.fzn_reading.specs.Reads.{Answers, States}
+use Rattle.fzn_derive.specs.declared.derivation.Derivation.{Derivation}
 use Rattle.fzn_cert.specs.declared.step.Step.{Step}
 use Rattle.fzn_cert.specs.declared.step.Version.TheVariants.{Two}
-use Rattle.fzn_cert.specs.Verdict.{accepted, VerdictOn}
-use Rattle.fzn_cert.proofs.SoundLaws.{accepted-proper, closed-exhausted}
+use Rattle.fzn_cert.specs.Spelling.{header_text}
+use Rattle.fzn_cert.specs.Verdict.{accepted}
+use Rattle.fzn_head.specs.Head.{three_line, head_counts_line, derivation_lines}
+use Rattle.fzn_head.specs.Opening.{head_for}
+use Rattle.fzn_head.specs.Outcome.{IsOutcomeOn}
+use Rattle.fzn_head.proofs.CallerLemmas.{only_constraints, one_for_each}
 use Rattle.fzn_checker.specs.declared.fault.CheckFault.{CheckFault}
 use Rattle.fzn_checker.specs.declared.fault.CheckFault.TheVariants.{File, Refused, NotVersionOne, Memory, Read, WriteOutput, WriteCert}
 use Rattle.fzn_checker.specs.declared.hold.Held.{Held}
 use Rattle.fzn_checker.specs.Checked.{IsFaultWhere}
 use Rattle.fzn_checker.specs.FileFaults.{fault_from}
-use Rattle.fzn_checker.specs.Held.{certificate_of, IsCertificate, HoldsCertificate}
+use Rattle.fzn_checker.specs.Held.{lines_to_end, IsCertificate, HoldsCertificate}
+use Rattle.fzn_checker.specs.Opened.{IsHeadOf, IsInFront, plain, headed}
 use Rattle.fzn_checker.proofs.CallerLemmas.{certificate-accepted}
 use Rattle.fzn_trim.specs.declared.trimming.Trimmed.{Trimmed}
 use Rattle.fzn_trim.specs.Kept.{IsTrimOf}
 use Rattle.fzn_trim.specs.Trimmed.{Trims, IsTrimFault}
-use Rattle.fzn_trim.specs.Written.{IsWriteFault}
+use Rattle.fzn_trim.specs.Written.{front_of, head_text, IsWriteFault}
+use Rattle.fzn_trim.proofs.ShowsLemmas.{shows-of}
 
-module _ (file cert : Option (List ℕ)) (model : Model) (states : States file model) where
+-- what is written in front of the steps stands in front of steps of version two
+front-is : (model after : Model) (read : List Derivation) → IsWellFormed model → IsWellFormed after → IsHeadOf model after read → IsInFront model after Two (front_of after read)
+front-is model after [] wf formed head =
+    let variables : length after.vars ≡ length model.vars = ap (λ (m : Model). length m.vars) head.extends in
+    let constraints : length after.constraints - 0 ≡ length model.constraints = omega (arith, ap (λ (m : Model). length m.constraints) head.extends) in
+    plain head.extends (omega (arith, wf.few_vars), omega (arith, wf.few_constraints)) (ap₂ (λ (n m : ℕ). header_text Two n m) variables constraints)
+front-is model after (derivation ∷ later) wf formed head =
+    let read = derivation ∷ later in
+    let count = one_for_each model after read head.extends in
+    let variables : length after.vars ≡ length model.vars = ap (λ (m : Model). length m.vars) (only_constraints model after read head.extends).1 in
+    let constraints : length after.constraints - length read ≡ length model.constraints = omega (arith, count) in
+    headed refl (record {
+      read = read;
+      lines = head.lines;
+      extends = head.extends;
+      few = head.few;
+      room = formed.few_constraints;
+      text_is = ap₂ (λ (n m : ℕ). head_text (record { variables = n; constraints = m; derived = length read }) read) variables constraints
+          ∙ append_assoc three_line (head_counts_line (head_for model (length read))) (derivation_lines read);
+    })
+
+module _ (file cert : Option (List ℕ)) (model after : Model) (states : States file model) where
   -- the certificate of the steps that are left
-  pub trims-of : (held : Held) (kept : List Step) (trimmed : Trimmed) → IsWellFormed model → HoldsCertificate model cert held → IsTrimOf model held kept → trimmed.steps ≡ length held.steps → trimmed.kept ≡ length kept
-      → Trims file cert (certificate_of model Two kept held.closed) trimmed
-  trims-of held kept trimmed wf is_held trim steps count =
-      let bytes = certificate_of model Two kept held.closed in
-      let new : IsCertificate model Two (Some bytes) kept held.closed = record { sized = is_held.certificate.sized; spelled = trim.lines; text = refl } in
+  pub trims-of : (held : Held) (kept : List Step) (read : List Derivation) (trimmed : Trimmed) → IsWellFormed model → IsWellFormed after → HoldsCertificate model after cert held → read ≡ held.derivations.items → IsTrimOf after held kept
+      → trimmed.steps ≡ length held.steps → trimmed.kept ≡ length kept → Trims file cert (front_of after read ++ lines_to_end kept held.closed) trimmed
+  trims-of held kept read trimmed wf formed is_held read_is trim steps count =
+      let bytes = front_of after read ++ lines_to_end kept held.closed in
+      let extends = is_held.derives.extends in
+      let new : IsCertificate model after Two (Some bytes) kept held.closed = record {
+        front = front_of after read;
+        opens = front-is model after read wf formed (subst (IsHeadOf model after) (sym read_is) is_held.derives);
+        spelled = trim.lines;
+        text = refl;
+      } in
       record {
         model = model;
         found = held.solutions.items;
         closed = held.closed;
-        shows = record {
-          states = states;
-          verdict = subst (λ (found : List (List ℤ)). VerdictOn model cert (accepted found held.closed)) (sym is_held.stands.found)
-              (certificate-accepted model is_held.version cert held.steps held.closed is_held.certificate is_held.stands.accepted is_held.stands.may_end);
-          proper = subst (IsProper model) (sym is_held.stands.found) (accepted-proper model held.steps wf is_held.stands.accepted);
-          exhausted = λ closed. subst (IsExhausted model) (sym is_held.stands.found) (closed-exhausted model held.steps wf is_held.stands.accepted (is_held.stands.may_end closed));
-        };
-        verdict = subst (λ (found : List (List ℤ)). VerdictOn model (Some bytes) (accepted found held.closed)) trim.found
-            (certificate-accepted model Two (Some bytes) kept held.closed new trim.accepted trim.may_end);
+        shows = shows-of file cert model after states held wf formed is_held;
+        verdict = subst (λ (found : List (List ℤ)). IsOutcomeOn model (Some bytes) (accepted found held.closed)) trim.found
+            (certificate-accepted model after Two (Some bytes) kept held.closed wf new trim.accepted trim.may_end);
+        after = after;
         version = is_held.version;
         steps = held.steps;
         old = is_held.certificate;
@@ -54,7 +82,7 @@ module _ (file cert : Option (List ℕ)) (model : Model) (states : States file m
       }
 
   -- nothing is written for a certificate that is not accepted
-  pub certificate-fault : (before : Option (List ℕ)) (fault : CheckFault) → IsFaultWhere (VerdictOn model cert) fault → IsTrimFault file cert before before fault
+  pub certificate-fault : (before : Option (List ℕ)) (fault : CheckFault) → IsFaultWhere (IsOutcomeOn model cert) fault → IsTrimFault file cert before before fault
   certificate-fault before (File of) f = absurd f
   certificate-fault before (Refused line refusal) f = (Keeps-refl before, (model, states, f))
   certificate-fault before Memory f = inl (Keeps-refl before)

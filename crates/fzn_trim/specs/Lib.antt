@@ -1,6 +1,7 @@
 pub mod Core
 pub mod Kept
 pub mod Listing
+pub mod Marks
 pub mod Planned
 pub mod Trimmed
 pub mod Written

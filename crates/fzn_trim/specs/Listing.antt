@@ -9,10 +9,16 @@ use Rattle.fzn_lexer.specs.declared.token.Position.{Position}
 use Rattle.fzn_lexer.specs.declared.token.Span.{Span}
 use Rattle.fzn_meaning.specs.declared.model.Model.{Model}
 use Rattle.fzn_reading.specs.Reads.{Reads, States}
-use Rattle.fzn_cert.specs.Verdict.{VerdictOn, refused}
+use Rattle.fzn_derive.specs.declared.derivation.Derivation.{Derivation}
+use Rattle.fzn_cert.specs.declared.step.Step.{Step}
+use Rattle.fzn_cert.specs.declared.step.Version.{Version}
+use Rattle.fzn_cert.specs.Verdict.{refused}
+use Rattle.fzn_head.specs.Outcome.{IsOutcomeOn}
 use Rattle.fzn_checker.specs.declared.fault.CheckFault.{CheckFault}
 use Rattle.fzn_checker.specs.declared.fault.CheckFault.TheVariants.{File, Refused, NotVersionOne, Memory, Read, WriteOutput, WriteCert}
 use Rattle.fzn_checker.specs.Answered.{Shows}
+use Rattle.fzn_checker.specs.Held.{IsCertificate}
+use Rattle.fzn_checker.specs.Opened.{IsHeadOf}
 use Rattle.fzn_sources.specs.Items.{AreSources}
 use Rattle.fzn_trim.specs.declared.listing.Listed.{Listed}
 use Rattle.fzn_trim.specs.Core.{IsCore}
@@ -65,10 +71,17 @@ pub record Lists (file cert : Option (List ℕ)) (text : List ℕ) (answer : Lis
   pub model : Model
   pub found : List (List ℤ)
   pub shows : Shows file cert model found answer.closed
+  -- what the certificate derives, the model with it, and the steps
+  pub read : List Derivation
+  pub after : Model
+  pub derives : IsHeadOf model after read
+  pub version : Version
+  pub steps : List Step
+  pub certificate : IsCertificate model after version cert steps answer.closed
   pub sources : List Span
   pub stated : AreSources bytes model.constraints sources
   pub numbers : List ℕ
-  pub core : IsCore model found answer.closed numbers
+  pub core : IsCore model after read found answer.closed numbers
   pub is : text ≡ core_text bytes sources numbers answer.closed
   pub counts : (answer.listed ≡ length numbers) × (answer.constraints ≡ length model.constraints)
 
@@ -80,7 +93,7 @@ IsCoreListed file cert before after answer = (text : List ℕ) × Lists file cer
 -- text stands.
 abbrev pub IsListFault : Option (List ℕ) → Option (List ℕ) → Option (List ℕ) → Option (List ℕ) → CheckFault → Type 0
 IsListFault file cert before after (File fault) = Keeps before after × IfSome file (λ bytes. Reads bytes (Err (errors.Fault fault)))
-IsListFault file cert before after (Refused line refusal) = Keeps before after × ((model : Model) × States file model × VerdictOn model cert (refused line refusal))
+IsListFault file cert before after (Refused line refusal) = Keeps before after × ((model : Model) × States file model × IsOutcomeOn model cert (refused line refusal))
 IsListFault file cert before after Memory = Keeps before after
 IsListFault file cert before after Read = Keeps before after
 IsListFault file cert before after WriteOutput = (answer : Listed) × (text : List ℕ) × Lists file cert text answer × AppendsFront before after text

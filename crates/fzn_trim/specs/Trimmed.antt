@@ -8,27 +8,30 @@ use Rattle.fzn_reading.specs.Reads.{Reads, States}
 use Rattle.fzn_cert.specs.declared.step.Step.{Step}
 use Rattle.fzn_cert.specs.declared.step.Version.{Version}
 use Rattle.fzn_cert.specs.declared.step.Version.TheVariants.{Two}
-use Rattle.fzn_cert.specs.Verdict.{Verdict, VerdictOn, accepted, refused}
+use Rattle.fzn_cert.specs.Verdict.{accepted, refused}
+use Rattle.fzn_head.specs.Outcome.{IsOutcomeOn, IsOutcomeOf}
 use Rattle.fzn_checker.specs.declared.fault.CheckFault.{CheckFault}
 use Rattle.fzn_checker.specs.declared.fault.CheckFault.TheVariants.{File, Refused, NotVersionOne, Memory, Read, WriteOutput, WriteCert}
 use Rattle.fzn_checker.specs.Answered.{Shows}
 use Rattle.fzn_checker.specs.Held.{IsCertificate}
 use Rattle.fzn_trim.specs.declared.trimming.Trimmed.{Trimmed}
 
--- The file states a model, and the old certificate is accepted for it. The new bytes are a certificate of version 2 that is accepted with
--- the same solutions and the same ending, and they have no more steps.
+-- The file states a model, and the old certificate is accepted for it. The new bytes are a certificate that is accepted with the same
+-- solutions and the same ending, and they have no more steps. Their steps are of version 2, behind a head that derives the same constraints.
 pub record Trims (file cert : Option (List ℕ)) (bytes : List ℕ) (trimmed : Trimmed) : Type 0 where
   pub model : Model
   pub found : List (List ℤ)
   pub closed : Bool
   pub shows : Shows file cert model found closed
-  pub verdict : Verdict model bytes (accepted found closed)
+  pub verdict : IsOutcomeOf model bytes (accepted found closed)
+  -- the model with the constraints that the old certificate's head derives, and so does the new one's
+  pub after : Model
   -- the steps of the old certificate, and those of the new one
   pub version : Version
   pub steps : List Step
-  pub old : IsCertificate model version cert steps closed
+  pub old : IsCertificate model after version cert steps closed
   pub kept : List Step
-  pub new : IsCertificate model Two (Some bytes) kept closed
+  pub new : IsCertificate model after Two (Some bytes) kept closed
   pub fewer : length kept ≤ length steps
   pub counts : (trimmed.steps ≡ length steps) × (trimmed.kept ≡ length kept)
 
@@ -44,7 +47,7 @@ IsTrimBegun file cert before after = (trimmed : Trimmed) × (bytes : List ℕ) �
 -- new bytes stands, and after want of memory one may stand.
 abbrev pub IsTrimFault : Option (List ℕ) → Option (List ℕ) → Option (List ℕ) → Option (List ℕ) → CheckFault → Type 0
 IsTrimFault file cert before after (File fault) = Keeps before after × IfSome file (λ bytes. Reads bytes (Err (errors.Fault fault)))
-IsTrimFault file cert before after (Refused line refusal) = Keeps before after × ((model : Model) × States file model × VerdictOn model cert (refused line refusal))
+IsTrimFault file cert before after (Refused line refusal) = Keeps before after × ((model : Model) × States file model × IsOutcomeOn model cert (refused line refusal))
 IsTrimFault file cert before after Memory = Keeps before after ⊎ IsTrimBegun file cert before after
 IsTrimFault file cert before after Read = Keeps before after
 IsTrimFault file cert before after WriteCert = IsTrimBegun file cert before after

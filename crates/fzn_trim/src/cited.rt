@@ -1,15 +1,18 @@
 // The numbers of the constraints that steps rest on.
-ghost use Rattle.std.specs.Prelude.{◌≡◌, ◌↔◌, ◌++◌, ◌∷◌, [], ℕ, Contains, IfOk, OnOk};
+ghost use Rattle.std.specs.Prelude.{◌≡◌, ◌≤◌, ◌↔◌, ◌++◌, ◌∷◌, [], ℕ, length, Contains, IfOk, OnOk};
 ghost use Rattle.std.specs.List.{filter_map};
 ghost use Rattle.std.specs.List.Sorted.{IsStrictlyIncreasing};
+ghost use Rattle.fzn_meaning.specs.declared.model.Model.{Model};
 ghost use Rattle.fzn_meaning.specs.WellFormed.{IsWellFormed};
 ghost use Rattle.fzn_cert.specs.declared.step.Version.TheVariants.{Two};
 ghost use Rattle.fzn_cert.specs.Verdict.{AllHaveLines};
+ghost use Rattle.fzn_head.specs.Extended.{Extends};
 ghost use Rattle.fzn_checker.specs.Held.{Stands};
 ghost use Rattle.fzn_trim.specs.Kept.{kept_steps};
 ghost use Rattle.fzn_trim.specs.Core.{IsCore, inferred_from};
 
 use crate::kept::Kept;
+use crate::needed::needed_numbers;
 use crate::trial::trimmed_steps;
 use fzn_cert::Step;
 use fzn_checker::Held;
@@ -17,19 +20,23 @@ use fzn_domain::Memory;
 use fzn_meaning::Model;
 use std::alloc::Global;
 
-/// The numbers of the constraints that the held steps' answer was found to rest on, in rising order, and none where it is open. It answers
-/// `Err` where memory runs out.
+/// The numbers of the constraints of a file that the held steps' answer was found to rest on, in rising order, and none where it is open. The
+/// model has the constraints that the derivations give behind those of the file. It answers `Err` where memory runs out.
 pub fn core_numbers(alloc: Global, model: &Model, held: Held) -> Result<Vec<u64>, Memory>
     requires model { IsWellFormed model.now }
+    requires derived { length held.derivations.items ≤ length model.now.constraints }
     requires stands { Stands model.now held }
     requires lines { AllHaveLines Two 0 held.steps }
-    ensures { IfOk result (λ numbers. IsCore model.now held.solutions.items held.closed numbers.items) }
+    ensures { IfOk result (λ numbers. (own : Model) → IsWellFormed own → Extends own held.derivations.items model.now
+        → IsCore own model.now held.derivations.items held.solutions.items held.closed numbers.items) }
 {
     if !held.closed {
         return Ok(Vec::new(alloc));
     }
+    let own = model.constraints.len() - held.derivations.len();
     let kept = trimmed_steps(alloc, model, held)?;
-    let numbers = cited_by(alloc, &kept)?;
+    let cited = cited_by(alloc, &kept)?;
+    let numbers = needed_numbers(alloc, own, kept.derivations.as_slice(), cited.as_slice())?;
     Ok(numbers)
 }
 

@@ -5,12 +5,16 @@ ghost use Rattle.fzn_trim.specs.Kept.{kept_steps};
 use crate::plan::Plan;
 use fzn_cert::Step;
 use fzn_cert_reader::Script;
+use fzn_derive::Derivation;
 use fzn_domain::Memory;
 use std::alloc::Global;
 
-/// The steps of a trimmed certificate, in order. They are made one by one from the steps of the old one, which alone are held.
+/// The derivations and the steps of a trimmed certificate, in order. The steps are made one by one from those of the old one, which alone are
+/// held.
 #[derive(Drop)]
 pub struct Kept {
+    /// How the head derives constraints, as in the old certificate; none where it has no head.
+    pub derivations: Vec<Derivation>,
     /// The steps of the old certificate.
     pub held: Script,
     /// What is made of them, and none where they all stay as they are.

@@ -1,10 +1,10 @@
 //! What an accepted certificate can do without: steps, and constraints of its file.
 //!
-//! In: a model, the bytes of a certificate from any source, and a writer. Out, of `trim`: on the writer a certificate of version 2 with all
+//! In: a model, the bytes of a certificate from any source, and a writer. Out, of `trim`: on the writer a certificate with the head and all
 //! solutions of the first one and those of its other steps that its first empty clause rests on; or the fault that a check finds. `plan`
 //! searches for these steps, and nothing is promised of what it finds: `trial` takes its steps one by one as those of a certificate are
 //! taken, and where one is refused the old steps are written in place of all. The old steps alone are held: each new one is made from these
-//! where it is taken, and once more where it is written. Proved against `specs/Trimmed.antt`, in the words of `fzn_cert`'s `Verdict`;
+//! where it is taken, and once more where it is written. Proved against `specs/Trimmed.antt`, in the words of `fzn_head`'s `Outcome`;
 //! within, against `specs/Planned.antt`, the step of each line.
 //!
 //! Out, of `core`: on the writer a line for each constraint that the closed answer was found to rest on, with its item as it stands in the
@@ -19,6 +19,7 @@ pub use trimming::{trim, trim_tracked};
 mod cited;
 mod kept;
 mod listing;
+mod needed;
 mod plan;
 mod print;
 mod trial;

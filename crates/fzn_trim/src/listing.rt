@@ -65,8 +65,9 @@ pub fn core_tracked<R: TrackedRead, C: TrackedRead + Drop, W: TrackedWrite>(
     ensures due { IfErr result (IsCheckDue (R.has_failed file.new) (C.has_failed (reader_below cert.new)) (W.has_failed out.new)) }
     ensures same_stream { W.stream out.new ≡ W.stream out.old }
 {
-    let located = read_located(alloc, file)?;
-    let held = hold_certificate(alloc, &located.model, cert)?;
+    let mut located = read_located(alloc, file)?;
+    let constraints = located.model.constraints.len();
+    let held = hold_certificate(alloc, &mut located.model, cert)?;
     let closed = held.closed;
     let numbers = core_numbers(alloc, &located.model, held)?;
     match put_core(
@@ -78,7 +79,7 @@ pub fn core_tracked<R: TrackedRead, C: TrackedRead + Drop, W: TrackedWrite>(
     ) {
         Ok(()) => Ok(Listed {
             listed: numbers.len(),
-            constraints: located.model.constraints.len(),
+            constraints,
             closed,
         }),
         Err(WriteFailed) => Err(CheckFault::WriteOutput),

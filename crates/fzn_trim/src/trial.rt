@@ -21,22 +21,25 @@ use fzn_list::Items;
 use fzn_meaning::Model;
 use std::alloc::Global;
 
-/// The steps of a trimmed certificate: those of the plan where they stand the test, and else those that are held. It answers `Err` where
-/// memory runs out.
+/// The steps of a trimmed certificate: those of the plan where they stand the test, and else those that are held; and the derivations that
+/// are held. It answers `Err` where memory runs out.
 pub fn trimmed_steps(alloc: Global, model: &Model, held: Held) -> Result<Kept, Memory>
     requires model { IsWellFormed model.now }
     requires stands { Stands model.now held }
     requires lines { AllHaveLines Two 0 held.steps }
-    ensures { IfOk result (λ kept. IsTrimOf model.now held (kept_steps kept)) }
+    ensures steps { IfOk result (λ kept. IsTrimOf model.now held (kept_steps kept)) }
+    ensures derivations { IfOk result (λ kept. kept.derivations.items ≡ held.derivations.items) }
 {
     let plan = planned_lines(alloc, model, &held)?;
     if is_trim(alloc, model, &held, &plan)? {
         Ok(Kept {
+            derivations: held.derivations,
             held: held.steps,
             plan: Some(plan),
         })
     } else {
         Ok(Kept {
+            derivations: held.derivations,
             held: held.steps,
             plan: None,
         })

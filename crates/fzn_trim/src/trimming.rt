@@ -22,8 +22,9 @@ pub struct Trimmed {
     pub kept: usize,
 }
 
-/// Checks the certificate of a file, and writes to `new` one of version 2 that shows the same: with all its solutions, those of its other
-/// steps that its first empty clause rests on, and deletions. It has no more steps. Of an open answer the solutions alone are left.
+/// Checks the certificate of a file, and writes to `new` one that shows the same: with all its solutions, those of its other steps that its
+/// first empty clause rests on, and deletions. It has no more steps. Of an open answer the solutions alone are left. All constraints that
+/// the head of the old one derives, that of the new one derives too: it is of version 3 then, and else of version 2.
 ///
 /// Nothing is written where it answers `File` with the first fault of the file, `Refused` with the first faulty line of the certificate, or
 /// `Read` where a read of either fails. It answers `Memory` where memory runs out, and `WriteCert` where a write or the flush of `new`
@@ -60,8 +61,8 @@ pub fn trim_tracked<R: TrackedRead, C: TrackedRead + Drop, W: TrackedWrite>(
     ensures due { IfErr result (IsTrimDue (R.has_failed file.new) (C.has_failed (reader_below cert.new)) (W.has_failed new.new)) }
     ensures same_stream { W.stream new.new ≡ W.stream new.old }
 {
-    let model = read_model(alloc, file)?;
-    let held = hold_certificate(alloc, &model, cert)?;
+    let mut model = read_model(alloc, file)?;
+    let held = hold_certificate(alloc, &mut model, cert)?;
     let steps = held.steps.len();
     let closed = held.closed;
     let kept = trimmed_steps(alloc, &model, held)?;

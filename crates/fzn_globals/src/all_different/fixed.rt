@@ -1,7 +1,7 @@
 // What follows from the places that have one value: by the rule `hall` of that value.
 ghost use Rattle.std.specs.Prelude.{◌<◌, length};
 ghost use Rattle.fzn_meaning.specs.Term.{IsTerm};
-ghost use Rattle.fzn_globals.specs.DifferentPasses.{AreFoundIn};
+ghost use Rattle.fzn_globals.specs.DifferentPasses.{AreFoundOfDifferent};
 
 use crate::all_different::pairs::{bar_like, bar_pair};
 use crate::all_different::pass::Pass;
@@ -25,8 +25,8 @@ const FEW: usize = 8;
 /// places that have one value since the last level began are compared with others. Where two of many have the same one, no other place is
 /// looked at.
 pub(crate) fn bar_fixed(pass: &Pass, found: &mut Findings) -> Result<(), Memory>
-    requires { AreFoundIn pass.now found.old }
-    ensures { AreFoundIn pass.now found.new }
+    requires { AreFoundOfDifferent pass.now found.old }
+    ensures { AreFoundOfDifferent pass.now found.new }
 {
     let mut fixed = fixed_of(pass)?;
     if fixed.len() <= FEW {
@@ -80,8 +80,8 @@ fn is_new(trail: &Trail, term: Term, told: usize) -> bool
 
 /// Finds of each value of one of these places that no other place has it.
 fn bar_of_few(pass: &Pass, fixed: &[Fixed], found: &mut Findings) -> Result<(), Memory>
-    requires { AreFoundIn pass.now found.old }
-    ensures { AreFoundIn pass.now found.new }
+    requires { AreFoundOfDifferent pass.now found.old }
+    ensures { AreFoundOfDifferent pass.now found.new }
 {
     for k in 0..fixed.len() {
         let here = fixed[k];
@@ -94,8 +94,8 @@ fn bar_of_few(pass: &Pass, fixed: &[Fixed], found: &mut Findings) -> Result<(), 
 
 /// Finds of each two of these places, side by side, that they have not the same value.
 fn bar_twice(pass: &Pass, fixed: &[Fixed], found: &mut Findings) -> Result<(), Memory>
-    requires { AreFoundIn pass.now found.old }
-    ensures { AreFoundIn pass.now found.new }
+    requires { AreFoundOfDifferent pass.now found.old }
+    ensures { AreFoundOfDifferent pass.now found.new }
 {
     for k in 1..fixed.len() {
         let (before, here) = (fixed[k - 1], fixed[k]);
@@ -108,8 +108,8 @@ fn bar_twice(pass: &Pass, fixed: &[Fixed], found: &mut Findings) -> Result<(), M
 
 /// Finds of each value of one of these places that no other place, of those with several values, has it.
 fn bar_open(pass: &Pass, fixed: &[Fixed], found: &mut Findings) -> Result<(), Memory>
-    requires { AreFoundIn pass.now found.old }
-    ensures { AreFoundIn pass.now found.new }
+    requires { AreFoundOfDifferent pass.now found.old }
+    ensures { AreFoundOfDifferent pass.now found.new }
 {
     for j in 0..pass.places.len() {
         let value = least_of(pass.trail, pass.places[j]);
@@ -124,8 +124,8 @@ fn bar_open(pass: &Pass, fixed: &[Fixed], found: &mut Findings) -> Result<(), Me
 /// next that is no less than the last of the other.
 fn bar_common(pass: &Pass, fixed: &[Fixed], j: usize, found: &mut Findings) -> Result<(), Memory>
     requires place { j < length pass.now.places.now }
-    requires before { AreFoundIn pass.now found.old }
-    ensures { AreFoundIn pass.now found.new }
+    requires before { AreFoundOfDifferent pass.now found.old }
+    ensures { AreFoundOfDifferent pass.now found.new }
 {
     let term = pass.places[j];
     let mut value = least_of(pass.trail, term);
@@ -167,8 +167,8 @@ fn next_fixed(fixed: &[Fixed], from: usize, value: &i64) -> usize {
 
 /// Finds that the place at j has not the value of the place at i.
 fn bar_from(pass: &Pass, i: usize, j: usize, found: &mut Findings) -> Result<(), Memory>
-    requires { AreFoundIn pass.now found.old }
-    ensures { AreFoundIn pass.now found.new }
+    requires { AreFoundOfDifferent pass.now found.old }
+    ensures { AreFoundOfDifferent pass.now found.new }
 {
     if i >= pass.places.len() || j >= pass.places.len() || j == i {
         return Ok(());

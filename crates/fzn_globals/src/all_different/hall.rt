@@ -3,7 +3,7 @@ ghost use Rattle.std.specs.Prelude.{◌≡◌, ◌<◌, ◌≤ℤ◌, pos, IfOk,
 ghost use Rattle.std.specs.List.{All};
 ghost use Rattle.fzn_propagator.specs.Clause.{IsFalseClause};
 ghost use Rattle.fzn_globals.specs.Apart.{numbers};
-ghost use Rattle.fzn_globals.specs.DifferentPasses.{IsInferred, AreFoundIn, count_within, SaysWithin};
+ghost use Rattle.fzn_globals.specs.DifferentPasses.{IsJustifiedByHall, AreFoundOfDifferent, count_within, SaysWithin};
 
 use crate::all_different::pass::Pass;
 use crate::all_different::span::{Span, explain_within, force_within, lies_within};
@@ -17,8 +17,8 @@ use fzn_terms::{greatest_of, least_of};
 /// Finds what follows from the first interval that says something, where there is one: about n log n, and the square of few places. Where
 /// none is full that is mostly told at once.
 pub(crate) fn find_by_interval(pass: &Pass, found: &mut Findings) -> Result<(), Memory>
-    requires { AreFoundIn pass.now found.old }
-    ensures { AreFoundIn pass.now found.new }
+    requires { AreFoundOfDifferent pass.now found.old }
+    ensures { AreFoundOfDifferent pass.now found.new }
 {
     let mut ends = ends_of(pass)?;
     let Some(interval) = telling_interval(pass.alloc, &mut ends)? else {
@@ -47,8 +47,8 @@ fn find_in(
     interval: &Interval,
     found: &mut Findings,
 ) -> Result<(), Memory>
-    requires { AreFoundIn pass.now found.old }
-    ensures { AreFoundIn pass.now found.new }
+    requires { AreFoundOfDifferent pass.now found.old }
+    ensures { AreFoundOfDifferent pass.now found.new }
 {
     let Some(span) = Span::of(interval) else {
         return Ok(());
@@ -65,7 +65,7 @@ fn find_in(
 /// many, for each of the moved places the clause that it lies outside, or one of them does not lie within. There is none where they are
 /// fewer.
 fn explain_hall(pass: &Pass, span: &Span, moved: &[usize]) -> Result<Vec<Items<Lit>>, Memory>
-    ensures { IfOk result (λ clauses. All (IsInferred pass.now span.now.low span.now.high) clauses.items) }
+    ensures { IfOk result (λ clauses. All (IsJustifiedByHall pass.now span.now.low span.now.high) clauses.items) }
 {
     let mut clauses = Vec::new(pass.alloc);
     let mut within = Items::new(pass.alloc);
@@ -117,8 +117,8 @@ fn push_outside(
     requires still { IsFalseClause pass.now.trail.now within.now }
     requires within { SaysWithin pass.now span.now within.now }
     requires many { numbers span.now.low span.now.high ≤ℤ pos (count_within pass.now span.now) }
-    requires before { All (IsInferred pass.now span.now.low span.now.high) clauses.old.items }
-    ensures { OnOk result (All (IsInferred pass.now span.now.low span.now.high) clauses.new.items) }
+    requires before { All (IsJustifiedByHall pass.now span.now.low span.now.high) clauses.old.items }
+    ensures { OnOk result (All (IsJustifiedByHall pass.now span.now.low span.now.high) clauses.new.items) }
 {
     let mut clause = Items::from_slice(pass.alloc, within.as_slice())?;
     if !force_within(pass, pass.places[place], span, &mut clause)? {

@@ -2,7 +2,7 @@
 ghost use Rattle.std.specs.Prelude.{◌≡◌, ◌≢◌, ◌<◌, [], IfOk, IfSome, IfNone, OnOk, length};
 ghost use Rattle.fzn_domain.specs.Limits.{IsInLimits};
 ghost use Rattle.fzn_globals.specs.Apart.{IsApartFrom};
-ghost use Rattle.fzn_globals.specs.DifferentPasses.{IsInferred, AreFoundIn, DifferWhereFixed, IsNotShared};
+ghost use Rattle.fzn_globals.specs.DifferentPasses.{IsJustifiedByHall, AreFoundOfDifferent, DifferWhereFixed, IsNotShared};
 
 use crate::all_different::pass::Pass;
 use fzn_domain::{Lit, Memory};
@@ -18,7 +18,7 @@ fn explain_apart(pass: &Pass, i: usize, j: usize, value: &i64) -> Result<Option<
     requires second { j < length pass.now.places.now }
     requires apart { j ≢ i }
     requires limits { IsInLimits value.now }
-    ensures found { IfOk result (λ found. IfSome found (IsInferred pass.now value.now value.now)) }
+    ensures found { IfOk result (λ found. IfSome found (IsJustifiedByHall pass.now value.now value.now)) }
     ensures none { IfOk result (λ found. IfNone found (IsNotShared pass.now i j value.now)) }
 {
     let (place, other) = (pass.places[i], pass.places[j]);
@@ -46,8 +46,8 @@ pub(crate) fn bar_pair(
     requires second { j < length pass.now.places.now }
     requires apart { j ≢ i }
     requires limits { IsInLimits value.now }
-    requires before { AreFoundIn pass.now found.old }
-    ensures found { AreFoundIn pass.now found.new }
+    requires before { AreFoundOfDifferent pass.now found.old }
+    ensures found { AreFoundOfDifferent pass.now found.new }
     ensures kept { found.new ≡ [] → found.old ≡ [] }
     ensures none { OnOk result (found.new ≡ [] → IsNotShared pass.now i j value.now) }
 {
@@ -64,8 +64,8 @@ pub(crate) fn bar_pair(
 /// Finds of each other place that it has not the one value of the place at i.
 pub(crate) fn bar_like(pass: &Pass, i: usize, found: &mut Findings) -> Result<(), Memory>
     requires place { i < length pass.now.places.now }
-    requires before { AreFoundIn pass.now found.old }
-    ensures found { AreFoundIn pass.now found.new }
+    requires before { AreFoundOfDifferent pass.now found.old }
+    ensures found { AreFoundOfDifferent pass.now found.new }
     ensures kept { found.new ≡ [] → found.old ≡ [] }
     ensures none { OnOk result (found.new ≡ [] → IsApartFrom pass.now.trail.now.sets pass.now.places.now i (length pass.now.places.now)) }
 {
@@ -83,8 +83,8 @@ pub(crate) fn bar_like(pass: &Pass, i: usize, found: &mut Findings) -> Result<()
 
 /// Finds of each place that it has not the one value of another, each place compared with all others.
 pub(crate) fn bar_compared(pass: &Pass, found: &mut Findings) -> Result<(), Memory>
-    requires before { AreFoundIn pass.now found.old }
-    ensures found { AreFoundIn pass.now found.new }
+    requires before { AreFoundOfDifferent pass.now found.old }
+    ensures found { AreFoundOfDifferent pass.now found.new }
     ensures none { OnOk result (found.new ≡ [] → DifferWhereFixed pass.now) }
 {
     for i in 0..pass.places.len() {

@@ -5,7 +5,7 @@ ghost use Rattle.fzn_meaning.specs.Term.{IsTerm};
 ghost use Rattle.fzn_sets.specs.Terms.{MayBe, term_at};
 ghost use Rattle.fzn_propagator.specs.Clause.{IsForcing};
 ghost use Rattle.fzn_globals.specs.Ways.{IsMissed, pair_rule};
-ghost use Rattle.fzn_globals.specs.InversePasses.{IsInferred, AreFoundIn, HasEntry, MayLead, MayLeadBack, AreEntries, LeadsBackAt};
+ghost use Rattle.fzn_globals.specs.InversePasses.{IsJustifiedByInverse, AreFoundOfInverse, HasEntry, MayLead, MayLeadBack, AreEntries, LeadsBackAt};
 
 use crate::inverse::pass::{Pass, Side};
 use fzn_domain::{Lit, Memory, Op};
@@ -47,7 +47,7 @@ fn explain_pair(pass: &Pass, i: &i64, j: &i64) -> Result<Option<Items<Lit>>, Mem
     requires first { HasEntry pass.now i.now }
     requires second { HasEntry pass.now j.now }
     requires may { MayLead pass.now i.now j.now }
-    ensures found { IfOk result (λ found. IfSome found (IsInferred pass.now (pair_rule pass.now.side i.now j.now))) }
+    ensures found { IfOk result (λ found. IfSome found (IsJustifiedByInverse pass.now (pair_rule pass.now.side i.now j.now))) }
     ensures none { IfOk result (λ found. IfNone found (MayLeadBack pass.now i.now j.now)) }
 {
     let entry = term_at(pass.there, i);
@@ -99,8 +99,8 @@ fn find_pair(pass: &Pass, i: &i64, j: &i64, open: bool, found: &mut Findings) ->
     requires first { HasEntry pass.now i.now }
     requires second { HasEntry pass.now j.now }
     requires may { MayLead pass.now i.now j.now }
-    requires before { AreFoundIn pass.now found.old }
-    ensures found { AreFoundIn pass.now found.new }
+    requires before { AreFoundOfInverse pass.now found.old }
+    ensures found { AreFoundOfInverse pass.now found.new }
     ensures kept { found.new ≡ [] → found.old ≡ [] }
     ensures none { OnOk result (found.new ≡ [] → MayLeadBack pass.now i.now j.now) }
 {
@@ -118,8 +118,8 @@ fn find_pair(pass: &Pass, i: &i64, j: &i64, open: bool, found: &mut Findings) ->
 pub(crate) fn find_pairs(pass: &Pass, i: &i64, found: &mut Findings) -> Result<(), Memory>
     requires first { HasEntry pass.now i.now }
     requires indices { AreEntries pass.now (term_at pass.now.there.now i.now) }
-    requires before { AreFoundIn pass.now found.old }
-    ensures found { AreFoundIn pass.now found.new }
+    requires before { AreFoundOfInverse pass.now found.old }
+    ensures found { AreFoundOfInverse pass.now found.new }
     ensures kept { found.new ≡ [] → found.old ≡ [] }
     ensures none { OnOk result (found.new ≡ [] → LeadsBackAt pass.now i.now) }
 {

@@ -27,20 +27,22 @@ returns-in_err-walked-clause-err g c =
 pub returns-in-Ok-clause-ok : goal.returns-in-Ok-clause-ok
 returns-in-Ok-clause-ok g c =
     let model = c.in_ok-model.model in
+    let after = c.walk_certificate.new.model in
     let walked = c.in_ok-walked.walked in (
-      answer_text model c.solutions-found.result.now walked.closed c.args.show_all ++ bound_line model c.known_of-known.result,
-      bounds-seen (g.R.Read.remaining c.args.file.now) (progress g.C.Read.remaining c.args.cert.now).left model c.in_ok-model.ensures.right c.args.show_all walked c.solutions-found.result.now c.known_of-known.result
-          c.in_ok-model.ensures.well_formed c.in_ok-walked.ensures.ok c.solutions-found.ensures c.known_of-known.ensures,
+      answer_text after c.solutions-found.result.now walked.closed c.args.show_all ++ bound_line after c.known_of-known.result,
+      bounds-seen (g.R.Read.remaining c.args.file.now) (progress g.C.Read.remaining c.args.cert.now).left model c.in_ok-model.ensures.right after c.args.show_all walked c.solutions-found.result.now c.known_of-known.result
+          c.in_ok-model.ensures.well_formed c.in_ok-walked.ensures.formed c.in_ok-walked.ensures.ok c.solutions-found.ensures c.known_of-known.ensures,
       c.in-Ok.ensures.text,
     )
 
 pub returns-clause-err : goal.returns-clause-err
 returns-clause-err g c =
     let model = c.in_ok-model.model in
+    let after = c.walk_certificate.new.model in
     let walked = c.in_ok-walked.walked in (
       c.known_of-known.result,
-      answer_text model c.solutions-found.result.now walked.closed c.args.show_all ++ bound_line model c.known_of-known.result,
-      bounds-seen (g.R.Read.remaining c.args.file.now) (progress g.C.Read.remaining c.args.cert.now).left model c.in_ok-model.ensures.right c.args.show_all walked c.solutions-found.result.now c.known_of-known.result
-          c.in_ok-model.ensures.well_formed c.in_ok-walked.ensures.ok c.solutions-found.ensures c.known_of-known.ensures,
+      answer_text after c.solutions-found.result.now walked.closed c.args.show_all ++ bound_line after c.known_of-known.result,
+      bounds-seen (g.R.Read.remaining c.args.file.now) (progress g.C.Read.remaining c.args.cert.now).left model c.in_ok-model.ensures.right after c.args.show_all walked c.solutions-found.result.now c.known_of-known.result
+          c.in_ok-model.ensures.well_formed c.in_ok-walked.ensures.formed c.in_ok-walked.ensures.ok c.solutions-found.ensures c.known_of-known.ensures,
       c.in-Err.ensures.text,
     )

@@ -1,91 +1,28 @@
-use Rattle.std.proofs.Common.{◌≡◌, ◌+◌, ap, sym, subst, ◌∙◌, IfSome, unwrap_or, false, arith}
-use Rattle.std.specs.Prelude.{IfNone}
-use Rattle.std.proofs.lemmas.Result.{err_from_is_err_and}
-use Rattle.fzn_cert.specs.Accepted.{IsAccepted, IsJudged}
-use Rattle.fzn_cert.specs.Past.{StepsPast}
-use Rattle.fzn_cert.specs.Verdict.{refused, VerdictOn}
-use Rattle.fzn_cert_reader.specs.Reader.{progress, GivesStep, Ends}
-use Rattle.fzn_checker.specs.Checked.{ComesTo, IsMidway, Offers, Accepts}
-use Rattle.fzn_checker.specs.Held.{past_in}
-use Rattle.fzn_checker.proofs.CallerLemmas.{fault-found, spelled-two}
-use Rattle.fzn_bound.proofs.WalkLemmas.{IsOnWay, midway-start, standing-start, way-start, way-more, way-end}
+use Rattle.std.proofs.Common.{IsSome, refl, sym, subst}
+use Rattle.fzn_cert.specs.Past.{no_past}
+use Rattle.fzn_cert_reader.specs.Reader.{progress}
+use Rattle.fzn_head.specs.Outcome.{IsOutcomeOn}
+use Rattle.fzn_checker.specs.Checked.{IsFaultWhere, ComesTo}
+use Rattle.fzn_checker.proofs.CallerLemmas.{error-is, fault-further}
+use Rattle.fzn_bound.proofs.WalkLemmas.{walked-of}
 use Rattle.fzn_bound.proofs.certificate.walk_certificate.Goals as goal
 
-pub returns-in_err-step-clause-err : goal.returns-in_err-step-clause-err
-returns-in_err-step-clause-err g c =
-    let p = err_from_is_err_and c.from_residual-in_err-step.result c.from_residual-in_err-step.ensures.1 in
-    rw (p.1, p.2)
-    (fault-found c.args.model.now (progress g.C.Read.remaining c.args.cert.now).left (past_in c.loop-taken.taken) (progress g.C.Read.remaining c.loop-taken.cert) c.in_err-step.field-0.0
-    c.loop-taken.invariant.goes_on c.in_err-step.ensures.err)
+pub returns-in_err-opening-clause-err : goal.returns-in_err-opening-clause-err
+returns-in_err-opening-clause-err g c =
+    error-is c.from_residual.result c.in_err-opening.field-0.0 (IsFaultWhere (IsOutcomeOn c.args.model.now (progress g.C.Read.remaining c.args.cert.now).left))
+    c.from_residual.ensures.1 c.in_err-opening.ensures.err
 
--- the fault of a step is that of its line
-pub returns-in-Some-2-clause-err : goal.returns-in-Some-2-clause-err
-returns-in-Some-2-clause-err g c =
-    let model = c.args.model.now in
-    let past = past_in c.loop-taken.taken in
-    let old = progress g.C.Read.remaining c.loop-taken.cert in
-    let new = progress g.C.Read.remaining c.next_step.new.cert in
-    let offers : Offers model past old new c.in-Some.step = subst (λ o. IfSome o (Offers model past old new)) c.in-Some.is c.in_ok-step.ensures.step in
-    let refusal = c.in-Some-2.refusal in
-    subst (λ n. VerdictOn model (progress g.C.Read.remaining c.args.cert.now).left (refused n refusal)) (sym c.loop-taken.invariant.line)
-    (c.loop-taken.invariant.goes_on (refused _ refusal) (offers.refuses refusal (subst (IsJudged model past c.in-Some.step) c.in-Some-2.is c.in_ok-refusal.ensures.judged)))
+pub walk_steps-requires-clause-begun : goal.walk_steps-requires-clause-begun
+walk_steps-requires-clause-begun g c = subst IsSome (sym c.in_ok-opening.ensures.opened.told) refl
 
-pub take-requires-clause-spelled : goal.take-requires-clause-spelled
-take-requires-clause-spelled g c =
-    let old = progress g.C.Read.remaining c.loop-taken.cert in
-    let new = progress g.C.Read.remaining c.next_step.new.cert in
-    let gives : GivesStep old new c.in-Some.step = subst (λ o. IfSome o (GivesStep old new)) c.in-Some.is c.in_ok-step.ensures.gives in
-    spelled-two gives.header.version c.in-Some.step gives.has_line.0
+pub returns-in-Ok-clause-ok : goal.returns-in-Ok-clause-ok
+returns-in-Ok-clause-ok g c =
+    walked-of c.args.model.now c.open_certificate.new.model (progress g.C.Read.remaining c.args.cert.now).left (progress g.C.Read.remaining c.open_certificate.new.cert) c.in_ok-opening.opening.lines
+    c.in-Ok.walked c.in_ok-opening.ensures.opened c.open_certificate.ensures.extended c.in-Ok.ensures.ok
 
-pub loop-taken-init : goal.loop-taken-init
-loop-taken-init g c =
-    let model = c.args.model.now in
-    let now = progress g.C.Read.remaining c.args.cert.now in
-    let fresh = c.requires.unread in
-    let taken = c.in_ok-taken.taken in
-    record {
-      midway = midway-start model now taken fresh c.in_ok-taken.ensures;
-      line = omega (arith, fresh.2);
-      goes_on = λ outcome. standing-start model now (past_in taken) outcome fresh.1;
-      ready = c.in_ok-taken.ensures.ready;
-      way = way-start model now taken c.declared_bound-bound.result fresh c.in_ok-taken.ensures c.declared_bound-bound.ensures;
-    }
-
-pub loop-taken-preserved : goal.loop-taken-preserved
-loop-taken-preserved g c =
-    let model = c.args.model.now in
-    let past = past_in c.loop-taken.taken in
-    let bytes = (progress g.C.Read.remaining c.args.cert.now).left in
-    let old = progress g.C.Read.remaining c.loop-taken.cert in
-    let new = progress g.C.Read.remaining c.next_step.new.cert in
-    let step = c.in-Some.step in
-    let none = c.in_default-2.is in
-    let offers : Offers model past old new step = subst (λ o. IfSome o (Offers model past old new)) c.in-Some.is c.in_ok-step.ensures.step in
-    let gives : GivesStep old new step = subst (λ o. IfSome o (GivesStep old new)) c.in-Some.is c.in_ok-step.ensures.gives in
-    let accepted : IsAccepted model past step = subst (IsJudged model past step) none c.in_ok-refusal.ensures.judged in
-    let after = c.in_ok-refusal.ensures.after none in
-    let line : c.loop-taken.line ≡ old.steps + 3 = c.loop-taken.invariant.line in
-    let counted : new.steps ≡ old.steps + 1 = offers.counted in
-    record {
-      midway = subst (λ (p : StepsPast). IsMidway model p new) (sym after) offers.midway;
-      line = omega (arith, line, counted);
-      goes_on = λ outcome standing. c.loop-taken.invariant.goes_on outcome (offers.goes_on accepted outcome (subst (λ (p : StepsPast). ComesTo model p new outcome) after standing));
-      ready = c.in_ok-refusal.ensures.ready none;
-      way = subst (IsOnWay model bytes new c.take.new.self) (sym c.bound_after-next_bound.ensures)
-          (way-more model bytes old new c.loop-taken.taken c.take.new.self c.loop-taken.bound step c.loop-taken.invariant.way gives c.next_step.ensures.same_header (c.in_ok-refusal.ensures.taken none));
-    }
-
-pub returns-clause-ok : goal.returns-clause-ok
-returns-clause-ok g c =
-    let model = c.args.model.now in
-    let past = past_in c.loop-taken.taken in
-    let old = progress g.C.Read.remaining c.loop-taken.cert in
-    let new = progress g.C.Read.remaining c.next_step.new.cert in
-    let accepts : Accepts model past old new = subst (λ o. IfNone o (Accepts model past old new)) c.in_default.is c.in_ok-step.ensures.end in
-    let ends : Ends old new = subst (λ o. IfNone o (Ends old new)) c.in_default.is c.in_ok-step.ensures.ends in
-    way-end model (progress g.C.Read.remaining c.args.cert.now).left old new _ c.loop-taken.invariant.way accepts ends
-    c.in_ok-step.ensures.counts c.next_step.ensures.same_header
-    (c.unwrap_or.ensures ∙ ap (λ o. unwrap_or o false) c.closed.ensures)
-
-pub returns-clause-found : goal.returns-clause-found
-returns-clause-found g c = c.loop-taken.invariant.ready.ready.sound.solutions
+pub returns-clause-err : goal.returns-clause-err
+returns-clause-err g c =
+    let start = IsOutcomeOn c.args.model.now (progress g.C.Read.remaining c.args.cert.now).left in
+    let opened = c.in_ok-opening.ensures.opened in
+    subst (IsFaultWhere start) (sym c.further.ensures)
+    (fault-further (ComesTo c.open_certificate.new.model no_past (progress g.C.Read.remaining c.open_certificate.new.cert)) start c.in_ok-opening.opening.lines c.in-Err.fault opened.leads c.in-Err.ensures.err)

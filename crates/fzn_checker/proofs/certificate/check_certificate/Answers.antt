@@ -1,55 +1,37 @@
-use Rattle.std.proofs.Common.{ap, sym, subst, ◌∙◌, IfSome, unwrap_or, false}
-use Rattle.std.specs.Prelude.{IfNone}
-use Rattle.std.proofs.lemmas.Result.{err_from_is_err_and}
-use Rattle.fzn_meaning.specs.Solutions.{IsProper, IsExhausted}
-use Rattle.fzn_cert.specs.Accepted.{IsJudged}
+use Rattle.std.proofs.Common.{sym, subst}
+use Rattle.fzn_cert.specs.Past.{no_past}
+use Rattle.fzn_cert.specs.Verdict.{accepted}
 use Rattle.fzn_cert_reader.specs.Reader.{progress}
-use Rattle.fzn_cert.specs.Verdict.{accepted, refused, VerdictOn}
-use Rattle.fzn_cert.proofs.SoundLaws.{proper-sound, exhausted-sound}
-use Rattle.fzn_checker.specs.Checked.{Offers, Accepts}
-use Rattle.fzn_checker.proofs.FaultLaws.{found-accepted, found-refuted, fault-found}
+use Rattle.fzn_head.specs.Outcome.{IsOutcomeOn}
+use Rattle.fzn_head.proofs.ExtendedLaws.{proper-before, exhausted-before}
+use Rattle.fzn_checker.specs.Checked.{IsFaultWhere, ComesTo}
+use Rattle.fzn_checker.proofs.AnswerLaws.{error-is}
+use Rattle.fzn_checker.proofs.OpeningLaws.{fault-further}
 use Rattle.fzn_checker.proofs.certificate.check_certificate.Goals as goal
 
-pub returns-in_err-step-clause-err : goal.returns-in_err-step-clause-err
-returns-in_err-step-clause-err g c =
-    let p = err_from_is_err_and c.from_residual-in_err-step.result c.from_residual-in_err-step.ensures.1 in
-    rw (p.1, p.2)
-    (fault-found c.args.model.now (progress g.C.Read.remaining c.args.cert.now).left c.loop-given.history (progress g.C.Read.remaining c.loop-given.cert) c.in_err-step.field-0.0
-    c.loop-given.invariant.goes_on c.in_err-step.ensures.err)
+pub returns-in_err-opening-clause-err : goal.returns-in_err-opening-clause-err
+returns-in_err-opening-clause-err g c =
+    error-is c.from_residual.result c.in_err-opening.field-0.0 (IsFaultWhere (IsOutcomeOn c.args.model.now (progress g.C.Read.remaining c.args.cert.now).left))
+    c.from_residual.ensures.1 c.in_err-opening.ensures.err
 
--- the fault of a step is that of its line
-pub returns-in-Some-refusal-clause-err : goal.returns-in-Some-refusal-clause-err
-returns-in-Some-refusal-clause-err g c =
-    let model = c.args.model.now in
-    let past = c.loop-given.history in
-    let old = progress g.C.Read.remaining c.loop-given.cert in
-    let new = progress g.C.Read.remaining c.next_step.new.reader in
-    let offers : Offers model past old new c.in-Some.step = subst (λ o. IfSome o (Offers model past old new)) c.in-Some.is c.in_ok-step.ensures.step in
-    let refusal = c.in-Some-refusal.refusal in
-    subst (λ n. VerdictOn model (progress g.C.Read.remaining c.args.cert.now).left (refused n refusal)) (sym c.loop-given.invariant.line)
-    (c.loop-given.invariant.goes_on (refused _ refusal) (offers.refuses refusal (subst (IsJudged model past c.in-Some.step) c.in-Some-refusal.is c.in_ok-refusal.ensures.judged)))
+-- what the steps come to decides
+pub returns-in-Ok-clause-ok : goal.returns-in-Ok-clause-ok
+returns-in-Ok-clause-ok g c = c.in_ok-opening.ensures.opened.leads (accepted c.in-Ok.answer.solutions.items c.in-Ok.answer.closed) c.in-Ok.ensures.ok
 
-pub returns-clause-ok : goal.returns-clause-ok
-returns-clause-ok g c =
-    let model = c.args.model.now in
-    let past = c.loop-given.history in
-    let old = progress g.C.Read.remaining c.loop-given.cert in
-    let new = progress g.C.Read.remaining c.next_step.new.reader in
-    let accepts : Accepts model past old new = subst (λ o. IfNone o (Accepts model past old new)) c.in_default.is c.in_ok-step.ensures.end in
-    subst (λ found. VerdictOn model (progress g.C.Read.remaining c.args.cert.now).left (accepted found c.unwrap_or.result)) (sym c.into_solutions.ensures)
-    (found-accepted model (progress g.C.Read.remaining c.args.cert.now).left past old new c.unwrap_or.result c.loop-given.invariant.goes_on accepts
-    (c.unwrap_or.ensures ∙ ap (λ o. unwrap_or o false) c.closed.ensures))
+pub returns-clause-err : goal.returns-clause-err
+returns-clause-err g c =
+    let start = IsOutcomeOn c.args.model.now (progress g.C.Read.remaining c.args.cert.now).left in
+    let opened = c.in_ok-opening.ensures.opened in
+    subst (IsFaultWhere start) (sym c.further.ensures)
+    (fault-further (ComesTo c.open_certificate.new.model no_past (progress g.C.Read.remaining c.open_certificate.new.cert)) start c.in_ok-opening.opening.lines c.in-Err.fault opened.leads c.in-Err.ensures.err)
 
-pub returns-clause-proper : goal.returns-clause-proper
-returns-clause-proper g c =
-    subst (IsProper c.args.model.now) (sym c.into_solutions.ensures) (proper-sound c.args.model.now c.loop-given.history c.loop-given.invariant.sound)
+-- what is found of the model with derived constraints is found of the model
+pub returns-in-Ok-clause-proper : goal.returns-in-Ok-clause-proper
+returns-in-Ok-clause-proper g c =
+    let extended = c.open_certificate.ensures.extended in
+    proper-before c.args.model.now c.open_certificate.new.model extended.0 c.requires.model extended.1 c.in-Ok.answer.solutions.items c.in-Ok.ensures.proper
 
-pub returns-clause-exhausted : goal.returns-clause-exhausted
-returns-clause-exhausted g c =
-    let model = c.args.model.now in
-    let past = c.loop-given.history in
-    let old = progress g.C.Read.remaining c.loop-given.cert in
-    let new = progress g.C.Read.remaining c.next_step.new.reader in
-    let accepts : Accepts model past old new = subst (λ o. IfNone o (Accepts model past old new)) c.in_default.is c.in_ok-step.ensures.end in
-    λ closed. subst (IsExhausted model) (sym c.into_solutions.ensures) (exhausted-sound model past c.loop-given.invariant.sound
-    (found-refuted model past old new c.unwrap_or.result accepts (c.unwrap_or.ensures ∙ ap (λ o. unwrap_or o false) c.closed.ensures) closed))
+pub returns-in-Ok-clause-exhausted : goal.returns-in-Ok-clause-exhausted
+returns-in-Ok-clause-exhausted g c =
+    let extended = c.open_certificate.ensures.extended in
+    λ closed. exhausted-before c.args.model.now c.open_certificate.new.model extended.0 c.requires.model extended.1 c.in-Ok.answer.solutions.items (c.in-Ok.ensures.exhausted closed)

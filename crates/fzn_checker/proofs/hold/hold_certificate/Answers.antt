@@ -1,85 +1,29 @@
-use Rattle.std.proofs.Common.{◌≡◌, ◌+◌, List, refl, ap, sym, subst, ◌∙◌, IfSome, unwrap_or, false, arith}
-use Rattle.std.specs.Prelude.{IfNone}
-use Rattle.std.proofs.lemmas.Result.{err_from_is_err_and}
-use Rattle.fzn_cert.specs.declared.step.Step.{Step}
-use Rattle.fzn_cert.specs.Accepted.{IsAccepted, IsJudged}
-use Rattle.fzn_cert.specs.Past.{StepsPast}
-use Rattle.fzn_cert.specs.Verdict.{refused, VerdictOn}
-use Rattle.fzn_cert_reader.specs.Reader.{progress, GivesStep, Ends, HasRead}
-use Rattle.fzn_cert_reader.proofs.CallerLemmas.{HasRead-step}
-use Rattle.fzn_checker.specs.Checked.{ComesTo, IsMidway, Offers, Accepts}
-use Rattle.fzn_checker.specs.Held.{HasTaken}
-use Rattle.fzn_checker.proofs.FaultLaws.{fault-found}
-use Rattle.fzn_checker.proofs.HoldLemmas.{AreSpelled, spelled-two, spelled-more, held-end}
+use Rattle.std.proofs.Common.{IsSome, sym, subst, refl}
+use Rattle.fzn_cert.specs.Past.{no_past}
+use Rattle.fzn_cert_reader.specs.Reader.{progress}
+use Rattle.fzn_head.specs.Outcome.{IsOutcomeOn}
+use Rattle.fzn_checker.specs.Checked.{IsFaultWhere, ComesTo}
+use Rattle.fzn_checker.proofs.AnswerLaws.{error-is}
+use Rattle.fzn_checker.proofs.HoldLemmas.{held-of}
+use Rattle.fzn_checker.proofs.OpeningLaws.{fault-further}
 use Rattle.fzn_checker.proofs.hold.hold_certificate.Goals as goal
 
-pub returns-in_err-step-clause-err : goal.returns-in_err-step-clause-err
-returns-in_err-step-clause-err g c =
-    let p = err_from_is_err_and c.from_residual-in_err-step.result c.from_residual-in_err-step.ensures.1 in
-    rw (p.1, p.2)
-    (fault-found c.args.model.now (progress g.C.Read.remaining c.args.cert.now).left c.loop-steps.taken.history (progress g.C.Read.remaining c.loop-steps.cert) c.in_err-step.field-0.0
-    c.loop-steps.invariant.goes_on c.in_err-step.ensures.err)
+pub returns-in_err-opening-clause-err : goal.returns-in_err-opening-clause-err
+returns-in_err-opening-clause-err g c =
+    error-is c.from_residual.result c.in_err-opening.field-0.0 (IsFaultWhere (IsOutcomeOn c.args.model.now (progress g.C.Read.remaining c.args.cert.now).left))
+    c.from_residual.ensures.1 c.in_err-opening.ensures.err
 
--- the fault of a step is that of its line
-pub returns-in-Some-2-clause-err : goal.returns-in-Some-2-clause-err
-returns-in-Some-2-clause-err g c =
-    let model = c.args.model.now in
-    let past = c.loop-steps.taken.history in
-    let old = progress g.C.Read.remaining c.loop-steps.cert in
-    let new = progress g.C.Read.remaining c.next_step.new.reader in
-    let offers : Offers model past old new c.in-Some.step = subst (λ o. IfSome o (Offers model past old new)) c.in-Some.is c.in_ok-step.ensures.step in
-    let refusal = c.in-Some-2.refusal in
-    subst (λ n. VerdictOn model (progress g.C.Read.remaining c.args.cert.now).left (refused n refusal)) (sym c.loop-steps.invariant.line)
-    (c.loop-steps.invariant.goes_on (refused _ refusal) (offers.refuses refusal (subst (IsJudged model past c.in-Some.step) c.in-Some-2.is c.in_ok-refusal.ensures.judged)))
+pub hold_steps-requires-clause-begun : goal.hold_steps-requires-clause-begun
+hold_steps-requires-clause-begun g c = subst IsSome (sym c.in_ok-opening.ensures.opened.told) refl
 
-pub push-requires : goal.push-requires
-push-requires g c =
-    let old = progress g.C.Read.remaining c.loop-steps.cert in
-    let new = progress g.C.Read.remaining c.next_step.new.reader in
-    let gives : GivesStep old new c.in-Some.step = subst (λ o. IfSome o (GivesStep old new)) c.in-Some.is c.in_ok-step.ensures.gives in
-    spelled-two gives.header.version c.in-Some.step gives.has_line.0
+pub returns-in-Ok-clause-ok : goal.returns-in-Ok-clause-ok
+returns-in-Ok-clause-ok g c =
+    held-of c.args.model.now c.open_certificate.new.model (progress g.C.Read.remaining c.args.cert.now).left (progress g.C.Read.remaining c.open_certificate.new.cert) c.in_ok-opening.opening.lines
+    c.in_ok-opening.opening.derivations.items c.in-Ok.held c.in_ok-opening.ensures.opened (c.in_ok-opening.ensures.held refl) c.in-Ok.ensures.derivations c.in-Ok.ensures.ok
 
-pub take-requires-clause-spelled : goal.take-requires-clause-spelled
-take-requires-clause-spelled g c =
-    let old = progress g.C.Read.remaining c.loop-steps.cert in
-    let new = progress g.C.Read.remaining c.next_step.new.reader in
-    let gives : GivesStep old new c.in-Some.step = subst (λ o. IfSome o (GivesStep old new)) c.in-Some.is c.in_ok-step.ensures.gives in
-    spelled-two gives.header.version c.in-Some.step gives.has_line.0
-
-pub loop-steps-preserved : goal.loop-steps-preserved
-loop-steps-preserved g c =
-    let model = c.args.model.now in
-    let past = c.loop-steps.taken.history in
-    let bytes = (progress g.C.Read.remaining c.args.cert.now).left in
-    let old = progress g.C.Read.remaining c.loop-steps.cert in
-    let new = progress g.C.Read.remaining c.next_step.new.reader in
-    let step = c.in-Some.step in
-    let steps = c.loop-steps.steps in
-    let none = c.in_default-2.is in
-    let offers : Offers model past old new step = subst (λ o. IfSome o (Offers model past old new)) c.in-Some.is c.in_ok-step.ensures.step in
-    let gives : GivesStep old new step = subst (λ o. IfSome o (GivesStep old new)) c.in-Some.is c.in_ok-step.ensures.gives in
-    let accepted : IsAccepted model past step = subst (IsJudged model past step) none c.in_ok-refusal.ensures.judged in
-    let after = c.in_ok-refusal.ensures.after none in
-    let more = c.in_ok-push.ensures.ok in
-    let line : c.loop-steps.line ≡ old.steps + 3 = c.loop-steps.invariant.line in
-    let counted : new.steps ≡ old.steps + 1 = offers.counted in
-    record {
-      midway = subst (λ (p : StepsPast). IsMidway model p new) (sym after) offers.midway;
-      line = omega (arith, line, counted);
-      goes_on = λ outcome standing. c.loop-steps.invariant.goes_on outcome (offers.goes_on accepted outcome (subst (λ (p : StepsPast). ComesTo model p new outcome) after standing));
-      taken = subst (λ (all : List Step). HasTaken model all c.take.new.self) (sym more) (c.in_ok-refusal.ensures.taken none steps c.loop-steps.invariant.taken);
-      read = subst (λ (all : List Step). HasRead bytes new all) (sym more) (HasRead-step bytes old new steps step c.loop-steps.invariant.read gives c.next_step.ensures.same_header);
-      spelled = subst (λ (all : List Step). AreSpelled new all) (sym more) (spelled-more bytes old new steps step c.loop-steps.invariant.read c.loop-steps.invariant.spelled gives c.next_step.ensures.same_header);
-    }
-
-pub returns-clause-ok : goal.returns-clause-ok
-returns-clause-ok g c =
-    let model = c.args.model.now in
-    let past = c.loop-steps.taken.history in
-    let old = progress g.C.Read.remaining c.loop-steps.cert in
-    let new = progress g.C.Read.remaining c.next_step.new.reader in
-    let accepts : Accepts model past old new = subst (λ o. IfNone o (Accepts model past old new)) c.in_default.is c.in_ok-step.ensures.end in
-    let ends : Ends old new = subst (λ o. IfNone o (Ends old new)) c.in_default.is c.in_ok-step.ensures.ends in
-    held-end model (progress g.C.Read.remaining c.args.cert.now).left c.loop-steps.steps c.loop-steps.taken old new _ c.loop-steps.invariant.taken c.loop-steps.invariant.read c.loop-steps.invariant.spelled accepts ends
-    c.in_ok-step.ensures.counts c.next_step.ensures.same_header refl c.into_solutions.ensures
-    (c.unwrap_or.ensures ∙ ap (λ o. unwrap_or o false) c.closed.ensures)
+pub returns-in-Err-clause-err : goal.returns-in-Err-clause-err
+returns-in-Err-clause-err g c =
+    let start = IsOutcomeOn c.args.model.now (progress g.C.Read.remaining c.args.cert.now).left in
+    let opened = c.in_ok-opening.ensures.opened in
+    subst (IsFaultWhere start) (sym c.further.ensures)
+    (fault-further (ComesTo c.open_certificate.new.model no_past (progress g.C.Read.remaining c.open_certificate.new.cert)) start c.in_ok-opening.opening.lines c.in-Err.fault opened.leads c.in-Err.ensures.err)

@@ -5,7 +5,7 @@ use Rattle.fzn_domain.specs.declared.literal.Op.TheVariants.{Equal}
 use Rattle.fzn_meaning.specs.declared.term.Term.{Term}
 use Rattle.fzn_sets.specs.Terms.{term_at}
 use Rattle.fzn_terms.specs.declared.claim.Claim.{Claim}
-use Rattle.fzn_terms.specs.Denied.{that, IsEntailed, IsExplained}
+use Rattle.fzn_terms.specs.Denied.{that, IsEntailed, IsClaimExplained}
 use Rattle.fzn_terms.proofs.CaseLemmas.{same_of}
 use Rattle.fzn_circuit.specs.Circuits.{IsWay}
 use Rattle.fzn_circuit.proofs.CircuitLemmas.{all_fixed}
@@ -41,7 +41,7 @@ loop-count-preserved c =
     let start_is : to_z w64 (of_z w64 c.args.start) ≡ c.args.start = to_z-of_z w64 c.args.start fits_start in
     let way = subst (λ (x : ℤ). IsWay trail xs x (to_z w64 c.loop-count.last-bits) c.loop-count.places.items c.loop-count.clause) start_is c.loop-count.invariant.way in
     let leads = c.in-Some.ensures.fixed in
-    let explained = subst (λ (claim : Claim). IsExplained trail claim c.loop-count.clause c.explain.new.clause) (c.equal-leads.ensures.value ∙ ap₂ (λ (t : Term) (x : ℤ). that t Equal x) c.term_at.ensures.value next_is) c.in_ok-explain.ensures in
+    let explained = subst (λ (claim : Claim). IsClaimExplained trail claim c.loop-count.clause c.explain.new.clause) (c.equal-leads.ensures.value ∙ ap₂ (λ (t : Term) (x : ℤ). that t Equal x) c.term_at.ensures.value next_is) c.in_ok-explain.ensures in
     let room : length c.loop-count.places.items < length xs = let count = c.loop-count.invariant.count in omega arith in
     let longer : c.push-in-loop-count.new.self.items ≡ c.loop-count.places.items ++ c.in-Some.next ∷ [] = c.in_ok-push-2.ensures.items ∙ ap (λ (x : ℤ). c.loop-count.places.items ++ x ∷ []) next_is in
     let more = way_step trail xs c.args.start (to_z w64 c.loop-count.last-bits) c.in-Some.next c.loop-count.places.items c.loop-count.clause c.explain.new.clause way room c.in-Some.ensures.place leads (λ e. c.if-next-start.false (ap (of_z w64) e)) explained in

@@ -6,7 +6,7 @@ use Rattle.fzn_meaning.specs.declared.term.Term.{Term}
 use Rattle.fzn_meaning.specs.declared.term.Term.TheVariants.{Variable}
 use Rattle.fzn_rules.specs.Cut.{LeadsInto}
 use Rattle.fzn_terms.specs.declared.claim.Claim.{Claim}
-use Rattle.fzn_terms.specs.Denied.{that, IsEntailed, IsExplained, IsGrown}
+use Rattle.fzn_terms.specs.Denied.{that, IsEntailed, IsClaimExplained, IsGrown}
 use Rattle.fzn_circuit.specs.Closed.{LeadsIntoBetween}
 use Rattle.fzn_circuit.proofs.ClosedLemmas.{leads_into}
 use Rattle.fzn_terms.proofs.OrderLemmas.{le_test}
@@ -31,8 +31,8 @@ returns c =
     let high = c.high_end-high.result in
     let low_is = real _ c.low_end-low.ensures.limits in
     let high_is = real _ c.high_end-high.ensures.limits in
-    let from = subst (λ (claim : Claim). IsExplained c.args.pass.now.trail.now claim c.args.clause.now c.explain.new.clause) (c.at_least.ensures ∙ ap (that (Variable c.in-Variable.var) AtLeast) low_is) c.in_ok-explain.ensures in
-    let to = subst (λ (claim : Claim). IsExplained c.args.pass.now.trail.now claim c.explain.new.clause c.explain-2.new.clause) (c.at_most.ensures ∙ ap (that (Variable c.in-Variable.var) AtMost) high_is) c.in_ok-explain-2.ensures in
+    let from = subst (λ (claim : Claim). IsClaimExplained c.args.pass.now.trail.now claim c.args.clause.now c.explain.new.clause) (c.at_least.ensures ∙ ap (that (Variable c.in-Variable.var) AtLeast) low_is) c.in_ok-explain.ensures in
+    let to = subst (λ (claim : Claim). IsClaimExplained c.args.pass.now.trail.now claim c.explain.new.clause c.explain-2.new.clause) (c.at_most.ensures ∙ ap (that (Variable c.in-Variable.var) AtMost) high_is) c.in_ok-explain-2.ensures in
     IfOk-weaker c.explain_between.result _ _
     (λ leads told yes.
     let between = subst₂ (λ (x y : ℤ). IsGrown c.args.pass.now.trail.now (LeadsIntoBetween c.args.places.now c.in-Variable.var x y) c.explain-2.new.clause c.explain_between.new.clause) low_is high_is (told yes) in

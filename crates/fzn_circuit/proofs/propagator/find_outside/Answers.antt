@@ -7,8 +7,8 @@ use Rattle.fzn_terms.specs.declared.claim.Claim.{Claim}
 use Rattle.fzn_terms.specs.Denied.{that, IsDenied}
 use Rattle.fzn_propagator.specs.declared.propagator.Inference.{Inference}
 use Rattle.fzn_circuit.specs.declared.pass.Pass.{Pass}
-use Rattle.fzn_circuit.specs.Passes.{AreFoundIn}
-use Rattle.fzn_circuit.specs.Circuits.{IsInside}
+use Rattle.fzn_circuit.specs.Passes.{AreFoundOfCircuit}
+use Rattle.fzn_circuit.specs.Circuits.{IsSuccessorInside}
 use Rattle.fzn_circuit.proofs.CircuitLemmas.{at_default, below_met, above_met}
 use Rattle.fzn_circuit.proofs.propagator.find_outside.Goals as goal
 use Rattle.fzn_circuit.proofs.propagator.find_outside.Goals.{then-not-is_denied+in_ok-find_not, else-not-is_denied, then-not-is_denied-2+in_ok-find_not-2, else-not-is_denied-2}
@@ -27,7 +27,7 @@ find_not-requires-then-not-is_denied-2-clause-refuted c =
 
 -- what one look makes of what was found
 abbrev IsLooked : Pass → Claim → List Inference → List Inference → Type 0
-IsLooked pass claim old new = AreFoundIn pass new × (new ≡ [] → old ≡ []) × (new ≡ [] → IsDenied pass.trail.now.sets claim)
+IsLooked pass claim old new = AreFoundOfCircuit pass new × (new ≡ [] → old ≡ []) × (new ≡ [] → IsDenied pass.trail.now.sets claim)
 
 pub loop-k-preserved : goal.loop-k-preserved
 loop-k-preserved c =
@@ -50,8 +50,8 @@ loop-k-preserved c =
             | inl before ↦ c.loop-k.invariant.none (first.1 none) k d before
             | inr past ↦
                 let here : c.loop-k.k ≡ k = omega arith in
-                subst (λ (n : ℕ). IsInside c.args.pass.now.trail.now.sets (length c.args.pass.now.successors.now) (get_or c.args.pass.now.successors.now n d)) here
-                (at_default xs c.loop-k.k (Constant (pos 0)) d (IsInside sets (length xs)) c.loop-k-test.true (rw c.at_most-below.ensures at (first.2 none), rw beyond at (second.2 empty)))
+                subst (λ (n : ℕ). IsSuccessorInside c.args.pass.now.trail.now.sets (length c.args.pass.now.successors.now) (get_or c.args.pass.now.successors.now n d)) here
+                (at_default xs c.loop-k.k (Constant (pos 0)) d (IsSuccessorInside sets (length xs)) c.loop-k-test.true (rw c.at_most-below.ensures at (first.2 none), rw beyond at (second.2 empty)))
           ];
     }
 

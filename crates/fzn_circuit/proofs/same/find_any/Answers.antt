@@ -1,6 +1,6 @@
 use Rattle.std.proofs.Common.{◌≡◌, ℕ, inl, inr, arith, subst}
 use Rattle.std.proofs.lemmas.Bool.{cases_lt}
-use Rattle.fzn_circuit.specs.Circuits.{AreApart}
+use Rattle.fzn_circuit.specs.Circuits.{HaveNoCommonValue}
 use Rattle.fzn_circuit.proofs.SameLemmas.{apart_different}
 use Rattle.fzn_circuit.proofs.same.find_any.Goals as goal
 
@@ -11,7 +11,7 @@ loop-j-preserved c = record {
     | inl before ↦ c.loop-j.invariant.apart j before
     | inr past ↦
         let here : c.loop-j.j ≡ j = omega arith in
-        subst (AreApart c.args.pass.now.trail.now.sets c.args.pass.now.successors.now c.loop-i.i) here (c.in_ok-find_pair.ensures.none c.if-not-is_empty.ensures)
+        subst (HaveNoCommonValue c.args.pass.now.trail.now.sets c.args.pass.now.successors.now c.loop-i.i) here (c.in_ok-find_pair.ensures.none c.if-not-is_empty.ensures)
   ];
 }
 
@@ -22,7 +22,7 @@ loop-i-preserved c = record {
     | inl before ↦ c.loop-i.invariant.apart i j before
     | inr past ↦
         let here : c.loop-i.i ≡ i = omega arith in
-        subst (λ (n : ℕ). AreApart c.args.pass.now.trail.now.sets c.args.pass.now.successors.now n j) here
+        subst (λ (n : ℕ). HaveNoCommonValue c.args.pass.now.trail.now.sets c.args.pass.now.successors.now n j) here
         (λ d v apart one other. c.loop-j.invariant.apart j (omega (arith, other, c.loop-j-test.false, c.loop-j.auto.j-end)) d v apart one other)
   ];
 }

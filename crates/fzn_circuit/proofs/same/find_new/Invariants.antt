@@ -1,5 +1,5 @@
-use Rattle.fzn_circuit.specs.Passes.{AreFoundIn}
+use Rattle.fzn_circuit.specs.Passes.{AreFoundOfCircuit}
 use Rattle.fzn_circuit.proofs.same.find_new.Given as goal
 
 abbrev pub invariant-loop-k : goal.invariant-loop-k
-invariant-loop-k l = AreFoundIn l.pass l.found
+invariant-loop-k l = AreFoundOfCircuit l.pass l.found

@@ -9,10 +9,10 @@ use Rattle.fzn_meaning.specs.declared.constraint.Constraint.TheVariants.{Circuit
 use Rattle.fzn_rules.specs.declared.rule.Rule.TheVariants.{Hall}
 use Rattle.fzn_sets.specs.Terms.{IsFixedTo}
 use Rattle.fzn_terms.specs.declared.claim.Claim.{Claim}
-use Rattle.fzn_terms.specs.Denied.{that, IsEntailed, IsDenied, IsExplained, IsForced}
+use Rattle.fzn_terms.specs.Denied.{that, IsEntailed, IsDenied, IsClaimExplained, IsClaimForced}
 use Rattle.fzn_propagator.specs.Inference.{HasWritableHints}
 use Rattle.fzn_propagator.proofs.CallerLemmas.{justified_where}
-use Rattle.fzn_circuit.specs.Passes.{IsInferred}
+use Rattle.fzn_circuit.specs.Passes.{IsJustifiedByCircuit}
 use Rattle.fzn_circuit.proofs.CircuitLemmas.{all_fixed, same_met}
 use Rattle.fzn_circuit.proofs.SameLemmas.{hall_hints}
 use Rattle.fzn_circuit.proofs.same.find_pair.Goals as goal
@@ -40,11 +40,11 @@ returns-clause-found c =
     let value = c.least_of-value.result in
     let at : Term = Constant (pos 0) in
     let same = real _ c.least_of-value.ensures.in_limits in
-    let one = subst (λ (claim : Claim). IsExplained c.args.pass.now.trail.now claim c.in_ok-clause.clause c.explain.new.clause) (c.equal-one.ensures.value ∙ ap (that (get_or xs c.args.i (Constant (pos 0))) Equal) same) c.in_ok-explain.ensures in
-    let forced = subst (λ (claim : Claim). IsForced c.args.pass.now.trail.now claim c.explain.new.clause c.force.new.clause) (c.equal-other.ensures.value ∙ ap (that (get_or xs c.args.j (Constant (pos 0))) Equal) same) (MatchBool-at_true _ (IsDenied c.args.pass.now.trail.now.sets c.equal-other.result) c.if-not-branch.false c.in_ok-force.ensures) in
+    let one = subst (λ (claim : Claim). IsClaimExplained c.args.pass.now.trail.now claim c.in_ok-clause.clause c.explain.new.clause) (c.equal-one.ensures.value ∙ ap (that (get_or xs c.args.i (Constant (pos 0))) Equal) same) c.in_ok-explain.ensures in
+    let forced = subst (λ (claim : Claim). IsClaimForced c.args.pass.now.trail.now claim c.explain.new.clause c.force.new.clause) (c.equal-other.ensures.value ∙ ap (that (get_or xs c.args.j (Constant (pos 0))) Equal) same) (MatchBool-at_true _ (IsDenied c.args.pass.now.trail.now.sets c.equal-other.result) c.if-not-branch.false c.in_ok-force.ensures) in
     let apart : c.args.i ≢ c.args.j = λ e. c.if-j-i.false (sym e) in
     c.hand_over.ensures.found trail (Circuit xs)
-    (subst (λ (x : ℤ). IsInferred c.args.pass.now (Hall x x) c.force.new.clause) (sym same)
+    (subst (λ (x : ℤ). IsJustifiedByCircuit c.args.pass.now (Hall x x) c.force.new.clause) (sym same)
     (justified_where trail (Circuit xs) (Hall value value) c.force.new.clause forced.forcing (λ sets left.
     same_met trail.declared c.force.new.clause sets left xs c.args.pass.now.terms.0 c.args.i c.args.j value at apart (omega arith) (omega arith) (one.says sets (forced.keeps sets left)) (forced.says sets left))))
     c.requires.before

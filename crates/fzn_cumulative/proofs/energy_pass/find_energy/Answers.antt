@@ -1,12 +1,12 @@
 use Rattle.std.proofs.Common.{rules, ◌≡◌, w64, to_z, of_z, FitsSigned}
 use Rattle.std.proofs.lemmas.Int.{to_z-of_z}
 use Rattle.fzn_cumulative.specs.Loads.{cumulative_of}
-use Rattle.fzn_cumulative.specs.Passes.{tasks_of, AreFoundIn}
+use Rattle.fzn_cumulative.specs.Passes.{tasks_of, AreFoundOfCumulative}
 use Rattle.fzn_cumulative.proofs.energy_pass.find_energy.Goals as goal
 use Rattle.fzn_cumulative.proofs.energy_pass.find_energy.Goals.{After-hand_over}
 
 -- what is handed over is justified
-found : (c : After-hand_over) → AreFoundIn c.args.pass.now c.hand_over.new.self
+found : (c : After-hand_over) → AreFoundOfCumulative c.args.pass.now c.hand_over.new.self
 found c =
     let fits_from : FitsSigned w64 c.in-Some.span.from = search rules in
     let fits_until : FitsSigned w64 c.in-Some.span.until = search rules in

@@ -1,10 +1,10 @@
 use Rattle.fzn_cumulative.specs.Loads.{cumulative_of}
 use Rattle.fzn_cumulative.proofs.load_pass.find_capacity.Goals as goal
-use Rattle.fzn_cumulative.specs.Passes.{tasks_of, AreFoundIn}
+use Rattle.fzn_cumulative.specs.Passes.{tasks_of, AreFoundOfCumulative}
 use Rattle.fzn_cumulative.proofs.load_pass.find_capacity.Goals.{After-hand_over}
 
 -- what is handed over is justified
-found : (c : After-hand_over) → AreFoundIn c.args.pass.now c.hand_over.new.self
+found : (c : After-hand_over) → AreFoundOfCumulative c.args.pass.now c.hand_over.new.self
 found c =
     let justified = rw c.if-branch.true at c.in_ok-push_capacity.ensures in
     c.hand_over.ensures.found c.args.pass.now.trail.now (cumulative_of (tasks_of c.args.pass.now)) justified c.requires

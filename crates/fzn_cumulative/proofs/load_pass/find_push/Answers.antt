@@ -2,11 +2,11 @@ use Rattle.std.proofs.Common.{rules, ◌≡◌, w64, to_z, of_z, FitsSigned}
 use Rattle.std.proofs.lemmas.Int.{to_z-of_z}
 use Rattle.fzn_cumulative.specs.Loads.{cumulative_of}
 use Rattle.fzn_cumulative.proofs.load_pass.find_push.Goals as goal
-use Rattle.fzn_cumulative.specs.Passes.{tasks_of, AreFoundIn}
+use Rattle.fzn_cumulative.specs.Passes.{tasks_of, AreFoundOfCumulative}
 use Rattle.fzn_cumulative.proofs.load_pass.find_push.Goals.{After-hand_over}
 
 -- what is handed over is justified
-found : (c : After-hand_over) → AreFoundIn c.args.pass.now c.hand_over.new.self
+found : (c : After-hand_over) → AreFoundOfCumulative c.args.pass.now c.hand_over.new.self
 found c =
     let fits : FitsSigned w64 c.args.time.now = search rules in
     let same : to_z w64 (of_z w64 c.args.time.now) ≡ c.args.time.now = to_z-of_z w64 c.args.time.now fits in

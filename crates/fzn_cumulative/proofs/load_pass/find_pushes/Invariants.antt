@@ -1,5 +1,5 @@
 use Rattle.fzn_cumulative.proofs.load_pass.find_pushes.Given as goal
-use Rattle.fzn_cumulative.specs.Passes.{AreFoundIn}
+use Rattle.fzn_cumulative.specs.Passes.{AreFoundOfCumulative}
 
 abbrev pub invariant-loop-k : goal.invariant-loop-k
-invariant-loop-k l = AreFoundIn l.pass l.found
+invariant-loop-k l = AreFoundOfCumulative l.pass l.found

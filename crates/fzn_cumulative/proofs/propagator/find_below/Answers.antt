@@ -6,7 +6,7 @@ use Rattle.fzn_meaning.specs.declared.term.Term.{Term}
 use Rattle.fzn_meaning.specs.declared.term.Term.TheVariants.{Constant}
 use Rattle.fzn_terms.specs.Denied.{that, IsDenied}
 use Rattle.fzn_cumulative.specs.Loads.{cumulative_of}
-use Rattle.fzn_cumulative.specs.Passes.{tasks_of, AreFoundIn}
+use Rattle.fzn_cumulative.specs.Passes.{tasks_of, AreFoundOfCumulative}
 use Rattle.fzn_cumulative.proofs.PropagatorLemmas.{some_below}
 use Rattle.fzn_cumulative.proofs.propagator.find_below.Goals as goal
 use Rattle.fzn_cumulative.proofs.propagator.find_below.Goals.{then-branch+in_ok-hand_over, else-branch}
@@ -19,7 +19,7 @@ loop-k-preserved c =
           let forced = MatchBool-at_true _ (IsDenied c.args.pass.now.trail.now.sets (that (get_or c.args.terms.now c.loop-k.k (Constant (pos 0))) AtMost (negsuc 0))) w.if-branch.true (rw c.at_most.ensures at c.in_ok-force.ensures) in
           record {
             found =
-                subst (AreFoundIn c.args.pass.now) (sym w.found-is)
+                subst (AreFoundOfCumulative c.args.pass.now) (sym w.found-is)
                 (w.in_ok-hand_over.ensures.found trail (cumulative_of (tasks_of c.args.pass.now)) (c.requires.inferred c.force.new.clause (some_below trail c.args.terms.now c.loop-k.k (Constant (pos 0)) _ c.force.new.clause c.requires.terms c.loop-k-test.true forced)) c.loop-k.invariant.found);
             kept = λ empty. absurd (w.in_ok-hand_over.ensures.some (sym w.found-is ∙ empty));
             none = λ empty. absurd (w.in_ok-hand_over.ensures.some (sym w.found-is ∙ empty));
@@ -29,7 +29,7 @@ loop-k-preserved c =
           let sets = c.args.pass.now.trail.now.sets in
           let denied = MatchBool-at_false _ (IsDenied sets (that (get_or terms c.loop-k.k (Constant (pos 0))) AtMost (negsuc 0))) w.if-branch.false (rw c.at_most.ensures at c.in_ok-force.ensures) in
           record {
-            found = subst (AreFoundIn c.args.pass.now) (sym w.found-is) c.loop-k.invariant.found;
+            found = subst (AreFoundOfCumulative c.args.pass.now) (sym w.found-is) c.loop-k.invariant.found;
             kept = λ empty. c.loop-k.invariant.kept (sym w.found-is ∙ empty);
             none = λ empty k d below. elim (cases_lt k c.loop-k.k) [
               | inl before ↦ c.loop-k.invariant.none (sym w.found-is ∙ empty) k d before

@@ -1,6 +1,6 @@
 use Rattle.std.proofs.Common.{◌≡◌, ◌*◌, ◌≤◌, pos, ◌≤ℤ◌, take, unsigned_abs, All}
 use Rattle.fzn_builtin_rules.specs.Linear.{least_sum, greatest_sum}
-use Rattle.fzn_propagator.specs.Inference.{spread}
+use Rattle.fzn_propagator.specs.Inference.{spread_of_place}
 use Rattle.fzn_linear.proofs.ends.ends_of.Given as goal
 
 abbrev pub invariant-loop-place : goal.invariant-loop-place
@@ -10,5 +10,5 @@ invariant-loop-place l = record {
   least_bounded : unsigned_abs l.ends.least ≤ l.place-index * 1000000000000000000;
   greatest_bounded : unsigned_abs l.ends.greatest ≤ l.place-index * 1000000000000000000;
   not_below : pos 0 ≤ℤ l.ends.widest;
-  none_wider : All (λ place. spread l.trail.sets place ≤ℤ l.ends.widest) (take l.place-index l.places);
+  none_wider : All (λ place. spread_of_place l.trail.sets place ≤ℤ l.ends.widest) (take l.place-index l.places);
 }

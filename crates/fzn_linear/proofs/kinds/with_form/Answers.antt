@@ -1,6 +1,6 @@
 use Rattle.std.proofs.Common.{◌≡◌, length, sym, subst}
 use Rattle.fzn_linear.specs.declared.sum.SumPropagator.{SumPropagator}
-use Rattle.fzn_linear.specs.Kinds.{form_in}
+use Rattle.fzn_linear.specs.Kinds.{form_of_sum}
 use Rattle.fzn_linear.specs.Wakes.{wake_of}
 use Rattle.fzn_linear.proofs.FitLemmas.{fits_of, ready_of}
 use Rattle.fzn_linear.proofs.kinds.with_form.Goals as goal
@@ -17,4 +17,4 @@ returns-clause-fits c = λ declared well.
 
 pub returns-clause-wake : goal.returns-clause-wake
 returns-clause-wake c =
-    subst (λ (s : SumPropagator). s.wake ≡ wake_of c.args.constraint.now (form_in s.form)) (sym c.kind_of.ensures.sum) c.wake_of-wake.ensures
+    subst (λ (s : SumPropagator). s.wake ≡ wake_of c.args.constraint.now (form_of_sum s.form)) (sym c.kind_of.ensures.sum) c.wake_of-wake.ensures

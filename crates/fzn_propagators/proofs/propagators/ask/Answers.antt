@@ -1,7 +1,7 @@
 -- What the propagator at this place finds.
 use Rattle.std.proofs.Common.{get_or, ap, ◌∙◌}
 use Rattle.fzn_propagator.specs.Inference.{AreExhausted}
-use Rattle.fzn_propagator.specs.Constraints.{IsInference, IsJustified}
+use Rattle.fzn_propagator.specs.Constraints.{IsInference, IsInferenceJustified}
 use Rattle.fzn_propagators.proofs.FoundLemmas.{HoldsAt-item, fits-trail, all-found, all-justified}
 use Rattle.fzn_propagators.proofs.TakenLemmas.{first-taken, others-left, none-taken}
 use Rattle.fzn_propagators.proofs.propagators.ask.Goals as goal
@@ -35,6 +35,6 @@ returns-clause-none g c =
 pub returns-clause-rest : goal.returns-clause-rest
 returns-clause-rest g c =
     let p = c.index-as_slice-place.result in
-    others-left (IsJustified c.args.model.now) c.take_first.result c.propagate.new.found c.take_first.new.self c.take_first.ensures.some c.take_first.ensures.none
+    others-left (IsInferenceJustified c.args.model.now) c.take_first.result c.propagate.new.found c.take_first.new.self c.take_first.ensures.some c.take_first.ensures.none
     (all-justified c.args.model.now c.args.trail.now c.requires.declared g.P.Propagator.number g.P.Propagator.is_for g.P.Propagator.fits c.args.items.now c.requires.is_for c.args.place p
     (c.index-as_slice-place.is ∙ ap (λ xs. get_or xs c.args.place p) c.as_slice.ensures) c.requires.place c.propagate.new.found c.propagate.ensures.found)

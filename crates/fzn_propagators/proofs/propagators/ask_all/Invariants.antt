@@ -1,6 +1,6 @@
 use Rattle.std.specs.Prelude.{◌≡◌, []}
 use Rattle.std.specs.List.{All, AllWithin}
-use Rattle.fzn_propagator.specs.Constraints.{IsJustified}
+use Rattle.fzn_propagator.specs.Constraints.{IsInferenceJustified}
 use Rattle.fzn_propagator.specs.Inference.{AreExhausted}
 use Rattle.fzn_propagators.proofs.propagators.ask_all.Given as goal
 
@@ -8,6 +8,6 @@ use Rattle.fzn_propagators.proofs.propagators.ask_all.Given as goal
 abbrev pub invariant-loop-place : goal.invariant-loop-place
 invariant-loop-place g l = record {
   none : AllWithin (λ p. AreExhausted (g.P.Propagator.is_for p) l.trail) l.items 0 l.place;
-  rest : All (IsJustified l.model) l.found;
+  rest : All (IsInferenceJustified l.model) l.found;
   left : l.found ≡ [];
 }

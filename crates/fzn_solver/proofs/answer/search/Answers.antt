@@ -2,12 +2,12 @@
 use Rattle.std.proofs.Common.{ℕ, Option, refl, sym, subst, ◌∙◌, inl}
 use Rattle.fzn_cert.specs.Writer.{contents_of as cert_contents, has_failed_in as cert_failed}
 use Rattle.fzn_engine.specs.declared.limits.Limits.{Limits}
-use Rattle.fzn_engine.specs.Outcome.{HasRoom}
+use Rattle.fzn_engine.specs.Outcome.{HasRoomForMore}
 use Rattle.fzn_printer.specs.Printer.{out_contents, out_failed}
 use Rattle.fzn_printer.specs.Shown.{is_closed}
 use Rattle.fzn_solver.specs.Causes.{HasCause, IsCause}
 use Rattle.fzn_solver.specs.FaultsFrom.{fault_of_engine}
-use Rattle.fzn_solver.specs.Left.{IsLeft}
+use Rattle.fzn_solver.specs.Left.{IsLeftByRun}
 use Rattle.fzn_solver.proofs.LeftLemmas.{error-is, left-unbegun, left-on_way, left-at_end, lines-kept, lines-unclosed}
 use Rattle.fzn_solver.proofs.CauseLemmas.{run-cause, fault-cause}
 use Rattle.fzn_solver.proofs.AnswerLemmas.{answer-of, room-at_first}
@@ -15,7 +15,7 @@ use Rattle.fzn_solver.proofs.answer.search.Goals as goal
 
 pub solve-requires-clause-room : goal.solve-requires-clause-room
 solve-requires-clause-room g c =
-    let H : Option ℕ → Type 0 = λ most. HasRoom c.args.model.now.goal most 0 in
+    let H : Option ℕ → Type 0 = λ most. HasRoomForMore c.args.model.now.goal most 0 in
     subst H (sym c.wanted.ensures) (room-at_first c.args.model.now.goal c.args.options.now.all c.args.options.now.limit)
 
 pub returns-clause-answer : goal.returns-clause-answer
@@ -26,12 +26,12 @@ returns-clause-answer g c =
 
 pub returns-in_err-begin-clause-left : goal.returns-in_err-begin-clause-left
 returns-in_err-begin-clause-left g c =
-    error-is c.from_residual.result (fault_of_engine c.in_err-begin.field-0.0) (IsLeft c.args.model.now c.args.options.now.all (out_contents g.W.Write.contents c.args.writers.now.out) (out_contents g.W.Write.contents c.begin.new.self.out) (cert_contents g.C.Write.contents c.args.writers.now.cert) (cert_contents g.C.Write.contents c.begin.new.self.cert)) c.from_residual.ensures.1
+    error-is c.from_residual.result (fault_of_engine c.in_err-begin.field-0.0) (IsLeftByRun c.args.model.now c.args.options.now.all (out_contents g.W.Write.contents c.args.writers.now.out) (out_contents g.W.Write.contents c.begin.new.self.out) (cert_contents g.C.Write.contents c.args.writers.now.cert) (cert_contents g.C.Write.contents c.begin.new.self.cert)) c.from_residual.ensures.1
     (left-unbegun g.W.Write.contents g.C.Write.contents c.args.model.now c.args.options.now.all c.args.writers.now c.begin.new.self c.in_err-begin.field-0.0 c.requires.model c.in_err-begin.ensures.err)
 
 pub returns-in_err-close-clause-left : goal.returns-in_err-close-clause-left
 returns-in_err-close-clause-left g c =
-    error-is c.from_residual-in_err-close.result (fault_of_engine c.in_err-close.field-0.0) (IsLeft c.args.model.now c.args.options.now.all (out_contents g.W.Write.contents c.args.writers.now.out) (out_contents g.W.Write.contents c.close.new.self.out) (cert_contents g.C.Write.contents c.args.writers.now.cert) (cert_contents g.C.Write.contents c.close.new.self.cert)) c.from_residual-in_err-close.ensures.1
+    error-is c.from_residual-in_err-close.result (fault_of_engine c.in_err-close.field-0.0) (IsLeftByRun c.args.model.now c.args.options.now.all (out_contents g.W.Write.contents c.args.writers.now.out) (out_contents g.W.Write.contents c.close.new.self.out) (cert_contents g.C.Write.contents c.args.writers.now.cert) (cert_contents g.C.Write.contents c.close.new.self.cert)) c.from_residual-in_err-close.ensures.1
     (left-at_end g.W.Write.contents g.C.Write.contents c.args.model.now c.args.options.now.all c.args.writers.now c.solve.new.sink c.close.new.self c.in_err-close.field-0.0 _ _ c.in-Ok.report.nodes c.in-Ok.report.ending
     c.requires.model c.requires.fresh c.requires.alone (c.solve.ensures.kept.1 ∙ c.begin.ensures.same) c.solve.ensures.accepted c.in-Ok.ensures.outcome c.solve.ensures.kept.0.0 c.in_err-close.ensures.err)
 
@@ -43,7 +43,7 @@ returns-in_err-begin-clause-cause g c =
 
 pub returns-in-Err-clause-left : goal.returns-in-Err-clause-left
 returns-in-Err-clause-left g c =
-    subst (IsLeft c.args.model.now c.args.options.now.all (out_contents g.W.Write.contents c.args.writers.now.out) (out_contents g.W.Write.contents c.solve.new.sink.out) (cert_contents g.C.Write.contents c.args.writers.now.cert) (cert_contents g.C.Write.contents c.solve.new.sink.cert)) (sym c.into.ensures)
+    subst (IsLeftByRun c.args.model.now c.args.options.now.all (out_contents g.W.Write.contents c.args.writers.now.out) (out_contents g.W.Write.contents c.solve.new.sink.out) (cert_contents g.C.Write.contents c.args.writers.now.cert) (cert_contents g.C.Write.contents c.solve.new.sink.cert)) (sym c.into.ensures)
     (left-on_way g.W.Write.contents g.C.Write.contents c.args.model.now c.args.options.now.all c.args.writers.now c.solve.new.sink c.fault.result c.requires.model c.requires.fresh c.requires.alone
     (c.solve.ensures.kept.1 ∙ c.begin.ensures.same) c.solve.ensures.accepted c.solve.ensures.kept.0.0)
 

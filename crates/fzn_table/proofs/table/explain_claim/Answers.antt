@@ -2,7 +2,7 @@ use Rattle.std.proofs.Common.{ℕ, ◌<◌, refl, sym, subst, ◌∙◌, arith, 
 use Rattle.std.proofs.lemmas.Bool.{MatchBool-at_true, MatchBool-at_false, true≢false}
 use Rattle.fzn_meaning.specs.Term.{numbers_in}
 use Rattle.fzn_terms.specs.Values.{place_at}
-use Rattle.fzn_terms.specs.Denied.{that, IsDenied, IsForced}
+use Rattle.fzn_terms.specs.Denied.{that, IsDenied, IsClaimForced}
 use Rattle.fzn_table.specs.Passes.{number_in_row}
 use Rattle.fzn_table.proofs.PropagatorLemmas.{table_justified}
 use Rattle.fzn_table.proofs.TableLemmas.{row_below, below_count, claim_explained, matches_out, matches_other, matches_passed, real_near}
@@ -61,7 +61,7 @@ returns-clause-found c =
     let forced = MatchBool-at_true _ _ c.if-not-branch-2.false c.in_ok-force.ensures in
     table_justified trail places rows c.force.new.clause
     (claim_explained trail places rows c.args.p c.args.op bound c.loop-r.clause c.force.new.clause c.loop-r.r c.requires.in_range (λ r whole. let below = below_count pass r whole in let count = c.count.ensures in omega (arith, below, ended, count)) c.loop-r.invariant.out
-    (subst (λ (x : ℤ). IsForced trail (that (place_at places c.args.p) c.args.op x) c.loop-r.clause c.force.new.clause) (real_near bound c.requires.near) forced))
+    (subst (λ (x : ℤ). IsClaimForced trail (that (place_at places c.args.p) c.args.op x) c.loop-r.clause c.force.new.clause) (real_near bound c.requires.near) forced))
 
 pub returns-then-not-branch-2-clause-none : goal.returns-then-not-branch-2-clause-none
 returns-then-not-branch-2-clause-none c =

@@ -1,5 +1,5 @@
-use Rattle.fzn_table.specs.Words.{AreApart}
+use Rattle.fzn_table.specs.Words.{HaveNoCommonBit}
 use Rattle.fzn_table.proofs.words.first_common.Given as goal
 
 abbrev pub invariant-loop-i : goal.invariant-loop-i
-invariant-loop-i l = AreApart l.words l.others l.i
+invariant-loop-i l = HaveNoCommonBit l.words l.others l.i

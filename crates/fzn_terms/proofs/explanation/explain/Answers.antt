@@ -7,7 +7,7 @@ use Rattle.fzn_domain.specs.Literal.{negated}
 use Rattle.fzn_domain.specs.IntSet.{is_possible}
 use Rattle.fzn_domain.specs.Narrow.{set_of}
 use Rattle.fzn_meaning.specs.Term.{IsTerm}
-use Rattle.fzn_terms.specs.Denied.{IsExplained}
+use Rattle.fzn_terms.specs.Denied.{IsClaimExplained}
 use Rattle.fzn_terms.proofs.DeniedLemmas.{explained_constant, explained_declared, explained_push}
 use Rattle.fzn_terms.proofs.explanation.explain.Goals as goal
 
@@ -24,7 +24,7 @@ returns-in_ok-push c =
     let possible : is_possible (set_of trail.declared c.in-Variable.var) (negated (record { var = c.in-Variable.var; op = c.args.claim.op; value = c.args.claim.number })) ≡ true =
     sym (ap₂ is_possible c.declared-declared.ensures opposite) ∙ not-false _ (sym c.is_false.ensures ∙ c.if-not-is_false.true) in
     let limited : IsLimited (set_of trail.declared c.in-Variable.var) = subst IsLimited c.declared-declared.ensures c.is_empty-none.ensures.limited in
-    subst (λ (xs : List Lit). IsExplained trail c.args.claim c.args.clause.now xs)
+    subst (λ (xs : List Lit). IsClaimExplained trail c.args.claim c.args.clause.now xs)
     (sym (c.in_ok-push.ensures.ok ∙ ap (λ (l : Lit). c.args.clause.now ++ l ∷ []) opposite))
     (explained_push trail c.args.claim c.args.clause.now c.requires.still c.in-Variable.var c.in-Variable.is variable c.domain-domain.ensures.narrower limited c.requires.filled c.requires.present possible)
 

@@ -7,7 +7,7 @@ use Rattle.fzn_domain.specs.Literal.{compares, negated}
 use Rattle.fzn_domain.specs.IntSet.{is_possible}
 use Rattle.fzn_domain.specs.Narrow.{set_of}
 use Rattle.fzn_meaning.specs.Term.{IsTerm}
-use Rattle.fzn_terms.specs.Denied.{IsForced}
+use Rattle.fzn_terms.specs.Denied.{IsClaimForced}
 use Rattle.fzn_terms.proofs.DeniedLemmas.{forced_constant, forced_declared, forced_push, none_constant, possible_of}
 use Rattle.fzn_terms.proofs.explanation.force_possible.Goals as goal
 
@@ -32,7 +32,7 @@ returns-in_ok-push c =
     let possible : is_possible (set_of trail.declared c.in-Variable.var) (negated (record { var = c.in-Variable.var; op = c.args.claim.op; value = c.args.claim.number })) ≡ true =
     sym (ap₂ is_possible c.declared-declared.ensures opposite) ∙ not-false _ (sym c.is_false.ensures ∙ c.if-not-is_false.true) in
     let limited : IsLimited (set_of trail.declared c.in-Variable.var) = subst IsLimited c.declared-declared.ensures c.is_empty-none.ensures.limited in
-    subst (λ (xs : List Lit). IsForced trail c.args.claim c.args.clause.now xs)
+    subst (λ (xs : List Lit). IsClaimForced trail c.args.claim c.args.clause.now xs)
     (sym (c.in_ok-push.ensures.ok ∙ ap (λ (l : Lit). c.args.clause.now ++ l ∷ []) opposite))
     (forced_push trail c.args.claim c.args.clause.now c.requires.still c.in-Variable.var c.in-Variable.is variable c.domain-domain.ensures.narrower limited (possible_of trail c.args.claim c.in-Variable.var c.in-Variable.is c.requires.possible) possible)
 

@@ -1,12 +1,12 @@
-use Rattle.std.proofs.Common.{length, refl}
-use Rattle.fzn_cert.specs.declared.step.Version.TheVariants.{Two}
+use Rattle.std.proofs.Common.{◌++◌, length, refl}
 use Rattle.fzn_cert_reader.specs.Reader.{progress}
 use Rattle.fzn_checker.specs.FileFaults.{fault_from}
-use Rattle.fzn_checker.specs.Held.{certificate_of}
+use Rattle.fzn_checker.specs.Held.{lines_to_end}
 use Rattle.fzn_checker.proofs.CallerLemmas.{error-is, lines-two}
 use Rattle.fzn_trim.specs.declared.trimming.Trimmed.{Trimmed}
 use Rattle.fzn_trim.specs.Kept.{kept_steps}
 use Rattle.fzn_trim.specs.Trimmed.{IsTrimFault}
+use Rattle.fzn_trim.specs.Written.{front_of}
 use Rattle.fzn_trim.proofs.TrimLemmas.{trims-of, certificate-fault, write-fault, model-fault}
 use Rattle.fzn_trim.proofs.trimming.trim_tracked.Goals as goal
 
@@ -24,7 +24,7 @@ returns-in_err-held-clause-err g c =
     let cert = (progress g.C.Read.remaining c.args.cert.now).left in
     let before = g.W.Write.contents c.args.new.now in
     error-is c.from_residual-in_err-held.result c.in_err-held.field-0.0 (IsTrimFault file cert before before) c.from_residual-in_err-held.ensures.1
-    (certificate-fault file cert c.in_ok-model.model c.in_ok-model.ensures.right before c.in_err-held.field-0.0 c.in_err-held.ensures.err)
+    (certificate-fault file cert c.in_ok-model.model c.hold_certificate.new.model c.in_ok-model.ensures.right before c.in_err-held.field-0.0 c.in_err-held.ensures.err)
 
 pub trimmed_steps-requires-clause-lines : goal.trimmed_steps-requires-clause-lines
 trimmed_steps-requires-clause-lines g c =
@@ -37,23 +37,27 @@ returns-in_err-write_certificate-clause-err g c =
     let cert = (progress g.C.Read.remaining c.args.cert.now).left in
     let before = g.W.Write.contents c.args.new.now in
     let after = g.W.Write.contents c.write_certificate.new.new in
+    let extended = c.hold_certificate.new.model in
     let held = c.in_ok-held.held in
+    let read = c.in_ok-kept.kept.derivations.items in
     let kept = kept_steps c.in_ok-kept.kept in
     let trimmed : Trimmed = record { steps = length held.steps; kept = length kept } in
     error-is c.from_residual-in_err-write_certificate.result c.in_err-write_certificate.field-0.0 (IsTrimFault file cert before after) c.from_residual-in_err-write_certificate.ensures.1
-    (write-fault file cert before after (certificate_of c.in_ok-model.model Two kept held.closed) trimmed c.in_err-write_certificate.field-0.0
-    (trims-of file cert c.in_ok-model.model c.in_ok-model.ensures.right held kept trimmed c.in_ok-model.ensures.well_formed c.in_ok-held.ensures.ok c.in_ok-kept.ensures refl refl)
+    (write-fault file cert before after (front_of extended read ++ lines_to_end kept held.closed) trimmed c.in_err-write_certificate.field-0.0
+    (trims-of file cert c.in_ok-model.model extended c.in_ok-model.ensures.right held kept read trimmed c.in_ok-model.ensures.well_formed c.in_ok-held.ensures.formed c.in_ok-held.ensures.ok c.in_ok-kept.ensures.derivations c.in_ok-kept.ensures.steps refl refl)
     c.in_err-write_certificate.ensures.fault c.in_err-write_certificate.ensures.text)
 
 pub returns-clause-ok : goal.returns-clause-ok
 returns-clause-ok g c =
     let file = g.R.Read.remaining c.args.file.now in
     let cert = (progress g.C.Read.remaining c.args.cert.now).left in
+    let extended = c.hold_certificate.new.model in
     let held = c.in_ok-held.held in
+    let read = c.in_ok-kept.kept.derivations.items in
     let kept = kept_steps c.in_ok-kept.kept in
     let trimmed : Trimmed = record { steps = c.len-steps.result; kept = c.len.result } in (
-      certificate_of c.in_ok-model.model Two kept held.closed,
-      trims-of file cert c.in_ok-model.model c.in_ok-model.ensures.right held kept trimmed c.in_ok-model.ensures.well_formed c.in_ok-held.ensures.ok c.in_ok-kept.ensures
+      front_of extended read ++ lines_to_end kept held.closed,
+      trims-of file cert c.in_ok-model.model extended c.in_ok-model.ensures.right held kept read trimmed c.in_ok-model.ensures.well_formed c.in_ok-held.ensures.formed c.in_ok-held.ensures.ok c.in_ok-kept.ensures.derivations c.in_ok-kept.ensures.steps
           c.len-steps.ensures c.len.ensures,
       c.in_ok-write_certificate.ensures.text,
     )

@@ -4,7 +4,7 @@ use Rattle.fzn_meaning.specs.Term.{IsTerm}
 use Rattle.fzn_terms.specs.declared.claim.Claim.{Claim}
 use Rattle.fzn_terms.proofs.ExplanationLemmas.{justified_found}
 use Rattle.fzn_arithmetic.specs.Excluded.{rule_of}
-use Rattle.fzn_arithmetic.specs.Passes.{constraint_of}
+use Rattle.fzn_arithmetic.specs.Passes.{shape_constraint}
 use Rattle.fzn_arithmetic.proofs.ExcludedLemmas.{refuted_shaped}
 use Rattle.fzn_arithmetic.proofs.pass.Pass.outside.Goals as goal
 
@@ -21,6 +21,6 @@ explanation_of-requires c =
 pub returns : goal.returns
 returns c =
     let pass = c.args.self.now in
-    justified_found c.explanation_of.result pass.trail.now (c.outside.result.0 ∷ c.outside.result.1 ∷ c.outside-2.result.0 ∷ c.outside-2.result.1 ∷ c.outside-3.result.0 ∷ c.outside-3.result.1 ∷ []) (constraint_of pass) (rule_of pass.shape)
+    justified_found c.explanation_of.result pass.trail.now (c.outside.result.0 ∷ c.outside.result.1 ∷ c.outside-2.result.0 ∷ c.outside-2.result.1 ∷ c.outside-3.result.0 ∷ c.outside-3.result.1 ∷ []) (shape_constraint pass) (rule_of pass.shape)
     (refuted_shaped pass c.args.within.left c.args.within.right c.args.within.of _ _ _ _ _ _ c.outside.ensures.inside c.outside-2.ensures.inside c.outside-3.ensures.inside (c.is_excluded.ensures c.if-not-is_excluded.false).none)
     c.explanation_of.ensures

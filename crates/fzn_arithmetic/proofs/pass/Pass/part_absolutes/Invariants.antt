@@ -1,5 +1,5 @@
-use Rattle.fzn_arithmetic.specs.Passes.{AreFoundIn}
+use Rattle.fzn_arithmetic.specs.Passes.{AreFoundOfShape}
 use Rattle.fzn_arithmetic.proofs.pass.Pass.part_absolutes.Given as goal
 
 abbrev pub invariant-loop : goal.invariant-loop
-invariant-loop l = AreFoundIn l.self l.found
+invariant-loop l = AreFoundOfShape l.self l.found

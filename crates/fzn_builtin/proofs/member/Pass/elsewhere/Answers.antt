@@ -3,9 +3,9 @@ use Rattle.std.proofs.lemmas.List.Elements.{All-push}
 use Rattle.fzn_meaning.specs.Term.{IsTerm}
 use Rattle.fzn_rules.specs.declared.rule.Rule.TheVariants as rule
 use Rattle.fzn_terms.specs.declared.claim.Claim.{Claim}
-use Rattle.fzn_terms.specs.Denied.{IsExplanation}
+use Rattle.fzn_terms.specs.Denied.{ExplainsClaims}
 use Rattle.fzn_terms.proofs.ExplanationLemmas.{justified_found}
-use Rattle.fzn_builtin.specs.Passes.{constraint_of, AreAsked}
+use Rattle.fzn_builtin.specs.Passes.{membership_constraint, AreAsked}
 use Rattle.fzn_builtin.proofs.MemberLemmas.{refuted_elsewhere}
 use Rattle.fzn_builtin.proofs.member.Pass.elsewhere.Goals as goal
 
@@ -20,6 +20,6 @@ pub returns : goal.returns
 returns c =
     let pass = c.args.self.now in
     let asked = subst (λ (o : Option (List Claim)). IfSome o (AreAsked c.args.self.now c.args.within)) c.in-Some-2.is c.in_ok-claims.ensures in
-    justified_found c.explanation_of.result pass.trail.now (c.in-Some-2.claims ++ c.in-Some.otherwise ∷ []) (constraint_of pass) rule.Rows
+    justified_found c.explanation_of.result pass.trail.now (c.in-Some-2.claims ++ c.in-Some.otherwise ∷ []) (membership_constraint pass) rule.Rows
     (refuted_elsewhere pass c.args.within c.in-Some-2.claims c.in-Some.otherwise asked c.in-Some.ensures.denied)
-    (subst (λ (xs : List Claim). IfOk c.explanation_of.result (λ o. IfSome o (IsExplanation c.args.self.now.trail.now xs))) (c.as_slice.ensures ∙ c.in_ok-push.ensures.ok) c.explanation_of.ensures)
+    (subst (λ (xs : List Claim). IfOk c.explanation_of.result (λ o. IfSome o (ExplainsClaims c.args.self.now.trail.now xs))) (c.as_slice.ensures ∙ c.in_ok-push.ensures.ok) c.explanation_of.ensures)

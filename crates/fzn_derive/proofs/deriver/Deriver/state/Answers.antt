@@ -10,7 +10,7 @@ use Rattle.fzn_meaning.specs.declared.term.Place.{Place}
 use Rattle.fzn_meaning.specs.declared.relation.Comparison.TheVariants.{AtMost}
 use Rattle.fzn_meaning.specs.declared.constraint.Constraint.TheVariants.{Linear}
 use Rattle.fzn_derive.specs.Merged.{has_weight}
-use Rattle.fzn_derive.specs.Room.{variables_in, cell_of, sum_place, held, IsInOrder}
+use Rattle.fzn_derive.specs.Room.{variables_in, cell_of, sum_place, held, IsSortedOnce}
 use Rattle.fzn_derive.proofs.BoundLemmas.{small-fits}
 use Rattle.fzn_derive.proofs.StatingLemmas.{small-held, held-small, order-inside, order-small, order-held}
 use Rattle.fzn_derive.proofs.deriver.Deriver.state.Goals as goal
@@ -27,21 +27,21 @@ pub sum_over-requires-clause-inside : goal.sum_over-requires-clause-inside
 sum_over-requires-clause-inside c =
     let room = c.args.self.now in
     let order = c.in_ok-order.order.items in
-    let ordered = subst (λ (ns : List ℕ). IsInOrder ns order) c.as_slice.ensures.value c.in_ok-order.ensures in
+    let ordered = subst (λ (ns : List ℕ). IsSortedOnce ns order) c.as_slice.ensures.value c.in_ok-order.ensures in
     subst (All (λ (place : ℕ). place < variables_in room)) (sym c.as_slice-2.ensures.value) (order-inside room c.requires order ordered)
 
 pub sum_over-requires-clause-small : goal.sum_over-requires-clause-small
 sum_over-requires-clause-small c =
     let room = c.args.self.now in
     let order = c.in_ok-order.order.items in
-    let ordered = subst (λ (ns : List ℕ). IsInOrder ns order) c.as_slice.ensures.value c.in_ok-order.ensures in
+    let ordered = subst (λ (ns : List ℕ). IsSortedOnce ns order) c.as_slice.ensures.value c.in_ok-order.ensures in
     subst (All (λ (place : ℕ). IsSmall (cell_of room place).sum)) (sym c.as_slice-2.ensures.value) (order-small room c.requires order ordered (c.are_small.ensures.0 c.if-not-are_small.false))
 
 pub returns-then-len-gt-LONGEST-clause-fault : goal.returns-then-len-gt-LONGEST-clause-fault
 returns-then-len-gt-LONGEST-clause-fault c =
     let room = c.args.self.now in
     let order = c.in_ok-order.order.items in
-    let ordered = subst (λ (ns : List ℕ). IsInOrder ns order) c.as_slice.ensures.value c.in_ok-order.ensures in
+    let ordered = subst (λ (ns : List ℕ). IsSortedOnce ns order) c.as_slice.ensures.value c.in_ok-order.ensures in
     let sum_is = c.in_ok-sum.ensures ∙ ap (λ (ns : List ℕ). filter has_weight (map (sum_place room) ns)) c.as_slice-2.ensures.value ∙ order-held room c.requires order ordered in
     let len : length c.in_ok-sum.sum ≡ length (held room) = ap (λ (places : List Place). length places) sum_is in
     inr (refl, λ statable. let short : length (held room) ≤ longest = statable.short in omega (arith, c.len.ensures))
@@ -50,7 +50,7 @@ pub returns-clause-stated : goal.returns-clause-stated
 returns-clause-stated c =
     let room = c.args.self.now in
     let order = c.in_ok-order.order.items in
-    let ordered = subst (λ (ns : List ℕ). IsInOrder ns order) c.as_slice.ensures.value c.in_ok-order.ensures in
+    let ordered = subst (λ (ns : List ℕ). IsSortedOnce ns order) c.as_slice.ensures.value c.in_ok-order.ensures in
     let sum_is = c.in_ok-sum.ensures ∙ ap (λ (ns : List ℕ). filter has_weight (map (sum_place room) ns)) c.as_slice-2.ensures.value ∙ order-held room c.requires order ordered in
     let plain = to_z-of_z w128 c.args.bound c.ranges.bound in
     let small = subst IsSmall plain (c.is_small.ensures.0 c.if-not-is_small.false) in
@@ -61,7 +61,7 @@ pub returns-clause-statable : goal.returns-clause-statable
 returns-clause-statable c =
     let room = c.args.self.now in
     let order = c.in_ok-order.order.items in
-    let ordered = subst (λ (ns : List ℕ). IsInOrder ns order) c.as_slice.ensures.value c.in_ok-order.ensures in
+    let ordered = subst (λ (ns : List ℕ). IsSortedOnce ns order) c.as_slice.ensures.value c.in_ok-order.ensures in
     let sum_is = c.in_ok-sum.ensures ∙ ap (λ (ns : List ℕ). filter has_weight (map (sum_place room) ns)) c.as_slice-2.ensures.value ∙ order-held room c.requires order ordered in
     let few : length c.in_ok-sum.sum ≤ longest = omega (arith, c.len.ensures) in
     record {

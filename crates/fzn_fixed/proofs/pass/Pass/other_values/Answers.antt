@@ -4,7 +4,7 @@ use Rattle.std.proofs.lemmas.List.Elements.{All-push}
 use Rattle.fzn_meaning.specs.Term.{IsTerm}
 use Rattle.fzn_rules.specs.declared.rule.Rule.TheVariants.{Fixed}
 use Rattle.fzn_terms.specs.declared.claim.Claim.{Claim}
-use Rattle.fzn_terms.specs.Denied.{IsExplanation}
+use Rattle.fzn_terms.specs.Denied.{ExplainsClaims}
 use Rattle.fzn_terms.proofs.ExplanationLemmas.{justified_found}
 use Rattle.fzn_fixed.proofs.FixedLemmas.{AreOthers, others_none, others_push, refuted_others}
 use Rattle.fzn_fixed.proofs.pass.Pass.other_values.Goals as goal
@@ -32,4 +32,4 @@ returns c =
     let end : c.loop-k.k ≡ length pass.inputs.now = omega arith in
     justified_found c.explanation_of.result pass.trail.now (c.loop-k.claims ++ c.in-Some.claim ∷ []) pass.constraint.now Fixed
     (refuted_others pass c.args.values.now c.args.image c.loop-k.claims c.in-Some.claim c.requires.one_each c.requires.image (subst (λ (n : ℕ). AreOthers pass c.args.values.now c.loop-k.claims n) end c.loop-k.invariant) c.in-Some.ensures.none)
-    (subst (λ (xs : List Claim). IfOk c.explanation_of.result (λ o. IfSome o (IsExplanation pass.trail.now xs))) (c.as_slice.ensures ∙ c.in_ok-push-2.ensures.ok) c.explanation_of.ensures)
+    (subst (λ (xs : List Claim). IfOk c.explanation_of.result (λ o. IfSome o (ExplainsClaims pass.trail.now xs))) (c.as_slice.ensures ∙ c.in_ok-push-2.ensures.ok) c.explanation_of.ensures)

@@ -5,7 +5,7 @@ use Rattle.fzn_domain.specs.declared.literal.Lit.{Lit}
 use Rattle.fzn_meaning.specs.declared.term.Term.{Term}
 use Rattle.fzn_meaning.specs.declared.term.Term.TheVariants.{Constant}
 use Rattle.fzn_globals.specs.Apart.{IsForcedWithin}
-use Rattle.fzn_globals.specs.DifferentPasses.{IsInferred}
+use Rattle.fzn_globals.specs.DifferentPasses.{IsJustifiedByHall}
 use Rattle.fzn_globals.proofs.HallLemmas.{end_explained}
 use Rattle.fzn_globals.proofs.KindLemmas.{hall_justified}
 use Rattle.fzn_globals.proofs.all_different.hall.push_outside.Goals as goal
@@ -19,7 +19,7 @@ returns c =
     let d : Term = Constant (pos 0) in
     let clause = c.force_within.new.clause in
     let forced = subst (λ (xs : List Lit). IsForcedWithin trail span.low span.high (get_or places c.args.place d) xs clause) (c.in_ok-clause.ensures ∙ c.as_slice.ensures) (c.in_ok-force_within.ensures c.if-not-branch.false) in
-    subst (All (IsInferred pass span.low span.high)) (sym c.in_ok-push.ensures.items)
-    (All-push (IsInferred pass span.low span.high) c.args.clauses.now.items clause c.requires.before
+    subst (All (IsJustifiedByHall pass span.low span.high)) (sym c.in_ok-push.ensures.items)
+    (All-push (IsJustifiedByHall pass span.low span.high) c.args.clauses.now.items clause c.requires.before
     (hall_justified trail places span.low span.high clause
     (end_explained trail places span.low span.high span.ordered c.args.within.now clause c.args.place d c.requires.place c.requires.within forced c.requires.many)))

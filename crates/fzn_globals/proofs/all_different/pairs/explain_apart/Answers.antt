@@ -5,7 +5,7 @@ use Rattle.fzn_domain.specs.declared.literal.Op.TheVariants.{Equal}
 use Rattle.fzn_meaning.specs.declared.term.Term.{Term}
 use Rattle.fzn_meaning.specs.declared.term.Term.TheVariants.{Constant}
 use Rattle.fzn_terms.specs.declared.claim.Claim.{Claim}
-use Rattle.fzn_terms.specs.Denied.{that, IsDenied, IsExplained, IsForced}
+use Rattle.fzn_terms.specs.Denied.{that, IsDenied, IsClaimExplained, IsClaimForced}
 use Rattle.fzn_globals.proofs.ApartLemmas.{apart_explained, not_at}
 use Rattle.fzn_globals.proofs.KindLemmas.{hall_justified}
 use Rattle.fzn_globals.proofs.all_different.pairs.explain_apart.Goals as goal
@@ -19,8 +19,8 @@ returns-then-branch-clause-found c =
     let same = real value c.requires.limits in
     hall_justified trail places value value c.force.new.clause
     (apart_explained trail places c.args.i c.args.j d d value c.in_ok-clause.clause c.explain.new.clause c.force.new.clause c.args.pass.now.fit c.requires.first c.requires.second c.requires.apart
-    (subst (λ (claim : Claim). IsExplained trail claim c.in_ok-clause.clause c.explain.new.clause) (c.equal.ensures.value ∙ ap (λ (x : ℤ). that (get_or places c.args.i d) Equal x) same) c.in_ok-explain.ensures)
-    (subst (λ (claim : Claim). IsForced trail claim c.explain.new.clause c.force.new.clause) (c.equal-2.ensures.value ∙ ap (λ (x : ℤ). that (get_or places c.args.j d) Equal x) same) (MatchBool-at_true _ _ c.if-branch.true c.in_ok-force.ensures)))
+    (subst (λ (claim : Claim). IsClaimExplained trail claim c.in_ok-clause.clause c.explain.new.clause) (c.equal.ensures.value ∙ ap (λ (x : ℤ). that (get_or places c.args.i d) Equal x) same) c.in_ok-explain.ensures)
+    (subst (λ (claim : Claim). IsClaimForced trail claim c.explain.new.clause c.force.new.clause) (c.equal-2.ensures.value ∙ ap (λ (x : ℤ). that (get_or places c.args.j d) Equal x) same) (MatchBool-at_true _ _ c.if-branch.true c.in_ok-force.ensures)))
 
 pub returns-else-branch-clause-none : goal.returns-else-branch-clause-none
 returns-else-branch-clause-none c = λ e f only.

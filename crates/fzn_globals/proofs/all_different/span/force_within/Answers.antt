@@ -5,7 +5,7 @@ use Rattle.std.proofs.lemmas.Result.{IfOk-weaker}
 use Rattle.fzn_domain.proofs.DomainLemmas.{real}
 use Rattle.fzn_domain.specs.declared.literal.Op.TheVariants.{AtMost, AtLeast}
 use Rattle.fzn_terms.specs.declared.claim.Claim.{Claim}
-use Rattle.fzn_terms.specs.Denied.{that, IsEntailed, IsExplained, IsForced}
+use Rattle.fzn_terms.specs.Denied.{that, IsEntailed, IsClaimExplained, IsClaimForced}
 use Rattle.fzn_terms.proofs.OrderLemmas.{le_test}
 use Rattle.fzn_globals.proofs.HallLemmas.{high_forced, low_forced}
 use Rattle.fzn_globals.proofs.all_different.span.force_within.Goals as goal
@@ -19,8 +19,8 @@ returns-then-span-least_of c =
     IfOk-weaker c.force.result _ _
     (λ found forces told. record {
       grown = high_forced trail low high term c.requires.term c.args.clause.now c.explain.new.clause c.force.new.clause
-          (subst (λ (claim : Claim). IsExplained trail claim c.args.clause.now c.explain.new.clause) (c.at_least.ensures ∙ ap (λ (x : ℤ). that term AtLeast x) (real low c.args.span.now.begins)) c.in_ok-explain.ensures)
-          (subst (λ (claim : Claim). IsForced trail claim c.explain.new.clause c.force.new.clause) (c.at_most.ensures ∙ ap (λ (x : ℤ). that term AtMost x) (real high c.args.span.now.ends)) (MatchBool-at_true _ _ told forces));
+          (subst (λ (claim : Claim). IsClaimExplained trail claim c.args.clause.now c.explain.new.clause) (c.at_least.ensures ∙ ap (λ (x : ℤ). that term AtLeast x) (real low c.args.span.now.begins)) c.in_ok-explain.ensures)
+          (subst (λ (claim : Claim). IsClaimForced trail claim c.explain.new.clause c.force.new.clause) (c.at_most.ensures ∙ ap (λ (x : ℤ). that term AtMost x) (real high c.args.span.now.ends)) (MatchBool-at_true _ _ told forces));
       outside = sym c.lies_within.ensures.value ∙ c.if-lies_within.false;
     })
     c.force.ensures
@@ -42,8 +42,8 @@ returns-then-greatest_of-span c =
     IfOk-weaker c.force-then-greatest_of-span.result _ _
     (λ found forces told. record {
       grown = low_forced trail low high term c.requires.term c.args.clause.now c.explain-then-greatest_of-span.new.clause c.force-then-greatest_of-span.new.clause
-          (subst (λ (claim : Claim). IsExplained trail claim c.args.clause.now c.explain-then-greatest_of-span.new.clause) (c.at_most-then-greatest_of-span.ensures ∙ ap (λ (x : ℤ). that term AtMost x) (real high c.args.span.now.ends)) c.in_ok-explain-2.ensures)
-          (subst (λ (claim : Claim). IsForced trail claim c.explain-then-greatest_of-span.new.clause c.force-then-greatest_of-span.new.clause) (c.at_least-then-greatest_of-span.ensures ∙ ap (λ (x : ℤ). that term AtLeast x) (real low c.args.span.now.begins)) (MatchBool-at_true _ _ told forces));
+          (subst (λ (claim : Claim). IsClaimExplained trail claim c.args.clause.now c.explain-then-greatest_of-span.new.clause) (c.at_most-then-greatest_of-span.ensures ∙ ap (λ (x : ℤ). that term AtMost x) (real high c.args.span.now.ends)) c.in_ok-explain-2.ensures)
+          (subst (λ (claim : Claim). IsClaimForced trail claim c.explain-then-greatest_of-span.new.clause c.force-then-greatest_of-span.new.clause) (c.at_least-then-greatest_of-span.ensures ∙ ap (λ (x : ℤ). that term AtLeast x) (real low c.args.span.now.begins)) (MatchBool-at_true _ _ told forces));
       outside = sym c.lies_within.ensures.value ∙ c.if-lies_within.false;
     })
     c.force-then-greatest_of-span.ensures

@@ -11,12 +11,12 @@ use Rattle.fzn_meaning.specs.Entries.{IsIndex}
 use Rattle.fzn_propagator.specs.Clause.{IsJustifiedBy}
 use Rattle.fzn_globals.specs.declared.inverse.pass.Pass.{Pass}
 use Rattle.fzn_globals.specs.Ways.{IsBrokenOn, pair_rule}
-use Rattle.fzn_globals.specs.InversePasses.{IsInferred, HasEntry}
+use Rattle.fzn_globals.specs.InversePasses.{IsJustifiedByInverse, HasEntry}
 use Rattle.fzn_globals.proofs.KindLemmas.{pair_justified}
 use Rattle.fzn_globals.proofs.WayLemmas.{index_limits, broken_missing, broken_fixed, may_be_so}
 use Rattle.fzn_globals.proofs.inverse.pairs.explain_pair.Goals as goal
 
-inferred : (pass : Pass) (i j : ℤ) (clause : List Lit) → HasEntry pass i → HasEntry pass j → IsJustifiedBy pass.trail.now (IsBrokenOn pass.there.now pass.back.now i j) clause → IsInferred pass (pair_rule pass.side i j) clause
+inferred : (pass : Pass) (i j : ℤ) (clause : List Lit) → HasEntry pass i → HasEntry pass j → IsJustifiedBy pass.trail.now (IsBrokenOn pass.there.now pass.back.now i j) clause → IsJustifiedByInverse pass (pair_rule pass.side i j) clause
 inferred pass i j clause at_i at_j broken = pair_justified pass.trail.now pass.there.now pass.back.now clause i j at_i (subst (λ (n : ℕ). IsIndex n j) (sym pass.same) at_j) pass.side broken
 
 pub returns-then-not-may_be-clause-found : goal.returns-then-not-may_be-clause-found

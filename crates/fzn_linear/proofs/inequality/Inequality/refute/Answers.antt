@@ -10,7 +10,7 @@ use Rattle.fzn_builtin_rules.specs.Linear.{least_sum}
 use Rattle.fzn_propagator.specs.Inference.{IsTight}
 use Rattle.fzn_linear.specs.declared.at_most.PlaceFloor.{PlaceFloor}
 use Rattle.fzn_linear.specs.Explained.{AreFloors}
-use Rattle.fzn_linear.specs.Refuted.{IsConflict, IsRefutation}
+use Rattle.fzn_linear.specs.Refuted.{IsSumConflict, IsRefutation}
 use Rattle.fzn_linear.proofs.ClauseLemmas.{forcing}
 use Rattle.fzn_linear.proofs.RefutedLemmas.{refutation_of}
 use Rattle.fzn_linear.proofs.EndLemmas.{tight_within}
@@ -20,7 +20,7 @@ pub returns-in-Some-clause-found : goal.returns-in-Some-clause-found
 returns-in-Some-clause-found c =
     let sum = c.args.self.now in
     refutation_of sum.trail.now AtMost sum.places.now sum.bound c.in-Some.clause
-    (subst (λ (f : Option (List Lit)). IfSome f (IsConflict c.args.self.now.trail.now AtMost c.args.self.now.places.now c.args.self.now.bound)) c.in-Some.is c.in_ok-clause.ensures.found)
+    (subst (λ (f : Option (List Lit)). IfSome f (IsSumConflict c.args.self.now.trail.now AtMost c.args.self.now.places.now c.args.self.now.bound)) c.in-Some.is c.in_ok-clause.ensures.found)
 
 pub returns-in_default-slack-clause-none : goal.returns-in_default-slack-clause-none
 returns-in_default-slack-clause-none c =

@@ -4,7 +4,7 @@ use Rattle.std.proofs.lemmas.Option.{IfSome_then}
 use Rattle.fzn_domain.specs.declared.literal.Lit.{Lit}
 use Rattle.fzn_meaning.specs.declared.term.Place.{Place}
 use Rattle.fzn_meaning.specs.declared.relation.Comparison.TheVariants.{AtMost}
-use Rattle.fzn_propagator.specs.Inference.{IsTight, spread}
+use Rattle.fzn_propagator.specs.Inference.{IsTight, spread_of_place}
 use Rattle.fzn_linear.specs.Refuted.{IsRefutation}
 use Rattle.fzn_linear.proofs.PassLemmas.{adds_none, adds_both, within_more}
 use Rattle.fzn_linear.proofs.RefuteLemmas.{cause_of_forced}
@@ -26,8 +26,8 @@ loop-place-preserved c =
     let before = c.loop-place.invariant in
     record {
       adds = adds_both _ _ _ _ _ _ before.adds c.hand_over.ensures.found;
-      none = λ empty. within_more (λ (p : Place). spread part.trail.now.sets p ≤ℤ pos c.in-Some.slack) part.places.now c.loop-place.place (before.none (c.hand_over.ensures.found.kept empty))
-          (subst (λ (f : Option (List Lit)). IfNone f ((d : Place) → spread c.args.part.now.trail.now.sets (get_or c.args.part.now.places.now c.loop-place.place d) ≤ℤ pos c.in-Some.slack)) (c.in_ok-hand_over.ensures.none empty) c.in_ok-clause.ensures.none);
+      none = λ empty. within_more (λ (p : Place). spread_of_place part.trail.now.sets p ≤ℤ pos c.in-Some.slack) part.places.now c.loop-place.place (before.none (c.hand_over.ensures.found.kept empty))
+          (subst (λ (f : Option (List Lit)). IfNone f ((d : Place) → spread_of_place c.args.part.now.trail.now.sets (get_or c.args.part.now.places.now c.loop-place.place d) ≤ℤ pos c.in-Some.slack)) (c.in_ok-hand_over.ensures.none empty) c.in_ok-clause.ensures.none);
     }
 
 pub returns-clause-none : goal.returns-clause-none

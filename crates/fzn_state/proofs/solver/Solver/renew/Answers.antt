@@ -8,7 +8,7 @@ use Rattle.fzn_trail.specs.Levels.{fresh}
 use Rattle.fzn_clauses.specs.Propagation.{IsPropagated}
 use Rattle.fzn_clauses.specs.Watching.{held_by}
 use Rattle.fzn_clauses.proofs.CallerLemmas.{declared-Propagates}
-use Rattle.fzn_state.specs.Changes.{IsKeptBy}
+use Rattle.fzn_state.specs.Changes.{IsStateKept}
 use Rattle.fzn_state.specs.Search.{stock_of}
 use Rattle.fzn_state.proofs.ForgetLemmas.{swept-reduced, forgotten-reduced, reduced-through}
 use Rattle.fzn_state.proofs.SettlingLemmas.{reduced-kept, kept-through, IsRooted-fresh, renewed-kept, dropped-reduced}
@@ -47,7 +47,7 @@ returns c = record {
       let same : declared_sets c.as_slice.result.now ≡ c.args.self.now.trail.declared = ap declared_sets c.as_slice.ensures ∙ sym h.state.core.declared in
       let R : List IntSet → Type 0 = λ declared. IsPropagated (held_by c.look_at_all.new.self) (fresh declared) c.in_ok-trail.trail in
       let anew = renewed-kept h c.requires.first c.requires.level c.look_at_all.new.self c.in_ok-look_at_all.ensures.held c.in_ok-trail.trail (subst R same c.in_ok-trail.ensures.propagated) c.in_ok-trail.ensures.watching (c.if-not-has_no_more_values.ensures refl) (record c.args.self.now.notes { settling = c.expect_entries.new.self }) in
-      let K : Searching → Type 0 = λ search. IsKeptBy c.args.model.now steps c.args.self.now (record c.args.self.now { clauses = c.look_at_all.new.self; trail = c.in_ok-trail.trail; notes = record c.args.self.now.notes { settling = c.expect_entries.new.self }; search = search }) in
+      let K : Searching → Type 0 = λ search. IsStateKept c.args.model.now steps c.args.self.now (record c.args.self.now { clauses = c.look_at_all.new.self; trail = c.in_ok-trail.trail; notes = record c.args.self.now.notes { settling = c.expect_entries.new.self }; search = search }) in
       let kept = subst K (sym c.undo.ensures.same) anew in
       let less = dropped-reduced kept.state c.drop_inferences.ensures in
       let left = reduced-through less (forgotten-reduced less.state c.forget_units.new.clauses c.forget_units.ensures c.forget_units.new.notes) in

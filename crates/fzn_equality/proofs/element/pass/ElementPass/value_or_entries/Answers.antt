@@ -3,7 +3,7 @@ use Rattle.std.proofs.lemmas.Int.{ints}
 use Rattle.fzn_rules.specs.declared.rule.Rule.TheVariants as rule
 use Rattle.fzn_terms.specs.declared.claim.Claim.{Claim}
 use Rattle.fzn_terms.proofs.ExplanationLemmas.{justified_found}
-use Rattle.fzn_equality.specs.ElementPasses.{constraint_of}
+use Rattle.fzn_equality.specs.ElementPasses.{element_constraint}
 use Rattle.fzn_equality.proofs.EntryLemmas.{IsAgainstValue, IsClaimDenied, LeadsTo, against_skip, against_push, value_first, refuted_against}
 use Rattle.fzn_equality.proofs.element.pass.ElementPass.value_or_entries.Goals as goal
 use Rattle.fzn_equality.proofs.element.pass.ElementPass.value_or_entries.Goals.{then-self-place+then-place-self+in-Some+in_ok-push-4, else-self-place, else-self-place-via-then-self-place+else-place-self, else-self-place-via-else-self-place}
@@ -40,6 +40,6 @@ pub returns : goal.returns
 returns c =
     let pass = c.args.self.now in
     let end : c.loop-k.k ≡ length pass.entries.now = omega arith in
-    justified_found c.explanation_of.result pass.trail.now c.loop-k.claims (constraint_of pass) rule.Rows
+    justified_found c.explanation_of.result pass.trail.now c.loop-k.claims (element_constraint pass) rule.Rows
     (refuted_against pass c.claim_of-claim.result c.loop-k.claims (subst (λ (n : ℕ). IsAgainstValue pass c.claim_of-claim.result c.loop-k.claims n) end c.loop-k.invariant))
     (rw c.as_slice.ensures at c.explanation_of.ensures)

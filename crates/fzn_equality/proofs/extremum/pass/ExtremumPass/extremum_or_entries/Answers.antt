@@ -2,7 +2,7 @@ use Rattle.std.proofs.Common.{◌≡◌, ℕ, length, List, ◌∷◌, ◌++◌,
 use Rattle.fzn_rules.specs.declared.rule.Rule.TheVariants as rule
 use Rattle.fzn_terms.specs.declared.claim.Claim.{Claim}
 use Rattle.fzn_terms.proofs.ExplanationLemmas.{justified_found}
-use Rattle.fzn_equality.specs.ExtremumPasses.{constraint_of}
+use Rattle.fzn_equality.specs.ExtremumPasses.{extremum_constraint}
 use Rattle.fzn_equality.proofs.EntryLemmas.{IsAgainstExtremum, extremum_first, extremum_push, refuted_each}
 use Rattle.fzn_equality.proofs.extremum.pass.ExtremumPass.extremum_or_entries.Goals as goal
 
@@ -21,6 +21,6 @@ pub returns : goal.returns
 returns c =
     let pass = c.args.self.now in
     let end : c.loop-k.k ≡ length pass.entries.now = omega arith in
-    justified_found c.explanation_of.result pass.trail.now c.loop-k.claims (constraint_of pass) rule.Rows
+    justified_found c.explanation_of.result pass.trail.now c.loop-k.claims (extremum_constraint pass) rule.Rows
     (refuted_each pass c.claim_of-claim.result c.loop-k.claims (subst (λ (n : ℕ). IsAgainstExtremum pass c.claim_of-claim.result c.loop-k.claims n) end c.loop-k.invariant))
     (rw c.as_slice.ensures at c.explanation_of.ensures)

@@ -1,5 +1,5 @@
-use Rattle.fzn_equality.specs.ExtremumPasses.{AreFoundIn}
+use Rattle.fzn_equality.specs.ExtremumPasses.{AreFoundOfExtremum}
 use Rattle.fzn_equality.proofs.extremum.pass.ExtremumPass.hold_entries.Given as goal
 
 abbrev pub invariant-loop-k : goal.invariant-loop-k
-invariant-loop-k l = AreFoundIn l.self l.found
+invariant-loop-k l = AreFoundOfExtremum l.self l.found

@@ -1,0 +1,17 @@
+-- Derivations whose numbers have a spelling.
+use Rattle.std.proofs.Common.{ℕ, List, All}
+use Rattle.std.proofs.lemmas.List.Elements.{recursion_from_All}
+use Rattle.fzn_domain.specs.declared.literal.VarId.{VarId}
+use Rattle.fzn_derive.specs.declared.derivation.Multiple.{Multiple}
+use Rattle.fzn_derive.specs.declared.derivation.Derivation.TheVariants.{Sum, Parity, AllDifferent}
+use Rattle.fzn_cert.specs.Spelling.{IsNumber}
+use Rattle.fzn_cert.specs.Derivations.{IsDerivation, IsMultiple, IsVariableNumber}
+
+pub sum_is_spelled : (multiples : List Multiple) → All IsMultiple multiples → IsDerivation (Sum multiples)
+sum_is_spelled multiples all = recursion_from_All IsMultiple multiples all
+
+pub parity_is_spelled : (constraints : List ℕ) → All IsNumber constraints → IsDerivation (Parity constraints)
+parity_is_spelled constraints all = recursion_from_All IsNumber constraints all
+
+pub apart_is_spelled : (variables : List VarId) (constraints : List ℕ) → All IsVariableNumber variables → All IsNumber constraints → IsDerivation (AllDifferent variables constraints)
+apart_is_spelled variables constraints all both = (recursion_from_All IsVariableNumber variables all, recursion_from_All IsNumber constraints both)

@@ -1,0 +1,57 @@
+-- A model with constraints that are derived from its own, one after the other.
+use Rattle.std.specs.Prelude.{◌≡◌, ◌⊎◌, ℕ, ◌+◌, ◌<◌, List, [], ◌∷◌, ◌++◌, length}
+use Rattle.fzn_meaning.specs.declared.constraint.Constraint.{Constraint}
+use Rattle.fzn_meaning.specs.declared.constraint.Constraint.TheVariants.{Linear, ArrayBoolXor, AllDifferent}
+use Rattle.fzn_meaning.specs.declared.model.Model.{Model}
+use Rattle.fzn_meaning.specs.Solutions.{declared_sets}
+use Rattle.fzn_derive.specs.declared.derivation.Derivation.{Derivation}
+use Rattle.fzn_derive.specs.declared.fault.DeriveFault.{DeriveFault}
+use Rattle.fzn_derive.specs.declared.fault.DeriveFault.TheVariants.{NotDerived}
+use Rattle.fzn_derive.specs.Derived.{IsDerivedBy, IsDeriveFault}
+
+-- the model with one more constraint, behind its own
+abbrev pub with_constraint : Model → Constraint → Model
+with_constraint model constraint = record {
+  vars = model.vars;
+  constraints = model.constraints ++ constraint ∷ [];
+  goal = model.goal;
+  outputs = model.outputs;
+  shown = model.shown;
+}
+
+-- the derivation gives this constraint of the model's, or has this fault
+abbrev pub IsDerivedOf : Model → Derivation → Constraint → Type 0
+IsDerivedOf model derivation constraint = IsDerivedBy model.constraints (declared_sets model.vars) derivation constraint
+
+abbrev pub IsFaultyOf : Model → Derivation → DeriveFault → Type 0
+IsFaultyOf model derivation fault = IsDeriveFault model.constraints (declared_sets model.vars) derivation fault
+
+-- with the constraints that these derivations give, each of the model's and those before it, the model is this one
+abbrev pub Extends : Model → List Derivation → Model → Type 0
+Extends model [] after = after ≡ model
+Extends model (derivation ∷ later) after = (constraint : Constraint) × IsDerivedOf model derivation constraint × Extends (with_constraint model constraint) later after
+
+-- so it is by some derivations
+abbrev pub IsExtended : Model → Model → Type 0
+IsExtended model after = (derivations : List Derivation) × Extends model derivations after
+
+-- ---- how many terms there are
+
+-- those that are held of a constraint of a kind that is derived
+abbrev pub terms_held : Constraint → ℕ
+terms_held (Linear sum comparison bound switch) = length sum
+terms_held (ArrayBoolXor inputs) = length inputs
+terms_held (AllDifferent places) = length places
+terms_held _ = 0
+
+abbrev pub terms_held_in : List Constraint → ℕ
+terms_held_in [] = 0
+terms_held_in (constraint ∷ later) = terms_held constraint + terms_held_in later
+
+-- with the constraint that the derivation gives, the model has more terms than this
+abbrev pub PassesTerms : ℕ → Model → Derivation → Type 0
+PassesTerms most model derivation = (constraint : Constraint) × IsDerivedOf model derivation constraint × (most < terms_held_in model.constraints + terms_held constraint)
+
+-- what is wrong with a derivation by which the model may have so many terms: it gives no constraint, or one that has too many
+abbrev pub IsFaultyWithin : ℕ → Model → Derivation → DeriveFault → Type 0
+IsFaultyWithin most model derivation fault = IsFaultyOf model derivation fault ⊎ ((fault ≡ NotDerived) × PassesTerms most model derivation)

@@ -1,0 +1,5 @@
+pub mod Extended
+pub mod Extender
+pub mod Head
+pub mod Opening
+pub mod Outcome

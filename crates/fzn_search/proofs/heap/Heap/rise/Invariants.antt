@@ -1,4 +1,0 @@
-use Rattle.fzn_search.proofs.heap.Heap.rise.Given as goal
-
-abbrev pub decreases-loop-at : goal.decreases-loop-at
-decreases-loop-at l = l.at
