@@ -2,8 +2,8 @@
 //!
 //! In: ranges and listed values, a small model for each goal, a constraint for each name. Out: the calls of `Domain`, of `is_solution`,
 //! `better` and `cut` of `fzn_meaning` on lists of values, against tables written by hand; each rule by its
-//! own call on a choice of sets, and of `fzn_rules` on each choice of small sets, against `holds`; derivations of `fzn_derive`, and each
-//! call of `fzn_find` and `fzn_multipliers`, on a small model. Nothing is proved here beyond that the tests are safe; they stand apart so
+//! own call on a choice of sets, and of `fzn_rules` on each choice of small sets, against `holds`; derivations of `fzn_derive`, rows of
+//! `fzn_row`, and each call of `fzn_find` and `fzn_multipliers`, on a small model. Nothing is proved here beyond that the tests are safe; they stand apart so
 //! that the proofs of the crates below don't wait for theirs.
 #![tactic(auto)]
 
@@ -17,6 +17,8 @@ mod finds;
 mod kinds;
 #[cfg(test)]
 mod models;
+#[cfg(test)]
+mod rows;
 #[cfg(test)]
 mod rule_calls;
 #[cfg(test)]

@@ -1,0 +1,15 @@
+mod CostLemmas
+mod DerivedSound
+mod DraftSound
+mod FormedLemmas
+mod IntLemmas
+mod LeastLemmas
+mod ListLemmas
+mod MoveLemmas
+mod MovesSound
+mod MultiplesSound
+mod PartLemmas
+mod PriceLemmas
+mod PricesSound
+mod RuleSound
+mod TurnLemmas

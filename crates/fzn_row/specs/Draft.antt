@@ -1,0 +1,55 @@
+-- A row in the making, and what is changed in it.
+use Rattle.std.specs.Prelude.{ℕ, ℤ, pos, Bool, if◌then◌else◌, nat_eq, nat_le, unsigned_abs, List, [], ◌∷◌, None, Result, Ok, Err}
+use Rattle.fzn_domain.specs.declared.literal.VarId.{VarId}
+use Rattle.fzn_derive.specs.declared.fault.DeriveFault.{DeriveFault}
+use Rattle.fzn_derive.specs.declared.fault.DeriveFault.TheVariants.{NotDerived}
+use Rattle.fzn_row.specs.declared.row.Part.{Part}
+use Rattle.fzn_row.specs.declared.row.Row.{Row}
+
+-- its parts and its bound, and how many weights may still be listed
+pub record Draft : Type 0 where
+  pub parts : List Part
+  pub bound : ℤ
+  pub left : ℕ
+
+-- no part, the bound 0, and so many weights that may be listed
+abbrev pub empty : ℕ → Draft
+empty most = record { parts = []; bound = pos 0; left = most }
+
+abbrev pub row_of : Draft → Row
+row_of draft = record { parts = draft.parts; bound = draft.bound }
+
+-- a part at which the variable weighs 0 at each value
+abbrev pub blank_part : VarId → Part
+blank_part var = record { var = var; coefficient = pos 0; listed = None }
+
+-- the part of the variable, which is a blank one where it has none
+abbrev pub part_for : VarId → List Part → Part
+part_for var [] = blank_part var
+part_for var (part ∷ parts) = if nat_eq part.var.0 var.0 then part else part_for var parts
+
+-- the same parts with this one in place of that of its variable, or behind the others where its variable had none
+abbrev pub with_part : Part → List Part → List Part
+with_part new [] = new ∷ []
+with_part new (part ∷ parts) = if nat_eq part.var.0 new.var.0 then new ∷ parts else part ∷ with_part new parts
+
+abbrev pub is_row_number : ℤ → Bool
+is_row_number number = nat_le (unsigned_abs number) 1000000000000000000
+
+-- the draft with another bound, or with another coefficient of the variable, unless that leaves the limits
+abbrev pub with_bound : ℤ → Draft → Result Draft DeriveFault
+with_bound bound draft = if is_row_number bound then Ok (record draft { bound = bound }) else Err NotDerived
+
+abbrev pub with_coefficient : VarId → ℤ → Draft → Result Draft DeriveFault
+with_coefficient var coefficient draft =
+    if is_row_number coefficient then Ok (record draft { parts = with_part (record (part_for var draft.parts) { coefficient = coefficient }) draft.parts }) else Err NotDerived
+
+-- ---- one change after another, up to the first that is refused
+
+abbrev pub and_then : {A B : Type 0} → Result A DeriveFault → (A → Result B DeriveFault) → Result B DeriveFault
+and_then (Ok x) next = next x
+and_then (Err fault) next = Err fault
+
+abbrev pub in_turn : {A : Type 0} → (Draft → A → Result Draft DeriveFault) → Draft → List A → Result Draft DeriveFault
+in_turn change draft [] = Ok draft
+in_turn change draft (x ∷ xs) = and_then (change draft x) (λ next. in_turn change next xs)

@@ -1,0 +1,53 @@
+-- The part of a variable, moved to another one whose value decides its own.
+use Rattle.std.specs.Prelude.{ℕ, ℤ, pos, ◌+ℤ◌, Bool, true, false, ◌&&◌, if◌then◌else◌, nat_eq, nat_le, List, [], ◌∷◌, length, Option, None, Some, Result, Err}
+use Rattle.std.specs.List.{list_all}
+use Rattle.std.specs.Option.{option_map, option_map_or}
+use Rattle.fzn_domain.specs.declared.literal.VarId.{VarId}
+use Rattle.fzn_meaning.specs.declared.term.Term.{Term}
+use Rattle.fzn_meaning.specs.declared.term.Term.TheVariants.{Constant, Variable}
+use Rattle.fzn_meaning.specs.declared.constraint.Constraint.{Constraint}
+use Rattle.fzn_meaning.specs.declared.constraint.Constraint.TheVariants.{Element}
+use Rattle.fzn_meaning.specs.Term.{numbers_in}
+use Rattle.fzn_derive.specs.declared.fault.DeriveFault.{DeriveFault}
+use Rattle.fzn_derive.specs.declared.fault.DeriveFault.TheVariants.{NoSuchConstraint, NotDerived}
+use Rattle.fzn_derive.specs.Cited.{constraint_at}
+use Rattle.fzn_row.specs.declared.row.Listed.{Listed}
+use Rattle.fzn_row.specs.declared.row.Part.{Part}
+use Rattle.fzn_row.specs.Row.{listed_at, weight_at}
+use Rattle.fzn_row.specs.Draft.{Draft, blank_part, part_for, with_part}
+use Rattle.fzn_row.specs.Prices.{with_list}
+
+-- two weights together; none where either is barred
+abbrev pub both_weights : Option ℤ → Option ℤ → Option ℤ
+both_weights None more = None
+both_weights (Some weight) more = option_map (λ w. weight +ℤ w) more
+
+-- for each value from low on that has a target: what was listed for it, and what the part weighs at its target
+abbrev pub moved_from : ℤ → List ℤ → Option Listed → Part → List (Option ℤ)
+moved_from low [] old part = []
+moved_from low (target ∷ targets) old part = both_weights (listed_at old low) (weight_at part target) ∷ moved_from (low +ℤ pos 1) targets old part
+
+-- the variable weighs nothing any more
+abbrev pub without_part : VarId → Draft → Draft
+without_part var draft = record draft { parts = with_part (blank_part var) draft.parts }
+
+-- what the one variable weighs at the targets, the other weighs at the values from low on
+abbrev pub part_moved : VarId → VarId → ℤ → List ℤ → Draft → Result Draft DeriveFault
+part_moved source var low targets draft = with_list var (without_part source draft) low (moved_from low targets (part_for var (without_part source draft).parts).listed (part_for source draft.parts))
+
+abbrev pub is_constant : Term → Bool
+is_constant (Constant k) = true
+is_constant (Variable var) = false
+
+-- at most 65,536 entries, which are constants
+abbrev pub are_targets : List Term → Bool
+are_targets entries = nat_le (length entries) 65536 && list_all is_constant entries
+
+-- an element of constants, whose value is the variable: its index decides it
+abbrev pub element_moved : VarId → Draft → Constraint → Result Draft DeriveFault
+element_moved var draft (Element (Variable index) entries (Variable value)) = if nat_eq value.0 var.0 && are_targets entries then part_moved value index (pos 1) (numbers_in entries) draft else Err NotDerived
+element_moved var draft _ = Err NotDerived
+
+-- what the variable weighs moves to the one that decides it by the constraint
+abbrev pub move_added : List Constraint → Draft → ℕ → VarId → Result Draft DeriveFault
+move_added given draft id var = option_map_or (element_moved var draft) (constraint_at given id) (Err NoSuchConstraint)

@@ -1,0 +1,123 @@
+// Rows derived from constraints.
+ghost use Rattle.std.specs.Prelude.{◌≡◌, ◌⊎◌, ◌≤◌, length, IfOk, IfErr, OnOk, Ok, Err};
+ghost use Rattle.std.specs.List.{All};
+ghost use Rattle.fzn_list.specs.Limits.{longest};
+ghost use Rattle.fzn_meaning.specs.Meaning.{IsWellFormed};
+ghost use Rattle.fzn_meaning.specs.Solutions.{declared_sets};
+ghost use Rattle.fzn_derive.specs.declared.fault.DeriveFault.TheVariants.{Memory};
+ghost use Rattle.fzn_row.specs.Row.{IsSeparableRow};
+ghost use Rattle.fzn_row.specs.Draft.{empty, row_of, in_turn};
+ghost use Rattle.fzn_row.specs.Derived.{item_added, drafted, IsDerivedRow};
+ghost use Rattle.fzn_row.specs.Room.{draft_of, room_size, IsRoom};
+
+use crate::item::RowItem;
+use crate::room::RowDeriver;
+use crate::row::Row;
+use fzn_derive::DeriveFault;
+use fzn_list::Items;
+use fzn_meaning::{Constraint, Var};
+use std::alloc::Global;
+use std::mem;
+
+impl RowDeriver {
+    /// The row that the items make of the given constraints of a model with these variables, one after another from a row without parts
+    /// and with the bound 0; at most so many weights are listed for it. Where there is none, it answers the first thing that is wrong:
+    /// `NoSuchConstraint`, `NotDerived` for all else, or at any time `Memory`. The room serves for the next row either way.
+    pub fn derive(
+        &mut self,
+        alloc: Global,
+        given: &[Constraint],
+        vars: &[Var],
+        items: &[RowItem],
+        most: usize,
+    ) -> Result<Row, DeriveFault>
+        requires room { room_size self.old ≡ length vars.now }
+        requires few { length vars.now ≤ longest }
+        requires given { All (IsWellFormed (length vars.now)) given.now }
+        ensures room { room_size self.new ≡ length vars.now }
+        ensures derived { IfOk result (IsDerivedRow given.now (declared_sets vars.now) most items.now) }
+        ensures formed { IfOk result (IsSeparableRow (length vars.now)) }
+        ensures fault { IfErr result (λ fault. (fault ≡ Memory) ⊎ (drafted given.now (declared_sets vars.now) most items.now ≡ Err fault)) }
+    {
+        self.begin(most);
+        self.add_items(alloc, given, vars, items)?;
+        Ok(self.take_row(alloc))
+    }
+
+    /// Begins a row.
+    fn begin(&mut self, most: usize)
+        ensures variables { room_size self.new ≡ room_size self.old }
+        ensures room { IsRoom self.new }
+        ensures draft { draft_of self.new ≡ empty most }
+    {
+        self.parts.clear();
+        self.bound = 0;
+        self.left = most;
+    }
+
+    /// Adds the items one after another.
+    fn add_items(
+        &mut self,
+        alloc: Global,
+        given: &[Constraint],
+        vars: &[Var],
+        items: &[RowItem],
+    ) -> Result<(), DeriveFault>
+        requires room { IsRoom self.old }
+        requires vars { length vars.now ≡ room_size self.old }
+        requires given { All (IsWellFormed (room_size self.old)) given.now }
+        ensures variables { room_size self.new ≡ room_size self.old }
+        ensures room { IsRoom self.new }
+        ensures ok { OnOk result (in_turn (item_added given.now (declared_sets vars.now)) (draft_of self.old) items.now ≡ Ok (draft_of self.new)) }
+        ensures err { IfErr result (λ fault. (fault ≡ Memory) ⊎ (in_turn (item_added given.now (declared_sets vars.now)) (draft_of self.old) items.now ≡ Err fault)) }
+    {
+        for item in items {
+            self.add_item(alloc, given, vars, item)?;
+        }
+        Ok(())
+    }
+
+    fn add_item(
+        &mut self,
+        alloc: Global,
+        given: &[Constraint],
+        vars: &[Var],
+        item: &RowItem,
+    ) -> Result<(), DeriveFault>
+        requires room { IsRoom self.old }
+        requires vars { length vars.now ≡ room_size self.old }
+        requires given { All (IsWellFormed (room_size self.old)) given.now }
+        ensures variables { room_size self.new ≡ room_size self.old }
+        ensures room { IsRoom self.new }
+        ensures ok { OnOk result (item_added given.now (declared_sets vars.now) (draft_of self.old) item.now ≡ Ok (draft_of self.new)) }
+        ensures err { IfErr result (λ fault. (fault ≡ Memory) ⊎ (item_added given.now (declared_sets vars.now) (draft_of self.old) item.now ≡ Err fault)) }
+    {
+        match item {
+            RowItem::Multiples(multiples) => self.add_multiples(given, multiples.as_slice()),
+            RowItem::Prices {
+                constraint,
+                low,
+                prices,
+            } => self.add_prices(alloc, given, vars, *constraint, low, prices.as_slice()),
+            RowItem::Move {
+                constraint,
+                variable,
+            } => self.add_move(alloc, given, *constraint, *variable),
+        }
+    }
+
+    /// Takes the row out.
+    fn take_row(&mut self, alloc: Global) -> Row
+        requires room { IsRoom self.old }
+        requires few { room_size self.old ≤ longest }
+        ensures variables { room_size self.new ≡ room_size self.old }
+        ensures row { result ≡ row_of (draft_of self.old) }
+        ensures formed { IsSeparableRow (room_size self.old) result }
+    {
+        let parts = mem::replace(&mut self.parts, Vec::new(alloc));
+        Row {
+            parts: Items::from_vec(parts),
+            bound: self.bound,
+        }
+    }
+}

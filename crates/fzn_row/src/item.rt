@@ -1,0 +1,29 @@
+// The items by which a row is derived.
+use fzn_derive::Multiple;
+use fzn_domain::VarId;
+use fzn_list::Items;
+
+/// What is added to a row. Each constraint is named by its number, counted from 1.
+#[derive(Debug, Drop)]
+pub enum RowItem {
+    /// The forms of constraints, each times its multiplier.
+    Multiples(Items<Multiple>),
+    /// Prices of the values of the places of an all different or of a circuit, or of the first list of an inverse, and what these places
+    /// cost at the most.
+    Prices {
+        /// The number of the constraint.
+        constraint: u64,
+        /// The number that has the first price, from -10^9 to 10^9; 1 for a circuit and an inverse.
+        low: i64,
+        /// The price of it, and of each number behind it: at most 65,536, each from -10^12 to 10^12, where they are to be taken; as many
+        /// as places for a circuit and an inverse. Each value that a place of an all different is declared to have needs one.
+        prices: Items<i64>,
+    },
+    /// What a variable weighs moves to another one whose value decides its own.
+    Move {
+        /// The number of the constraint, an element whose entries are at most 65,536 constants: its index decides its value.
+        constraint: u64,
+        /// The value of the element, which weighs 0 afterwards.
+        variable: VarId,
+    },
+}

@@ -1,0 +1,167 @@
+// Multiples of constraints, added to a row.
+ghost use Rattle.std.specs.Prelude.{◌≡◌, ◌⊎◌, ◌*◌, ◌≤◌, nat_le, pos, ◌-ℤ◌, ◌*ℤ◌, length, unsigned_abs, option_copied, IfErr, OnOk, Ok, Err};
+ghost use Rattle.std.specs.List.{All};
+ghost use Rattle.fzn_list.specs.Limits.{longest};
+ghost use Rattle.fzn_domain.specs.Limits.{IsSmall};
+ghost use Rattle.fzn_meaning.specs.Term.{IsPlace};
+ghost use Rattle.fzn_meaning.specs.Meaning.{IsWellFormed};
+ghost use Rattle.fzn_builtin_rules.specs.Borrowed.{places_in, form_in};
+ghost use Rattle.fzn_builtin_rules.specs.Form.{Fits};
+ghost use Rattle.fzn_derive.specs.declared.fault.DeriveFault.TheVariants.{Memory};
+ghost use Rattle.fzn_derive.specs.Cited.{constraint_at};
+ghost use Rattle.fzn_row.specs.Draft.{in_turn};
+ghost use Rattle.fzn_row.specs.Multiples.{place_added, may_multiply, is_usable, form_added, multiple_added};
+ghost use Rattle.fzn_row.specs.Room.{draft_of, room_size, IsRoom};
+
+use crate::room::RowDeriver;
+use fzn_builtin_rules::{Form, Places, form_of};
+use fzn_derive::{DeriveFault, Multiple};
+use fzn_meaning::{Comparison, Constraint, Place, Term};
+
+/// How far from 0 a multiplier lies at the most: 10^12.
+const GREATEST_MULTIPLIER: i64 = 1_000_000_000_000;
+
+impl RowDeriver {
+    /// Adds the forms of constraints, each times its multiplier.
+    pub(crate) fn add_multiples(
+        &mut self,
+        given: &[Constraint],
+        multiples: &[Multiple],
+    ) -> Result<(), DeriveFault>
+        requires room { IsRoom self.old }
+        requires given { All (IsWellFormed (room_size self.old)) given.now }
+        ensures variables { room_size self.new ≡ room_size self.old }
+        ensures room { IsRoom self.new }
+        ensures ok { OnOk result (in_turn (multiple_added given.now) (draft_of self.old) multiples.now ≡ Ok (draft_of self.new)) }
+        ensures err { IfErr result (λ fault. (fault ≡ Memory) ⊎ (in_turn (multiple_added given.now) (draft_of self.old) multiples.now ≡ Err fault)) }
+    {
+        for multiple in multiples {
+            self.add_multiple(given, *multiple)?;
+        }
+        Ok(())
+    }
+
+    /// Adds one of them.
+    fn add_multiple(&mut self, given: &[Constraint], multiple: Multiple) -> Result<(), DeriveFault>
+        requires room { IsRoom self.old }
+        requires given { All (IsWellFormed (room_size self.old)) given.now }
+        ensures variables { room_size self.new ≡ room_size self.old }
+        ensures room { IsRoom self.new }
+        ensures ok { OnOk result (multiple_added given.now (draft_of self.old) multiple ≡ Ok (draft_of self.new)) }
+        ensures err { IfErr result (λ fault. (fault ≡ Memory) ⊎ (multiple_added given.now (draft_of self.old) multiple ≡ Err fault)) }
+    {
+        let Some(constraint) = constraint_at(given, multiple.constraint) else {
+            return Err(DeriveFault::NoSuchConstraint);
+        };
+        let Some(form) = form_of(constraint) else {
+            return Err(DeriveFault::NotDerived);
+        };
+        if !is_usable(&multiple.multiplier, &form) {
+            return Err(DeriveFault::NotDerived);
+        }
+        self.add_form(&multiple.multiplier, &form)
+    }
+
+    /// Adds a form times a multiplier.
+    #[tactic(auto, unfolding(crate::specs::Multiples::form_added))]
+    fn add_form(&mut self, multiplier: &i64, form: &Form<'_>) -> Result<(), DeriveFault>
+        requires multiplier { unsigned_abs multiplier.now ≤ 1000000000000 }
+        requires form { Fits (room_size self.old) (form_in form.now) }
+        requires room { IsRoom self.old }
+        ensures variables { room_size self.new ≡ room_size self.old }
+        ensures room { IsRoom self.new }
+        ensures ok { OnOk result (form_added multiplier.now (draft_of self.old) (form_in form.now) ≡ Ok (draft_of self.new)) }
+        ensures err { IfErr result (λ fault. (fault ≡ Memory) ⊎ (form_added multiplier.now (draft_of self.old) (form_in form.now) ≡ Err fault)) }
+    {
+        self.add_places(multiplier, &form.places)?;
+        self.raise(product(&form.bound, multiplier))
+    }
+
+    /// Adds places, each times a multiplier.
+    fn add_places(&mut self, multiplier: &i64, places: &Places<'_>) -> Result<(), DeriveFault>
+        requires multiplier { unsigned_abs multiplier.now ≤ 1000000000000 }
+        requires fit { All (IsPlace (room_size self.old)) (places_in places.now) }
+        requires few { length (places_in places.now) ≤ 2 * longest }
+        requires room { IsRoom self.old }
+        ensures variables { room_size self.new ≡ room_size self.old }
+        ensures room { IsRoom self.new }
+        ensures ok { OnOk result (in_turn (place_added multiplier.now) (draft_of self.old) (places_in places.now) ≡ Ok (draft_of self.new)) }
+        ensures err { IfErr result (λ fault. (fault ≡ Memory) ⊎ (in_turn (place_added multiplier.now) (draft_of self.old) (places_in places.now) ≡ Err fault)) }
+    {
+        for i in 0..places.len() {
+            self.add_place(multiplier, &places.place(i))?;
+        }
+        Ok(())
+    }
+
+    /// Adds a place, times a multiplier.
+    fn add_place(&mut self, multiplier: &i64, place: &Place) -> Result<(), DeriveFault>
+        requires multiplier { unsigned_abs multiplier.now ≤ 1000000000000 }
+        requires fits { IsPlace (room_size self.old) place.now }
+        requires room { IsRoom self.old }
+        ensures variables { room_size self.new ≡ room_size self.old }
+        ensures room { IsRoom self.new }
+        ensures ok { OnOk result (place_added multiplier.now (draft_of self.old) place.now ≡ Ok (draft_of self.new)) }
+        ensures err { IfErr result (λ fault. (fault ≡ Memory) ⊎ (place_added multiplier.now (draft_of self.old) place.now ≡ Err fault)) }
+    {
+        let amount = product(&place.coefficient, multiplier);
+        match place.term {
+            Term::Constant(k) => self.raise(less_product(&amount, &k)),
+            Term::Variable(var) => self.add(var, amount),
+        }
+    }
+}
+
+/// A coefficient or a bound times a multiplier.
+fn product(number: &i64, multiplier: &i64) -> i128
+    requires number { IsSmall number.now }
+    requires multiplier { unsigned_abs multiplier.now ≤ 1000000000000 }
+    ensures value { result ≡ number.now *ℤ multiplier.now }
+    ensures bounded { unsigned_abs result ≤ 1000000000000000000000 }
+{
+    *number as i128 * *multiplier as i128
+}
+
+/// What a constant times this amount takes from the bound.
+fn less_product(amount: &i128, value: &i64) -> i128
+    requires amount { unsigned_abs amount.now ≤ 1000000000000000000000 }
+    requires value { IsSmall value.now }
+    ensures value { result ≡ pos 0 -ℤ amount.now *ℤ value.now }
+    ensures bounded { unsigned_abs result ≤ 1000000000000000000000000000000 }
+{
+    -(*amount * *value as i128)
+}
+
+/// The constraint with this number, counted from 1, where there is one.
+pub(crate) fn constraint_at(given: &[Constraint], id: u64) -> Option<&Constraint>
+    ensures { option_copied result ≡ constraint_at given.now id }
+{
+    if id == 0 || id > given.len() as u64 {
+        return None;
+    }
+    Some(&given[(id - 1) as usize])
+}
+
+/// Whether the form may be multiplied so.
+fn is_usable(multiplier: &i64, form: &Form<'_>) -> bool
+    ensures { result ≡ is_usable multiplier.now (form_in form.now) }
+{
+    form.switch.is_none() && may_multiply(form.comparison, multiplier) && is_multiplier(multiplier)
+}
+
+/// Whether a comparison is kept.
+fn may_multiply(comparison: Comparison, multiplier: &i64) -> bool
+    ensures { result ≡ may_multiply comparison multiplier.now }
+{
+    match comparison {
+        Comparison::AtMost => 1 <= *multiplier,
+        Comparison::Equal => *multiplier != 0,
+        Comparison::NotEqual => false,
+    }
+}
+
+fn is_multiplier(multiplier: &i64) -> bool
+    ensures { result ≡ nat_le (unsigned_abs multiplier.now) 1000000000000 }
+{
+    -GREATEST_MULTIPLIER <= *multiplier && *multiplier <= GREATEST_MULTIPLIER
+}

@@ -1,0 +1,133 @@
+// The room in which a row is made.
+ghost use Rattle.std.specs.Prelude.{◌≡◌, true, false, ◌⊎◌, ◌≤◌, [], ◌+ℤ◌, length, unsigned_abs, IsTrue, IfOk, IfErr, OnOk, Ok, Err};
+ghost use Rattle.fzn_domain.specs.Narrow.{IsVariable};
+ghost use Rattle.fzn_derive.specs.declared.fault.DeriveFault.TheVariants.{Memory, NotDerived};
+ghost use Rattle.fzn_row.specs.Draft.{is_row_number, part_for, with_bound, with_coefficient};
+ghost use Rattle.fzn_row.specs.Room.{draft_of, room_size, IsRoom, IsPlaceOf, IsAbsent};
+
+use crate::row::Part;
+use fzn_derive::DeriveFault;
+use fzn_domain::VarId;
+use std::alloc::{AllocError, Global};
+
+/// What coefficients, the bound and what is listed lie between: 10^18.
+const LIMIT: i128 = 1_000_000_000_000_000_000;
+
+/// The room in which rows are made, kept from one to the next, so that each costs what its items add: 8 bytes for each variable.
+///
+/// The place of a variable's part is found by a slot that is never cleared: it counts only where the part at that place is the variable's
+/// (Preston Briggs and Linda Torczon, An Efficient Representation for Sparse Sets, 1993).
+#[derive(Drop)]
+pub struct RowDeriver {
+    /// One for each variable: where its part stands, if it has one.
+    pub(crate) slots: Vec<usize>,
+    /// The parts so far.
+    pub(crate) parts: Vec<Part>,
+    /// The bound so far.
+    pub(crate) bound: i64,
+    /// How many weights may still be listed.
+    pub(crate) left: usize,
+}
+
+impl RowDeriver {
+    /// Room for a model of so many variables. It answers `Err` where memory runs out.
+    pub fn new(alloc: Global, variables: usize) -> Result<RowDeriver, AllocError>
+        ensures { IfOk result (λ room. room_size room ≡ variables) }
+    {
+        let slots = Vec::from_elem(alloc, 0, variables)?;
+        Ok(RowDeriver {
+            slots,
+            parts: Vec::new(alloc),
+            bound: 0,
+            left: 0,
+        })
+    }
+
+    /// The place of the variable's part. Where it has none, a blank one is put at the end.
+    pub(crate) fn place_of(&mut self, var: VarId) -> Result<usize, AllocError>
+        requires var { IsVariable (room_size self.old) var }
+        requires room { IsRoom self.old }
+        ensures room { IsRoom self.new }
+        ensures variables { room_size self.new ≡ room_size self.old }
+        ensures place { IfOk result (IsPlaceOf var self.old.parts.items self.new.parts.items) }
+        ensures bound { self.new.bound ≡ self.old.bound }
+        ensures left { self.new.left ≡ self.old.left }
+    {
+        let slot = self.slots[var.0 - 1];
+        if slot < self.parts.len() && self.parts[slot].var == var {
+            return Ok(slot);
+        }
+        self.put_blank(var)
+    }
+
+    /// Puts a blank part of the variable at the end, and answers its place.
+    fn put_blank(&mut self, var: VarId) -> Result<usize, AllocError>
+        requires var { IsVariable (room_size self.old) var }
+        requires room { IsRoom self.old }
+        requires none { IsAbsent var self.old.parts.items }
+        ensures room { IsRoom self.new }
+        ensures variables { room_size self.new ≡ room_size self.old }
+        ensures place { IfOk result (IsPlaceOf var self.old.parts.items self.new.parts.items) }
+        ensures bound { self.new.bound ≡ self.old.bound }
+        ensures left { self.new.left ≡ self.old.left }
+    {
+        let place = self.parts.len();
+        self.slots[var.0 - 1] = place;
+        self.parts.push(Part {
+            var,
+            coefficient: 0,
+            listed: None,
+        })?;
+        Ok(place)
+    }
+
+    /// Adds to the coefficient of a variable.
+    pub(crate) fn add(&mut self, var: VarId, amount: i128) -> Result<(), DeriveFault>
+        requires var { IsVariable (room_size self.old) var }
+        requires room { IsRoom self.old }
+        requires amount { unsigned_abs amount ≤ 1000000000000000000000000000000 }
+        ensures variables { room_size self.new ≡ room_size self.old }
+        ensures room { IsRoom self.new }
+        ensures ok { OnOk result (with_coefficient var ((part_for var self.old.parts.items).coefficient +ℤ amount) (draft_of self.old) ≡ Ok (draft_of self.new)) }
+        ensures err { IfErr result (λ fault. (fault ≡ Memory) ⊎ (with_coefficient var ((part_for var self.old.parts.items).coefficient +ℤ amount) (draft_of self.old) ≡ Err fault)) }
+    {
+        let place = self.place_of(var)?;
+        let coefficient = sum_within(self.parts[place].coefficient, amount)?;
+        self.parts[place].coefficient = coefficient;
+        Ok(())
+    }
+
+    /// Adds to the bound.
+    pub(crate) fn raise(&mut self, amount: i128) -> Result<(), DeriveFault>
+        requires room { IsRoom self.old }
+        requires amount { unsigned_abs amount ≤ 1000000000000000000000000000000 }
+        ensures variables { room_size self.new ≡ room_size self.old }
+        ensures room { IsRoom self.new }
+        ensures ok { OnOk result (with_bound (self.old.bound +ℤ amount) (draft_of self.old) ≡ Ok (draft_of self.new)) }
+        ensures err { IfErr result (λ fault. (fault ≡ Memory) ⊎ (with_bound (self.old.bound +ℤ amount) (draft_of self.old) ≡ Err fault)) }
+    {
+        self.bound = sum_within(self.bound, amount)?;
+        Ok(())
+    }
+}
+
+/// A number and what is added to it, unless that leaves the limits.
+pub(crate) fn sum_within(number: i64, amount: i128) -> Result<i64, DeriveFault>
+    requires { unsigned_abs amount ≤ 1000000000000000000000000000000 }
+    ensures ok { IfOk result (λ sum. sum ≡ number +ℤ amount) }
+    ensures within { OnOk result (is_row_number (number +ℤ amount) ≡ true) }
+    ensures err { IfErr result (λ fault. (fault ≡ NotDerived) × (is_row_number (number +ℤ amount) ≡ false)) }
+{
+    let sum = number as i128 + amount;
+    if is_row_number(sum) {
+        Ok(sum as i64)
+    } else {
+        Err(DeriveFault::NotDerived)
+    }
+}
+
+pub(crate) fn is_row_number(number: i128) -> bool
+    ensures { result ≡ is_row_number number }
+{
+    -LIMIT <= number && number <= LIMIT
+}
