@@ -131,6 +131,44 @@ class Draw:
         call = self.random.choice(['disjunctive', 'disjunctive_strict'])
         return f'include "{call}.mzn";\n{starts}{lengths}constraint {call}({s}, {d});\n'
 
+    def of_counts(self):
+        """Counts of values: of one value, which may be variable, of a set, and of a list."""
+        count = self.random.randint(1, 4)
+        text, x = self.variables('x', count, 0, 3)
+        counts, c = self.variables('c', 2, 0, count)
+        values, y = self.variables('y', 2, -1, 4)
+        call = self.random.choice([f'count({x}, {self.random.randint(-1, 4)}, {c}[1])', f'count({x}, {y}[2], {c}[1])', f'among({c}[2], {x}, {{1, 3, 5}})',
+                                   f'distribute({c}, {y}, {x})', f'distribute({c}, {self.random.sample(range(-1, 5), 2)}, {x})'])
+        return f'include "count.mzn"; include "among.mzn"; include "distribute.mzn";\n{text}{counts}{values}' + self.stated(call)
+
+    def of_global_cardinality(self):
+        count, many = self.random.randint(1, 4), self.random.randint(1, 4)
+        text, x = self.variables('x', count, 0, 4)
+        counts, c = self.variables('c', many, -1, count)
+        cover = self.random.sample(range(0, 6), many) if self.random.random() < 0.7 else self.numbers(many, 0, 4)
+        low = self.numbers(many, -1, 1)
+        call = self.random.choice([f'global_cardinality({x}, {cover}, {c})', f'global_cardinality_closed({x}, {cover}, {c})'] + [
+            f'global_cardinality_low_up{closed}({x}, {cover}, {low}, {[a + self.random.randint(0, 3) for a in low]})' for closed in ('', '_closed')])
+        return f'include "{call.partition("(")[0]}.mzn";\n{text}{counts}' + self.stated(call)
+
+    def of_nvalue(self):
+        text, x = self.variables('x', self.random.randint(1, 4), 0, 4)
+        number, n = self.variables('n', 1, 0, 4)
+        far = self.random.choice(['v', '500 * v', '2000 * v'])
+        return f'include "nvalue.mzn";\n{number}{text}' + self.stated(f'nvalue({n}[1], [ {far} | v in {x} ])')
+
+    def of_diffn(self):
+        count, call = self.random.randint(2, 3), self.random.choice(['diffn', 'diffn_nonstrict'])
+        drawn = [self.variables(name, count, 0, most) for name, most in (('x', 3), ('y', 2), ('w', 2), ('h', 2))]
+        return f'include "{call}.mzn";\n' + ''.join(text for text, _ in drawn) + self.stated(f'{call}({", ".join(list_ for _, list_ in drawn)})')
+
+    def of_diffn_k(self):
+        sides, call = self.random.randint(1, 3), self.random.choice(['diffn_k', 'diffn_nonstrict_k'])
+        places, p = self.variables('p', 2 * sides, 0, 2)
+        sizes, s = self.variables('s', 2 * sides, 0, 2) if self.random.random() < 0.5 else ('', str(self.numbers(2 * sides, 0, 2)))
+        boxes = ', '.join(f'array2d(1..2, 1..{sides}, {entries})' for entries in (p, s))
+        return f'include "{call}.mzn";\n{places}{sizes}' + self.stated(f'{call}({boxes})')
+
     def of_wide_bin_packing(self):
         weights, capacity = self.numbers(3, 1, 5), self.random.randint(4, 9)
         return (f'include "bin_packing.mzn";\narray[1..3] of var 1..7000: b;\nconstraint bin_packing({capacity}, b, {weights}) /\\ '
@@ -152,6 +190,33 @@ class Draw:
         return ('include "alldifferent_except.mzn";\narray[1..3] of var 0..20000: x;\n'
                 f'constraint alldifferent_except(x, {self.random.choice(["{0}", "{5, 20000}", "{0, 5}"])}) /\\ '
                 'forall (v in x) (v in {0, 5, 20000});\n')
+
+    def of_wide_global_cardinality(self):
+        """Places 4 to 60 have values of their own, 40 to 600, and the first three 1 to 3, or, where the cover ends before, 998 too."""
+        call, last = self.random.choice([('global_cardinality', 1000), ('global_cardinality', 995), ('global_cardinality_closed', 1000)])
+        begin = f'include "{call}.mzn";\narray[1..60] of var 1..1000: x;\n' + ''.join(f'var {self.domain(-1, 3, 2)}: c{k};\n' for k in (1, 2, 3))
+        left = f'forall (i in 1..60) (if i > 3 then x[i] = 10 * i else x[i] in 1..3{"" if last == 1000 else " union {998}"} endif)'
+        cover = f'[ 1 + 7 * k mod {last} | k in 0..{last - 1} ]'
+        counts = f'[ if a <= 3 then [c1, c2, c3][a] else bool2int(a mod 10 = 0 /\\ a in 40..600) endif | a in {cover} ]'
+        return (f'{begin}constraint {call}(x, {cover}, {counts}) /\\ {left};\n',
+                f'{begin}constraint {left} /\\ {call}([x[1], x[2], x[3]], [1, 2, 3], [c1, c2, c3]);\n')
+
+    def of_wide_global_cardinality_low_up(self):
+        low = self.numbers(3, 0, 1) if self.random.random() < 0.5 else [0, 0, 0]
+        up = [a + self.random.randint(0, 2) for a in low]
+        begin = 'include "global_cardinality_low_up.mzn";\narray[1..60] of var 1..1000: x;\n'
+        left = 'forall (i in 1..60) (if i > 3 then x[i] = 10 * i else x[i] in {1, 2, 3, 990} endif)'
+        bounds = ', '.join(f'[ if a <= 3 then {some}[a] else {others} endif | a in 1..980 ]' for some, others in ((low, 0), (up, 1)))
+        return (f'{begin}constraint global_cardinality_low_up(x, [ a | a in 1..980 ], {bounds}) /\\ {left};\n',
+                f'{begin}constraint {left} /\\ global_cardinality_low_up([x[1], x[2], x[3]], [1, 2, 3], {low}, {up});\n')
+
+    def of_wide_nvalue(self):
+        """Places 4 to 330 have seven values, near each other or far apart."""
+        far = self.random.choice([1, 1, 1000])
+        begin = f'include "nvalue.mzn";\narray[1..330] of var 0..{329 * far}: x;\nvar {self.domain(7, 10)}: n;\n'
+        left = f'forall (i in 1..330) (if i > 3 then x[i] = {far} * (i mod 7) else x[i] in {{0, {5 * far}, {9 * far}, {20 * far}}} endif)'
+        return (f'{begin}constraint nvalue(n, x) /\\ {left};\n',
+                f'{begin}constraint {left} /\\ nvalue(n, [x[1], x[2], x[3]] ++ [ {far} * k | k in 0..6 ]);\n')
 
     def of_long_chain(self):
         chain = self.random.sample(range(0, 120), 110) if self.random.random() < 0.5 else list(range(1, 121))
@@ -177,6 +242,30 @@ class Draw:
         return ('include "disjunctive.mzn";\narray[1..60] of var 0..900: s;\narray[1..60] of var 0..2: d;\nconstraint disjunctive(s, d) /\\ '
                 'forall (i in 3..60) (s[i] = 10 * i /\\ d[i] = i mod 3);\n'
                 'constraint s[1] in 97..102 /\\ s[2] in 98..101;\n')
+
+    def of_many_points(self):
+        begin = 'include "disjunctive_strict.mzn";\narray[1..60] of var 0..900: s;\narray[1..60] of var 0..2: d;\n'
+        left = 'forall (i in 3..60) (s[i] = 10 * i /\\ d[i] = i mod 3) /\\ s[1] in 107..112 /\\ s[2] in 108..111'
+        return (f'{begin}constraint disjunctive_strict(s, d) /\\ {left};\n',
+                f'{begin}constraint {left} /\\ disjunctive_strict([ s[i] | i in 1..12 ], [ d[i] | i in 1..12 ]);\n')
+
+    def of_many_boxes(self):
+        """Boxes 3 to 160 have places, and the first two lie among the nearest of these."""
+        call = self.random.choice(['diffn', 'diffn_nonstrict', 'diffn_k', 'diffn_nonstrict_k'])
+        wide, high = self.random.choice([('1 + i mod 3', '1 + i mod 2'), ('if i < 3 then w[i] else 1 + i mod 3 endif', '1 + i mod 4'),
+                                         ('2 + i mod 2', 'if i < 3 then w[i] else 2 + i mod 2 endif')])
+        begin = f'include "{call}.mzn";\narray[1..160] of var 0..60: x;\narray[1..160] of var 0..60: y;\narray[1..2] of var 1..2: w;\n'
+        left = (f'forall (i in 3..160) (x[i] = 4 * (i mod 13) /\\ y[i] = 4 * (i div 13)) /\\ '
+                f'forall (i in 1..2) (x[i] in {{0, {self.random.randint(1, 4)}, 7}} /\\ y[i] in {{0, {self.random.randint(1, 4)}, 6}})')
+
+        def boxes(those):
+            if call.endswith('k'):
+                return ', '.join(f'array2d(1..{those[1]}, 1..2, [ [{one}, {other}][k] | i in {those[0]}, k in 1..2 ])' for one, other in (('x[i]', 'y[i]'), (wide, high)))
+            return ', '.join(f'[ {one} | i in {those[0]} ]' for one in ('x[i]', 'y[i]', wide, high))
+
+        near = [i for i in range(1, 161) if i < 3 or i % 13 < 3 and i // 13 < 3]
+        return (f'{begin}constraint {call}({boxes(("1..160", 160))}) /\\ {left};\n',
+                f'{begin}constraint {left} /\\ {call}({boxes((str(near), len(near)))});\n')
 
     def of_many_places(self):
         count = self.random.randint(3, 5)

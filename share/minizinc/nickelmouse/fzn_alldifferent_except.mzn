@@ -1,4 +1,4 @@
-include "fzn_all_different_int.mzn";
+include "nickelmouse_own.mzn";
 include "nickelmouse_counts.mzn";
 
 % At most one place for each value that is not excepted. Where this would be too many Booleans, all are different once each place with an
@@ -6,15 +6,7 @@ include "nickelmouse_counts.mzn";
 predicate fzn_alldifferent_except(array[int] of var int: vs, set of int: S) =
   let { array[int] of var int: x = array1d(vs) } in
   if nickelmouse_are_too_many(x) /\ ub_array(x) + length(x) <= 1000000000 then
-    let {
-      int: above = ub_array(x);
-      array[int] of var int: own = [ let { var (dom(x[i]) diff S) union {above + i}: v } in v | i in index_set(x) ];
-    } in
-    fzn_all_different_int(own) /\
-    forall (i in index_set(x)) (
-      let { var bool: is_excepted = (x[i] in S) } in
-      (is_excepted <-> own[i] = above + i) /\
-      bool_clause([is_excepted, own[i] = x[i]], []))
+    nickelmouse_all_different_but([ v in S | v in x ], x)
   else
     forall (k in dom_array(x) diff S) (
       let { array[int] of var bool: there = nickelmouse_are_at(x, k) } in
