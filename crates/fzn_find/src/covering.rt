@@ -27,7 +27,9 @@ const MOST_NAMED: u64 = 1_000_000;
 const MOST_LOOKS: u64 = 1_000_000;
 
 /// Cliques of at least three variables of which constraints tell each two apart (`int_ne`, or `int_lin_ne` of their difference and 0).
-/// Each begins with two that are in none before it, and grows while it can. It answers `Err` where memory runs out.
+/// Each begins with two that are in none before it, and grows while it can. The largest are found, and of the others those that have more than
+/// half as many variables as there are values from their least to their greatest: a smaller one says little more than its edges do, and costs as
+/// much at each step of a search. It answers `Err` where memory runs out.
 pub fn cliques(alloc: Global, model: &Model) -> Result<Items<Derivation>, Memory>
     requires { IsWellFormed model.now }
     ensures { IfOk result (All (IsDerivable model.now.constraints (declared_sets model.now.vars))) }
@@ -53,13 +55,47 @@ pub fn push_cliques(
         named: Work::new(MOST_NAMED),
         count: 0,
     };
+    let mut all = Vec::new(alloc);
     for variable in by_degree(alloc, &graph, vars)? {
-        cover.cover(alloc, &graph, variable, found)?;
+        cover.cover(alloc, &graph, variable, &mut all)?;
         if cover.is_over() {
             break;
         }
     }
+    let mut largest = FEWEST;
+    for clique in all.iter() {
+        largest = largest.max(members_of(clique).len());
+    }
+    for clique in all {
+        let members = members_of(&clique);
+        if largest <= members.len() || is_tight(model, members) {
+            found.push(clique)?;
+        }
+    }
     Ok(())
+}
+
+/// The variables of a clique.
+fn members_of(clique: &Derivation) -> &[VarId] {
+    match clique {
+        Derivation::AllDifferent { variables, .. } => variables.as_slice(),
+        _ => &[],
+    }
+}
+
+/// Whether these are more than half as many as the values from their least to their greatest.
+fn is_tight(model: &Model, members: &[VarId]) -> bool {
+    let mut least = i64::MAX;
+    let mut greatest = i64::MIN;
+    for member in members {
+        if let Some(var) = model.vars.as_slice().get(member.0.wrapping_sub(1))
+            && !var.domain.is_empty()
+        {
+            least = least.min(var.domain.min());
+            greatest = greatest.max(var.domain.max());
+        }
+    }
+    greatest.saturating_sub(least) < (members.len() as i64).saturating_mul(2)
 }
 
 /// The variables with edges, those with more of them first.

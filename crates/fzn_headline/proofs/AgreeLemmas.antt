@@ -1,15 +1,12 @@
 -- One model and one verdict for the run and the check.
-use Rattle.std.proofs.Common.{◌≡◌, ◌≢◌, ℕ, ◌++◌, ◌∷◌, Bool, true, false, [], ℤ, List, length, Some, Result, Ok, Err, MatchResult, refl, sym, ap, subst, ◌∙◌, append_assoc}
-use Rattle.fzn_cert.specs.declared.step.Step.{Step}
+use Rattle.std.proofs.Common.{◌≡◌, ◌≢◌, ℕ, ◌++◌, Bool, true, false, [], ℤ, List, length, Some, Result, Ok, Err, MatchResult, refl, sym, ap, subst, ◌∙◌}
 use Rattle.std.proofs.lemmas.List.{append_cancel_left}
-use Rattle.fzn_cert.specs.declared.step.Version.TheVariants.{Two}
-use Rattle.fzn_cert.specs.Spelling.{version_text, counts_text, end_line}
-use Rattle.fzn_cert.specs.Verdict.{Outcome, accepted, refused, lines_of, Verdict as VerdictOf}
+use Rattle.fzn_cert.specs.Verdict.{Outcome, accepted, refused}
 use Rattle.fzn_checker.specs.declared.certificate.Verdict.{Verdict}
 use Rattle.fzn_checker.specs.declared.fault.CheckFault.{CheckFault}
 use Rattle.fzn_checker.specs.declared.fault.CheckFault.TheVariants.{File, Refused, NotVersionOne, Memory, Read, WriteOutput, WriteCert}
 use Rattle.fzn_engine.specs.declared.report.Report.{Report}
-use Rattle.fzn_head.specs.Outcome.{IsOutcomeOf, early}
+use Rattle.fzn_head.specs.Outcome.{IsOutcomeOf}
 use Rattle.fzn_lexer.specs.declared.fault.Fault.{Fault}
 use Rattle.fzn_lexer.specs.declared.halt.Halt.{Halt}
 use Rattle.fzn_lexer.specs.declared.halt.Halt.TheVariants as errors
@@ -50,12 +47,6 @@ abbrev closing : Outcome → Bool
 closing (accepted found closed) = closed
 closing (refused line refusal) = false
 
--- a run's certificate has a first line of version two, so its verdict is what is said of it
-outcome-of-run : (model : Model) (steps : List Step) (closed : Bool) (outcome : Outcome) → VerdictOf model (certificate model steps closed) outcome → IsOutcomeOf model (certificate model steps closed) outcome
-outcome-of-run model steps closed outcome verdict =
-    let counts = counts_text (length model.vars) (length model.constraints) in
-    early Two (Some (counts ++ 10 ∷ [] ++ lines_of steps ++ end_line closed), simp append_assoc, tt) verdict
-
 module _ (one_model : (bytes : List ℕ) (x y : Result Model (Halt Fault)) → Reads bytes x → Reads bytes y → x ≢ Err errors.Memory → y ≢ Err errors.Memory → x ≡ y)
     (one_outcome : (model : Model) (bytes : List ℕ) (x y : Outcome) → IsOutcomeOf model bytes x → IsOutcomeOf model bytes y → x ≡ y) where
   model-same : (file : List ℕ) (a b : Model) → Reads file (Ok a) → Reads file (Ok b) → a ≡ b
@@ -68,16 +59,18 @@ module _ (one_model : (bytes : List ℕ) (x y : Result Model (Halt Fault)) → R
       let model = ran.model in
       let certified = ran.answer.certified in
       let steps = ran.answer.steps in
+      let opening = ran.answer.opening in
+      let found_there = found_by ran.answer.after steps in
       let same = model-same file answered.model model answered.shows.states ran.states in
-      let text : bytes ≡ certificate model steps (is_closed report.ending) = append_cancel_left cert bytes (certificate model steps (is_closed report.ending)) certified.written in
-      let here = subst (λ (t : List ℕ). IsOutcomeOf model t (accepted (found_by model steps) (is_closed report.ending))) (sym text) (outcome-of-run model steps (is_closed report.ending) (accepted (found_by model steps) (is_closed report.ending)) certified.verdict) in
+      let text : bytes ≡ certificate opening steps (is_closed report.ending) = append_cancel_left cert bytes (certificate opening steps (is_closed report.ending)) certified.written in
+      let here = subst (λ (t : List ℕ). IsOutcomeOf model t (accepted found_there (is_closed report.ending))) (sym text) certified.verdict in
       let there = subst (λ (m : Model). IsOutcomeOf m bytes (accepted answered.found v.closed)) same answered.shows.verdict in
-      let outcome = one_outcome model bytes (accepted answered.found v.closed) (accepted (found_by model steps) (is_closed report.ending)) there here in
+      let outcome = one_outcome model bytes (accepted answered.found v.closed) (accepted found_there (is_closed report.ending)) there here in
       let found = ap solutions outcome in
       let closed = ap closing outcome in (
         answered.count ∙ ap length found ∙ sym ran.answer.solutions,
         closed,
-        append_cancel_left to again printed (answered.printed ∙ ap (λ (t : List ℕ). to ++ t) (rw (same, found, closed) (sym (append_cancel_left out printed (answer_text model (found_by model steps) (is_closed report.ending) options.all) certified.printed)))),
+        append_cancel_left to again printed (answered.printed ∙ ap (λ (t : List ℕ). to ++ t) (rw (same, found, closed) (sym (append_cancel_left out printed (answer_text model found_there (is_closed report.ending) options.all) certified.printed)))),
       )
   agrees file printed bytes options report file_failed cert_failed out_failed again (Err (File fault)) (out, cert, ran) (to, _, wrong, _) =
       absurd (true_false (ap is_ok (one_model file (Ok ran.model) (Err (errors.Fault fault)) ran.states wrong.1 (λ e. cc) (λ e. cc))))
@@ -85,11 +78,13 @@ module _ (one_model : (bytes : List ℕ) (x y : Result Model (Halt Fault)) → R
       let model = ran.model in
       let certified = ran.answer.certified in
       let steps = ran.answer.steps in
+      let opening = ran.answer.opening in
+      let found_there = found_by ran.answer.after steps in
       let same = model-same file wrong.1.0 model wrong.1.1 ran.states in
-      let text : bytes ≡ certificate model steps (is_closed report.ending) = append_cancel_left cert bytes (certificate model steps (is_closed report.ending)) certified.written in
-      let here = subst (λ (t : List ℕ). IsOutcomeOf model t (accepted (found_by model steps) (is_closed report.ending))) (sym text) (outcome-of-run model steps (is_closed report.ending) (accepted (found_by model steps) (is_closed report.ending)) certified.verdict) in
+      let text : bytes ≡ certificate opening steps (is_closed report.ending) = append_cancel_left cert bytes (certificate opening steps (is_closed report.ending)) certified.written in
+      let here = subst (λ (t : List ℕ). IsOutcomeOf model t (accepted found_there (is_closed report.ending))) (sym text) certified.verdict in
       let there = subst (λ (m : Model). IsOutcomeOf m bytes (refused line refusal)) same wrong.1.2 in
-      absurd (true_false (ap is_accepted (one_outcome model bytes (accepted (found_by model steps) (is_closed report.ending)) (refused line refusal) here there)))
+      absurd (true_false (ap is_accepted (one_outcome model bytes (accepted found_there (is_closed report.ending)) (refused line refusal) here there)))
   agrees file printed bytes options report file_failed cert_failed out_failed again (Err NotVersionOne) ran (to, _, wrong, _) = absurd wrong
   agrees file printed bytes options report file_failed cert_failed out_failed again (Err Memory) ran checked = tt
   agrees file printed bytes options report file_failed cert_failed out_failed again (Err Read) ran (to, _, _, due) = due.read refl

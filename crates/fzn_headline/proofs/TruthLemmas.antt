@@ -14,7 +14,7 @@ use Rattle.fzn_headline.proofs.AgreeLemmas.{call_of}
 
 pub run-prints : (file printed certificate : List ℕ) (options : Options) (report : Report) → RanWell file options printed certificate report → PrintsTruth file options printed report
 run-prints file printed certificate options report (out, cert, ran) =
-    let found = found_by ran.model ran.answer.steps in
+    let found = found_by ran.answer.after ran.answer.steps in
     record {
       model = ran.model;
       found = found;

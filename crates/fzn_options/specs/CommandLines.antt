@@ -46,10 +46,10 @@ command_line name rules =
       subs = [];
     }
 
--- -a, -n K, -f, -r SEED, --nodes N, --learn CLAUSE, --cert FILE, --hints FILE, --progress, MODEL, --help, --version
+-- -a, -n K, -f, --derive, -r SEED, --nodes N, --learn CLAUSE, --cert FILE, --hints FILE, --progress, MODEL, --help, --version
 unfoldable pub solve_line : App
 solve_line =
-    command_line (codes "fznsolve") (all_rule ∷ letter_option (codes "limit") 110 ∷ letter_flag (codes "free") 102 ∷ letter_option (codes "seed") 114
+    command_line (codes "fznsolve") (all_rule ∷ letter_option (codes "limit") 110 ∷ letter_flag (codes "free") 102 ∷ named_flag (codes "derive") ∷ letter_option (codes "seed") 114
     ∷ named_option (codes "nodes") ∷ named_option (codes "learn") ∷ named_option (codes "cert") ∷ named_option (codes "hints") ∷ named_flag (codes "progress") ∷ path (codes "model") ∷ help_rule ∷ version_rule ∷ [])
 
 -- -a, --to2, --trim NEW, --core, --bound, --items, and two paths, --help, --version

@@ -34,6 +34,7 @@ pub record AreSaid (rows : List Row) (options : Options) : Type 0 where
   pub all : options.all ≡ is_flag_set (first_of (codes "all") rows)
   pub limit : SaysNumber 1 (10 ^ 9) (first_of (codes "limit") rows) options.limit
   pub free : options.free ≡ is_flag_set (first_of (codes "free") rows)
+  pub derive : options.derive ≡ is_flag_set (first_of (codes "derive") rows)
   pub seed : SaysNumber 0 (2 ^ 64 - 1) (first_of (codes "seed") rows) options.seed
   pub nodes : SaysNumberOr (10 ^ 7) 0 (10 ^ 12) (first_of (codes "nodes") rows) options.nodes
   pub learn : SaysLearning (first_of (codes "learn") rows) options.learn

@@ -34,6 +34,9 @@ const LIMIT: &str =
 const FREE: &str =
     "Search freely: annotations only help to find a first solution (without: follow them)";
 
+const DERIVE: &str =
+    "Derive constraints from those of the file before the search, where they bound the objective or refute";
+
 const SEED: &str = "Break ties by random words of this seed (0 to 2^64 - 1; without: by order)";
 
 const NODES: &str = "Make at most N decisions (0 to 10^12; 10^7 without)";
@@ -71,6 +74,8 @@ pub struct Options {
     pub limit: Option<u64>,
     /// Whether the search is free: annotations only help to find a first solution.
     pub free: bool,
+    /// Whether constraints are derived from those of the file before the search.
+    pub derive: bool,
     /// The seed of what breaks ties, 0 to 2^64 - 1. Without one no tie is broken by chance.
     pub seed: Option<u64>,
     /// How many decisions may be made, at most 10^12.
@@ -115,6 +120,7 @@ fn command<'a>(alloc: Global) -> Result<Command<'a>, AllocError>
     let command = with(command, all(alloc))?;
     let command = with(command, letter_option(alloc, "limit", 'n', "K", LIMIT))?;
     let command = with(command, letter_flag(alloc, "free", 'f', FREE))?;
+    let command = with(command, named_flag(alloc, "derive", DERIVE))?;
     let command = with(command, letter_option(alloc, "seed", 'r', "SEED", SEED))?;
     let command = with(command, named_option(alloc, "nodes", "N", NODES))?;
     let command = with(command, named_option(alloc, "learn", "CLAUSE", LEARN))?;
@@ -137,6 +143,7 @@ fn options_in(alloc: Global, matches: &ArgMatches<'_>) -> Result<Options, Option
         all: is_set(matches, "all"),
         limit: number(matches, "limit", 1, MAX_LIMIT)?,
         free: is_set(matches, "free"),
+        derive: is_set(matches, "derive"),
         seed: number(matches, "seed", 0, u64::MAX)?,
         nodes: number(matches, "nodes", 0, MAX_NODES)?.unwrap_or(DEFAULT_NODES),
         learn: learning(matches)?,

@@ -11,6 +11,7 @@ pub fn options_of(alloc: Global, all: bool, nodes: u64) -> Options {
         all,
         limit: None,
         free: false,
+        derive: false,
         seed: None,
         nodes,
         learn: Learn::First,

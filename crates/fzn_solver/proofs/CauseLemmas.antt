@@ -1,6 +1,7 @@
 -- What each fault of a run comes of.
 use Rattle.std.proofs.Common.{◌≡◌, ℕ, Bool, true, List, [], ◌∷◌, ◌++◌, length, Option, Some, None, IfSome, refl, sym, ap, subst, ◌∙◌, Result, Ok, Err, IfErr, OnOk, OnErr, unwrap_or}
 use Rattle.fzn_meaning.specs.declared.model.Model.{Model}
+use Rattle.fzn_meaning.specs.WellFormed.{IsWellFormed}
 use Rattle.fzn_reading.specs.Reads.{States}
 use Rattle.fzn_cert.specs.declared.write_fault.WriteFault.{WriteFault}
 use Rattle.fzn_cert.specs.declared.write_fault.WriteFault.TheVariants as faults
@@ -17,7 +18,10 @@ use Rattle.fzn_solver.specs.Causes.{IsTooLong, HasCause, IsCause, IsLineCause, A
 use Rattle.fzn_reading.specs.declared.fault.ModelFault.{ModelFault}
 use Rattle.fzn_reading.specs.declared.fault.ModelFault.TheVariants as reading
 use Rattle.fzn_solver.specs.FaultsFrom.{fault_of_certificate, fault_of_engine, fault_of_model}
-use Rattle.fzn_solver.specs.Left.{HasLines, IsLater, IsLeftByRun}
+use Rattle.fzn_solver.specs.Left.{HasLines, IsLater}
+use Rattle.fzn_options.specs.declared.solve.Options.{Options}
+use Rattle.fzn_solver.specs.Opening.{IsOpening}
+use Rattle.fzn_solver.specs.Searched.{IsLeftOfEach, HasCauseOfEach}
 use Rattle.fzn_solver.specs.Run.{IsDue}
 use Rattle.fzn_solver.specs.declared.fault.RunFault.{RunFault}
 use Rattle.fzn_solver.specs.declared.fault.RunFault.TheVariants as run
@@ -49,13 +53,13 @@ module _ {W C P : Type 0} (outs : W → Bool) (certs : C → Bool) (model : Mode
       subst (IsTooLong model) (sym same) (record { step = step; accepted = accepted; long = subst (λ (n : ℕ). ¬ HasLineRoom n step) counted cause })
 
   -- as a fault of the run
-  pub run-cause : (now : Writers W C P) (fault : Fault) (cert_old cert_new : Option (List ℕ)) → HasLines model (taken now) cert_old cert_new → IsCause outs certs model now fault
-      → HasCause (out_failed outs now.out) (cert_failed certs now.cert) model cert_old cert_new (fault_of_engine fault)
-  unfolding HasCause
-  run-cause now engine.Memory cert_old cert_new lines cause = tt
-  run-cause now engine.WriteOutput cert_old cert_new lines cause = cause
-  run-cause now engine.WriteCert cert_old cert_new lines cause = cause
-  run-cause now engine.StepTooLong cert_old cert_new lines cause = (taken now, lines, cause)
+  pub run-cause : (options : Options) (opening : List ℕ) (now : Writers W C P) (fault : Fault) (cert_old cert_new : Option (List ℕ)) → HasLines opening (taken now) cert_old cert_new → IsCause outs certs model now fault
+      → HasCauseOfEach (out_failed outs now.out) (cert_failed certs now.cert) options model opening cert_old cert_new (fault_of_engine fault)
+  unfolding HasCauseOfEach HasCause
+  run-cause options opening now engine.Memory cert_old cert_new lines cause file formed opened = tt
+  run-cause options opening now engine.WriteOutput cert_old cert_new lines cause file formed opened = cause
+  run-cause options opening now engine.WriteCert cert_old cert_new lines cause file formed opened = cause
+  run-cause options opening now engine.StepTooLong cert_old cert_new lines cause file formed opened = (model, opening, opened, taken now, lines, cause)
 
   -- what stopped it, or want of memory
   pub fault-cause : (now : Writers W C P) (stopped : Option Fault) → IfSome stopped (IsCause outs certs model now) → IsCause outs certs model now (unwrap_or stopped engine.Memory)
@@ -75,27 +79,30 @@ line-taken outs certs outs_failed certs_failed model step old new (Err e) accept
 
 -- ---- the whole run
 
-later-due : (read out cert : Bool) (file cert_old cert_new : Option (List ℕ)) (model : Model) (fault : RunFault) → States file model → IsLater fault → HasCause out cert model cert_old cert_new fault → IsDue read out cert file cert_old cert_new fault
+later-due : (read out cert derive : Bool) (file cert_old cert_new : Option (List ℕ)) (model : Model) (fault : RunFault) → States file model → IsLater fault → HasCause out cert derive model cert_old cert_new fault → IsDue read out cert derive file cert_old cert_new fault
 unfolding IsDue
-later-due read out cert file cert_old cert_new model (run.File fault) states later cause = tt
-later-due read out cert file cert_old cert_new model run.Read states later cause = absurd later
-later-due read out cert file cert_old cert_new model run.Memory states later cause = tt
-later-due read out cert file cert_old cert_new model run.WriteOutput states later cause = (model, states, cause)
-later-due read out cert file cert_old cert_new model run.WriteCert states later cause = (model, states, cause)
-later-due read out cert file cert_old cert_new model run.StepTooLong states later cause = (model, states, cause)
+later-due read out cert derive file cert_old cert_new model (run.File fault) states later cause = tt
+later-due read out cert derive file cert_old cert_new model run.Read states later cause = absurd later
+later-due read out cert derive file cert_old cert_new model run.Memory states later cause = tt
+later-due read out cert derive file cert_old cert_new model run.WriteOutput states later cause = (model, states, cause)
+later-due read out cert derive file cert_old cert_new model run.WriteCert states later cause = (model, states, cause)
+later-due read out cert derive file cert_old cert_new model run.StepTooLong states later cause = (model, states, cause)
 
-pub each-due : {A : Type 0} (result : Result A RunFault) (all : Bool) (read out cert : Bool) (file out_old out_new cert_old cert_new : Option (List ℕ)) (model : Model) → States file model → IfErr result (IsLeftByRun model all out_old out_new cert_old cert_new) → IfErr result (HasCause out cert model cert_old cert_new)
-    → IfErr result (IsDue read out cert file cert_old cert_new)
-each-due (Ok value) all read out cert file out_old out_new cert_old cert_new model states left cause = tt
-each-due (Err fault) all read out cert file out_old out_new cert_old cert_new model states left cause = later-due read out cert file cert_old cert_new model fault states left.0 cause
+pub each-due : {A : Type 0} (result : Result A RunFault) (options : Options) (read out cert : Bool) (file out_old out_new cert_old cert_new : Option (List ℕ)) (model after : Model) (opening : List ℕ)
+    → States file model → IsWellFormed model → IsOpening options.derive model after opening → IfErr result (IsLeftOfEach options after opening out_old out_new cert_old cert_new)
+    → IfErr result (HasCauseOfEach out cert options after opening cert_old cert_new) → IfErr result (IsDue read out cert options.derive file cert_old cert_new)
+unfolding IsLeftOfEach HasCauseOfEach
+each-due (Ok value) options read out cert file out_old out_new cert_old cert_new model after opening states formed opened left cause = tt
+each-due (Err fault) options read out cert file out_old out_new cert_old cert_new model after opening states formed opened left cause =
+    later-due read out cert options.derive file cert_old cert_new model fault states (left model formed opened).0 (cause model formed opened)
 
-pub read-due : (read out cert : Bool) (file cert_old cert_new : Option (List ℕ)) (fault : ModelFault) → (fault ≡ reading.Read → read ≡ true) → IsDue read out cert file cert_old cert_new (fault_of_model fault)
+pub read-due : (read out cert derive : Bool) (file cert_old cert_new : Option (List ℕ)) (fault : ModelFault) → (fault ≡ reading.Read → read ≡ true) → IsDue read out cert derive file cert_old cert_new (fault_of_model fault)
 unfolding IsDue
-read-due read out cert file cert_old cert_new (reading.File fault) due = tt
-read-due read out cert file cert_old cert_new reading.Memory due = tt
-read-due read out cert file cert_old cert_new reading.Read due = due refl
+read-due read out cert derive file cert_old cert_new (reading.File fault) due = tt
+read-due read out cert derive file cert_old cert_new reading.Memory due = tt
+read-due read out cert derive file cert_old cert_new reading.Read due = due refl
 
 -- want of memory needs no other cause
-pub memory-due : (read out cert : Bool) (file cert_old cert_new : Option (List ℕ)) → IsDue read out cert file cert_old cert_new run.Memory
+pub memory-due : (read out cert derive : Bool) (file cert_old cert_new : Option (List ℕ)) → IsDue read out cert derive file cert_old cert_new run.Memory
 unfolding IsDue
-memory-due read out cert file cert_old cert_new = tt
+memory-due read out cert derive file cert_old cert_new = tt

@@ -23,7 +23,7 @@ use Rattle.fzn_printer.specs.Shown.{shown, ending_text}
 use Rattle.fzn_solver.specs.declared.writers.Writers.{Writers}
 use Rattle.fzn_solver.specs.Standing.{found_by, early, late, begun_certificate, shown_all, IsOutInStep}
 use Rattle.fzn_solver.proofs.StandingLemmas.{front-kept}
-use Rattle.fzn_solver.specs.Writers.{taken, at_first, IsKept, IsLastShown, IsAnswerClosed, IsCutOff}
+use Rattle.fzn_solver.specs.Writers.{taken, at_first, opening_in, IsKept, IsLastShown, IsAnswerClosed, IsCutOff}
 
 -- a solution was printed early or waits exactly where there is one
 some-waits : (last : Option (List ℤ)) (xs : List (List ℤ)) → option_to_list last ≡ xs → is_some last ≡ not (length xs == 0)
@@ -120,7 +120,7 @@ module _ {W C P : Type 0} (outs : W → Option (List ℕ)) (certs : C → Option
       let still = open-print (is_open mid.out) ended w over ended_is in
       let E : Bool → Type 0 = λ b. Appends (out_contents outs mid.out) (out_contents outs new.out) (ending_text closed b) in record {
         have_lines = (kept.cert_in_step opened).have_lines;
-        cert = Appends-then (certs (at_first old).1) (cert_contents certs old.cert) (cert_contents certs new.cert) (begun_certificate model (taken old)) (end_line closed) (kept.cert_in_step opened).lines end;
+        cert = Appends-then (certs (at_first old).1) (cert_contents certs old.cert) (cert_contents certs new.cert) (begun_certificate (opening_in model old) (taken old)) (end_line closed) (kept.cert_in_step opened).lines end;
         out = answer-text model old.alone closed (found_by model (taken old)) (outs (at_first old).0) (out_contents outs old.out) (out_contents outs mid.out) (out_contents outs new.out) (has_printed old.out) old.last.now
             (kept.out_in_step opened (last.was_open still)) last.text (subst E last.has_shown ending);
       }

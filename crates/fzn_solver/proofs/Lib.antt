@@ -3,5 +3,6 @@ mod StandingLemmas
 mod WritersLemmas
 mod CauseLemmas
 mod ClosedLemmas
+mod OpenedLemmas
 mod AnswerLemmas
 mod LeftLemmas

@@ -14,8 +14,8 @@ use Rattle.fzn_cert.specs.declared.step.Step.TheVariants.{Infer, Resolve, Soluti
 use Rattle.fzn_cert.specs.declared.step.Version.TheVariants.{Two}
 use Rattle.fzn_cert.specs.Past.{StepsPast, no_past}
 use Rattle.fzn_cert.specs.Accepted.{IsAccepted, AllAcceptedAfter, after_step, past_after}
-use Rattle.fzn_cert.specs.Spelling.{step_line, header_lines, IsSpelled, HasLineRoom, HasLine}
-use Rattle.fzn_cert.specs.Verdict.{header_of, lines_of, AllHaveLines}
+use Rattle.fzn_cert.specs.Spelling.{step_line, IsSpelled, HasLineRoom, HasLine}
+use Rattle.fzn_cert.specs.Verdict.{lines_of, AllHaveLines}
 use Rattle.fzn_printer.specs.Shown.{shown}
 use Rattle.fzn_solver.specs.Standing.{found_by, early, begun_certificate, shown_all, AreLinesStanding, IsCertInStep, IsOutInStep}
 
@@ -35,16 +35,16 @@ have-push count (first ∷ steps) step have line =
     let same : count + length (first ∷ steps) ≡ count + 1 + length steps = omega arith in
     (have.0, have-push (count + 1) steps step have.1 (subst H same line))
 
-begun-push : (model : Model) (steps : List Step) (step : Step) → begun_certificate model (steps ++ step ∷ []) ≡ begun_certificate model steps ++ step_line step
-begun-push model steps step =
-    ap (λ (t : List ℕ). header_lines (header_of model Two) ++ t) (lines_of-push steps step)
-    ∙ sym (append_assoc (header_lines (header_of model Two)) (lines_of steps) (step_line step))
+begun-push : (opening : List ℕ) (steps : List Step) (step : Step) → begun_certificate opening (steps ++ step ∷ []) ≡ begun_certificate opening steps ++ step_line step
+begun-push opening steps step =
+    ap (λ (t : List ℕ). opening ++ t) (lines_of-push steps step)
+    ∙ sym (append_assoc opening (lines_of steps) (step_line step))
 
-pub cert-push : (model : Model) (steps : List Step) (step : Step) (first old new : Option (List ℕ)) (written : ℕ) → IsCertInStep model steps first old written → IsSpelled Two step → HasLineRoom written step → Appends old new (step_line step) → IsCertInStep model (steps ++ step ∷ []) first new (written + 1)
-cert-push model steps step first old new written in_step spelled room line =
+pub cert-push : (opening : List ℕ) (steps : List Step) (step : Step) (first old new : Option (List ℕ)) (written : ℕ) → IsCertInStep opening steps first old written → IsSpelled Two step → HasLineRoom written step → Appends old new (step_line step) → IsCertInStep opening (steps ++ step ∷ []) first new (written + 1)
+cert-push opening steps step first old new written in_step spelled room line =
     let H : ℕ → Type 0 = λ n. HasLineRoom n step in
     let count : written ≡ 0 + length steps = omega (arith, in_step.counted) in record {
-      lines = rw (begun-push model steps step) (Appends-then first old new (begun_certificate model steps) (step_line step) in_step.lines line);
+      lines = rw (begun-push opening steps step) (Appends-then first old new (begun_certificate opening steps) (step_line step) in_step.lines line);
       have_lines = have-push 0 steps step in_step.have_lines (spelled, subst H count room);
       counted = omega (arith, in_step.counted, length-append steps (step ∷ []));
     }
@@ -55,9 +55,9 @@ Appends-kept (Some p) None c x h k = absurd h
 Appends-kept (Some p) (Some q) None x h k = absurd k
 Appends-kept (Some p) (Some q) (Some r) x h k = k ∙ h
 
-pub cert-kept : (model : Model) (steps : List Step) (first old new : Option (List ℕ)) (written : ℕ) → IsCertInStep model steps first old written → Keeps old new → IsCertInStep model steps first new written
-cert-kept model steps first old new written in_step kept = record {
-  lines = Appends-kept first old new (begun_certificate model steps) in_step.lines kept;
+pub cert-kept : (opening : List ℕ) (steps : List Step) (first old new : Option (List ℕ)) (written : ℕ) → IsCertInStep opening steps first old written → Keeps old new → IsCertInStep opening steps first new written
+cert-kept opening steps first old new written in_step kept = record {
+  lines = Appends-kept first old new (begun_certificate opening steps) in_step.lines kept;
   have_lines = in_step.have_lines;
   counted = in_step.counted;
 }
@@ -126,10 +126,10 @@ out-kept model alone found first old new printed last in_step kept = record {
 
 -- ---- what stands
 
-pub standing-in_step : (model : Model) (alone : Bool) (steps : List Step) (cert_first cert_now out_first out_now : Option (List ℕ)) (written : ℕ) → IsCertInStep model steps cert_first cert_now written → AppendsFront out_first out_now (shown_all model (early alone (found_by model steps))) → AreLinesStanding model alone steps cert_first cert_now out_first out_now
-standing-in_step model alone steps cert_first cert_now out_first out_now written in_step front = record {
+pub standing-in_step : (model : Model) (opening : List ℕ) (alone : Bool) (steps : List Step) (cert_first cert_now out_first out_now : Option (List ℕ)) (written : ℕ) → IsCertInStep opening steps cert_first cert_now written → AppendsFront out_first out_now (shown_all model (early alone (found_by model steps))) → AreLinesStanding model opening alone steps cert_first cert_now out_first out_now
+standing-in_step model opening alone steps cert_first cert_now out_first out_now written in_step front = record {
   more = [];
-  lines = rw (append-nil (begun_certificate model steps)) in_step.lines;
+  lines = rw (append-nil (begun_certificate opening steps)) in_step.lines;
   shown = front;
 }
 
@@ -137,11 +137,11 @@ Appends-front : (a b c : Option (List ℕ)) (x y : List ℕ) → Appends a b x �
 Appends-front a b c x y h k = (take k.0 y, Appends-then a b c x (take k.0 y) h k.2)
 
 -- a beginning of a line more
-pub standing-refused : (model : Model) (alone : Bool) (steps : List Step) (cert_first cert_old cert_new out_first out_now : Option (List ℕ)) (text : List ℕ) → AreLinesStanding model alone steps cert_first cert_old out_first out_now → AppendsFront cert_old cert_new text → AreLinesStanding model alone steps cert_first cert_new out_first out_now
-standing-refused model alone steps cert_first cert_old cert_new out_first out_now text standing front =
-    let more = Appends-front cert_first cert_old cert_new (begun_certificate model steps ++ standing.more) text standing.lines front in record {
+pub standing-refused : (model : Model) (opening : List ℕ) (alone : Bool) (steps : List Step) (cert_first cert_old cert_new out_first out_now : Option (List ℕ)) (text : List ℕ) → AreLinesStanding model opening alone steps cert_first cert_old out_first out_now → AppendsFront cert_old cert_new text → AreLinesStanding model opening alone steps cert_first cert_new out_first out_now
+standing-refused model opening alone steps cert_first cert_old cert_new out_first out_now text standing front =
+    let more = Appends-front cert_first cert_old cert_new (begun_certificate opening steps ++ standing.more) text standing.lines front in record {
       more = standing.more ++ more.0;
-      lines = rw (← append_assoc (begun_certificate model steps) standing.more more.0) more.1;
+      lines = rw (← append_assoc (begun_certificate opening steps) standing.more more.0) more.1;
       shown = standing.shown;
     }
 

@@ -17,16 +17,16 @@ use Rattle.fzn_cert.specs.declared.writer.Stage.TheVariants.{Open, Shut}
 use Rattle.fzn_cert.specs.declared.writer.StepWriter.{StepWriter}
 use Rattle.fzn_cert.specs.Past.{no_past}
 use Rattle.fzn_cert.specs.Accepted.{AllAccepted}
-use Rattle.fzn_cert.specs.Spelling.{step_line, header_text, header_lines, IsSpelled, HasLineRoom}
-use Rattle.fzn_cert.specs.Verdict.{header_of}
+use Rattle.fzn_cert.specs.Spelling.{step_line, IsSpelled, HasLineRoom}
 use Rattle.fzn_cert.specs.Writer.{contents_of as cert_contents, cert_name, stage_of, step_count, version_of}
 use Rattle.fzn_printer.specs.declared.printer.Printer.{Printer}
 use Rattle.fzn_printer.specs.Printer.{out_contents, out_name, is_open, has_printed}
 use Rattle.fzn_printer.specs.Shown.{shown}
+use Rattle.fzn_solver.specs.Opening.{opening_of}
 use Rattle.fzn_solver.specs.Standing.{found_by, early, shown_all, IsCertInStep, IsOutInStep}
 use Rattle.fzn_solver.specs.declared.ghost_list.GhostList.{GhostList}
 use Rattle.fzn_solver.specs.declared.writers.Writers.{Writers}
-use Rattle.fzn_solver.specs.Writers.{taken, at_first, origin, IsLogged, IsStandingKept, IsKept, IsUnwritten, IsLineTaken, IsLineRefused, IsRestSame, IsAllSame, IsPrinted, IsUntold}
+use Rattle.fzn_solver.specs.Writers.{taken, at_first, opening_in, origin, IsLogged, IsStandingKept, IsKept, IsUnwritten, IsLineTaken, IsLineRefused, IsRestSame, IsAllSame, IsPrinted, IsUntold}
 use Rattle.fzn_solver.proofs.StandingLemmas.{cert-push, found-solution, found-infer, last-accepted, out-held, out-printed, standing-in_step, standing-refused, front-kept, front-found, front-printed, Appends-kept}
 
 shut_open : Shut ≡ Open → ⊥
@@ -48,20 +48,20 @@ abbrev taken_by : GhostList Step → List Step
 taken_by list = list.items
 
 module _ {W C : Type 0} (outs : W → Option (List ℕ)) (certs : C → Option (List ℕ)) (model : Model) where
-  -- the first two lines
-  pub kept-begun : (old new : StepWriter C) (out : Printer W) (alone : Bool) (first : W × C) → cert_contents certs old ≡ certs first.1 → out_contents outs out ≡ outs first.0
+  -- the text in front of the steps
+  pub kept-begun : (old new : StepWriter C) (out : Printer W) (alone : Bool) (first : W × C × Option (List ℕ)) → cert_contents certs old ≡ certs first.1 → out_contents outs out ≡ outs first.0
       → has_printed out ≡ false → version_of new ≡ Two → step_count new ≡ 0
-      → Appends (cert_contents certs old) (cert_contents certs new) (header_text Two (length model.vars) (length model.constraints)) → IsStandingKept outs certs model new out alone None [] first
+      → Appends (cert_contents certs old) (cert_contents certs new) (opening_of model first.2) → IsStandingKept outs certs model new out alone None [] first
   kept-begun old new out alone first cert_is out_is none_shown version none header =
-      let H : Option (List ℕ) → Type 0 = λ o. Appends o (cert_contents certs new) (header_text Two (length model.vars) (length model.constraints)) in
+      let H : Option (List ℕ) → Type 0 = λ o. Appends o (cert_contents certs new) (opening_of model first.2) in
       let F : Option (List ℕ) → Type 0 = λ o. AppendsFront o (out_contents outs out) (shown_all model (early alone [])) in
       let O : Option (List ℕ) → Type 0 = λ o. IsOutInStep model alone [] o (out_contents outs out) (has_printed out) None in
-      let in_step : IsCertInStep model [] (certs first.1) (cert_contents certs new) (step_count new) =
-      record { lines = rw (append-nil (header_lines (header_of model Two))) (subst H cert_is header); have_lines = tt; counted = none } in
+      let in_step : IsCertInStep (opening_of model first.2) [] (certs first.1) (cert_contents certs new) (step_count new) =
+      record { lines = rw (append-nil (opening_of model first.2)) (subst H cert_is header); have_lines = tt; counted = none } in
       record {
         version = version;
         assignment = tt;
-        standing = standing-in_step model alone [] (certs first.1) (cert_contents certs new) (outs first.0) (out_contents outs out) (step_count new) in_step
+        standing = standing-in_step model (opening_of model first.2) alone [] (certs first.1) (cert_contents certs new) (outs first.0) (out_contents outs out) (step_count new) in_step
             (subst F out_is (front-none (out_contents outs out) (out_contents outs out) (shown_all model (early alone [])) (Keeps-same (out_contents outs out))));
         cert_in_step = λ _. in_step;
         out_in_step = λ _ _. subst O out_is (nothing alone);
@@ -76,64 +76,64 @@ module _ {W C : Type 0} (outs : W → Option (List ℕ)) (certs : C → Option (
       nothing false = record { text = no_text (out_contents outs out); has_shown = none_shown; waits = refl }
 
   -- a line that was not taken
-  pub kept-refused : (old new : StepWriter C) (out : Printer W) (alone : Bool) (last : Option (List ℤ)) (steps : List Step) (first : W × C) (text : List ℕ) → IsStandingKept outs certs model old out alone last steps first → version_of new ≡ version_of old → stage_of new ≡ Shut
+  pub kept-refused : (old new : StepWriter C) (out : Printer W) (alone : Bool) (last : Option (List ℤ)) (steps : List Step) (first : W × C × Option (List ℕ)) (text : List ℕ) → IsStandingKept outs certs model old out alone last steps first → version_of new ≡ version_of old → stage_of new ≡ Shut
       → AppendsFront (cert_contents certs old) (cert_contents certs new) text → IsStandingKept outs certs model new out alone last steps first
   kept-refused old new out alone last steps first text kept version shut front = record {
     version = version ∙ kept.version;
     assignment = kept.assignment;
-    standing = standing-refused model alone steps (certs first.1) (cert_contents certs old) (cert_contents certs new) (outs first.0) (out_contents outs out) text kept.standing front;
+    standing = standing-refused model (opening_of model first.2) alone steps (certs first.1) (cert_contents certs old) (cert_contents certs new) (outs first.0) (out_contents outs out) text kept.standing front;
     cert_in_step = λ is_so. absurd (shut_open (sym shut ∙ is_so));
     out_in_step = λ is_so _. absurd (shut_open (sym shut ∙ is_so));
   }
 
   -- the line of a step that is no solution
-  pub kept-line : (old new : StepWriter C) (out : Printer W) (alone : Bool) (last : Option (List ℤ)) (steps : List Step) (first : W × C) (step : Step) → IsStandingKept outs certs model old out alone last steps first → ((values : List ℤ) → step ≢ Solution values) → IsSpelled Two step
+  pub kept-line : (old new : StepWriter C) (out : Printer W) (alone : Bool) (last : Option (List ℤ)) (steps : List Step) (first : W × C × Option (List ℕ)) (step : Step) → IsStandingKept outs certs model old out alone last steps first → ((values : List ℤ) → step ≢ Solution values) → IsSpelled Two step
       → version_of new ≡ version_of old → stage_of old ≡ Open → step_count new ≡ step_count old + 1 → HasLineRoom (step_count old) step → Appends (cert_contents certs old) (cert_contents certs new) (step_line step)
       → IsStandingKept outs certs model new out alone last (steps ++ step ∷ []) first
   kept-line old new out alone last steps first step kept other spelled version was_open counted room line =
-      let N : ℕ → Type 0 = λ n. IsCertInStep model (steps ++ step ∷ []) (certs first.1) (cert_contents certs new) n in
-      let in_step = subst N (sym counted) (cert-push model steps step (certs first.1) (cert_contents certs old) (cert_contents certs new) (step_count old) (kept.cert_in_step was_open) spelled room line) in
+      let N : ℕ → Type 0 = λ n. IsCertInStep (opening_of model first.2) (steps ++ step ∷ []) (certs first.1) (cert_contents certs new) n in
+      let in_step = subst N (sym counted) (cert-push (opening_of model first.2) steps step (certs first.1) (cert_contents certs old) (cert_contents certs new) (step_count old) (kept.cert_in_step was_open) spelled room line) in
       let found : found_by model (steps ++ step ∷ []) ≡ found_by model steps = found-infer model steps step other in
       let T : List (List ℤ) → Type 0 = λ f. AppendsFront (outs first.0) (out_contents outs out) (shown_all model (early alone f)) in
       let O : List (List ℤ) → Type 0 = λ f. IsOutInStep model alone f (outs first.0) (out_contents outs out) (has_printed out) last in
       record {
         version = version ∙ kept.version;
         assignment = kept.assignment;
-        standing = standing-in_step model alone (steps ++ step ∷ []) (certs first.1) (cert_contents certs new) (outs first.0) (out_contents outs out) (step_count new) in_step (subst T (sym found) kept.standing.shown);
+        standing = standing-in_step model (opening_of model first.2) alone (steps ++ step ∷ []) (certs first.1) (cert_contents certs new) (outs first.0) (out_contents outs out) (step_count new) in_step (subst T (sym found) kept.standing.shown);
         cert_in_step = λ _. in_step;
         out_in_step = λ _ opened. subst O (sym found) (kept.out_in_step was_open opened);
       }
 
   -- The line of a solution, flushed. The output follows behind it: `front` and `goes` say what is known of it then.
-  pub kept-solution : (old new : StepWriter C) (out after : Printer W) (alone : Bool) (last waiting : Option (List ℤ)) (steps : List Step) (first : W × C) (values : List ℤ) → IsStandingKept outs certs model old out alone last steps first → IsSpelled Two (Solution values)
+  pub kept-solution : (old new : StepWriter C) (out after : Printer W) (alone : Bool) (last waiting : Option (List ℤ)) (steps : List Step) (first : W × C × Option (List ℕ)) (values : List ℤ) → IsStandingKept outs certs model old out alone last steps first → IsSpelled Two (Solution values)
       → version_of new ≡ version_of old → stage_of old ≡ Open → (stage_of new ≡ Open → step_count new ≡ step_count old + 1) → HasLineRoom (step_count old) (Solution values) → Appends (cert_contents certs old) (cert_contents certs new) (step_line (Solution values))
       → IfSome waiting (IsAssignment model)
       → ((o : Option (List ℕ)) → AppendsFront o (out_contents outs out) (shown_all model (early alone (found_by model steps))) → (is_open out ≡ true → Appends o (out_contents outs out) (shown_all model (early alone (found_by model steps)))) → AppendsFront o (out_contents outs after) (shown_all model (early alone (found_by model steps ++ values ∷ []))))
       → ((o : Option (List ℕ)) → stage_of new ≡ Open → is_open after ≡ true → (is_open out ≡ true → IsOutInStep model alone (found_by model steps) o (out_contents outs out) (has_printed out) last) → IsOutInStep model alone (found_by model steps ++ values ∷ []) o (out_contents outs after) (has_printed after) waiting)
       → IsStandingKept outs certs model new after alone waiting (steps ++ Solution values ∷ []) first
   kept-solution old new out after alone last waiting steps first values kept spelled version was_open counted room line assignment front goes =
-      let N : ℕ → Type 0 = λ n. IsCertInStep model (steps ++ Solution values ∷ []) (certs first.1) (cert_contents certs new) n in
-      let in_step = cert-push model steps (Solution values) (certs first.1) (cert_contents certs old) (cert_contents certs new) (step_count old) (kept.cert_in_step was_open) spelled room line in
+      let N : ℕ → Type 0 = λ n. IsCertInStep (opening_of model first.2) (steps ++ Solution values ∷ []) (certs first.1) (cert_contents certs new) n in
+      let in_step = cert-push (opening_of model first.2) steps (Solution values) (certs first.1) (cert_contents certs old) (cert_contents certs new) (step_count old) (kept.cert_in_step was_open) spelled room line in
       let found : found_by model (steps ++ Solution values ∷ []) ≡ found_by model steps ++ values ∷ [] = found-solution model steps values in
       let T : List (List ℤ) → Type 0 = λ f. AppendsFront (outs first.0) (out_contents outs after) (shown_all model (early alone f)) in
       let O : List (List ℤ) → Type 0 = λ f. IsOutInStep model alone f (outs first.0) (out_contents outs after) (has_printed after) waiting in
       record {
         version = version ∙ kept.version;
         assignment = assignment;
-        standing = standing-in_step model alone (steps ++ Solution values ∷ []) (certs first.1) (cert_contents certs new) (outs first.0) (out_contents outs after) (step_count old + 1) in_step
+        standing = standing-in_step model (opening_of model first.2) alone (steps ++ Solution values ∷ []) (certs first.1) (cert_contents certs new) (outs first.0) (out_contents outs after) (step_count old + 1) in_step
             (subst T (sym found) (front (outs first.0) kept.standing.shown (λ opened. (kept.out_in_step was_open opened).text)));
         cert_in_step = λ stays. subst N (sym (counted stays)) in_step;
         out_in_step = λ stays opened. subst O (sym found) (goes (outs first.0) stays opened (kept.out_in_step was_open));
       }
 
-  moved : (cert : StepWriter C) (out out' : Printer W) (alone alone' : Bool) (last last' : Option (List ℤ)) (steps steps' : List Step) (first first' : W × C) → out' ≡ out → alone' ≡ alone → last' ≡ last → steps' ≡ steps → first' ≡ first
+  moved : (cert : StepWriter C) (out out' : Printer W) (alone alone' : Bool) (last last' : Option (List ℤ)) (steps steps' : List Step) (first first' : W × C × Option (List ℕ)) → out' ≡ out → alone' ≡ alone → last' ≡ last → steps' ≡ steps → first' ≡ first
       → IsStandingKept outs certs model cert out alone last steps first → IsStandingKept outs certs model cert out' alone' last' steps' first'
   moved cert out out' alone alone' last last' steps steps' first first' e f g h i kept =
       let O : Printer W → Type 0 = λ x. IsStandingKept outs certs model cert x alone last steps first in
       let A : Bool → Type 0 = λ x. IsStandingKept outs certs model cert out' x last steps first in
       let L : Option (List ℤ) → Type 0 = λ x. IsStandingKept outs certs model cert out' alone' x steps first in
       let S : List Step → Type 0 = λ x. IsStandingKept outs certs model cert out' alone' last' x first in
-      let F : W × C → Type 0 = λ x. IsStandingKept outs certs model cert out' alone' last' steps' x in
+      let F : W × C × Option (List ℕ) → Type 0 = λ x. IsStandingKept outs certs model cert out' alone' last' steps' x in
       subst F (sym i) (subst S (sym h) (subst L (sym g) (subst A (sym f) (subst O (sym e) kept))))
 
   pub assignment-of : (steps : List Step) (values : List ℤ) → AllAccepted model (steps ++ Solution values ∷ []) → IsAssignment model values
@@ -214,9 +214,9 @@ module _ {W C P : Type 0} (outs : W → Option (List ℕ)) (certs : C → Option
       let B : Bool → Type 0 = λ b. IsOutInStep model false (found_by model (taken old) ++ values ∷ []) o (out_contents outs new.out) b old.last.now in
       subst B (sym known.2) (out-printed model (found_by model (taken old)) values o (out_contents outs old.out) (out_contents outs new.out) (has_printed old.out) old.last.now (step known.0) known.1)))
 
-  -- the first two lines stand
+  -- the text in front of the steps stands
   pub begun-kept : (cert : StepWriter C) (old : Writers W C P) → IsUnwritten outs certs old → version_of cert ≡ Two → step_count cert ≡ 0
-      → Appends (cert_contents certs old.cert) (cert_contents certs cert) (header_text Two (length model.vars) (length model.constraints)) → IsKept outs certs model (record old { cert = cert })
+      → Appends (cert_contents certs old.cert) (cert_contents certs cert) (opening_in model old) → IsKept outs certs model (record old { cert = cert })
   begun-kept cert old fresh version none header =
       moved outs certs model cert old.out old.out old.alone old.alone None old.last.now [] (taken old) (at_first old) (at_first old)
       refl refl fresh.none_waits fresh.none_taken refl

@@ -14,6 +14,7 @@ use Rattle.fzn_solver.specs.declared.fault.RunFault.{RunFault}
 use Rattle.fzn_solver.specs.declared.fault.RunFault.TheVariants.{WriteOutput, WriteCert, StepTooLong}
 use Rattle.fzn_solver.specs.declared.writers.Writers.{Writers}
 use Rattle.fzn_solver.specs.Left.{HasLines}
+use Rattle.fzn_solver.specs.Opening.{IsOpening}
 use Rattle.fzn_solver.specs.Writers.{taken, at_first}
 
 -- these steps may be followed by one whose line would pass its limit, of length or of step number
@@ -24,11 +25,13 @@ pub record IsTooLong (model : Model) (steps : List Step) : Type 0 where
 
 -- A fault that came once the model was read: a write or a flush of the output failed, one of the certificate did, or the line of a step
 -- that follows those on the certificate would be too long.
-unfoldable pub HasCause : Bool → Bool → Model → Option (List ℕ) → Option (List ℕ) → RunFault → Type 0
-HasCause out cert model cert_old cert_new WriteOutput = out ≡ true
-HasCause out cert model cert_old cert_new WriteCert = cert ≡ true
-HasCause out cert model cert_old cert_new StepTooLong = (steps : List Step) × HasLines model steps cert_old cert_new × IsTooLong model steps
-HasCause out cert model cert_old cert_new _ = Unit {0}
+unfoldable pub HasCause : Bool → Bool → Bool → Model → Option (List ℕ) → Option (List ℕ) → RunFault → Type 0
+HasCause out cert derive model cert_old cert_new WriteOutput = out ≡ true
+HasCause out cert derive model cert_old cert_new WriteCert = cert ≡ true
+HasCause out cert derive model cert_old cert_new StepTooLong =
+    (after : Model) × (opening : List ℕ) × IsOpening derive model after opening
+    × (steps : List Step) × HasLines opening steps cert_old cert_new × IsTooLong after steps
+HasCause out cert derive model cert_old cert_new _ = Unit {0}
 
 -- ---- on the way
 

@@ -19,19 +19,19 @@ pub record IsRun (file : Option (List ℕ)) (options : Options) (out_old out_new
   pub answer : IsAnswer model options out_old out_new cert_old cert_new report
 
 -- a fault that came once the model was read
-abbrev pub IsLeftOf : Option (List ℕ) → Bool → Option (List ℕ) → Option (List ℕ) → Option (List ℕ) → Option (List ℕ) → RunFault → Type 0
-IsLeftOf file all out_old out_new cert_old cert_new fault = (model : Model) × States file model × IsLeftByRun model all out_old out_new cert_old cert_new fault
+abbrev pub IsLeftOf : Option (List ℕ) → Options → Option (List ℕ) → Option (List ℕ) → Option (List ℕ) → Option (List ℕ) → RunFault → Type 0
+IsLeftOf file options out_old out_new cert_old cert_new fault = (model : Model) × States file model × IsLeftByRun model options out_old out_new cert_old cert_new fault
 
 -- The file's first fault, and that of a failed read, leave both writers as they were.
-unfoldable pub IsRunFault : Option (List ℕ) → Bool → Option (List ℕ) → Option (List ℕ) → Option (List ℕ) → Option (List ℕ) → RunFault → Type 0
-IsRunFault file all out_old out_new cert_old cert_new (File fault) = Keeps out_old out_new × Keeps cert_old cert_new × IfSome file (λ bytes. Reads bytes (Err (errors.Fault fault)))
-IsRunFault file all out_old out_new cert_old cert_new Read = Keeps out_old out_new × Keeps cert_old cert_new
-IsRunFault file all out_old out_new cert_old cert_new Memory = (Keeps out_old out_new × Keeps cert_old cert_new) ⊎ IsLeftOf file all out_old out_new cert_old cert_new Memory
-IsRunFault file all out_old out_new cert_old cert_new fault = IsLeftOf file all out_old out_new cert_old cert_new fault
+unfoldable pub IsRunFault : Option (List ℕ) → Options → Option (List ℕ) → Option (List ℕ) → Option (List ℕ) → Option (List ℕ) → RunFault → Type 0
+IsRunFault file options out_old out_new cert_old cert_new (File fault) = Keeps out_old out_new × Keeps cert_old cert_new × IfSome file (λ bytes. Reads bytes (Err (errors.Fault fault)))
+IsRunFault file options out_old out_new cert_old cert_new Read = Keeps out_old out_new × Keeps cert_old cert_new
+IsRunFault file options out_old out_new cert_old cert_new Memory = (Keeps out_old out_new × Keeps cert_old cert_new) ⊎ IsLeftOf file options out_old out_new cert_old cert_new Memory
+IsRunFault file options out_old out_new cert_old cert_new fault = IsLeftOf file options out_old out_new cert_old cert_new fault
 
 -- Each fault has its cause: a failed read, a failed write or flush of the output or of the certificate, a line that would be too long.
-unfoldable pub IsDue : Bool → Bool → Bool → Option (List ℕ) → Option (List ℕ) → Option (List ℕ) → RunFault → Type 0
-IsDue read out cert file cert_old cert_new (File fault) = Unit {0}
-IsDue read out cert file cert_old cert_new Memory = Unit {0}
-IsDue read out cert file cert_old cert_new Read = read ≡ true
-IsDue read out cert file cert_old cert_new fault = (model : Model) × States file model × HasCause out cert model cert_old cert_new fault
+unfoldable pub IsDue : Bool → Bool → Bool → Bool → Option (List ℕ) → Option (List ℕ) → Option (List ℕ) → RunFault → Type 0
+IsDue read out cert derive file cert_old cert_new (File fault) = Unit {0}
+IsDue read out cert derive file cert_old cert_new Memory = Unit {0}
+IsDue read out cert derive file cert_old cert_new Read = read ≡ true
+IsDue read out cert derive file cert_old cert_new fault = (model : Model) × States file model × HasCause out cert derive model cert_old cert_new fault

@@ -10,8 +10,8 @@ use Rattle.fzn_meaning.specs.declared.model.Model.{Model}
 use Rattle.fzn_cert.specs.declared.step.Step.{Step}
 use Rattle.fzn_cert.specs.declared.step.Version.TheVariants.{Two}
 use Rattle.fzn_cert.specs.Accepted.{past_after}
-use Rattle.fzn_cert.specs.Spelling.{header_lines, end_line}
-use Rattle.fzn_cert.specs.Verdict.{header_of, lines_of, AllHaveLines}
+use Rattle.fzn_cert.specs.Spelling.{end_line}
+use Rattle.fzn_cert.specs.Verdict.{lines_of, AllHaveLines}
 use Rattle.fzn_printer.specs.Shown.{shown}
 
 -- the solutions among the steps, in order
@@ -34,13 +34,13 @@ abbrev pub late : Bool → List (List ℤ) → List (List ℤ)
 late true found = drop (length found - 1) found
 late false found = []
 
--- the first two lines, and those of the steps
-abbrev pub begun_certificate : Model → List Step → List ℕ
-begun_certificate model steps = header_lines (header_of model Two) ++ lines_of steps
+-- the text in front of the steps, and their lines
+abbrev pub begun_certificate : List ℕ → List Step → List ℕ
+begun_certificate opening steps = opening ++ lines_of steps
 
 -- the whole certificate
-abbrev pub certificate : Model → List Step → Bool → List ℕ
-certificate model steps closed = begun_certificate model steps ++ end_line closed
+abbrev pub certificate : List ℕ → List Step → Bool → List ℕ
+certificate opening steps closed = begun_certificate opening steps ++ end_line closed
 
 -- the text of these solutions
 abbrev pub shown_all : Model → List (List ℤ) → List ℕ
@@ -48,14 +48,14 @@ shown_all model found = flat_map (shown model) found
 
 -- The lines of the steps stand whole on the certificate, and perhaps a beginning of another text; on the output a beginning of the
 -- text of their solutions.
-pub record AreLinesStanding (model : Model) (alone : Bool) (steps : List Step) (cert_first cert_now out_first out_now : Option (List ℕ)) : Type 0 where
+pub record AreLinesStanding (model : Model) (opening : List ℕ) (alone : Bool) (steps : List Step) (cert_first cert_now out_first out_now : Option (List ℕ)) : Type 0 where
   pub more : List ℕ
-  pub lines : Appends cert_first cert_now (begun_certificate model steps ++ more)
+  pub lines : Appends cert_first cert_now (begun_certificate opening steps ++ more)
   pub shown : AppendsFront out_first out_now (shown_all model (early alone (found_by model steps)))
 
 -- The lines of the steps stand on the certificate and nothing else.
-pub record IsCertInStep (model : Model) (steps : List Step) (first now : Option (List ℕ)) (written : ℕ) : Type 0 where
-  pub lines : Appends first now (begun_certificate model steps)
+pub record IsCertInStep (opening : List ℕ) (steps : List Step) (first now : Option (List ℕ)) (written : ℕ) : Type 0 where
+  pub lines : Appends first now (begun_certificate opening steps)
   pub have_lines : AllHaveLines Two 0 steps
   pub counted : written ≡ length steps
 

@@ -1,5 +1,5 @@
 -- What a contract sees of the writers of a run.
-use Rattle.std.specs.Prelude.{◌≡◌, ◌⊎◌, ◌||◌, ◌==◌, not, ℕ, ◌+◌, Bool, true, false, ℤ, List, [], ◌∷◌, ◌++◌, Option, None, IfSome, is_some, length}
+use Rattle.std.specs.Prelude.{◌≡◌, ◌⊎◌, ◌||◌, ◌==◌, not, ℕ, ◌+◌, Bool, true, false, ℤ, List, [], ◌∷◌, ◌++◌, Option, None, IfSome, is_some, length, option_map, string_bytes}
 use Rattle.std.specs.Option.{option_to_list}
 use Rattle.std.specs.Borrow.{GName}
 use Rattle.std.specs.Io.KnownBytes.{Appends, Keeps}
@@ -11,7 +11,7 @@ use Rattle.fzn_cert.specs.declared.step.Version.TheVariants.{Two}
 use Rattle.fzn_cert.specs.declared.writer.Stage.TheVariants.{Fresh, Open, Shut}
 use Rattle.fzn_cert.specs.declared.writer.StepWriter.{StepWriter}
 use Rattle.fzn_cert.specs.Verdict.{AllHaveLines}
-use Rattle.fzn_cert.specs.Spelling.{step_line, header_text, end_line, HasLineRoom}
+use Rattle.fzn_cert.specs.Spelling.{step_line, end_line, HasLineRoom}
 use Rattle.fzn_cert.specs.Writer.{contents_of as cert_contents, cert_name, stage_of, step_count, version_of}
 use Rattle.fzn_state.specs.declared.fault.Fault.{Fault}
 use Rattle.fzn_state.specs.declared.fault.Fault.TheVariants.{WriteOutput}
@@ -19,6 +19,7 @@ use Rattle.fzn_printer.specs.declared.printer.Printer.{Printer}
 use Rattle.fzn_printer.specs.Printer.{out_contents, out_name, is_open, has_printed}
 use Rattle.fzn_printer.specs.Shown.{shown, ending_text}
 use Rattle.fzn_solver.specs.declared.writers.Writers.{Writers}
+use Rattle.fzn_solver.specs.Opening.{opening_of}
 use Rattle.fzn_solver.specs.Standing.{certificate, shown_all, early, late, found_by, AreLinesStanding, IsCertInStep, IsOutInStep}
 use Rattle.fzn_solver.specs.Told.{IsTold}
 
@@ -26,12 +27,16 @@ use Rattle.fzn_solver.specs.Told.{IsTold}
 abbrev pub taken : {W C P : Type 0} → Writers W C P → List Step
 taken writers = writers.taken.items
 
--- the output and the certificate as they were at first
-abbrev pub at_first : {W C P : Type 0} → Writers W C P → W × C
-at_first writers = (writers.first_out.value, writers.first_cert.value)
+-- the output and the certificate as they were at first, and the lines that derive constraints, if any
+abbrev pub at_first : {W C P : Type 0} → Writers W C P → W × C × Option (List ℕ)
+at_first writers = (writers.first_out.value, writers.first_cert.value, option_map string_bytes writers.opening.now)
 
--- both as they were at first, whether the last solution alone is printed, and the names by which a caller knows the writers and the observer
-abbrev pub origin : {W C P : Type 0} → Writers W C P → (W × C) × Bool × GName × GName × GName
+-- the text in front of the steps
+abbrev pub opening_in : {W C P : Type 0} → Model → Writers W C P → List ℕ
+opening_in model writers = opening_of model (at_first writers).2
+
+-- what they were at first, whether the last solution alone is printed, and the names by which a caller knows the writers and the observer
+abbrev pub origin : {W C P : Type 0} → Writers W C P → (W × C × Option (List ℕ)) × Bool × GName × GName × GName
 origin writers = (at_first writers, writers.alone, cert_name writers.cert, out_name writers.out, writers.observer.ghost_name)
 
 -- the observer was told last of as many decisions as are noted
@@ -54,11 +59,11 @@ pub record IsUnwritten {W C P : Type 0} (outs : W → Option (List ℕ)) (certs 
   pub none_stopped : now.stopped ≡ None
 
 -- What stands, after a fault too; and while the writers can go on, just what these steps ask for.
-pub record IsStandingKept {W C : Type 0} (outs : W → Option (List ℕ)) (certs : C → Option (List ℕ)) (model : Model) (cert : StepWriter C) (out : Printer W) (alone : Bool) (last : Option (List ℤ)) (steps : List Step) (first : W × C) : Type 0 where
+pub record IsStandingKept {W C : Type 0} (outs : W → Option (List ℕ)) (certs : C → Option (List ℕ)) (model : Model) (cert : StepWriter C) (out : Printer W) (alone : Bool) (last : Option (List ℤ)) (steps : List Step) (first : W × C × Option (List ℕ)) : Type 0 where
   pub version : version_of cert ≡ Two
-  pub standing : AreLinesStanding model alone steps (certs first.1) (cert_contents certs cert) (outs first.0) (out_contents outs out)
+  pub standing : AreLinesStanding model (opening_of model first.2) alone steps (certs first.1) (cert_contents certs cert) (outs first.0) (out_contents outs out)
   pub assignment : IfSome last (IsAssignment model)
-  pub cert_in_step : stage_of cert ≡ Open → IsCertInStep model steps (certs first.1) (cert_contents certs cert) (step_count cert)
+  pub cert_in_step : stage_of cert ≡ Open → IsCertInStep (opening_of model first.2) steps (certs first.1) (cert_contents certs cert) (step_count cert)
   pub out_in_step : stage_of cert ≡ Open → is_open out ≡ true → IsOutInStep model alone (found_by model steps) (outs first.0) (out_contents outs out) (has_printed out) last
 
 abbrev pub IsKept : {W C P : Type 0} → (W → Option (List ℕ)) → (C → Option (List ℕ)) → Model → Writers W C P → Type 0
@@ -110,9 +115,9 @@ pub record IsAllSame {W C P : Type 0} (old new : Writers W C P) : Type 0 where
   pub taken : new.taken ≡ old.taken
   pub first : at_first new ≡ at_first old
 
--- the first two lines do not stand, perhaps a beginning of them
+-- the text in front of the steps does not stand, perhaps a beginning of it
 pub record IsUnbegun {W C P : Type 0} (certs : C → Option (List ℕ)) (model : Model) (old new : Writers W C P) : Type 0 where
-  pub front : AppendsFront (cert_contents certs old.cert) (cert_contents certs new.cert) (header_text Two (length model.vars) (length model.constraints))
+  pub front : AppendsFront (cert_contents certs old.cert) (cert_contents certs new.cert) (opening_in model old)
   pub out : new.out ≡ old.out
 
 -- a text was not printed: a beginning of it stands, and nothing where the output was shut
@@ -131,7 +136,7 @@ pub record IsLastShown {W : Type 0} (outs : W → Option (List ℕ)) (model : Mo
 -- the end of the certificate stands, and the whole answer
 pub record IsAnswerClosed {W C P : Type 0} (outs : W → Option (List ℕ)) (certs : C → Option (List ℕ)) (model : Model) (closed : Bool) (old new : Writers W C P) : Type 0 where
   pub have_lines : AllHaveLines Two 0 (taken old)
-  pub cert : Appends (certs (at_first old).1) (cert_contents certs new.cert) (certificate model (taken old) closed)
+  pub cert : Appends (certs (at_first old).1) (cert_contents certs new.cert) (certificate (opening_in model old) (taken old) closed)
   pub out :
       Appends (outs (at_first old).0) (out_contents outs new.out)
       (shown_all model (early old.alone (found_by model (taken old)) ++ late old.alone (found_by model (taken old))) ++ ending_text closed (not (length (found_by model (taken old)) == 0)))

@@ -1,13 +1,14 @@
 // The certificate and the output of a run.
-ghost use Rattle.std.specs.Prelude.{⊤, ◌≡◌, ◌++◌, ◌∷◌, [], ◌<◌, ◌^◌, true, false, length, OnOk, OnErr, IfOk, IfSome, IfErr, None, Bool, List, unwrap_or};
+ghost use Rattle.std.specs.Prelude.{⊤, ◌≡◌, ◌++◌, ◌∷◌, [], ◌<◌, ◌^◌, true, false, length, OnOk, OnErr, IfOk, IfSome, IfErr, None, Bool, ℕ, List, Option, option_map, string_bytes, unwrap_or};
 ghost use Rattle.fzn_meaning.specs.Solutions.{IsAssignment};
 ghost use Rattle.fzn_meaning.specs.WellFormed.{IsWellFormed};
 ghost use Rattle.fzn_cert.specs.Accepted.{AllAccepted};
 ghost use Rattle.fzn_cert.specs.Spelling.{IsSpelled};
-ghost use Rattle.fzn_cert.specs.Writer.{contents_of as cert_contents, cert_name, stream_of as cert_stream, has_failed_in as cert_failed, version_of, stage_of, step_count};
+ghost use Rattle.fzn_cert.specs.Writer.{contents_of as cert_contents, cert_name, stream_of as cert_stream, has_failed_in as cert_failed, version_of, stage_of, step_count, IsLineFault, Leaves};
+ghost use Rattle.fzn_cert.specs.declared.write_fault.WriteFault.TheVariants.{Write};
 ghost use Rattle.fzn_cert.specs.declared.step.Step.TheVariants.{Solution};
-ghost use Rattle.fzn_cert.specs.declared.writer.Stage.TheVariants.{Open, Shut};
-ghost use Rattle.std.specs.Io.KnownBytes.{Keeps};
+ghost use Rattle.fzn_cert.specs.declared.writer.Stage.TheVariants.{Fresh, Open, Shut};
+ghost use Rattle.std.specs.Io.KnownBytes.{Appends, Keeps};
 ghost use Rattle.std.specs.Borrow.{GName};
 ghost use Rattle.fzn_cert.specs.declared.step.Version.TheVariants.{Two};
 ghost use Rattle.fzn_printer.specs.Printer.{out_contents, out_name, out_stream, out_failed, is_open};
@@ -16,6 +17,7 @@ ghost use Rattle.fzn_state.specs.declared.fault.Fault.TheVariants.{Memory as Out
 ghost use Rattle.fzn_printer.specs.Shown.{is_closed};
 ghost use Rattle.fzn_solver.specs.Causes.{IsCause, IsLineCause, IsUnderWay, AreWritersOpen, AreSameStreams, AreStreamsAsAtFirst};
 ghost use Rattle.fzn_solver.specs.FaultsFrom.{fault_of_certificate};
+ghost use Rattle.fzn_solver.specs.Opening.{opening_of};
 ghost use Rattle.fzn_solver.specs.Standing.{is_alone, shown_all};
 ghost use Rattle.fzn_solver.specs.Writers.{taken, origin, IsUnwritten, IsKept, IsLineTaken, IsLineRefused, IsLogged, IsRestSame, IsAllSame, IsPrinted, IsLastShown, IsAnswerClosed, IsUnbegun, IsUnprinted, IsUnclosed, HasTold, IsUntold};
 
@@ -40,6 +42,8 @@ pub struct Writers<'o, 'c, 'l, 'p, W: TrackedWrite, C: TrackedWrite, P: Observer
     pub out: Printer<'o, W>,
     /// Whether the last solution alone is printed, as in an optimisation without `-a`.
     pub alone: bool,
+    /// The lines that derive constraints, in front of the steps, where there are such.
+    pub opening: &'l Option<String>,
     /// The solution that waits to be printed, a value for each variable in order. There is none where each is printed at once.
     pub last: &'l mut Option<Items<i64>>,
     /// The fault that stopped it, after which it takes nothing more.
@@ -57,7 +61,7 @@ pub struct Writers<'o, 'c, 'l, 'p, W: TrackedWrite, C: TrackedWrite, P: Observer
 }
 
 impl<W: TrackedWrite, C: TrackedWrite, P: Observer> Writers<'_, '_, '_, '_, W, C, P> {
-    /// Writes the first two lines of the certificate, and tells that nothing was decided yet.
+    /// Writes the text in front of the steps, and tells that nothing was decided yet.
     pub fn begin(&mut self, alloc: Global, model: &Model) -> Result<(), Fault>
         requires model { IsWellFormed model.now }
         requires fresh { IsUnwritten W.contents C.contents self.old }
@@ -73,9 +77,7 @@ impl<W: TrackedWrite, C: TrackedWrite, P: Observer> Writers<'_, '_, '_, '_, W, C
         ensures same_writers { (cert_name self.new.cert ≡ cert_name self.old.cert) × (out_name self.new.out ≡ out_name self.old.out) }
     {
         self.observer.tell(self.progress);
-        let variables = model.vars.len() as u64;
-        let constraints = model.constraints.len() as u64;
-        match self.cert.begin(alloc, Version::Two, variables, constraints) {
+        match put_opening(alloc, &mut self.cert, model, self.opening) {
             Ok(()) => Ok(()),
             Err(fault) => Err(fault_of(fault)),
         }
@@ -292,7 +294,7 @@ impl<W: TrackedWrite, C: TrackedWrite, P: Observer> Writers<'_, '_, '_, '_, W, C
 impl<W: TrackedWrite, C: TrackedWrite, P: Observer> Sink for Writers<'_, '_, '_, '_, W, C, P> {
     ghost written = { λ writers. taken writers };
 
-    ghost Origin = { (W × C) × Bool × GName × GName × GName };
+    ghost Origin = { (W × C × Option (List ℕ)) × Bool × GName × GName × GName };
 
     ghost origin = { λ writers. origin writers };
 
@@ -337,6 +339,32 @@ impl<W: TrackedWrite, C: TrackedWrite, P: Observer> Sink for Writers<'_, '_, '_,
 
     fn hint(&mut self, alloc: Global) -> Result<Option<Items<i64>>, Memory> {
         self.observer.hint(alloc)
+    }
+}
+
+/// Writes the text in front of the steps: these lines, or the first two of version two.
+fn put_opening<C: TrackedWrite>(
+    alloc: Global,
+    cert: &mut StepWriter<'_, C>,
+    model: &Model,
+    opening: &Option<String>,
+) -> Result<(), WriteFault>
+    requires model { IsWellFormed model.now }
+    ensures ok { OnOk result (Appends (cert_contents C.contents cert.old) (cert_contents C.contents cert.new) (opening_of model.now (option_map string_bytes opening.now))) }
+    ensures begun { OnOk result ((stage_of cert.new ≡ Open) × (version_of cert.new ≡ Two) × (step_count cert.new ≡ 0)) }
+    ensures same_stream { cert_stream C.stream cert.new ≡ cert_stream C.stream cert.old }
+    ensures same_writer { cert_name cert.new ≡ cert_name cert.old }
+    ensures err { IfErr result (Leaves (opening_of model.now (option_map string_bytes opening.now)) (cert_contents C.contents cert.old) (cert_contents C.contents cert.new)) }
+    ensures fault { stage_of cert.old ≡ Fresh → IfErr result IsLineFault }
+    ensures due { IfErr result (λ fault. fault ≡ Write → cert_failed C.has_failed cert.new ≡ true) }
+{
+    match opening {
+        Some(lines) => cert.begin_with(Version::Two, lines.as_str()),
+        None => {
+            let variables = model.vars.len() as u64;
+            let constraints = model.constraints.len() as u64;
+            cert.begin(alloc, Version::Two, variables, constraints)
+        }
     }
 }
 
