@@ -1,18 +1,22 @@
 """A certificate that is checked while it is written: its whole lines go to the checker as they come."""
 import os
+import re
 import threading
 
 PIECE = 1 << 20
 SECONDS = 0.02
 CLOSED = b'e closed\n'
+THIRD = b'fzc 3'
+DERIVED = re.compile(rb'vars \d+ cons \d+ new (\d+)')
 
 
 class Lines:
-    """The whole lines of a text that comes in pieces: how many bytes they have, how many of the first two there are, how the last begins, and
-    what is left behind them."""
+    """The whole lines of a text that comes in pieces: how many bytes they have, how many of those in front of the steps there are and how many
+    there have to be, whether they are of version three, how the last begins, and what is left behind them."""
 
     def __init__(self):
-        self.bytes, self.heading, self.last, self.rest, self.tail = 0, 0, b'', b'', b''
+        self.bytes, self.heading, self.wanted, self.is_third = 0, 0, 2, False
+        self.last, self.rest, self.tail = b'', b'', b''
 
     def take(self, piece):
         """Takes a piece, and gives what is whole now and was not before."""
@@ -21,15 +25,26 @@ class Lines:
         whole, self.rest = text[:behind], text[behind:]
         if whole:
             self.bytes += len(whole)
-            self.heading = min(2, self.heading + whole.count(b'\n'))
+            if self.heading < self.wanted:
+                self.take_heading(whole.split(b'\n')[:-1])
             begin = whole.rfind(b'\n', 0, -1) + 1
             self.last = whole[begin:begin + 2]
             self.tail = whole[-len(CLOSED):]
         return whole
 
+    def take_heading(self, lines):
+        """Takes the next lines, as far as they stand in front of the steps: two, and in version three as many as the second says."""
+        for line in lines[:max(0, 2 - self.heading)]:
+            if self.heading == 0:
+                self.is_third = line == THIRD
+            elif self.is_third and (derived := DERIVED.fullmatch(line)) is not None:
+                self.wanted += int(derived[1])
+            self.heading, lines = self.heading + 1, lines[1:]
+        self.heading += min(self.wanted - self.heading, len(lines))
+
     def has_end(self):
         """Whether the last whole line is the one that ends a certificate."""
-        return self.heading == 2 and self.last == b'e '
+        return self.heading == self.wanted and self.last == b'e '
 
     def is_closed(self):
         """Whether that line says that there is nothing better, or nothing else."""

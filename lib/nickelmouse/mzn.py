@@ -1,6 +1,6 @@
 """Solves a MiniZinc model with a certificate, has it checked, and prints the solutions as the model's output item wants them.
 
-    nickelmouse-mzn [-a] [-n N] [-f] [-r N] [--nodes N] [--learn WORD] [--progress] [--bounds N] [--keep FOLDER]
+    nickelmouse-mzn [-a] [-n N] [-f] [--derive] [-r N] [--nodes N] [--learn WORD] [--progress] [--bounds N] [--keep FOLDER]
                     MODEL.mzn [DATA.dzn ..] [-D TEXT ..]
     nickelmouse-mzn --why [--nodes N] [--try-nodes N] [--bounds N] [--keep FOLDER] MODEL.mzn [DATA.dzn ..] [-D TEXT ..]
 
@@ -59,7 +59,7 @@ class Words:
         """Takes one word, and what it wants of those behind it."""
         if word == '--why':
             self.explaining = True
-        elif word in ('-a', '-f', '--progress'):
+        elif word in ('-a', '-f', '--derive', '--progress'):
             self.every = self.every or word == '-a'
             self.solving.append(word)
             self.beside.append(word)

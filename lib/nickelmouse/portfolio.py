@@ -8,6 +8,7 @@ import time
 from dataclasses import dataclass
 
 from nickelmouse.counts import counted, printed_items
+from nickelmouse.deriving import DERIVE, Deriving
 from nickelmouse.ending import Answer
 from nickelmouse.running import REJECTED, Ended, say
 from nickelmouse.sharing import Shared
@@ -18,7 +19,8 @@ from nickelmouse.variants import optimising, satisfying, seed_in
 ALONE = 0.25
 # How long workers that were told to end are waited for.
 PATIENCE = 5.0
-# Of an optimisation so many of the workers are whole runs where the plain one follows annotations, if there are more workers than that.
+# Of an optimisation so many of the workers are whole runs where the plain one follows annotations, or where constraints are derived, if there are
+# more workers than that.
 WHOLE = 2
 # How often is looked whether a signal has come: Python handles one only when what it waits for has come to an end.
 LOOK = 0.1
@@ -108,7 +110,7 @@ class Portfolio:
             self.shared = self.with_hints(words[words.index('--hints') + 1])
         self.plain, self.prepare = self.whole('model', words), None
         self.others, self.neighbours, self.going, self.open = [], [], set(), []
-        self.winner = None
+        self.winner, self.deriving = None, None
         self.bound, self.value, self.fault = None, None, None
 
     def with_hints(self, path):
@@ -144,7 +146,10 @@ class Portfolio:
         try:
             self.begin(self.plain)
             ended = self.event(ALONE)
-            if ended is None:
+            if ended is None and self.may_derive():
+                self.deriving = Deriving(self.setting.programs, self.setting.files, self.setting.before, self.events)
+                self.deriving.start()
+            elif ended is None:
                 self.begin_others()
             while not self.is_settled(ended):
                 ended = self.event(LOOK)
@@ -163,6 +168,15 @@ class Portfolio:
         """Starts a whole run."""
         self.going.add(whole)
         whole.start()
+
+    def may_derive(self):
+        """Whether one of the further workers is for derived constraints, if there are any: of an optimisation, where there are several."""
+        return (self.shared is not None and self.setting.shown is None and self.setting.jobs > WHOLE and DERIVE not in self.setting.words
+                and len(self.model.text) <= LARGEST)
+
+    def derives(self):
+        """Whether constraints were derived for one of them."""
+        return self.deriving is not None and self.deriving.derives
 
     def begin_others(self):
         """Starts the other workers: of a satisfaction whole runs, unless solutions are printed as they are found; of an optimisation also
@@ -203,9 +217,9 @@ class Portfolio:
         words = self.plain.search.words
         if self.prepare is None:
             return satisfying(words)[number], None
-        # What the first one is follows from annotations alone, where there are any: so nothing need be prepared for it.
-        goal = self.prepare().insertion.by_cost if number or not self.is_annotated() else None
-        words, by_cost = optimising(words, self.is_annotated(), goal is not None)[number]
+        # What the first one is follows from annotations alone, where there are any, or from what is derived: so nothing need be prepared for it.
+        goal = self.prepare().insertion.by_cost if number or not (self.derives() or self.is_annotated()) else None
+        words, by_cost = optimising(words, self.is_annotated(), goal is not None, self.derives())[number]
         return words, goal if by_cost else None
 
     def is_annotated(self):
@@ -220,7 +234,8 @@ class Portfolio:
             return min(1, count)
         if self.shared is None:
             return count
-        return WHOLE - 1 if '-f' not in self.setting.words and self.is_annotated() and count >= WHOLE else 0
+        is_other = self.derives() or '-f' not in self.setting.words and self.is_annotated()
+        return WHOLE - 1 if is_other and count >= WHOLE else 0
 
     def is_settled(self, ended):
         """Takes note of what has happened. Whether there is an answer, or no whole run goes on any more."""
@@ -231,6 +246,9 @@ class Portfolio:
             return not self.going
         if isinstance(ended, Whole):
             self.take(ended)
+        elif ended is self.deriving:
+            if not self.is_cut:
+                self.begin_others()
         elif not self.is_cut:
             self.begin_whole(ended.name)
         return self.winner is not None or not self.going
@@ -260,6 +278,8 @@ class Portfolio:
             whole.search.cut()
         for neighbour in self.neighbours:
             neighbour.cut()
+        if self.deriving is not None:
+            self.deriving.cut()
 
     def end(self):
         """Ends all workers, and waits for their ends."""
@@ -269,6 +289,8 @@ class Portfolio:
         deadline = time.monotonic() + PATIENCE
         for worker in [*self.neighbours, *self.going]:
             worker.ended(deadline)
+        if self.deriving is not None:
+            self.deriving.join(max(0.0, deadline - time.monotonic()))
 
     def result(self):
         """Leaves the answer, and gives how the run ended that it comes from."""

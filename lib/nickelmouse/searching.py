@@ -13,6 +13,7 @@ from nickelmouse.joining import Joined, whole_of
 from nickelmouse.processes import PROCESSES
 from nickelmouse.running import started
 from nickelmouse.slots import Slots
+from nickelmouse.deriving import DERIVE
 from nickelmouse.solving import Search
 from nickelmouse.workers import Told
 
@@ -98,7 +99,7 @@ class CubeSearch(Search):
         items = items_of_text(self.programs.check, text)
         if items is None or items.mends:
             return self.refused()
-        words, hints = without([word for word in self.words if word != '--progress'], '--hints')
+        words, hints = without([word for word in self.words if word not in ('--progress', DERIVE)], '--hints')
         words, nodes = without(words, '--nodes')
         wanted, place = without(words, '-n')[1], items.goal.span.first
         joined = Joined(sink, whole_of(items), int(wanted) if wanted else None if '-a' in words else 1)

@@ -128,13 +128,15 @@ class Search:
         """What a certificate wants behind its whole lines: where a search has left it without an end, these say what is known."""
         if told.status == 0 or lines.has_end():
             return b''
-        end = b'e open\n'
-        if lines.heading < 2:
-            counts = counted(printed_items(self.programs.check, self.files.path('model.fzn')))
-            end = b'vars %d cons %d\n' % (counts.variables, counts.constraints) + end
-        if lines.heading < 1:
-            end = b'fzc 2\n' + end
-        return end
+        return self.missing_heading(lines) + b'e open\n'
+
+    def missing_heading(self, lines):
+        """What wants in front of the steps. A sum of no constraints stands for each that was to be derived."""
+        if lines.heading >= 2:
+            return b'c lin ;\n' * (lines.wanted - lines.heading)
+        counts = counted(printed_items(self.programs.check, self.files.path('model.fzn')))
+        second = b'vars %d cons %d%s\n' % (counts.variables, counts.constraints, b' new 0' if lines.is_third else b'')
+        return second if lines.heading == 1 else b'fzc 2\n' + second
 
     def end_certificate(self, told, follower):
         """Ends a certificate, as the checker reads it and in its file."""

@@ -1,5 +1,7 @@
 """The words of whole runs beside the plain one: other searches of the same file, so that one of them may end sooner."""
 
+from nickelmouse.deriving import DERIVE
+
 VALUED = ('-r', '--learn')
 
 
@@ -25,17 +27,20 @@ def seeded(seed):
 
 
 def satisfying(words):
-    """The words of further runs over a satisfaction, in the order in which they serve: with annotations or without, as the plain run is not; then
-    by other seeds, and with the plain learned clause."""
+    """The words of further runs over a satisfaction, in the order in which they serve: with annotations or without, as the plain run is not, and
+    with derived constraints; then by other seeds, and with the plain learned clause."""
     bare, seed = without(words, '-f', '-r', '--learn'), seed_in(words)
     others = seeded(seed)
-    chosen = [[] if '-f' in words else ['-f'], *others[:2], ['--learn', 'plain'], ['-r', str(seed + 1)], *others[2:]]
+    derive = [DERIVE] if DERIVE not in words else []
+    chosen = [([] if '-f' in words else ['-f']) + derive, *others[:2], ['--learn', 'plain'], ['-r', str(seed + 1)], *others[2:]]
     return [bare + one for one in chosen]
 
 
-def optimising(words, is_annotated, has_costs):
-    """The words of further runs over an optimisation, in the order in which they serve, and whether each decides the costs first: with
-    annotations, if there are any, or without, as the plain run is not; costs first, if there are several; then by other seeds."""
+def optimising(words, is_annotated, has_costs, derives=False):
+    """The words of further runs over an optimisation, in the order in which they serve, and whether each decides the costs first: with derived
+    constraints and without annotations, if some are derived; with annotations, if there are any, or without, as the plain run is not; costs
+    first, if there are several; then by other seeds."""
     bare, seed = without(words, '-f', '-r', '--learn'), seed_in(words)
-    chosen = [([] if '-f' in words else ['-f'], False)] * is_annotated + [([], True)] * has_costs + [(one, False) for one in seeded(seed)]
+    chosen = [(['-f', DERIVE], False)] * derives + [([] if '-f' in words else ['-f'], False)] * is_annotated + [([], True)] * has_costs
+    chosen += [(one, False) for one in seeded(seed)]
     return [(bare + one, by_cost) for one, by_cost in chosen]

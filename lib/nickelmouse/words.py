@@ -93,6 +93,7 @@ def parser():
     solving.add_argument('-a', action='store_true', help='every solution; in an optimisation each better one too')
     solving.add_argument('-n', type=number(1, 10 ** 9), metavar='N', help='N solutions; an optimisation goes on to its end')
     solving.add_argument('-f', action='store_true', help="the search need not follow the model's annotations")
+    solving.add_argument('--derive', action='store_true', help='derive constraints from those of the model before the search; not with cubes')
     solving.add_argument('-r', type=number(0, 2 ** 64 - 1), metavar='SEED', help='break ties by chance, from this seed')
     solving.add_argument('--nodes', '-node', type=number(0, 10 ** 12), metavar='N',
                          help='make at most N decisions (10000000); -node is the word of Gecode')
@@ -125,7 +126,7 @@ def parser():
 
 def search_words(options):
     """The words for fznsolve."""
-    words = [word for word, is_there in (('-a', options.a), ('-f', options.f), ('--progress', options.progress)) if is_there]
+    words = [word for word, is_there in (('-a', options.a), ('-f', options.f), ('--derive', options.derive), ('--progress', options.progress)) if is_there]
     for word, value in (('-n', options.n), ('-r', options.r), ('--nodes', options.nodes), ('--learn', options.learn)):
         words += [word, str(value)] if value is not None else []
     return words
@@ -150,7 +151,8 @@ def wrong_with(options):
     """What is wrong with words that are each right, or nothing."""
     models = [path for path in options.files if path.endswith(MODELS)]
     others = [path for path in options.files if not path.endswith(MODELS + DATA)]
-    alone = (options.a, options.n, options.f, options.r, options.jobs, options.i, options.s, options.learn, options.progress, options.unchecked, options.start)
+    alone = (options.a, options.n, options.f, options.r, options.jobs, options.i, options.s, options.learn, options.derive, options.progress, options.unchecked,
+             options.start)
     if others:
         return f'{others[0]}: the name of a model ends in .mzn or .fzn, that of data in .dzn or .json'
     if not models:

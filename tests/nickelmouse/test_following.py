@@ -27,11 +27,13 @@ class LinesTest(unittest.TestCase):
 
     def test_pieces(self):
         cases = [
-            # pieces, what is whole, how many of the first two lines, how the last begins, what is left
+            # pieces, what is whole, how many lines in front of the steps, how the last begins, what is left
             ([b'fz', b'c 2'], b'', 0, b'', b'fzc 2'),
             ([b'fzc 2', b'\nva'], b'fzc 2\n', 1, b'fz', b'va'),
             ([b'fzc 2\nvars 1 cons 1\ns', b' 3\n', b'e op'], b'fzc 2\nvars 1 cons 1\ns 3\n', 2, b's ', b'e op'),
             ([b'fzc 2\nvars 1 cons 1\n', b'e open\n'], b'fzc 2\nvars 1 cons 1\ne open\n', 2, b'e ', b''),
+            ([b'fzc 3\nvars 1 cons 1 new 2\nc lin ;', b'\nc li'], b'fzc 3\nvars 1 cons 1 new 2\nc lin ;\n', 3, b'c ', b'c li'),
+            ([b'fzc 3\n', b'vars 1 cons 1 new 1\nc lin ;\ne open\n'], b'fzc 3\nvars 1 cons 1 new 1\nc lin ;\ne open\n', 3, b'e ', b''),
         ]
         for pieces, whole, heading, last, rest in cases:
             lines = Lines()

@@ -8,9 +8,9 @@ class WordsTest(unittest.TestCase):
     """Whom each word is for."""
 
     def test_words(self):
-        words = words_of(['-a', '-n', '2', '-f', '-r', '7', '--nodes', '50', '--learn', 'plain', '--progress', '--bounds', '0099', '--keep', 'there',
+        words = words_of(['-a', '-n', '2', '-f', '--derive', '-r', '7', '--nodes', '50', '--learn', 'plain', '--progress', '--bounds', '0099', '--keep', 'there',
                           'model.mzn', 'data.dzn', '-D', 'n = 2', '-O3'])
-        self.assertEqual(words.solving, ['-a', '-n', '2', '-f', '-r', '7', '--nodes', '50', '--learn', 'plain', '--progress'])
+        self.assertEqual(words.solving, ['-a', '-n', '2', '-f', '--derive', '-r', '7', '--nodes', '50', '--learn', 'plain', '--progress'])
         self.assertEqual(words.compiling, ['model.mzn', 'data.dzn', '-D', 'n = 2', '-O3'])
         self.assertEqual((words.bounds, words.keep, words.every, words.counted, words.explaining), (99, 'there', True, True, False))
 

@@ -61,11 +61,13 @@ class PortfolioTest(unittest.TestCase):
         os.chmod(self.files.path(name), 0o755)
         return self.files.path(name)
 
-    def portfolio(self, plain, other='exec sleep 60', near='exec sleep 60', jobs=3, goal='minimize', **options):
-        """Several workers: what the plain run does, what another whole run does, what a run over a neighbourhood does."""
+    def portfolio(self, plain, other='exec sleep 60', near='exec sleep 60', jobs=3, goal='minimize', derived='echo fzc 2 >$cert', **options):
+        """Several workers: what the plain run does, what another whole run does, what a run over a neighbourhood does, what one
+        does that derives constraints and decides nothing."""
         solve = self.script('solve', f"""for word; do [ "$before" = --cert ] && cert=$word; before=$word; model=$word; done
 case $model:$cert in
 */model.fzn:*/model.fzc) {HEAD}{plain} ;;
+*/model.fzn:*/derived.fzc) {derived} ;;
 */model.fzn:*) {HEAD}{other} ;;
 *) {HEAD}{near} ;;
 esac
@@ -97,6 +99,15 @@ esac
         run = self.portfolio("printf 's 1 1 5\\n' >>$cert; exec sleep 60", "printf 's 1 1 2\\ne closed\\n' >>$cert")
         self.assertEqual(self.told(run), (['s 1 1 2', '=' * 10], ['s 1 1 2', 'e closed']))
         self.assertIsNone(run.bound)
+
+    def test_derives(self):
+        """Where constraints are derived one of the others derives them; where that takes too long, or fails, none does."""
+        cases = [('echo fzc 3 >$cert', True), ('echo fzc 2 >$cert', False), ('exec sleep 60', False), ('exit 5', False)]
+        for derived, is_so in cases:
+            other = "printf 's 1 1 2\\ne closed\\n' >>$cert; echo $* >$0.words"
+            run = self.portfolio("printf 's 1 1 5\\n' >>$cert; exec sleep 60", other, derived=derived)
+            self.assertEqual(self.told(run), (['s 1 1 2', '=' * 10], ['s 1 1 2', 'e closed']))
+            self.assertEqual(b'--derive' in self.files.read('solve.words'), is_so, derived)
 
     def test_another_is_open(self):
         """A further run that has made its last decision does not end the plain one."""

@@ -57,6 +57,8 @@ class SearchTest(unittest.TestCase):
             ('fzc 2\\nvars 1 cons 0\\ns 3\\nr 1>=', 'fzc 2\nvars 1 cons 0\ns 3\ne open\n'),
             ('fzc 2\\nvars 1 cons 0\\ns 3\\ne clos', 'fzc 2\nvars 1 cons 0\ns 3\ne open\n'),
             ('fzc 2\\nvars 1 cons 0\\ns 3\\ne closed\\n', 'fzc 2\nvars 1 cons 0\ns 3\ne closed\n'),
+            ('fzc 3\\nvars 1 c', 'fzc 3\nvars 1 cons 0 new 0\ne open\n'),
+            ('fzc 3\\nvars 1 cons 0 new 3\\nc lin ; 1 1\\nc lin ; 1', 'fzc 3\nvars 1 cons 0 new 3\nc lin ; 1 1\nc lin ;\nc lin ;\ne open\n'),
         ]
         for stands, wanted in cases:
             told = self.searched(f"printf '{stands}' >$cert; kill -9 $$")

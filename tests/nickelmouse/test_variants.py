@@ -17,9 +17,13 @@ class VariantsTest(unittest.TestCase):
         for words in ([], ['-f'], ['-a', '--nodes', '5', '-r', '3'], ['-f', '--learn', 'plain']):
             runs = satisfying(words)[:20]
             self.assertNotEqual('-f' in words, '-f' in runs[0])
+            self.assertEqual([run.count('--derive') for run in runs], [1] + [0] * 19)
             self.assertEqual(len(set(map(tuple, runs))), 20)
             for run in runs:
-                self.assertEqual(without(run, '-f', '-r', '--learn'), without(words, '-f', '-r', '--learn'))
+                self.assertEqual(without(run, '-f', '-r', '--learn', '--derive'), without(words, '-f', '-r', '--learn'))
+
+    def test_derives_already(self):
+        self.assertEqual([run.count('--derive') for run in satisfying(['--derive'])[:9]], [1] * 9)
 
     def test_optimising(self):
         cases = [
@@ -31,6 +35,7 @@ class VariantsTest(unittest.TestCase):
         ]
         for words, is_annotated, has_costs, wanted in cases:
             self.assertEqual(optimising(words, is_annotated, has_costs)[:3], wanted)
+            self.assertEqual(optimising(words, is_annotated, has_costs, True)[:3], [(without(words, '-f', '-r') + ['-f', '--derive'], False), *wanted[:2]])
 
 
 if __name__ == '__main__':

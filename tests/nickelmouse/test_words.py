@@ -11,9 +11,9 @@ class WordsTest(unittest.TestCase):
     """Whom each word is for, and what is refused."""
 
     def test_words(self):
-        words = asked(['-a', '-n', '2', '-f', '-r', '7', 'model.mzn', '--nodes', '50', '--learn', 'plain', '--progress', '--bounds', '99', '--keep',
+        words = asked(['-a', '-n', '2', '-f', '--derive', '-r', '7', 'model.mzn', '--nodes', '50', '--learn', 'plain', '--progress', '--bounds', '99', '--keep',
                        'there', '-D', 'n = 2', 'data.dzn', '-O3', '-I', 'beside'])
-        self.assertEqual(words.solving, ['-a', '-f', '--progress', '-n', '2', '-r', '7', '--nodes', '50', '--learn', 'plain'])
+        self.assertEqual(words.solving, ['-a', '-f', '--derive', '--progress', '-n', '2', '-r', '7', '--nodes', '50', '--learn', 'plain'])
         self.assertEqual(words.compiling, ['-D', 'n = 2', '-O3', '-I', 'beside', 'model.mzn', 'data.dzn'])
         self.assertEqual((words.every, words.bounds, words.keep, words.is_flat, words.explaining), (True, 99, 'there', False, False))
 
