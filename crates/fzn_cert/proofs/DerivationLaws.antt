@@ -1,40 +1,16 @@
 -- Derivations that are written are read again.
-use Rattle.std.proofs.Common.{◌≡◌, ℕ, suc, ◌^◌, ◌<◌, true, false, List, [], ◌∷◌, ◌++◌, length, map, Some, Option, refl, sym, ap, ◌∙◌, arith, append_assoc}
-use Rattle.std.specs.Prelude.{ℤ, pos, negsuc, codes}
-use Rattle.std.specs.List.{AllByRecursion, flat_map}
-use Rattle.std.specs.Str.{bytes_eq}
-use Rattle.std.specs.Fmt.{decimal, signed_decimal}
-use Rattle.std.proofs.lemmas.Int.{ints}
-use Rattle.fzn_domain.specs.declared.literal.VarId.{VarId}
-use Rattle.fzn_derive.specs.declared.derivation.Multiple.{Multiple}
+use Rattle.std.proofs.Common.{◌≡◌, ℕ, ◌<◌, List, ◌∷◌, ◌++◌, length, map, Some, Option, refl, sym, ap, ◌∙◌, arith}
+use Rattle.std.specs.Prelude.{codes}
+use Rattle.std.specs.Fmt.{decimal}
 use Rattle.fzn_derive.specs.declared.derivation.Derivation.{Derivation}
-use Rattle.fzn_derive.specs.declared.derivation.Derivation.TheVariants.{Sum, Parity, AllDifferent}
+use Rattle.fzn_derive.specs.declared.derivation.Derivation.TheVariants.{Sum, Parity, AllDifferent, Row}
 use Rattle.fzn_cert.specs.Spelling.{spaced, IsNumber}
 use Rattle.fzn_cert.specs.Words.{positive_of}
-use Rattle.fzn_cert.specs.Reading.{words_of}
-use Rattle.fzn_cert.specs.Derivations.{var_text, multiple_words, derivation_words, derivation_text, IsMultiplier, IsMultiple, IsVariableNumber, IsDerivation, multiplier_of, variable_of, multiples_of, named_derivation, derivation_of_words, derivation_of}
-use Rattle.fzn_cert.proofs.WordLaws.{IsShort, number_again, within_again, items_again, marked_again, first_digit, apart_from_mark}
-use Rattle.fzn_cert.proofs.LineLaws.{IsPlain, ArePlain, plain_decimal, plain_signed, plain_map, plain_joined, words_of-spaced, IsInside, inside_joined, same_lines}
-
-multiplier_is_short : (k : ℤ) → IsMultiplier k → IsShort k
-unfolding IsShort
-multiplier_is_short (pos n) h = omega (arith, ints, h.0, h.1)
-multiplier_is_short (negsuc n) h = omega (arith, ints, h.0, h.1)
-
-multiplier_again : (k : ℤ) → IsMultiplier k → multiplier_of (signed_decimal k) ≡ Some k
-multiplier_again k h = within_again (negsuc 999999999999) (pos 1000000000000) k h (multiplier_is_short k h)
-
-variable_again : (var : VarId) → IsVariableNumber var → variable_of (var_text var) ≡ Some var
-variable_again var h = rw (number_again var.0 h) refl
-
-variable_apart : (var : VarId) → IsVariableNumber var → bytes_eq (var_text var) (codes ";") ≡ false
-variable_apart var h = apart_from_mark (decimal var.0) (let w = first_digit var.0 h.1 in omega (arith, w))
-
-multiples_again : (multiples : List Multiple) → AllByRecursion IsMultiple multiples → multiples_of (flat_map multiple_words multiples) ≡ Some multiples
-unfolding multiples_of
-multiples_again [] h = refl
-multiples_again (multiple ∷ rest) h =
-    rw (multiplier_again multiple.multiplier h.0.0, number_again multiple.constraint h.0.1, multiples_again rest h.1) refl
+use Rattle.fzn_cert.specs.Derivations.{var_text, derivation_words, derivation_text, IsVariableNumber, IsDerivation, variable_of, named_derivation, derivation_of_words, derivation_of}
+use Rattle.fzn_cert.proofs.WordLaws.{number_again, items_again, marked_again}
+use Rattle.fzn_cert.proofs.LineLaws.{ArePlain, plain_decimal, plain_map, plain_joined, words_of-spaced, IsInside, inside_joined, same_lines}
+use Rattle.fzn_cert.proofs.MultipleLaws.{variable_again, variable_apart, multiples_again, plain_multiples}
+use Rattle.fzn_cert.proofs.RowLaws.{row_items_again, plain_items}
 
 words_again : (derivation : Derivation) → IsDerivation derivation → derivation_of_words (derivation_words derivation) ≡ Some derivation
 unfolding derivation_of_words named_derivation
@@ -45,15 +21,9 @@ words_again (AllDifferent variables constraints) h =
       marked_again variable_of var_text IsVariableNumber variable_again variable_apart variables (map decimal constraints) h.0,
       items_again positive_of decimal IsNumber number_again constraints h.1,
     ) refl
+words_again (Row items) h = rw (row_items_again items h) refl
 
 -- ---- the words of a line
-
-plain_multiples : (multiples : List Multiple) → AllByRecursion IsMultiple multiples → ArePlain (flat_map multiple_words multiples)
-plain_multiples [] h = tt
-plain_multiples (multiple ∷ rest) h = (
-  plain_signed multiple.multiplier (multiplier_is_short multiple.multiplier h.0.0),
-  (plain_decimal multiple.constraint h.0.1.1, plain_multiples rest h.1),
-)
 
 words_are_plain : (derivation : Derivation) → IsDerivation derivation → ArePlain (derivation_words derivation)
 words_are_plain (Sum multiples) h = (refl, (refl, (refl, plain_multiples multiples h)))
@@ -70,11 +40,13 @@ words_are_plain (AllDifferent variables constraints) h = (
     ),
   ),
 )
+words_are_plain (Row items) h = (refl, (refl, (refl, plain_items items h)))
 
 words_some : (derivation : Derivation) → 0 < length (derivation_words derivation)
 words_some (Sum multiples) = omega arith
 words_some (Parity constraints) = omega arith
 words_some (AllDifferent variables constraints) = omega arith
+words_some (Row items) = omega arith
 
 -- what is written for a derivation is read as that derivation
 pub derivation_again : (derivation : Derivation) → IsDerivation derivation → derivation_of (derivation_text derivation) ≡ Some derivation

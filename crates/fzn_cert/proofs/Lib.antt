@@ -3,6 +3,7 @@ pub mod CallerLemmas
 pub mod DerivationLaws
 pub mod HeaderLaws
 pub mod LineLaws
+pub mod MultipleLaws
 pub mod NumberLaws
 pub mod OneVerdict
 pub mod OneVerdictEnds
@@ -10,6 +11,7 @@ pub mod OneVerdictHeader
 pub mod OneVerdictLines
 pub mod OneVerdictSteps
 mod RefusalLaws
+pub mod RowLaws
 pub mod SoundLaws
 mod SpaceLaws
 mod StepLaws

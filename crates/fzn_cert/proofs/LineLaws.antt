@@ -14,7 +14,7 @@ use Rattle.fzn_cert.specs.declared.step.Version.{Version}
 use Rattle.fzn_cert.specs.declared.step.Version.TheVariants.{Two}
 use Rattle.fzn_cert.specs.declared.step.Step.TheVariants.{Infer, Resolve, Solution, Delete}
 use Rattle.fzn_rules.specs.declared.rule.Rule.{Rule}
-use Rattle.fzn_rules.specs.declared.rule.Rule.TheVariants.{Lin, Rows, Box, Fixed, Enum, Hall, Load, Energy, Cut, Pair}
+use Rattle.fzn_rules.specs.declared.rule.Rule.TheVariants.{Lin, Rows, Box, Fixed, Enum, Hall, Load, Energy, Cut, Pair, Row}
 use Rattle.fzn_cert.specs.Spelling.{op_text, rule_name, hints, literal_text, step_words, spaced, step_text, step_line, IsNumber, IsValue, IsHint, IsLiteral, IsSpelled}
 use Rattle.fzn_cert.specs.Reading.{words_of, step_of_words, step_of}
 use Rattle.fzn_cert.proofs.NumberLaws.{AreDigits, own_digits}
@@ -72,6 +72,7 @@ plain_name (Load t) = refl
 plain_name (Energy t u) = refl
 plain_name (Cut ps) = refl
 plain_name (Pair i j) = refl
+plain_name Row = refl
 
 abbrev pub ArePlain : List (List ℕ) → Type 0
 ArePlain words = AllByRecursion IsPlain words

@@ -8,9 +8,9 @@ use Rattle.std.proofs.lemmas.List.Concat.{flat_map-append}
 use Rattle.fzn_cert.specs.declared.step.Step.{Step}
 use Rattle.fzn_cert.specs.declared.step.Step.TheVariants.{Infer, Resolve, Solution, Delete}
 use Rattle.fzn_derive.specs.declared.derivation.Derivation.{Derivation}
-use Rattle.fzn_derive.specs.declared.derivation.Derivation.TheVariants.{Sum, Parity, AllDifferent}
+use Rattle.fzn_derive.specs.declared.derivation.Derivation.TheVariants.{Sum, Parity, AllDifferent, Row}
 use Rattle.fzn_cert.specs.Spelling.{rule_name, hints, literal_text, spaced, step_text}
-use Rattle.fzn_cert.specs.Derivations.{multiple_words, var_text, derivation_text}
+use Rattle.fzn_cert.specs.Derivations.{multiple_words, var_text, item_words, derivation_text}
 use Rattle.fzn_cert.specs.Parts.{after_space, after_spaces, step_parts, derivation_parts}
 
 joined : (word : List ℕ) (words : List (List ℕ)) → join_with_byte 32 (word ∷ words) ≡ word ++ after_spaces words
@@ -49,3 +49,4 @@ derivation_text_is (AllDifferent variables constraints) =
     spaced-cons (codes "c") (codes "alldiff" ∷ codes ";" ∷ (map var_text variables ++ codes ";" ∷ map decimal constraints))
     ∙ ap (λ (t : List ℕ). codes "c alldiff ;" ++ t) (marked (map var_text variables) (map decimal constraints))
     ∙ simp append_assoc
+derivation_text_is (Row items) = spaced-cons (codes "c") (codes "row" ∷ codes ";" ∷ flat_map item_words items)

@@ -8,7 +8,7 @@ use Rattle.fzn_cert.specs.declared.step.Version.{Version}
 use Rattle.fzn_cert.specs.declared.step.Step.{Step}
 use Rattle.fzn_cert.specs.declared.step.Step.TheVariants.{Infer, Resolve, Solution, Delete}
 use Rattle.fzn_rules.specs.declared.rule.Rule.{Rule}
-use Rattle.fzn_rules.specs.declared.rule.Rule.TheVariants.{Lin, Rows, Box, Fixed, Enum, Hall, Load, Energy, Cut, Pair}
+use Rattle.fzn_rules.specs.declared.rule.Rule.TheVariants.{Lin, Rows, Box, Fixed, Enum, Hall, Load, Energy, Cut, Pair, Row}
 use Rattle.fzn_cert.specs.Spelling.{rule_name, hints, literal_text, step_words, IsNumber, IsValue, IsHint, IsLiteral, IsRule, Rises, IdsRise, IsSpelled}
 use Rattle.fzn_cert.specs.Words.{positive_of, hint_of, is_value, literal_of}
 use Rattle.fzn_cert.specs.Reading.{rises, ids_rise, short_rule_of, rule_spelled, infer_of, resolve_of, solution_of, delete_of, step_of_words}
@@ -42,6 +42,7 @@ rule_again (Load t) h = refl
 rule_again (Energy t u) h = refl
 rule_again (Cut ps) h = rw (rises_test ps h.1) refl
 rule_again (Pair i j) h = refl
+rule_again Row h = refl
 
 pub hints_fit : (rule : Rule) → IsRule rule → AllByRecursion IsHint (hints rule)
 hints_fit Lin h = h
@@ -54,6 +55,7 @@ hints_fit (Load t) h = h
 hints_fit (Energy t u) h = h
 hints_fit (Cut ps) h = h.0
 hints_fit (Pair i j) h = h
+hints_fit Row h = h
 
 values_pass : (zs : List ℤ) → AllByRecursion IsValue zs → list_all is_value zs ≡ true
 values_pass [] h = refl

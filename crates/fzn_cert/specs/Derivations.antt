@@ -1,12 +1,14 @@
 -- The lines that derive constraints: the one spelling of each, and how it is read.
-use Rattle.std.specs.Prelude.{ℕ, ◌&&◌, ℤ, pos, negsuc, List, [], ◌∷◌, ◌++◌, map, Option, Some, None, if◌then◌else◌, codes}
+use Rattle.std.specs.Prelude.{ℕ, Bool, ◌&&◌, ◌||◌, ℤ, pos, negsuc, List, [], ◌∷◌, ◌++◌, map, Option, Some, None, if◌then◌else◌, codes}
 use Rattle.std.specs.List.{AllByRecursion, flat_map}
 use Rattle.std.specs.Str.{bytes_eq}
 use Rattle.std.specs.Fmt.{decimal, signed_decimal}
 use Rattle.fzn_domain.specs.declared.literal.VarId.{VarId}
-use Rattle.fzn_derive.specs.declared.derivation.Multiple.{Multiple}
+use Rattle.fzn_cited.specs.declared.multiple.Multiple.{Multiple}
+use Rattle.fzn_row.specs.declared.item.RowItem.{RowItem}
+use Rattle.fzn_row.specs.declared.item.RowItem.TheVariants.{Multiples, Prices, Move}
 use Rattle.fzn_derive.specs.declared.derivation.Derivation.{Derivation}
-use Rattle.fzn_derive.specs.declared.derivation.Derivation.TheVariants.{Sum, Parity, AllDifferent}
+use Rattle.fzn_derive.specs.declared.derivation.Derivation.TheVariants.{Sum, Parity, AllDifferent, Row}
 use Rattle.fzn_cert.specs.Text.{spaced}
 use Rattle.fzn_cert.specs.Spelling.{IsBetween, IsNumber}
 use Rattle.fzn_cert.specs.Words.{◌>>=◌, positive_of, integer_within, items_of, items_before_mark}
@@ -20,11 +22,18 @@ var_text var = decimal var.0
 abbrev pub multiple_words : Multiple → List (List ℕ)
 multiple_words multiple = signed_decimal multiple.multiplier ∷ decimal multiple.constraint ∷ []
 
+-- an item of a row: its letter, and the numbers behind it
+abbrev pub item_words : RowItem → List (List ℕ)
+item_words (Multiples multiples) = codes "l" ∷ flat_map multiple_words multiples
+item_words (Prices constraint low prices) = codes "p" ∷ decimal constraint ∷ signed_decimal low ∷ map signed_decimal prices
+item_words (Move constraint variable) = codes "m" ∷ decimal constraint ∷ var_text variable ∷ []
+
 -- the words of a derivation's line
 abbrev pub derivation_words : Derivation → List (List ℕ)
 derivation_words (Sum multiples) = codes "c" ∷ codes "lin" ∷ codes ";" ∷ flat_map multiple_words multiples
 derivation_words (Parity constraints) = codes "c" ∷ codes "xor" ∷ codes ";" ∷ map decimal constraints
 derivation_words (AllDifferent variables constraints) = codes "c" ∷ codes "alldiff" ∷ codes ";" ∷ (map var_text variables ++ codes ";" ∷ map decimal constraints)
+derivation_words (Row items) = codes "c" ∷ codes "row" ∷ codes ";" ∷ flat_map item_words items
 
 abbrev pub derivation_text : Derivation → List ℕ
 derivation_text derivation = spaced (derivation_words derivation)
@@ -41,11 +50,22 @@ IsMultiple multiple = IsMultiplier multiple.multiplier × IsNumber multiple.cons
 abbrev pub IsVariableNumber : VarId → Type 0
 IsVariableNumber var = IsNumber var.0
 
+-- from -10^9 to 10^9
+abbrev pub IsFirstPriced : ℤ → Type 0
+IsFirstPriced low = IsBetween (negsuc 999999999) (pos 1000000000) low
+
+-- a price keeps the limits of a multiplier
+abbrev pub IsRowItem : RowItem → Type 0
+IsRowItem (Multiples multiples) = AllByRecursion IsMultiple multiples
+IsRowItem (Prices constraint low prices) = IsNumber constraint × IsFirstPriced low × AllByRecursion IsMultiplier prices
+IsRowItem (Move constraint variable) = IsNumber constraint × IsVariableNumber variable
+
 -- the numbers have a spelling
 abbrev pub IsDerivation : Derivation → Type 0
 IsDerivation (Sum multiples) = AllByRecursion IsMultiple multiples
 IsDerivation (Parity constraints) = AllByRecursion IsNumber constraints
 IsDerivation (AllDifferent variables constraints) = AllByRecursion IsVariableNumber variables × AllByRecursion IsNumber constraints
+IsDerivation (Row items) = AllByRecursion IsRowItem items
 
 -- ---- reading
 
@@ -64,13 +84,65 @@ multiples_of (word ∷ next ∷ words) = do
   others ← multiples_of words
   Some (record { multiplier = multiplier; constraint = constraint } ∷ others)
 
+abbrev pub first_priced_of : List ℕ → Option ℤ
+first_priced_of word = integer_within (negsuc 999999999) (pos 1000000000) word
+
+unfoldable pub prices_of : List (List ℕ) → Option RowItem
+prices_of [] = None
+prices_of (number ∷ []) = None
+prices_of (number ∷ first ∷ words) = do
+  constraint ← positive_of number
+  low ← first_priced_of first
+  prices ← items_of multiplier_of words
+  Some (Prices constraint low prices)
+
+unfoldable pub move_of : List (List ℕ) → Option RowItem
+move_of [] = None
+move_of (number ∷ []) = None
+move_of (number ∷ word ∷ []) = positive_of number >>= λ constraint. variable_of word >>= λ variable. Some (Move constraint variable)
+move_of (number ∷ word ∷ next ∷ words) = None
+
+-- the item of this letter, with these words behind it
+unfoldable pub row_item_of : List ℕ → List (List ℕ) → Option RowItem
+row_item_of letter words =
+    if bytes_eq letter (codes "l") then (multiples_of words >>= λ multiples. Some (Multiples multiples))
+    else (if bytes_eq letter (codes "p") then prices_of words
+    else (if bytes_eq letter (codes "m") then move_of words
+    else None))
+
+-- an item begins with this word
+unfoldable pub is_letter : List ℕ → Bool
+is_letter word = bytes_eq word (codes "l") || (bytes_eq word (codes "p") || bytes_eq word (codes "m"))
+
+-- the words in front of the first item, and those from it on
+unfoldable pub before_item : List (List ℕ) → List (List ℕ)
+before_item [] = []
+before_item (word ∷ words) = if is_letter word then [] else word ∷ before_item words
+
+unfoldable pub from_item : List (List ℕ) → List (List ℕ)
+from_item [] = []
+from_item (word ∷ words) = if is_letter word then word ∷ words else from_item words
+
+-- the items that begin among the words
+unfoldable pub items_among : List (List ℕ) → Option (List RowItem)
+items_among [] = Some []
+items_among (word ∷ words) =
+    if is_letter word then (row_item_of word (before_item words) >>= λ item. items_among words >>= λ others. Some (item ∷ others))
+    else items_among words
+
+-- the items that all the words spell
+unfoldable pub row_items_of : List (List ℕ) → Option (List RowItem)
+row_items_of [] = Some []
+row_items_of (word ∷ words) = if is_letter word then items_among (word ∷ words) else None
+
 -- the words behind the name and the mark
 unfoldable pub named_derivation : List ℕ → List (List ℕ) → Option Derivation
 named_derivation name words =
     if bytes_eq name (codes "lin") then (multiples_of words >>= λ multiples. Some (Sum multiples))
     else (if bytes_eq name (codes "xor") then (items_of positive_of words >>= λ constraints. Some (Parity constraints))
     else (if bytes_eq name (codes "alldiff") then (items_before_mark variable_of words >>= λ variables. items_of positive_of variables.1 >>= λ constraints. Some (AllDifferent variables.0 constraints))
-    else None))
+    else (if bytes_eq name (codes "row") then (row_items_of words >>= λ items. Some (Row items))
+    else None)))
 
 unfoldable pub derivation_of_words : List (List ℕ) → Option Derivation
 derivation_of_words [] = None

@@ -5,9 +5,9 @@ use Rattle.std.specs.Fmt.{decimal, signed_decimal}
 use Rattle.fzn_cert.specs.declared.step.Step.{Step}
 use Rattle.fzn_cert.specs.declared.step.Step.TheVariants.{Infer, Resolve, Solution, Delete}
 use Rattle.fzn_derive.specs.declared.derivation.Derivation.{Derivation}
-use Rattle.fzn_derive.specs.declared.derivation.Derivation.TheVariants.{Sum, Parity, AllDifferent}
+use Rattle.fzn_derive.specs.declared.derivation.Derivation.TheVariants.{Sum, Parity, AllDifferent, Row}
 use Rattle.fzn_cert.specs.Spelling.{rule_name, hints, literal_text}
-use Rattle.fzn_cert.specs.Derivations.{multiple_words, var_text}
+use Rattle.fzn_cert.specs.Derivations.{multiple_words, var_text, item_words}
 
 abbrev pub after_space : List ℕ → List ℕ
 after_space word = 32 ∷ word
@@ -26,3 +26,4 @@ abbrev pub derivation_parts : Derivation → List ℕ
 derivation_parts (Sum multiples) = codes "c lin ;" ++ after_spaces (flat_map multiple_words multiples)
 derivation_parts (Parity constraints) = codes "c xor ;" ++ after_spaces (map decimal constraints)
 derivation_parts (AllDifferent variables constraints) = codes "c alldiff ;" ++ (after_spaces (map var_text variables) ++ codes " ;" ++ after_spaces (map decimal constraints))
+derivation_parts (Row items) = codes "c row ;" ++ after_spaces (flat_map item_words items)

@@ -7,7 +7,7 @@ use Rattle.fzn_cert.specs.declared.step.Version.TheVariants.{One, Two}
 use Rattle.fzn_cert.specs.declared.step.Step.{Step}
 use Rattle.fzn_cert.specs.declared.step.Step.TheVariants.{Infer, Resolve, Solution, Delete}
 use Rattle.fzn_rules.specs.declared.rule.Rule.{Rule}
-use Rattle.fzn_rules.specs.declared.rule.Rule.TheVariants.{Lin, Rows, Box, Fixed, Enum, Hall, Load, Energy, Cut, Pair}
+use Rattle.fzn_rules.specs.declared.rule.Rule.TheVariants.{Lin, Rows, Box, Fixed, Enum, Hall, Load, Energy, Cut, Pair, Row}
 use Rattle.fzn_cert.specs.Words.{◌>>=◌, natural_of, positive_of, is_value, hint_of, literal_of, items_of, items_before_mark}
 
 -- ---- numbers that rise, and rules
@@ -29,7 +29,8 @@ short_rule_of name [] =
     else (if bytes_eq name (codes "rows") then Some Rows
     else (if bytes_eq name (codes "box") then Some Box
     else (if bytes_eq name (codes "fixed") then Some Fixed
-    else (if bytes_eq name (codes "enum") then Some Enum else None))))
+    else (if bytes_eq name (codes "enum") then Some Enum
+    else (if bytes_eq name (codes "row") then Some Row else None)))))
 short_rule_of name (a ∷ []) = if bytes_eq name (codes "load") then Some (Load a) else None
 short_rule_of name (a ∷ b ∷ []) =
     if bytes_eq name (codes "hall") then Some (Hall a b)

@@ -7,7 +7,7 @@ use Rattle.fzn_domain.specs.declared.literal.Op.TheVariants.{AtMost, AtLeast, Eq
 use Rattle.fzn_domain.specs.declared.literal.Lit.{Lit}
 use Rattle.fzn_rules.specs.declared.rule.Rule.{Rule}
 use Rattle.fzn_rules.specs.Hints.{hints_of}
-use Rattle.fzn_rules.specs.declared.rule.Rule.TheVariants.{Lin, Rows, Box, Fixed, Enum, Hall, Load, Energy, Cut, Pair}
+use Rattle.fzn_rules.specs.declared.rule.Rule.TheVariants.{Lin, Rows, Box, Fixed, Enum, Hall, Load, Energy, Cut, Pair, Row}
 use Rattle.fzn_cert.specs.declared.step.Step.{Step}
 use Rattle.fzn_cert.specs.declared.step.Step.TheVariants.{Infer, Resolve, Solution, Delete}
 use Rattle.fzn_cert.specs.declared.header.Header.{Header}
@@ -36,6 +36,7 @@ rule_name (Load t) = codes "load"
 rule_name (Energy t u) = codes "energy"
 rule_name (Cut ps) = codes "cut"
 rule_name (Pair i j) = codes "pair"
+rule_name Row = codes "row"
 
 abbrev pub hints : Rule → List ℤ
 hints rule = hints_of rule

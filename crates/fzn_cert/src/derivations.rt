@@ -1,13 +1,15 @@
 // The line of a derivation, word after word.
-ghost use Rattle.std.specs.Prelude.{◌≡◌, ◌++◌, map, codes, OnOk, string_bytes};
+ghost use Rattle.std.specs.Prelude.{◌≡◌, ◌++◌, [], ◌∷◌, map, codes, OnOk, string_bytes};
 ghost use Rattle.std.specs.List.{flat_map};
-ghost use Rattle.std.specs.Fmt.{decimal};
-ghost use Rattle.fzn_cert.specs.Derivations.{multiple_words, var_text, derivation_text};
+ghost use Rattle.std.specs.Fmt.{decimal, signed_decimal};
+ghost use Rattle.fzn_cert.specs.Derivations.{multiple_words, var_text, item_words, derivation_text};
 ghost use Rattle.fzn_cert.specs.Parts.{after_spaces, derivation_parts};
 
-use crate::line::push_ids;
-use fzn_derive::{Derivation, Multiple};
+use crate::line::{push_ids, push_integers};
+use fzn_cited::Multiple;
+use fzn_derive::Derivation;
 use fzn_domain::{Memory, VarId};
+use fzn_row::RowItem;
 use itoa::Buffer;
 
 /// Appends the text of a derivation, without a line feed. It answers `Err` where memory runs out, and nothing is known of the text then.
@@ -36,6 +38,10 @@ fn push_parts(text: &mut String, derivation: &Derivation) -> Result<(), Memory>
         } => {
             text.push_str("c alldiff ;")?;
             push_apart(text, variables.as_slice(), constraints.as_slice())
+        }
+        Derivation::Row(items) => {
+            text.push_str("c row ;")?;
+            push_items(text, items.as_slice())
         }
     }
 }
@@ -75,5 +81,54 @@ fn push_variables(text: &mut String, variables: &[VarId]) -> Result<(), Memory>
         text.push(' ')?;
         text.push_str(Buffer::new().format(var.0))?;
     }
+    Ok(())
+}
+
+fn push_items(text: &mut String, items: &[RowItem]) -> Result<(), Memory>
+    ensures { OnOk result (string_bytes text.new ≡ string_bytes text.old ++ after_spaces (flat_map item_words items.now)) }
+{
+    for item in items {
+        push_item(text, item)?;
+    }
+    Ok(())
+}
+
+fn push_item(text: &mut String, item: &RowItem) -> Result<(), Memory>
+    ensures { OnOk result (string_bytes text.new ≡ string_bytes text.old ++ after_spaces (item_words item.now)) }
+{
+    match item {
+        RowItem::Multiples(multiples) => {
+            text.push_str(" l")?;
+            push_multiples(text, multiples.as_slice())
+        }
+        RowItem::Prices {
+            constraint,
+            low,
+            prices,
+        } => push_prices(text, *constraint, *low, prices.as_slice()),
+        RowItem::Move {
+            constraint,
+            variable,
+        } => push_move(text, *constraint, *variable),
+    }
+}
+
+fn push_prices(text: &mut String, constraint: u64, low: i64, prices: &[i64]) -> Result<(), Memory>
+    ensures { OnOk result (string_bytes text.new ≡ string_bytes text.old ++ after_spaces (codes "p" ∷ decimal constraint ∷ signed_decimal low ∷ map signed_decimal prices.now)) }
+{
+    text.push_str(" p ")?;
+    text.push_str(Buffer::new().format(constraint))?;
+    text.push(' ')?;
+    text.push_str(Buffer::new().format(low))?;
+    push_integers(text, prices)
+}
+
+fn push_move(text: &mut String, constraint: u64, variable: VarId) -> Result<(), Memory>
+    ensures { OnOk result (string_bytes text.new ≡ string_bytes text.old ++ after_spaces (codes "m" ∷ decimal constraint ∷ var_text variable ∷ [])) }
+{
+    text.push_str(" m ")?;
+    text.push_str(Buffer::new().format(constraint))?;
+    text.push(' ')?;
+    text.push_str(Buffer::new().format(variable.0))?;
     Ok(())
 }

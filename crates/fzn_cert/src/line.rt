@@ -66,6 +66,7 @@ fn push_rule(text: &mut String, rule: &Rule) -> Result<(), Memory>
             push_integers(text, places.as_slice())?;
         }
         Rule::Pair(first, second) => write!(text, "pair {first} {second}")?,
+        Rule::Row => text.push_str("row")?,
     }
     Ok(())
 }
@@ -103,7 +104,7 @@ fn push_sign(text: &mut String, op: Op) -> Result<(), Memory>
     Ok(())
 }
 
-fn push_integers(text: &mut String, integers: &[i64]) -> Result<(), Memory>
+pub(crate) fn push_integers(text: &mut String, integers: &[i64]) -> Result<(), Memory>
     ensures { OnOk result (string_bytes text.new ≡ string_bytes text.old ++ after_spaces (map signed_decimal integers.now)) }
 {
     for integer in integers {

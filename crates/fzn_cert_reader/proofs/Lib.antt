@@ -3,10 +3,13 @@ mod DerivationLaws
 mod HeaderLaws
 mod LineLaws
 mod LoopLaws
+mod MultipleLaws
 mod NumberLaws
 mod OptionLaws
 mod ReadLaws
 mod RiseLaws
+mod RowLaws
+mod RowLoops
 mod ScriptLaws
 mod SplitLaws
 mod StepLaws

@@ -9,7 +9,7 @@ use Rattle.fzn_cert.specs.Words.{◌>>=◌, items_of, items_before_mark}
 abbrev pub with_front : {A : Type 0} → List A → Option (List A) → Option (List A)
 with_front front read = read >>= λ xs. Some (front ++ xs)
 
-regroup : {A : Type 0} (front : List A) (x : A) (read : Option (List A)) → with_front front (read >>= λ xs. Some (x ∷ xs)) ≡ with_front (front ++ x ∷ []) read
+pub regroup : {A : Type 0} (front : List A) (x : A) (read : Option (List A)) → with_front front (read >>= λ xs. Some (x ∷ xs)) ≡ with_front (front ++ x ∷ []) read
 regroup front x None = refl
 regroup front x (Some xs) = ap (λ ys. Some ys) (simp append_assoc)
 

@@ -11,7 +11,7 @@ use Rattle.fzn_cert.specs.declared.step.Version.TheVariants.{One, Two}
 use Rattle.fzn_cert.specs.declared.step.Step.{Step}
 use Rattle.fzn_cert.specs.declared.step.Step.TheVariants.{Infer, Resolve, Solution, Delete}
 use Rattle.fzn_rules.specs.declared.rule.Rule.{Rule}
-use Rattle.fzn_rules.specs.declared.rule.Rule.TheVariants.{Lin, Rows, Box, Fixed, Enum, Hall, Load, Energy, Cut, Pair}
+use Rattle.fzn_rules.specs.declared.rule.Rule.TheVariants.{Lin, Rows, Box, Fixed, Enum, Hall, Load, Energy, Cut, Pair, Row}
 use Rattle.fzn_cert.specs.Spelling.{rule_name, hints, literal_text, step_words, IsNumber, IsValue, IsHint, IsLiteral, IsRule, Rises, IdsRise, IsSpelled}
 use Rattle.fzn_cert.specs.Words.{◌>>=◌, positive_of, hint_of, is_value, literal_of, items_of, items_before_mark}
 use Rattle.fzn_cert.specs.Reading.{rises, ids_rise, short_rule_of, rule_spelled, infer_of, resolve_of, solution_of, delete_of, is_deletion, step_of_words}
@@ -61,9 +61,12 @@ short_rule_takes name [] rule fit e =
           | inl h ↦ named name (codes "box") [] Box rule h.0 refl refl tt (some_is Box rule h.1)
           | inr h ↦ elim (chosen (bytes_eq name (codes "fixed")) (Some Fixed) _ rule h.1) [
             | inl h ↦ named name (codes "fixed") [] Fixed rule h.0 refl refl tt (some_is Fixed rule h.1)
-            | inr h ↦
-                let g = guard_some (bytes_eq name (codes "enum")) Enum rule h.1 in
-                named name (codes "enum") [] Enum rule g.0 refl refl tt g.1
+            | inr h ↦ elim (chosen (bytes_eq name (codes "enum")) (Some Enum) _ rule h.1) [
+              | inl h ↦ named name (codes "enum") [] Enum rule h.0 refl refl tt (some_is Enum rule h.1)
+              | inr h ↦
+                  let g = guard_some (bytes_eq name (codes "row")) Row rule h.1 in
+                  named name (codes "row") [] Row rule g.0 refl refl tt g.1
+            ]
           ]
         ]
       ]

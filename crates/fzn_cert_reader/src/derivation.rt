@@ -1,18 +1,17 @@
 // One line, without its line feed, to the derivation that it spells.
 ghost use Rattle.std.specs.Prelude.{◌≡◌, ◌&&◌, IfOk, IfSome, IfNone};
 ghost use Rattle.fzn_derive.specs.declared.derivation.Derivation.{Derivation};
-ghost use Rattle.fzn_cert.specs.Derivations.{derivation_text, IsDerivation, multiplier_of, variable_of, multiples_of, named_derivation, derivation_of_words, derivation_of};
+ghost use Rattle.fzn_cert.specs.Derivations.{derivation_text, IsDerivation, multiples_of, named_derivation, derivation_of_words, derivation_of};
 
-use crate::number::{integer_of, number_of};
+use crate::number::{multiplier_of, number_of};
+use crate::row::row_items_of;
 use crate::words::{Item, items_before_mark, items_of, words_of};
 use bstr::Split;
-use fzn_derive::{Derivation, Multiple};
+use fzn_cited::Multiple;
+use fzn_derive::Derivation;
 use fzn_domain::{Memory, VarId};
 use fzn_list::Items;
 use std::alloc::Global;
-
-/// A multiplier is no greater, and its opposite no less.
-const GREATEST_MULTIPLIER: i64 = 1_000_000_000_000;
 
 /// The derivation that a line spells, the line without its line feed. `Err` where memory runs out.
 pub fn derivation_of_line(alloc: Global, line: &[u8]) -> Result<Option<Derivation>, Memory>
@@ -81,6 +80,11 @@ fn read_named(
             variables,
             constraints,
         }))
+    } else if name == b"row".as_slice() {
+        let Some(items) = row_items_of(alloc, words)? else {
+            return Ok(None);
+        };
+        Ok(Some(Derivation::Row(items)))
     } else {
         Ok(None)
     }
@@ -107,18 +111,6 @@ fn multiples_of(alloc: Global, mut words: Split<'_, '_>) -> Result<Option<Items<
         })?;
     }
     Ok(Some(multiples))
-}
-
-#[tactic(auto, unfolding(fzn_cert::specs::Words::integer_within))]
-fn multiplier_of(word: &[u8]) -> Option<i64>
-    ensures { result ≡ multiplier_of word.now }
-{
-    match integer_of(word) {
-        Some(number) if -GREATEST_MULTIPLIER <= number && number <= GREATEST_MULTIPLIER => {
-            Some(number)
-        }
-        _ => None,
-    }
 }
 
 impl Item for VarId {

@@ -5,8 +5,8 @@
 //! `Script` holds steps as the text of their lines, and `derivation_of_line` reads one line that derives a constraint. Proved against
 //! `specs/Reader.antt` (what one call takes of the bytes, and what is told of them), `specs/Opening.antt` (the same of the first two lines
 //! of whichever version and of a head), `specs/Script.antt`, `fzn_cert`'s `Spelling` (the one line of a step), `Derivations` (that of a
-//! derivation) and `Stream` (the fault of a line), and `fzn_head`'s `Head` (the lines of a head). Whether a step is accepted is not asked
-//! here.
+//! derivation) and `Stream` (the fault of a line), and `fzn_head`'s `Head` (the lines of a head); within, `specs/Rows.antt` (an item of a
+//! row, up to the next one). Whether a step is accepted is not asked here.
 #![tactic(auto)]
 
 pub use derivation::derivation_of_line;
@@ -26,6 +26,7 @@ mod number;
 mod opening;
 mod parse;
 mod reader;
+mod row;
 mod rule;
 mod script;
 mod stream;

@@ -3,10 +3,17 @@ ghost use Rattle.std.specs.List.{list_all};
 ghost use Rattle.std.specs.Char.{is_ascii_digit};
 ghost use Rattle.std.specs.Str.Parse.{digits_value};
 ghost use Rattle.fzn_cert.specs.Words.{is_sized, natural_of, positive_of, integer_of, is_between, hint_of, value_spelled, is_value};
+ghost use Rattle.fzn_cert.specs.Derivations.{multiplier_of, first_priced_of};
 
 use crate::words::Item;
 use fzn_domain::{GREATEST_BOUND, LEAST_BOUND};
 use fzn_rules::{GREATEST_HINT, LEAST_HINT};
+
+/// A multiplier and a price are no greater, and their opposites no less.
+const GREATEST_MULTIPLIER: i64 = 1_000_000_000_000;
+
+/// The number that has the first price is no greater, and its opposite no less.
+const GREATEST_FIRST_PRICED: i64 = 1_000_000_000;
 
 #[tactic(auto, unfolding(fzn_cert::specs::Words::natural_of))]
 /// The number that a word of at most 18 digits spells.
@@ -67,6 +74,32 @@ pub fn value_of(word: &[u8]) -> Option<i64>
 {
     match integer_of(word) {
         Some(number) if is_value(number) => Some(number),
+        _ => None,
+    }
+}
+
+/// The multiplier or the price that a word spells.
+#[tactic(auto, unfolding(fzn_cert::specs::Words::integer_within))]
+pub(crate) fn multiplier_of(word: &[u8]) -> Option<i64>
+    ensures { result ≡ multiplier_of word.now }
+{
+    match integer_of(word) {
+        Some(number) if -GREATEST_MULTIPLIER <= number && number <= GREATEST_MULTIPLIER => {
+            Some(number)
+        }
+        _ => None,
+    }
+}
+
+/// The number of the first price that a word spells.
+#[tactic(auto, unfolding(fzn_cert::specs::Words::integer_within))]
+pub(crate) fn first_priced_of(word: &[u8]) -> Option<i64>
+    ensures { result ≡ first_priced_of word.now }
+{
+    match integer_of(word) {
+        Some(number) if -GREATEST_FIRST_PRICED <= number && number <= GREATEST_FIRST_PRICED => {
+            Some(number)
+        }
         _ => None,
     }
 }

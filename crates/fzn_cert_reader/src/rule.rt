@@ -48,6 +48,8 @@ fn rule_without_hints(name: &[u8]) -> Option<Rule>
         Some(Rule::Fixed)
     } else if name == b"enum".as_slice() {
         Some(Rule::Enum)
+    } else if name == b"row".as_slice() {
+        Some(Rule::Row)
     } else {
         None
     }

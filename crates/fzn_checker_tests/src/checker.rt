@@ -58,6 +58,10 @@ fzc 1|vars 1 cons 0|s 0|s 1| => certificate line 4: fault 47 CutByEarlier
 fzc 3|vars 1 cons 0 new 1|c lin ;|s 1|s 0|i 1 lin ; 1<=0| => certificate line 6: fault 42 RuleFails
 fzc 3|vars 1 cons 0 new 1|c lin ;|s 1|s 0|r ; 2|e closed| => 2 solutions, closed
 fzc 3|vars 1 cons 0 new 2|c lin ;|c alldiff ; 1 ; 1|e open| => certificate line 4: fault 51 NotDerived
+fzc 3|vars 1 cons 0 new 1|c row ;|s 1|s 0|i 1 row ; 1<=0| => certificate line 6: fault 42 RuleFails
+fzc 3|vars 1 cons 0 new 2|c lin ;|c row ; l 1 1|s 1|s 0|r ; 2|e closed| => 2 solutions, closed
+fzc 3|vars 1 cons 0 new 2|c row ;|c lin ; 1 1|e open| => certificate line 4: fault 51 NotDerived
+fzc 3|vars 1 cons 0 new 1|c row ; m 1 1|e open| => certificate line 3: fault 41 NoSuchConstraint
 ";
 
 /// What is told of a certificate that is accepted.
@@ -89,7 +93,7 @@ fn is_as_told(alloc: Global, row: &str) -> Result<bool, Memory> {
 
 #[test]
 fn verdicts(rt: HostRuntime) -> Result<(), Fail> {
-    assert!(rt; CERTIFICATES.trim().lines().count() == 7);
+    assert!(rt; CERTIFICATES.trim().lines().count() == 11);
     for row in CERTIFICATES.trim().lines() {
         assert!(rt; is_as_told(rt.alloc(), row)?, "{row}");
     }

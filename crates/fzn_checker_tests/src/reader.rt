@@ -18,7 +18,7 @@ const TWO: &[u8] =
     b"fzc 2\nvars 2 cons 2\ni 2 lin ; 1<=0\ni 1 lin ; 1>=1 2>=1\nr 2>=1 ; 1 2\nd 2\ns 0 1\nr ; 1 3 5\ne open\n";
 
 const THREE: &[u8] =
-    b"fzc 3\nvars 2 cons 2 new 3\nc lin ; 2 1\nc xor ; 2 3\nc alldiff ; 1 2 ; 4\ni 2 lin ; 1<=0\nd 1\ne open\n";
+    b"fzc 3\nvars 2 cons 2 new 4\nc lin ; 2 1\nc xor ; 2 3\nc alldiff ; 1 2 ; 4\nc row ; l 1 2\ni 2 lin ; 1<=0\nd 1\ne open\n";
 
 // Gives `most` bytes a call, and fails at the end where it is to.
 #[derive(Drop)]
@@ -105,10 +105,13 @@ fn is_read_behind_a_head(alloc: Global, bytes: &[u8], most: usize, steps: u8) ->
     let Ok(Derivation::AllDifferent { .. }) = reader.next_derivation(alloc, 5) else {
         return false;
     };
+    let Ok(Derivation::Row(_)) = reader.next_derivation(alloc, 6) else {
+        return false;
+    };
     reader.turn_to_steps(Header {
         version: Version::Two,
         variables: 2,
-        constraints: 5,
+        constraints: 6,
     });
     is_head_of_three(head)
         && has_lin(alloc, &mut reader)
@@ -117,12 +120,12 @@ fn is_read_behind_a_head(alloc: Global, bytes: &[u8], most: usize, steps: u8) ->
         && reader.closed() == Some(false)
 }
 
-/// Whether there are two variables and two constraints, and three are derived.
+/// Whether there are two variables and two constraints, and four are derived.
 fn is_head_of_three(head: Head) -> bool {
     head == Head {
         variables: 2,
         constraints: 2,
-        derived: 3,
+        derived: 4,
     }
 }
 

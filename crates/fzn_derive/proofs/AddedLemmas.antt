@@ -9,7 +9,7 @@ use Rattle.fzn_domain.specs.IntSet.{IntSet}
 use Rattle.fzn_meaning.specs.declared.term.Term.{Term}
 use Rattle.fzn_meaning.specs.declared.constraint.Constraint.{Constraint}
 use Rattle.fzn_meaning.specs.Meaning.{IsBoolean}
-use Rattle.fzn_derive.specs.Cited.{constraint_at, IsCitedAs}
+use Rattle.fzn_cited.specs.Cited.{constraint_at, IsCitedAs}
 use Rattle.fzn_derive.specs.Parity.{Parity, parity_of, SaysParity, parities, terms_together, odd_together, variable_number, variable_numbers, is_one, ones_in, remainder_of, IsSumAdded, IsConstraintAdded, AreAllAdded}
 
 -- the terms with their sum said to be odd or even

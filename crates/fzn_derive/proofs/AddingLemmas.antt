@@ -7,20 +7,20 @@ use Rattle.std.proofs.lemmas.List.{take_more, take_all, append-nil, get_or-repli
 use Rattle.fzn_meaning.specs.declared.term.Place.{Place}
 use Rattle.fzn_meaning.specs.declared.constraint.Constraint.{Constraint}
 use Rattle.fzn_builtin_rules.specs.Form.{Form, form_of}
-use Rattle.fzn_derive.specs.declared.derivation.Multiple.{Multiple}
-use Rattle.fzn_derive.specs.declared.deriver.Cell.{Cell}
-use Rattle.fzn_derive.specs.declared.deriver.Deriver.{Deriver}
-use Rattle.fzn_derive.specs.declared.fault.DeriveFault.{DeriveFault}
-use Rattle.fzn_derive.specs.declared.fault.DeriveFault.TheVariants.{Memory, NoSuchVariable, NoSuchConstraint, NotDerived}
-use Rattle.fzn_derive.specs.Cited.{constraint_at, IsGiven}
+use Rattle.fzn_cited.specs.declared.multiple.Multiple.{Multiple}
+use Rattle.fzn_derive.specs.declared.adder.Cell.{Cell}
+use Rattle.fzn_derive.specs.declared.adder.Adder.{Adder}
+use Rattle.fzn_cited.specs.declared.fault.DeriveFault.{DeriveFault}
+use Rattle.fzn_cited.specs.declared.fault.DeriveFault.TheVariants.{Memory, NoSuchVariable, NoSuchConstraint, NotDerived}
+use Rattle.fzn_cited.specs.Cited.{constraint_at, IsGiven}
 use Rattle.fzn_derive.specs.Merged.{coefficient_of, constant_of}
 use Rattle.fzn_derive.specs.Summed.{form_given, times, scaled, scaled_all, scaled_bounds, bound_left, IsUsable, multiple_at, IsCitedAt, IsAddableAt, AreAddable, IsFaultAt, IsFirstSumFault}
-use Rattle.fzn_derive.specs.Room.{variables_in, blank, cell_of, IsClear, ListsTouched, AreCounted, IsWithinLimit, AreWithinLimit, bound_with, IsPastLimit, IsUsableForm, IsMultipleAdded, IsMultipleFault, AreSummedUp}
+use Rattle.fzn_derive.specs.Room.{variables_in, blank, cell_of, HoldsNothing, ListsTouched, AreCounted, IsWithinLimit, AreWithinLimit, bound_with, IsPastLimit, IsUsableForm, IsMultipleAdded, IsMultipleFault, AreSummedUp}
 use Rattle.fzn_derive.proofs.MergedLemmas.{coefficient_of-nil, coefficient_of-append, constant_of-nil, constant_of-append}
 use Rattle.fzn_derive.proofs.SummedLemmas.{scaled_all-nil, scaled_all-push, scaled_bounds-nil, scaled_bounds-push, bound_left-is}
 
 -- the first so many have been added
-pub record IsSumming (given : List Constraint) (multiples : List Multiple) (i : ℕ) (room : Deriver) (bound : ℤ) : Type 0 where
+pub record IsSumming (given : List Constraint) (multiples : List Multiple) (i : ℕ) (room : Adder) (bound : ℤ) : Type 0 where
   pub addable : AreAddable given multiples i
   pub counted : AreCounted room (scaled_all given (take i multiples))
   pub bound_is : bound ≡ bound_left given (take i multiples)
@@ -33,20 +33,20 @@ replicate-blank count k = elim (cases_lt k count) [
   | inr past ↦ get_or_past (replicate count blank) k blank (omega (arith, length-replicate count blank))
 ]
 
-clear-blank : (count : ℕ) (room : Deriver) → IsClear count room → (k : ℕ) → cell_of room k ≡ blank
+clear-blank : (count : ℕ) (room : Adder) → HoldsNothing count room → (k : ℕ) → cell_of room k ≡ blank
 clear-blank count room clear k = ap (λ (cells : List Cell). get_or cells k blank) clear.cells ∙ replicate-blank count k
 
-pub clear-variables : (count : ℕ) (room : Deriver) → IsClear count room → variables_in room ≡ count
+pub clear-variables : (count : ℕ) (room : Adder) → HoldsNothing count room → variables_in room ≡ count
 clear-variables count room clear = ap (λ (cells : List Cell). length cells) clear.cells ∙ length-replicate count blank
 
 -- a clear room is in order, and nothing has been added in it
-pub clear-listed : (count : ℕ) (room : Deriver) → IsClear count room → ListsTouched room
+pub clear-listed : (count : ℕ) (room : Adder) → HoldsNothing count room → ListsTouched room
 clear-listed count room clear = record {
   listed = λ k. inl (clear-blank count room clear k);
   inside = subst (λ (ns : List ℕ). All (λ (n : ℕ). n < length room.cells.items) ns) (sym clear.touched) (λ k d inside. absurd (omega arith));
 }
 
-pub summing-none : (given : List Constraint) (multiples : List Multiple) (count : ℕ) (room : Deriver) → IsClear count room → IsSumming given multiples 0 room (pos 0)
+pub summing-none : (given : List Constraint) (multiples : List Multiple) (count : ℕ) (room : Adder) → HoldsNothing count room → IsSumming given multiples 0 room (pos 0)
 summing-none given multiples count room clear = record {
   addable = λ j below. absurd (omega arith);
   counted = λ k. ap (λ (c : Cell). c.sum) (clear-blank count room clear k) ∙ sym (ap (coefficient_of (k + 1)) (scaled_all-nil given) ∙ coefficient_of-nil (k + 1));
@@ -61,7 +61,7 @@ summing-none given multiples count room clear = record {
 }
 
 -- in the end all have been added
-pub summing-all : (given : List Constraint) (multiples : List Multiple) (i : ℕ) (room : Deriver) (bound : ℤ) → length multiples ≤ i → IsSumming given multiples i room bound → AreSummedUp given room multiples bound
+pub summing-all : (given : List Constraint) (multiples : List Multiple) (i : ℕ) (room : Adder) (bound : ℤ) → length multiples ≤ i → IsSumming given multiples i room bound → AreSummedUp given room multiples bound
 summing-all given multiples i room bound past so_far =
     let all = take_all i multiples past in record {
       addable = λ j below. so_far.addable j (omega arith);
@@ -75,7 +75,7 @@ given-form None found is = absurd (cc)
 given-form (Some c) found is = refl
 
 -- a form that leaves the limits is a fault of its multiple
-pub past-fault : {T : Type 0} (given : List Constraint) (room : Deriver) (bound so_far by : ℤ) (multiple : Multiple) (found : Form) (result : Result T DeriveFault) → so_far ≡ bound → by ≡ multiple.multiplier → IsUsableForm given multiple found
+pub past-fault : {T : Type 0} (given : List Constraint) (room : Adder) (bound so_far by : ℤ) (multiple : Multiple) (found : Form) (result : Result T DeriveFault) → so_far ≡ bound → by ≡ multiple.multiplier → IsUsableForm given multiple found
     → IfErr result (λ (fault : DeriveFault). (fault ≡ Memory) ⊎ ((fault ≡ NotDerived) × IsPastLimit room so_far by found))
     → IfErr result (λ (fault : DeriveFault). (fault ≡ Memory) ⊎ IsMultipleFault given room bound multiple fault)
 past-fault given room bound so_far by multiple found (Ok x) bound_is by_is usable past = tt
@@ -118,7 +118,7 @@ module _ (given : List Constraint) (multiples : List Multiple) (i : ℕ) (m : Mu
     coefficient-next : (n : ℕ) → coefficient_of n (scaled_all given (take (i + 1) multiples)) ≡ coefficient_of n (scaled_all given (take i multiples)) +ℤ coefficient_of n (times m.multiplier found.places)
     coefficient-next n = ap (coefficient_of n) scaled_all-next ∙ coefficient_of-append n (scaled_all given (take i multiples)) (times m.multiplier found.places)
 
-  pub summing-next : (first second : Deriver) (bound after : ℤ) → IsSumming given multiples i first bound → IsMultipleAdded given first second bound m after → IsSumming given multiples (i + 1) second after
+  pub summing-next : (first second : Adder) (bound after : ℤ) → IsSumming given multiples i first bound → IsMultipleAdded given first second bound m after → IsSumming given multiples (i + 1) second after
   summing-next first second bound after so_far new = record {
     addable = λ j below. elim (cases_eq j i) [
       | inl same ↦ subst (λ (n : ℕ). IsCitedAt given multiples n × IsAddableAt given multiples n) (sym same) (given_here, addable_here)
@@ -160,7 +160,7 @@ module _ (given : List Constraint) (multiples : List Multiple) (i : ℕ) (m : Mu
         };
       }
 
-  pub fault-here : (room : Deriver) (bound : ℤ) (fault : DeriveFault) → IsSumming given multiples i room bound → IsMultipleFault given room bound m fault → IsFaultAt given multiples i fault
+  pub fault-here : (room : Adder) (bound : ℤ) (fault : DeriveFault) → IsSumming given multiples i room bound → IsMultipleFault given room bound m fault → IsFaultAt given multiples i fault
   fault-here room bound Memory so_far here = here
   fault-here room bound NoSuchVariable so_far here = here
   fault-here room bound NoSuchConstraint so_far here = λ is. here (subst (λ (x : Multiple). IsGiven given x.constraint) m_is is)
@@ -180,6 +180,6 @@ module _ (given : List Constraint) (multiples : List Multiple) (i : ℕ) (m : Mu
   )
 
   -- so it is the first fault of all
-  pub fault-first : (room : Deriver) (bound : ℤ) (fault : DeriveFault) → IsSumming given multiples i room bound → (fault ≡ Memory) ⊎ IsMultipleFault given room bound m fault → (fault ≡ Memory) ⊎ IsFirstSumFault given multiples fault
+  pub fault-first : (room : Adder) (bound : ℤ) (fault : DeriveFault) → IsSumming given multiples i room bound → (fault ≡ Memory) ⊎ IsMultipleFault given room bound m fault → (fault ≡ Memory) ⊎ IsFirstSumFault given multiples fault
   fault-first room bound fault so_far (inl is) = inl is
   fault-first room bound fault so_far (inr here) = inr (record { place = i; inside = inside; before = so_far.addable; here = fault-here room bound fault so_far here })

@@ -23,10 +23,10 @@ use Rattle.fzn_meaning.specs.AllDifferent.{IsAllDifferent}
 use Rattle.fzn_meaning.specs.Inverse.{IsInverse}
 use Rattle.fzn_meaning.specs.Meaning.{Meets, IsWellFormed, AreTerms, HasBooleanSets, IsBoolean, booleans_of}
 use Rattle.fzn_meaning.proofs.CircuitLemmas.{circuit-different}
-use Rattle.fzn_derive.specs.declared.fault.DeriveFault.{DeriveFault}
-use Rattle.fzn_derive.specs.declared.fault.DeriveFault.TheVariants as faults
-use Rattle.fzn_derive.specs.Cited.{constraint_at}
-use Rattle.fzn_derive.proofs.CitedLemmas.{IsCitedMet, each_at, HoldsUpTo-none, HoldsUpTo-all, HoldsUpTo-one, cited-not_wrong, wrong-one}
+use Rattle.fzn_cited.specs.declared.fault.DeriveFault.{DeriveFault}
+use Rattle.fzn_cited.specs.declared.fault.DeriveFault.TheVariants as faults
+use Rattle.fzn_cited.specs.Cited.{constraint_at}
+use Rattle.fzn_cited.proofs.CitedLemmas.{IsCitedMet, each_at, HoldsUpTo-none, HoldsUpTo-all, HoldsUpTo-one, cited-not_wrong, wrong-one}
 use Rattle.fzn_derive.specs.Apart.{StandApart, CancelOut, TellsApart, two_by_two, pairs_cited, IsPairTold, IsPairWrong, IsPairsFault, HasOneForEachTwo, AreToldApart, IsApartFault}
 
 -- ---- one constraint

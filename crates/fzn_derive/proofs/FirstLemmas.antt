@@ -5,10 +5,10 @@ use Rattle.std.proofs.lemmas.List.{length-map}
 use Rattle.std.proofs.lemmas.List.Elements.{All-append}
 use Rattle.fzn_domain.specs.declared.literal.VarId.{VarId}
 use Rattle.fzn_meaning.specs.declared.constraint.Constraint.{Constraint}
-use Rattle.fzn_derive.specs.declared.fault.DeriveFault.{DeriveFault}
+use Rattle.fzn_cited.specs.declared.fault.DeriveFault.{DeriveFault}
 use Rattle.fzn_derive.specs.Apart.{two_by_two, pairs_cited, IsPairTold, IsPairWrong, IsPairsFault}
 use Rattle.fzn_derive.proofs.PairLemmas.{paired, pairs_cited-first}
-use Rattle.fzn_derive.proofs.CitedLemmas.{HoldsUpTo-append_left, HoldsUpTo-append_right}
+use Rattle.fzn_cited.proofs.CitedLemmas.{HoldsUpTo-append_left, HoldsUpTo-append_right}
 
 first_rest : (xs : List VarId) (x : VarId) (ys : List VarId) → IsFirstAndRest xs x ys → xs ≡ x ∷ ys
 first_rest xs x ys h = h.0

@@ -2,7 +2,6 @@ pub mod AddedLemmas
 mod AddingLemmas
 pub mod ApartLemmas
 mod BoundLemmas
-pub mod CitedLemmas
 pub mod DerivedLaws
 pub mod FirstLemmas
 mod IntLemmas

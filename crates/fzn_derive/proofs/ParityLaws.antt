@@ -12,11 +12,11 @@ use Rattle.fzn_meaning.specs.declared.constraint.Constraint.{Constraint}
 use Rattle.fzn_meaning.specs.declared.constraint.Constraint.TheVariants as constraint
 use Rattle.fzn_meaning.specs.Term.{IsTerm}
 use Rattle.fzn_meaning.specs.Meaning.{IsWellFormed, AreTerms, IsBoolean, HasBooleanSets, booleans_of}
-use Rattle.fzn_derive.specs.declared.fault.DeriveFault.{DeriveFault}
-use Rattle.fzn_derive.specs.declared.fault.DeriveFault.TheVariants as faults
-use Rattle.fzn_derive.specs.Cited.{constraint_at, IsCitedAs, IsCitedWrong}
+use Rattle.fzn_cited.specs.declared.fault.DeriveFault.{DeriveFault}
+use Rattle.fzn_cited.specs.declared.fault.DeriveFault.TheVariants as faults
+use Rattle.fzn_cited.specs.Cited.{constraint_at, IsCitedAs, IsCitedWrong}
 use Rattle.fzn_derive.specs.Parity.{Parity, parity_of, SaysParity, parities, terms_together, odd_together, variable_numbers, ones_in, AreOddIn, variable_with, one_if_even, parity_inputs, IsParity, IsSumsFault, IsParityFault}
-use Rattle.fzn_derive.proofs.CitedLemmas.{each_at, cited-not_wrong, wrong-one, HoldsUpTo-none, HoldsUpTo-all, HoldsUpTo-one}
+use Rattle.fzn_cited.proofs.CitedLemmas.{each_at, cited-not_wrong, wrong-one, HoldsUpTo-none, HoldsUpTo-all, HoldsUpTo-one}
 use Rattle.fzn_derive.proofs.OddLemmas.{times, Contains-times, odd_in-one}
 
 -- ---- what holds of all terms holds of the inputs

@@ -19,9 +19,9 @@ use Rattle.fzn_meaning.specs.Term.{term_value, values_of}
 use Rattle.fzn_meaning.specs.Booleans.{IsBoolXor}
 use Rattle.fzn_meaning.specs.Meaning.{Meets, IsBit, IsBoolean, booleans_of}
 use Rattle.fzn_meaning.proofs.CutLemmas.{bits-choice}
-use Rattle.fzn_derive.specs.Cited.{constraint_at, IsCitedAs}
+use Rattle.fzn_cited.specs.Cited.{constraint_at, IsCitedAs}
 use Rattle.fzn_derive.specs.Parity.{Parity, parity_of, SaysParity, parities, terms_together, odd_together, variable_numbers, is_one, ones_in, AreOddIn, variable_with, one_if_even, parity_inputs, IsParity}
-use Rattle.fzn_derive.proofs.CitedLemmas.{IsCitedMet}
+use Rattle.fzn_cited.proofs.CitedLemmas.{IsCitedMet}
 use Rattle.fzn_derive.proofs.OddLemmas.{odd_in-sum}
 
 -- how many of the values are 1

@@ -11,8 +11,8 @@ use Rattle.fzn_meaning.specs.declared.term.Term.{Term}
 use Rattle.fzn_meaning.specs.declared.term.Term.TheVariants.{Constant, Variable}
 use Rattle.fzn_meaning.specs.declared.term.Place.{Place}
 use Rattle.fzn_meaning.specs.Term.{IsTerm, IsPlace}
-use Rattle.fzn_derive.specs.declared.deriver.Cell.{Cell}
-use Rattle.fzn_derive.specs.declared.deriver.Deriver.{Deriver}
+use Rattle.fzn_derive.specs.declared.adder.Cell.{Cell}
+use Rattle.fzn_derive.specs.declared.adder.Adder.{Adder}
 use Rattle.fzn_derive.specs.Merged.{own_coefficient, coefficient_of, own_constant, constant_of}
 use Rattle.fzn_derive.specs.Summed.{times}
 use Rattle.fzn_derive.specs.Room.{blank, cell_of, IsAdded, IsWithinLimit, AreWithinLimit, IsTermWithin}
@@ -32,7 +32,7 @@ constant_of-one p = let a = constant_of-cons p [] in let b = constant_of-nil in 
 pub times-more : (k : ℤ) (places : List Place) (i : ℕ) (d : Place) → i < length places → times k (take (i + 1) places) ≡ times k (take i places) ++ scaled_place k (get_or places i d) ∷ []
 times-more k places i d inside = map_more (scaled_place k) places i d inside
 
-pub added-more : (first second third : Deriver) (front : List Place) (p : Place) (all : List Place) → all ≡ front ++ p ∷ [] → IsAdded first second front → IsAdded second third (p ∷ []) → IsAdded first third all
+pub added-more : (first second third : Adder) (front : List Place) (p : Place) (all : List Place) → all ≡ front ++ p ∷ [] → IsAdded first second front → IsAdded second third (p ∷ []) → IsAdded first third all
 added-more first second third front p all is before now = λ place.
     let a = before place in
     let b = now place in
@@ -70,7 +70,7 @@ own-at k number x some = elim (cases_eq k (number - 1)) [
 ]
 
 -- where each variable of the places is within the limit, each variable counts nothing in them or is within the limit
-pub counts_or_within : (room : Deriver) (k : ℤ) (count place : ℕ) (places : List Place) → AllByRecursion (IsPlace count) places → AllByRecursion (λ (p : Place). IsTermWithin room p.term) places
+pub counts_or_within : (room : Adder) (k : ℤ) (count place : ℕ) (places : List Place) → AllByRecursion (IsPlace count) places → AllByRecursion (λ (p : Place). IsTermWithin room p.term) places
     → (coefficient_of (place + 1) (times k places) ≡ pos 0) ⊎ IsWithinLimit (cell_of room place).sum
 counts_or_within room k count place [] fit within = inl (coefficient_of-nil (place + 1))
 counts_or_within room k count place (p ∷ places) fit within = elim (counts_or_within room k count place places fit.1 within.1) [
@@ -88,7 +88,7 @@ counts_or_within room k count place (p ∷ places) fit within = elim (counts_or_
       | inr other ↦ inl (ap (λ (b : Bool). cond b x (pos 0)) (ne_eqb (place + 1) var.0 other))
     ]
 
-pub terms_within : (room : Deriver) (places : List Place) → ((place : ℕ) → IsWithinLimit (cell_of room place).sum) → All (λ (p : Place). IsTermWithin room p.term) places
+pub terms_within : (room : Adder) (places : List Place) → ((place : ℕ) → IsWithinLimit (cell_of room place).sum) → All (λ (p : Place). IsTermWithin room p.term) places
 terms_within room places within = λ k d inside. term_within (get_or places k d).term
   where
     term_within : (term : Term) → IsTermWithin room term
@@ -97,7 +97,7 @@ terms_within room places within = λ k d inside. term_within (get_or places k d)
 
 -- ---- one place
 
-module _ (first second : Deriver) (k coefficient : ℤ) (p : Place) (product_is : coefficient ≡ pos 0 +ℤ p.coefficient *ℤ k) where
+module _ (first second : Adder) (k coefficient : ℤ) (p : Place) (product_is : coefficient ≡ pos 0 +ℤ p.coefficient *ℤ k) where
   product : coefficient ≡ k *ℤ p.coefficient
   product = omega (arith, ints)
 
@@ -186,7 +186,7 @@ module _ (count i : ℕ) (k : ℤ) (places : List Place) (hk : unsigned_abs k �
   few_front : length (take i places) ≤ 200000
   few_front = omega (arith, length-take i places)
 
-  pub sum-bound : (first second : Deriver) (place : ℕ) → IsWithinLimit (cell_of first place).sum → IsAdded first second (times k (take i places)) → unsigned_abs (cell_of second place).sum ≤ 2 ^ 124
+  pub sum-bound : (first second : Adder) (place : ℕ) → IsWithinLimit (cell_of first place).sum → IsAdded first second (times k (take i places)) → unsigned_abs (cell_of second place).sum ≤ 2 ^ 124
   sum-bound first second place within added =
       let more = coefficient-bound (place + 1) count k (take i places) hk front in
       let both = abs-plus (cell_of first place).sum (coefficient_of (place + 1) (times k (take i places))) in
@@ -201,7 +201,7 @@ module _ (count i : ℕ) (k : ℤ) (places : List Place) (hk : unsigned_abs k �
       subst (λ (x : ℤ). unsigned_abs x ≤ 2 ^ 125) (sym is) (omega arith)
 
 -- where the variables of the places are within the limit afterwards, all are
-pub all_within : (first second : Deriver) (k : ℤ) (count : ℕ) (places : List Place) → All (IsPlace count) places → All (λ (p : Place). IsTermWithin second p.term) places → IsAdded first second (times k places) → AreWithinLimit first → AreWithinLimit second
+pub all_within : (first second : Adder) (k : ℤ) (count : ℕ) (places : List Place) → All (IsPlace count) places → All (λ (p : Place). IsTermWithin second p.term) places → IsAdded first second (times k places) → AreWithinLimit first → AreWithinLimit second
 all_within first second k count places fit within added before = λ place.
     elim (counts_or_within second k count place places (recursion_from_All (IsPlace count) places fit) (recursion_from_All (λ (p : Place). IsTermWithin second p.term) places within)) [
       | inr is ↦ is

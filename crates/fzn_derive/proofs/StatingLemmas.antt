@@ -14,17 +14,17 @@ use Rattle.fzn_meaning.specs.declared.relation.Comparison.TheVariants.{AtMost}
 use Rattle.fzn_meaning.specs.declared.constraint.Constraint.{Constraint}
 use Rattle.fzn_meaning.specs.declared.constraint.Constraint.TheVariants.{Linear}
 use Rattle.fzn_meaning.specs.Term.{number_in, weighted}
-use Rattle.fzn_derive.specs.declared.derivation.Multiple.{Multiple}
-use Rattle.fzn_derive.specs.declared.deriver.Cell.{Cell}
-use Rattle.fzn_derive.specs.declared.deriver.Deriver.{Deriver}
-use Rattle.fzn_derive.specs.declared.fault.DeriveFault.{DeriveFault}
-use Rattle.fzn_derive.specs.declared.fault.DeriveFault.TheVariants.{NotDerived}
+use Rattle.fzn_cited.specs.declared.multiple.Multiple.{Multiple}
+use Rattle.fzn_derive.specs.declared.adder.Cell.{Cell}
+use Rattle.fzn_derive.specs.declared.adder.Adder.{Adder}
+use Rattle.fzn_cited.specs.declared.fault.DeriveFault.{DeriveFault}
+use Rattle.fzn_cited.specs.declared.fault.DeriveFault.TheVariants.{NotDerived}
 use Rattle.fzn_derive.specs.Merged.{whole, has_weight, merged}
 use Rattle.fzn_derive.specs.Summed.{scaled_all, bound_left, IsStatable, IsSummed, IsUnstatable}
 use Rattle.fzn_derive.specs.Room.{variables_in, blank, cell_of, ListsTouched, AreCounted, AreSummedUp, sum_place, held, IsSortedOnce}
 use Rattle.fzn_derive.proofs.OrderLemmas.{has, rises, same_kept}
 
-module _ (room : Deriver) (places : List Place) (counted : AreCounted room places) where
+module _ (room : Adder) (places : List Place) (counted : AreCounted room places) where
   wholes : (n a : ℕ) → map (sum_place room) (range_with_len a n) ≡ map (whole places) (range_with_len (a + 1) n)
   wholes zero a = refl
   wholes (suc n) a = ap₂ (λ (p : Place) (ps : List Place). p ∷ ps) (ap (λ (x : ℤ). record { coefficient = x; term = Variable (record { 0 = a + 1 }) }) (counted a)) (wholes n (a + 1))
@@ -36,7 +36,7 @@ module _ (room : Deriver) (places : List Place) (counted : AreCounted room place
 weightless : (p : Place) → has_weight p ≡ false → p.coefficient ≡ pos 0
 weightless p none = (Decides-int_eq p.coefficient (pos 0)).0 (not-false (int_eq p.coefficient (pos 0)) none)
 
-blank_weightless : (room : Deriver) (place : ℕ) → cell_of room place ≡ blank → has_weight (sum_place room place) ≡ false
+blank_weightless : (room : Adder) (place : ℕ) → cell_of room place ≡ blank → has_weight (sum_place room place) ≡ false
 blank_weightless room place is = ap (λ (c : Cell). not (int_eq c.sum (pos 0))) is
 
 -- what is true of what is kept is true of what would be kept
@@ -49,7 +49,7 @@ kept : (P : Place → Type 0) (xs : List Place) → AllByRecursion P (filter has
 kept P [] all = tt
 kept P (p ∷ xs) all = kept_by P p xs (has_weight p) refl (kept P xs) all
 
-module _ (room : Deriver) (listed : ListsTouched room) where
+module _ (room : Adder) (listed : ListsTouched room) where
   abbrev HasSmall : ℕ → Type 0
   HasSmall place = IsSmall (cell_of room place).sum
 
@@ -122,7 +122,7 @@ weighted-push (n ∷ numbers) [] number term even = absurd (omega arith)
 weighted-push (n ∷ numbers) (t ∷ terms) number term even = ap (λ (ps : List Place). record { coefficient = number_in n; term = t } ∷ ps) (weighted-push numbers terms number term (omega arith))
 
 -- what is pushed onto two lists is the next place of the sum
-pub pushed-place : (room : Deriver) (place : ℕ) (x : ℤ) (numbers terms new_numbers new_terms : List Term) → x ≡ (cell_of room place).sum → (x ≡ pos 0 → ⊥) → length numbers ≡ length terms
+pub pushed-place : (room : Adder) (place : ℕ) (x : ℤ) (numbers terms new_numbers new_terms : List Term) → x ≡ (cell_of room place).sum → (x ≡ pos 0 → ⊥) → length numbers ≡ length terms
     → new_numbers ≡ numbers ++ Constant x ∷ [] → new_terms ≡ terms ++ Variable (record { 0 = place + 1 }) ∷ []
     → weighted new_numbers new_terms ≡ weighted numbers terms ++ cond (has_weight (sum_place room place)) (sum_place room place ∷ []) []
 pushed-place room place x numbers terms new_numbers new_terms is some even n t =
@@ -133,7 +133,7 @@ pushed-place room place x numbers terms new_numbers new_terms is some even n t =
 
 -- ---- what comes of it
 
-pub summed-from : (given : List Constraint) (room : Deriver) (multiples : List Multiple) (bound : ℤ) (constraint : Constraint) → AreSummedUp given room multiples bound → IsStatable (held room) bound → constraint ≡ Linear (held room) AtMost bound None → IsSummed given (variables_in room) multiples constraint
+pub summed-from : (given : List Constraint) (room : Adder) (multiples : List Multiple) (bound : ℤ) (constraint : Constraint) → AreSummedUp given room multiples bound → IsStatable (held room) bound → constraint ≡ Linear (held room) AtMost bound None → IsSummed given (variables_in room) multiples constraint
 summed-from given room multiples bound constraint added statable is =
     let same = held-merged room (scaled_all given multiples) added.counted in record {
       addable = added.addable;
@@ -141,7 +141,7 @@ summed-from given room multiples bound constraint added statable is =
       is = is ∙ ap₂ (λ (sum : List Place) (x : ℤ). Linear sum AtMost x None) same added.bound_is;
     }
 
-pub too_large-from : (given : List Constraint) (room : Deriver) (multiples : List Multiple) (bound : ℤ) (fault : DeriveFault) → AreSummedUp given room multiples bound → (IsStatable (held room) bound → ⊥) → fault ≡ NotDerived → IsUnstatable given (variables_in room) multiples fault
+pub too_large-from : (given : List Constraint) (room : Adder) (multiples : List Multiple) (bound : ℤ) (fault : DeriveFault) → AreSummedUp given room multiples bound → (IsStatable (held room) bound → ⊥) → fault ≡ NotDerived → IsUnstatable given (variables_in room) multiples fault
 too_large-from given room multiples bound fault added large is =
     let same = held-merged room (scaled_all given multiples) added.counted in record {
       addable = added.addable;

@@ -5,7 +5,7 @@ use Rattle.std.proofs.lemmas.Int.{ints}
 use Rattle.std.proofs.lemmas.List.Concat.{flat_map-append}
 use Rattle.std.proofs.lemmas.List.Sums.{fold_push}
 use Rattle.fzn_meaning.specs.declared.constraint.Constraint.{Constraint}
-use Rattle.fzn_derive.specs.declared.derivation.Multiple.{Multiple}
+use Rattle.fzn_cited.specs.declared.multiple.Multiple.{Multiple}
 use Rattle.fzn_derive.specs.Merged.{constant_of}
 use Rattle.fzn_derive.specs.Summed.{scaled, scaled_bound, scaled_all, scaled_bounds, bound_left}
 

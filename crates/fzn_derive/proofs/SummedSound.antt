@@ -23,13 +23,13 @@ use Rattle.fzn_meaning.proofs.CallerLemmas.{bits-choice}
 use Rattle.fzn_builtin_rules.specs.Form.{Form, form_of, FormHolds, Fits}
 use Rattle.fzn_builtin_rules.proofs.CallerLemmas.{total_by-cons, total_by-append, form_fits}
 use Rattle.fzn_builtin_rules.proofs.FormLemmas.{form_holds}
-use Rattle.fzn_derive.specs.declared.derivation.Multiple.{Multiple}
-use Rattle.fzn_derive.specs.declared.fault.DeriveFault.{DeriveFault}
-use Rattle.fzn_derive.specs.declared.fault.DeriveFault.TheVariants.{Memory, NoSuchVariable, NoSuchConstraint, NotDerived}
-use Rattle.fzn_derive.specs.Cited.{constraint_at}
+use Rattle.fzn_cited.specs.declared.multiple.Multiple.{Multiple}
+use Rattle.fzn_cited.specs.declared.fault.DeriveFault.{DeriveFault}
+use Rattle.fzn_cited.specs.declared.fault.DeriveFault.TheVariants.{Memory, NoSuchVariable, NoSuchConstraint, NotDerived}
+use Rattle.fzn_cited.specs.Cited.{constraint_at}
 use Rattle.fzn_derive.specs.Merged.{whole, has_weight, merged}
 use Rattle.fzn_derive.specs.Summed.{form_given, times, scaled, scaled_all, scaled_bounds, bound_left, sum_left, MayMultiply, IsUsable, IsCitedAt, IsAddableAt, AreAddable, IsStatable, IsSummed, IsFaultAt, IsSumFault}
-use Rattle.fzn_derive.proofs.CitedLemmas.{each_at}
+use Rattle.fzn_cited.proofs.CitedLemmas.{each_at}
 use Rattle.fzn_derive.proofs.IntLemmas.{times_plus, times_times, times_le, times_zero}
 use Rattle.fzn_derive.proofs.MergedSound.{IsAmong, sum-merged}
 use Rattle.fzn_derive.proofs.SummedLemmas.{scaled_all-nil, scaled_all-cons, scaled_bounds-nil, scaled_bounds-cons, bound_left-is}

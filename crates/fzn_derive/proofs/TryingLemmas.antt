@@ -6,8 +6,8 @@ use Rattle.std.proofs.lemmas.List.Elements.{All-push, All-weaker, All-contains_i
 use Rattle.fzn_domain.specs.IntSet.{IntSet}
 use Rattle.fzn_meaning.specs.declared.constraint.Constraint.{Constraint}
 use Rattle.fzn_derive.specs.declared.derivation.Derivation.{Derivation}
-use Rattle.fzn_derive.specs.declared.fault.DeriveFault.{DeriveFault}
-use Rattle.fzn_derive.specs.declared.fault.DeriveFault.TheVariants.{Memory}
+use Rattle.fzn_cited.specs.declared.fault.DeriveFault.{DeriveFault}
+use Rattle.fzn_cited.specs.declared.fault.DeriveFault.TheVariants.{Memory}
 use Rattle.fzn_derive.specs.Derived.{IsDerivedBy, IsDerivable, IsDeriveFault}
 use Rattle.fzn_derive.proofs.DerivedLaws.{no-derive_fault}
 

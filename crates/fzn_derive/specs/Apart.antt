@@ -11,9 +11,9 @@ use Rattle.fzn_meaning.specs.declared.relation.Relation.TheVariants.{NotEqual}
 use Rattle.fzn_meaning.specs.declared.relation.Comparison.TheVariants as sum
 use Rattle.fzn_meaning.specs.declared.constraint.Constraint.{Constraint}
 use Rattle.fzn_meaning.specs.declared.constraint.Constraint.TheVariants.{Compare, Linear, AllDifferent, Circuit, Inverse}
-use Rattle.fzn_derive.specs.declared.fault.DeriveFault.{DeriveFault}
-use Rattle.fzn_derive.specs.declared.fault.DeriveFault.TheVariants.{Memory, NoSuchVariable, NoSuchConstraint, NotDerived}
-use Rattle.fzn_derive.specs.Cited.{IsCitedAs, IsCitedWrong, HoldsUpTo}
+use Rattle.fzn_cited.specs.declared.fault.DeriveFault.{DeriveFault}
+use Rattle.fzn_cited.specs.declared.fault.DeriveFault.TheVariants.{Memory, NoSuchVariable, NoSuchConstraint, NotDerived}
+use Rattle.fzn_cited.specs.Cited.{IsCitedAs, IsCitedWrong, HoldsUpTo}
 
 -- the two variables stand at two places
 abbrev pub StandApart : List Term → VarId → VarId → Type 0

@@ -1,5 +1,4 @@
 pub mod Apart
-pub mod Cited
 pub mod Derived
 pub mod Merged
 pub mod Parity

@@ -10,9 +10,9 @@ use Rattle.fzn_meaning.specs.declared.relation.Relation.TheVariants.{Equal}
 use Rattle.fzn_meaning.specs.declared.constraint.Constraint.{Constraint}
 use Rattle.fzn_meaning.specs.declared.constraint.Constraint.TheVariants.{Compare, BoolNot, BoolToInt, BoolXor, ArrayBoolXor}
 use Rattle.fzn_meaning.specs.Meaning.{IsBoolean}
-use Rattle.fzn_derive.specs.declared.fault.DeriveFault.{DeriveFault}
-use Rattle.fzn_derive.specs.declared.fault.DeriveFault.TheVariants.{Memory, NoSuchVariable, NoSuchConstraint, NotDerived}
-use Rattle.fzn_derive.specs.Cited.{constraint_at, IsCitedAs, IsCitedWrong, HoldsUpTo}
+use Rattle.fzn_cited.specs.declared.fault.DeriveFault.{DeriveFault}
+use Rattle.fzn_cited.specs.declared.fault.DeriveFault.TheVariants.{Memory, NoSuchVariable, NoSuchConstraint, NotDerived}
+use Rattle.fzn_cited.specs.Cited.{constraint_at, IsCitedAs, IsCitedWrong, HoldsUpTo}
 
 -- an odd number of these terms are 1, or an even number
 pub record Parity : Type 0 where

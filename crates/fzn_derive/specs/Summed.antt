@@ -10,10 +10,10 @@ use Rattle.fzn_meaning.specs.declared.constraint.Constraint.{Constraint}
 use Rattle.fzn_meaning.specs.declared.constraint.Constraint.TheVariants.{Linear}
 use Rattle.fzn_meaning.specs.Meaning.{longest}
 use Rattle.fzn_builtin_rules.specs.Form.{Form, form_of}
-use Rattle.fzn_derive.specs.declared.derivation.Multiple.{Multiple}
-use Rattle.fzn_derive.specs.declared.fault.DeriveFault.{DeriveFault}
-use Rattle.fzn_derive.specs.declared.fault.DeriveFault.TheVariants.{NoSuchConstraint, NotDerived}
-use Rattle.fzn_derive.specs.Cited.{constraint_at, IsGiven}
+use Rattle.fzn_cited.specs.declared.multiple.Multiple.{Multiple}
+use Rattle.fzn_cited.specs.declared.fault.DeriveFault.{DeriveFault}
+use Rattle.fzn_cited.specs.declared.fault.DeriveFault.TheVariants.{NoSuchConstraint, NotDerived}
+use Rattle.fzn_cited.specs.Cited.{constraint_at, IsGiven}
 use Rattle.fzn_derive.specs.Merged.{coefficient_of, constant_of, merged}
 
 -- the form of the constraint of this number, where it has one

@@ -3,28 +3,59 @@ ghost use Rattle.std.specs.Prelude.{◌≡◌, ◌↔◌, ◌⊎◌, ◌≤◌, 
 ghost use Rattle.std.specs.List.{All};
 ghost use Rattle.fzn_meaning.specs.Meaning.{IsWellFormed};
 ghost use Rattle.fzn_builtin_rules.specs.Borrowed.{form_in};
-ghost use Rattle.fzn_derive.specs.declared.fault.DeriveFault.TheVariants.{Memory};
-ghost use Rattle.fzn_derive.specs.Summed.{IsUsable, MayMultiply, IsFirstSumFault};
-ghost use Rattle.fzn_derive.specs.Room.{variables_in, IsClear, ListsTouched, AreWithinLimit, IsWithinLimit, IsUsableForm, IsUnusable, IsMultipleAdded, IsMultipleFault, AreSummedUp};
+ghost use Rattle.fzn_cited.specs.declared.fault.DeriveFault.TheVariants.{Memory};
+ghost use Rattle.fzn_derive.specs.Summed.{IsUsable, MayMultiply, IsFirstSumFault, IsSummed, IsSumFault};
+ghost use Rattle.fzn_derive.specs.Room.{variables_in, HoldsNothing, ListsTouched, AreWithinLimit, IsWithinLimit, IsUsableForm, IsUnusable, IsMultipleAdded, IsMultipleFault, AreSummedUp};
 
-use crate::cited::constraint_at;
-use crate::derivation::Multiple;
-use crate::deriver::Deriver;
-use crate::fault::DeriveFault;
+use crate::adder::Adder;
 use fzn_builtin_rules::{Form, form_of};
+use fzn_cited::{DeriveFault, Multiple, constraint_at};
 use fzn_meaning::{Comparison, Constraint};
+use std::alloc::Global;
 
 /// How far from 0 a multiplier lies at the most: 10^12.
 const GREATEST_MULTIPLIER: i64 = 1_000_000_000_000;
 
-impl Deriver {
-    /// Adds up the forms, each times its multiplier, and answers what the constants leave of the bound.
-    pub(crate) fn add_all(
+impl Adder {
+    /// The sum of the forms of constraints, each times its multiplier.
+    pub(crate) fn derive_sum(
         &mut self,
+        alloc: Global,
         given: &[Constraint],
         multiples: &[Multiple],
-    ) -> Result<i128, DeriveFault>
-        requires clear { IsClear (variables_in self.old) self.old }
+    ) -> Result<Constraint, DeriveFault>
+        requires clear { HoldsNothing (variables_in self.old) self.old }
+        requires given { All (IsWellFormed (variables_in self.old)) given.now }
+        ensures clear { HoldsNothing (variables_in self.old) self.new }
+        ensures derived { IfOk result (IsSummed given.now (variables_in self.old) multiples.now) }
+        ensures fault { IfErr result (λ fault. (fault ≡ Memory) ⊎ IsSumFault given.now (variables_in self.old) multiples.now fault) }
+    {
+        let outcome = self.add_up(alloc, given, multiples);
+        self.clear();
+        outcome
+    }
+
+    /// Adds them up in the clear room, and states what comes of it.
+    fn add_up(
+        &mut self,
+        alloc: Global,
+        given: &[Constraint],
+        multiples: &[Multiple],
+    ) -> Result<Constraint, DeriveFault>
+        requires clear { HoldsNothing (variables_in self.old) self.old }
+        requires given { All (IsWellFormed (variables_in self.old)) given.now }
+        ensures listed { ListsTouched self.new }
+        ensures variables { variables_in self.new ≡ variables_in self.old }
+        ensures derived { IfOk result (IsSummed given.now (variables_in self.old) multiples.now) }
+        ensures fault { IfErr result (λ fault. (fault ≡ Memory) ⊎ IsSumFault given.now (variables_in self.old) multiples.now fault) }
+    {
+        let bound = self.add_all(given, multiples)?;
+        self.state(alloc, bound)
+    }
+
+    /// Adds up the forms, each times its multiplier, and answers what the constants leave of the bound.
+    fn add_all(&mut self, given: &[Constraint], multiples: &[Multiple]) -> Result<i128, DeriveFault>
+        requires clear { HoldsNothing (variables_in self.old) self.old }
         requires given { All (IsWellFormed (variables_in self.old)) given.now }
         ensures listed { ListsTouched self.new }
         ensures variables { variables_in self.new ≡ variables_in self.old }

@@ -5,11 +5,10 @@ ghost use Rattle.std.specs.Prelude.{◌≡◌, ◌≢◌, ◌↔◌, ◌⊎◌, 
 ghost use Rattle.std.specs.List.{All, Contains, zip};
 ghost use Rattle.fzn_domain.specs.Narrow.{IsVariable};
 ghost use Rattle.fzn_meaning.specs.declared.term.Term.TheVariants.{Variable};
-ghost use Rattle.fzn_derive.specs.declared.fault.DeriveFault.TheVariants.{Memory};
+ghost use Rattle.fzn_cited.specs.declared.fault.DeriveFault.TheVariants.{Memory};
 ghost use Rattle.fzn_derive.specs.Apart.{StandApart, CancelOut, TellsApart, two_by_two, pairs_cited, IsPairTold, IsPairWrong, IsPairsFault, HasOneForEachTwo, AreToldApart, IsApartFault};
 
-use crate::cited::constraint_at;
-use crate::fault::DeriveFault;
+use fzn_cited::{DeriveFault, constraint_at};
 use fzn_domain::VarId;
 use fzn_list::{Items, LONGEST, Shared};
 use fzn_meaning::{Comparison, Constraint, Relation, Sum, Term};

@@ -1,15 +1,8 @@
 // How a constraint is derived.
+use fzn_cited::Multiple;
 use fzn_domain::VarId;
 use fzn_list::Items;
-
-/// A constraint with the number that its form is multiplied with.
-#[derive(Clone, Copy, Debug, PartialEq, Eq)]
-pub struct Multiple {
-    /// From -10^12 to 10^12, where it is to be taken.
-    pub multiplier: i64,
-    /// The number of the constraint, counted from 1.
-    pub constraint: u64,
-}
+use fzn_row::RowItem;
 
 /// How a constraint is derived from others, each of which is named by its number, counted from 1.
 #[derive(Debug, Drop)]
@@ -26,4 +19,6 @@ pub enum Derivation {
         /// One constraint for each two places.
         constraints: Items<u64>,
     },
+    /// The row that the items make one after another, for which at most 1,000,000 weights are listed.
+    Row(Items<RowItem>),
 }

@@ -2,19 +2,24 @@
 ghost use Rattle.std.specs.Prelude.{◌≡◌, ◌⊎◌, length, IfOk, IfErr};
 ghost use Rattle.std.specs.List.{All};
 ghost use Rattle.fzn_meaning.specs.Meaning.{IsWellFormed};
-ghost use Rattle.fzn_derive.specs.declared.fault.DeriveFault.TheVariants.{Memory};
+ghost use Rattle.fzn_cited.specs.declared.fault.DeriveFault.TheVariants.{Memory};
 ghost use Rattle.fzn_meaning.specs.Solutions.{declared_sets};
-ghost use Rattle.fzn_derive.specs.Derived.{IsDerivedBy, IsDeriveFault};
-ghost use Rattle.fzn_derive.specs.Summed.{IsSummed, IsSumFault};
-ghost use Rattle.fzn_derive.specs.Room.{variables_in, IsClear, ListsTouched};
+ghost use Rattle.fzn_row.specs.Derived.{IsRowFault};
+ghost use Rattle.fzn_row.specs.Room.{room_size};
+ghost use Rattle.fzn_derive.specs.Derived.{most_row_weights, IsRowConstraint, IsDerivedBy, IsDeriveFault};
+ghost use Rattle.fzn_derive.specs.Room.{IsClear};
 
 use crate::apart::derive_apart;
-use crate::derivation::{Derivation, Multiple};
+use crate::derivation::Derivation;
 use crate::deriver::Deriver;
-use crate::fault::DeriveFault;
 use crate::parity::derive_parity;
+use fzn_cited::DeriveFault;
 use fzn_meaning::{Constraint, Var};
+use fzn_row::{RowDeriver, RowItem};
 use std::alloc::Global;
+
+/// How many weights are listed for a row at the most.
+const MOST_ROW_WEIGHTS: usize = 1_000_000;
 
 impl Deriver {
     /// The constraint that is derived so from the given ones, in a clear room for these variables. Where none is, it answers the first
@@ -34,7 +39,7 @@ impl Deriver {
         ensures fault { IfErr result (λ fault. (fault ≡ Memory) ⊎ IsDeriveFault given.now (declared_sets vars.now) derivation.now fault) }
     {
         match derivation {
-            Derivation::Sum(multiples) => self.derive_sum(alloc, given, multiples.as_slice()),
+            Derivation::Sum(multiples) => self.sums.derive_sum(alloc, given, multiples.as_slice()),
             Derivation::Parity(ids) => derive_parity(alloc, given, vars, ids.as_slice()),
             Derivation::AllDifferent {
                 variables,
@@ -46,42 +51,27 @@ impl Deriver {
                 variables.as_slice(),
                 constraints.as_slice(),
             ),
+            Derivation::Row(items) => {
+                derive_row(&mut self.rows, alloc, given, vars, items.as_slice())
+            }
         }
     }
+}
 
-    /// The sum of the forms of constraints, each times its multiplier.
-    fn derive_sum(
-        &mut self,
-        alloc: Global,
-        given: &[Constraint],
-        multiples: &[Multiple],
-    ) -> Result<Constraint, DeriveFault>
-        requires clear { IsClear (variables_in self.old) self.old }
-        requires given { All (IsWellFormed (variables_in self.old)) given.now }
-        ensures clear { IsClear (variables_in self.old) self.new }
-        ensures derived { IfOk result (IsSummed given.now (variables_in self.old) multiples.now) }
-        ensures fault { IfErr result (λ fault. (fault ≡ Memory) ⊎ IsSumFault given.now (variables_in self.old) multiples.now fault) }
-    {
-        let outcome = self.add_up(alloc, given, multiples);
-        self.clear();
-        outcome
-    }
-
-    /// Adds them up in the clear room, and states what comes of it.
-    fn add_up(
-        &mut self,
-        alloc: Global,
-        given: &[Constraint],
-        multiples: &[Multiple],
-    ) -> Result<Constraint, DeriveFault>
-        requires clear { IsClear (variables_in self.old) self.old }
-        requires given { All (IsWellFormed (variables_in self.old)) given.now }
-        ensures listed { ListsTouched self.new }
-        ensures variables { variables_in self.new ≡ variables_in self.old }
-        ensures derived { IfOk result (IsSummed given.now (variables_in self.old) multiples.now) }
-        ensures fault { IfErr result (λ fault. (fault ≡ Memory) ⊎ IsSumFault given.now (variables_in self.old) multiples.now fault) }
-    {
-        let bound = self.add_all(given, multiples)?;
-        self.state(alloc, bound)
-    }
+/// The row that the items make.
+fn derive_row(
+    room: &mut RowDeriver,
+    alloc: Global,
+    given: &[Constraint],
+    vars: &[Var],
+    items: &[RowItem],
+) -> Result<Constraint, DeriveFault>
+    requires room { room_size room.old ≡ length vars.now }
+    requires given { All (IsWellFormed (length vars.now)) given.now }
+    ensures room { room_size room.new ≡ length vars.now }
+    ensures derived { IfOk result (IsRowConstraint given.now (declared_sets vars.now) items.now) }
+    ensures fault { IfErr result (λ fault. (fault ≡ Memory) ⊎ IsRowFault given.now (declared_sets vars.now) most_row_weights items.now fault) }
+{
+    let row = room.derive(alloc, given, vars, items, MOST_ROW_WEIGHTS)?;
+    Ok(Constraint::Row(row))
 }

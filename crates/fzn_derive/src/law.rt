@@ -6,8 +6,9 @@ ghost use Rattle.fzn_domain.specs.Narrow.{IsWithin};
 ghost use Rattle.fzn_meaning.specs.declared.constraint.Constraint.{Constraint};
 ghost use Rattle.fzn_meaning.specs.Meaning.{Meets, IsWellFormed, HasBooleanSets};
 ghost use Rattle.fzn_derive.specs.declared.derivation.Derivation.{Derivation};
-ghost use Rattle.fzn_derive.specs.declared.fault.DeriveFault.{DeriveFault};
-ghost use Rattle.fzn_derive.specs.Derived.{cited, AreMet, IsDerivedBy, IsDeriveFault};
+ghost use Rattle.fzn_cited.specs.declared.fault.DeriveFault.{DeriveFault};
+ghost use Rattle.fzn_cited.specs.Cited.{AreMet};
+ghost use Rattle.fzn_derive.specs.Derived.{cited, IsDerivedBy, IsDeriveFault};
 
 /// Values within the declared sets that meet the constraints that a derivation cites meet the constraint that it gives.
 pub fn derived_is_met()

@@ -5,19 +5,17 @@
 //! the meaning of constraints: whatever values of the declared sets meet the constraints that are cited meet the derived one.
 #![tactic(auto)]
 
-pub use derivation::{Derivation, Multiple};
+pub use derivation::Derivation;
 pub use deriver::Deriver;
-pub use fault::DeriveFault;
 pub use law::{derived_is_formed, derived_is_met, one_derived};
 pub use trying::derivable;
 
+mod adder;
 mod adding;
 mod apart;
-mod cited;
 mod derivation;
 mod derive;
 mod deriver;
-mod fault;
 mod law;
 mod order;
 mod parity;

@@ -11,11 +11,10 @@ ghost use Rattle.fzn_meaning.specs.Term.{IsTerm};
 ghost use Rattle.fzn_meaning.specs.Meaning.{IsWellFormed, IsBit, IsBoolean};
 ghost use Rattle.fzn_meaning.specs.Solutions.{declared_sets};
 ghost use Rattle.fzn_derive.specs.Parity.{SaysParity, IsSumAdded, IsConstraintAdded, AreAllAdded, IsSumsFault, AreOddIn, EndsWith, is_one, variable_with, variable_numbers, remainder_of, IsParity, IsParityFault};
-ghost use Rattle.fzn_derive.specs.Cited.{IsCitedAs, IsCitedWrong};
-ghost use Rattle.fzn_derive.specs.declared.fault.DeriveFault.TheVariants.{Memory};
+ghost use Rattle.fzn_cited.specs.Cited.{IsCitedAs, IsCitedWrong};
+ghost use Rattle.fzn_cited.specs.declared.fault.DeriveFault.TheVariants.{Memory};
 
-use crate::cited::constraint_at;
-use crate::fault::DeriveFault;
+use fzn_cited::{DeriveFault, constraint_at};
 use fzn_domain::{Domain, VarId};
 use fzn_list::{Items, LONGEST, Shared};
 use fzn_meaning::{Constraint, Relation, Term, Var};

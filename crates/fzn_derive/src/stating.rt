@@ -5,14 +5,14 @@ ghost use Rattle.fzn_domain.specs.Limits.{IsSmall};
 ghost use Rattle.fzn_meaning.specs.Term.{weighted};
 ghost use Rattle.fzn_meaning.specs.declared.constraint.Constraint.TheVariants.{Linear};
 ghost use Rattle.fzn_meaning.specs.declared.relation.Comparison.TheVariants.{AtMost};
-ghost use Rattle.fzn_derive.specs.declared.fault.DeriveFault.TheVariants.{Memory, NotDerived};
+ghost use Rattle.fzn_cited.specs.declared.fault.DeriveFault.TheVariants.{Memory, NotDerived};
 ghost use Rattle.fzn_derive.specs.Merged.{has_weight};
 ghost use Rattle.fzn_derive.specs.Summed.{IsStatable};
 ghost use Rattle.fzn_derive.specs.Room.{variables_in, cell_of, ListsTouched, sum_place, held};
 
-use crate::deriver::Deriver;
-use crate::fault::DeriveFault;
+use crate::adder::Adder;
 use crate::order::in_order;
+use fzn_cited::DeriveFault;
 use fzn_domain::VarId;
 use fzn_list::{Items, LONGEST, Shared};
 use fzn_meaning::{Comparison, Constraint, Sum, Term};
@@ -21,7 +21,7 @@ use std::alloc::{AllocError, Global};
 /// How far from 0 a coefficient and a bound of a constraint lie at the most: 10^9.
 const GREATEST: i128 = 1_000_000_000;
 
-impl Deriver {
+impl Adder {
     /// The sum that is held is at most the bound.
     pub(crate) fn state(&self, alloc: Global, bound: i128) -> Result<Constraint, DeriveFault>
         requires { ListsTouched self.now }

@@ -3,13 +3,13 @@ ghost use Rattle.std.specs.Prelude.{◌≢◌, ◌↔◌, length, IsTrue, IsOk, 
 ghost use Rattle.std.specs.List.{All, Contains};
 ghost use Rattle.fzn_meaning.specs.Meaning.{IsWellFormed};
 ghost use Rattle.fzn_meaning.specs.Solutions.{declared_sets};
-ghost use Rattle.fzn_derive.specs.declared.fault.DeriveFault.TheVariants.{Memory};
+ghost use Rattle.fzn_cited.specs.declared.fault.DeriveFault.TheVariants.{Memory};
 ghost use Rattle.fzn_derive.specs.Derived.{IsDerivable};
 ghost use Rattle.fzn_derive.specs.Room.{IsClear};
 
 use crate::derivation::Derivation;
 use crate::deriver::Deriver;
-use crate::fault::DeriveFault;
+use fzn_cited::DeriveFault;
 use fzn_list::Items;
 use fzn_meaning::{Constraint, Var};
 use std::alloc::{AllocError, Global};

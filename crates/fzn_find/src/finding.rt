@@ -14,9 +14,10 @@ use fzn_domain::Memory;
 use fzn_list::Items;
 use fzn_meaning::Model;
 use fzn_multipliers::{Rows, multipliers};
+use fzn_prices::prices;
 use std::alloc::Global;
 
-/// What `merged`, `cliques`, `eliminated` and `multipliers` find, in this order. It answers `Err` where memory runs out.
+/// What `merged`, `cliques`, `eliminated`, `prices` and `multipliers` find, in this order. It answers `Err` where memory runs out.
 pub fn found(alloc: Global, model: &Model) -> Result<Items<Derivation>, Memory>
     requires { IsWellFormed model.now }
     ensures { IfOk result (All (IsDerivable model.now.constraints (declared_sets model.now.vars))) }
@@ -26,6 +27,7 @@ pub fn found(alloc: Global, model: &Model) -> Result<Items<Derivation>, Memory>
     push_merged(alloc, &rows, &mut candidates)?;
     push_cliques(alloc, model, &mut candidates)?;
     push_eliminated(alloc, model, &mut candidates)?;
+    push_row(alloc, model, &rows, &mut candidates)?;
     let mut found = tested(alloc, model, candidates)?;
     match multipliers(alloc, model, rows)? {
         None => Ok(found),
@@ -34,4 +36,17 @@ pub fn found(alloc: Global, model: &Model) -> Result<Items<Derivation>, Memory>
             Ok(found)
         }
     }
+}
+
+/// Puts the row of the prices at the end of the list.
+fn push_row(
+    alloc: Global,
+    model: &Model,
+    rows: &Rows,
+    found: &mut Vec<Derivation>,
+) -> Result<(), Memory> {
+    if let Some(items) = prices(alloc, model, rows)? {
+        found.push(Derivation::Row(items))?;
+    }
+    Ok(())
 }

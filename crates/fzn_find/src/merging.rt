@@ -6,7 +6,8 @@ ghost use Rattle.fzn_meaning.specs.Solutions.{declared_sets};
 ghost use Rattle.fzn_derive.specs.Derived.{IsDerivable};
 
 use crate::testing::tested;
-use fzn_derive::{Derivation, Multiple};
+use fzn_cited::Multiple;
+use fzn_derive::Derivation;
 use fzn_domain::Memory;
 use fzn_list::Items;
 use fzn_meaning::Model;

@@ -1,19 +1,21 @@
 -- A model with derived constraints has the solutions that it has without them.
-use Rattle.std.proofs.Common.{◌≡◌, ◌↔◌, ℕ, ◌+◌, ◌-◌, ◌≤◌, ◌==◌, Bool, true, false, List, [], ◌∷◌, ◌++◌, ℤ, length, All, IfSome, Option, Some, refl, sym, ap, subst, ◌∙◌, inl, inr, arith}
+use Rattle.std.proofs.Common.{◌≡◌, ◌↔◌, ℕ, ◌+◌, ◌-◌, ◌<◌, ◌≤◌, ◌==◌, Bool, true, false, List, [], ◌∷◌, ◌++◌, ℤ, length, get_or, take, All, IfSome, Option, Some, refl, sym, ap, subst, ◌∙◌, inl, inr, arith}
 use Rattle.std.specs.Prelude.{slice_index_or, slice_get, if◌then◌else◌, None}
-use Rattle.std.proofs.lemmas.List.{length-append, length-map}
+use Rattle.std.proofs.lemmas.List.{length-append, length-map, take_more}
 use Rattle.std.proofs.lemmas.List.Elements.{All-push, All-pop, All-weaker}
 use Rattle.std.proofs.lemmas.Option.{slice_get_cases}
 use Rattle.fzn_meaning.specs.declared.constraint.Constraint.{Constraint}
+use Rattle.fzn_meaning.specs.declared.row.Part.{Part}
 use Rattle.fzn_meaning.specs.declared.model.Var.{Var}
 use Rattle.fzn_meaning.specs.declared.model.Model.{Model}
 use Rattle.fzn_meaning.specs.Meaning.{Meets, HasBooleanSets, longest, IsWellFormed as IsWellFormedConstraint}
 use Rattle.fzn_meaning.specs.Solutions.{declared_sets, IsSolution, IsInOrder, IsCovered, IsProper, IsExhausted}
 use Rattle.fzn_meaning.specs.WellFormed.{IsWellFormed}
 use Rattle.fzn_derive.specs.declared.derivation.Derivation.{Derivation}
-use Rattle.fzn_derive.specs.Derived.{cited, AreMet}
+use Rattle.fzn_cited.specs.Cited.{AreMet}
+use Rattle.fzn_derive.specs.Derived.{cited}
 use Rattle.fzn_derive.proofs.DerivedLaws.{derived-Meets, derived-formed}
-use Rattle.fzn_head.specs.Extended.{with_constraint, IsDerivedOf, Extends, terms_held, terms_held_in}
+use Rattle.fzn_head.specs.Extended.{with_constraint, IsDerivedOf, Extends, listed_of, listed_in, terms_held, terms_held_in}
 
 -- ---- what stays as it is
 
@@ -49,6 +51,14 @@ Extends-then model middle after (derivation ∷ later) second (constraint, deriv
 pub terms-more : (constraints : List Constraint) (constraint : Constraint) → terms_held_in (constraints ++ constraint ∷ []) ≡ terms_held_in constraints + terms_held constraint
 terms-more [] constraint = omega arith
 terms-more (first ∷ later) constraint = omega (arith, terms-more later constraint)
+
+listed-last : (parts : List Part) (part : Part) → listed_in (parts ++ part ∷ []) ≡ listed_in parts + listed_of part.listed
+listed-last [] part = omega arith
+listed-last (first ∷ later) part = omega (arith, listed-last later part)
+
+-- one part more
+pub listed-more : (parts : List Part) (i : ℕ) (d : Part) → i < length parts → listed_in (take (i + 1) parts) ≡ listed_in (take i parts) + listed_of (get_or parts i d).listed
+listed-more parts i d inside = ap listed_in (take_more parts i d inside) ∙ listed-last (take i parts) (get_or parts i d)
 
 pub terms-grow : (model after : Model) (derivations : List Derivation) → Extends model derivations after → terms_held_in model.constraints ≤ terms_held_in after.constraints
 terms-grow model after [] e = omega (arith, ap (λ (m : Model). terms_held_in m.constraints) e)

@@ -1,12 +1,14 @@
 -- A model with constraints that are derived from its own, one after the other.
-use Rattle.std.specs.Prelude.{◌≡◌, ◌⊎◌, ℕ, ◌+◌, ◌<◌, List, [], ◌∷◌, ◌++◌, length}
+use Rattle.std.specs.Prelude.{◌≡◌, ◌⊎◌, ℕ, ◌+◌, ◌<◌, List, [], ◌∷◌, ◌++◌, length, Option, None, Some}
 use Rattle.fzn_meaning.specs.declared.constraint.Constraint.{Constraint}
-use Rattle.fzn_meaning.specs.declared.constraint.Constraint.TheVariants.{Linear, ArrayBoolXor, AllDifferent}
+use Rattle.fzn_meaning.specs.declared.constraint.Constraint.TheVariants.{Linear, ArrayBoolXor, AllDifferent, Row}
+use Rattle.fzn_meaning.specs.declared.row.Listed.{Listed}
+use Rattle.fzn_meaning.specs.declared.row.Part.{Part}
 use Rattle.fzn_meaning.specs.declared.model.Model.{Model}
 use Rattle.fzn_meaning.specs.Solutions.{declared_sets}
 use Rattle.fzn_derive.specs.declared.derivation.Derivation.{Derivation}
-use Rattle.fzn_derive.specs.declared.fault.DeriveFault.{DeriveFault}
-use Rattle.fzn_derive.specs.declared.fault.DeriveFault.TheVariants.{NotDerived}
+use Rattle.fzn_cited.specs.declared.fault.DeriveFault.{DeriveFault}
+use Rattle.fzn_cited.specs.declared.fault.DeriveFault.TheVariants.{NotDerived}
 use Rattle.fzn_derive.specs.Derived.{IsDerivedBy, IsDeriveFault}
 
 -- the model with one more constraint, behind its own
@@ -37,11 +39,21 @@ IsExtended model after = (derivations : List Derivation) × Extends model deriva
 
 -- ---- how many terms there are
 
--- those that are held of a constraint of a kind that is derived
+-- how many weights are listed for all parts
+abbrev pub listed_of : Option Listed → ℕ
+listed_of None = 0
+listed_of (Some listed) = length listed.weights
+
+abbrev pub listed_in : List Part → ℕ
+listed_in [] = 0
+listed_in (part ∷ parts) = listed_of part.listed + listed_in parts
+
+-- those that are held of a constraint of a kind that is derived: of a row its parts, and what is listed for them
 abbrev pub terms_held : Constraint → ℕ
 terms_held (Linear sum comparison bound switch) = length sum
 terms_held (ArrayBoolXor inputs) = length inputs
 terms_held (AllDifferent places) = length places
+terms_held (Row row) = length row.parts + listed_in row.parts
 terms_held _ = 0
 
 abbrev pub terms_held_in : List Constraint → ℕ

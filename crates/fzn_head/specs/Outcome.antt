@@ -4,7 +4,7 @@ use Rattle.std.specs.List.{All}
 use Rattle.fzn_meaning.specs.declared.model.Model.{Model}
 use Rattle.fzn_meaning.specs.Meaning.{longest}
 use Rattle.fzn_derive.specs.declared.derivation.Derivation.{Derivation}
-use Rattle.fzn_derive.specs.declared.fault.DeriveFault.TheVariants as derive
+use Rattle.fzn_cited.specs.declared.fault.DeriveFault.TheVariants as derive
 use Rattle.fzn_cert.specs.declared.fault.FaultKind.TheVariants as faults
 use Rattle.fzn_cert.specs.declared.refusal.Refusal.{Refusal}
 use Rattle.fzn_cert.specs.declared.refusal.Refusal.TheVariants.{Header as BadHeader, Spelling, Truncated, LineTooLong, Counts, NoSuchConstraint, NoSuchVariable, NotDerived}

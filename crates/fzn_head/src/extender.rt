@@ -1,13 +1,14 @@
 // Constraints more, one after the other.
-ghost use Rattle.std.specs.Prelude.{◌≡◌, ◌⊎◌, [], ◌∷◌, IfOk, IfErr, OnOk, OnErr, length};
+ghost use Rattle.std.specs.Prelude.{◌≡◌, ◌⊎◌, ◌+◌, [], ◌∷◌, IfOk, IfErr, OnOk, OnErr, length};
 ghost use Rattle.std.specs.List.{All};
 ghost use Rattle.fzn_meaning.specs.Meaning.{IsWellFormed};
-ghost use Rattle.fzn_derive.specs.declared.fault.DeriveFault.TheVariants.{Memory};
-ghost use Rattle.fzn_head.specs.Extended.{Extends, IsFaultyWithin, terms_held};
+ghost use Rattle.fzn_cited.specs.declared.fault.DeriveFault.TheVariants.{Memory};
+ghost use Rattle.fzn_head.specs.Extended.{Extends, IsFaultyWithin, terms_held, listed_of, listed_in};
 ghost use Rattle.fzn_head.specs.Extender.{IsReadyFor, most_terms};
 
-use fzn_derive::{Derivation, DeriveFault, Deriver};
-use fzn_meaning::{Constraint, Model};
+use fzn_cited::DeriveFault;
+use fzn_derive::{Derivation, Deriver};
+use fzn_meaning::{Constraint, Model, Part};
 use std::alloc::{AllocError, Global};
 
 /// How many terms all derived constraints have at most together.
@@ -59,23 +60,44 @@ impl Extender {
             derivation,
         )?;
         let terms = terms_held(&constraint);
-        if terms > self.left {
+        if terms > self.left as u128 {
             return Err(DeriveFault::NotDerived);
         }
         model.constraints.push(constraint)?;
-        self.left -= terms;
+        self.left -= terms as u64;
         Ok(())
     }
 }
 
 /// How many terms a constraint has that is of a kind that is derived.
-fn terms_held(constraint: &Constraint) -> u64
+fn terms_held(constraint: &Constraint) -> u128
     ensures { result ≡ terms_held constraint.now }
 {
     match constraint {
-        Constraint::Linear { sum, .. } => sum.len() as u64,
-        Constraint::ArrayBoolXor { inputs } => inputs.len() as u64,
-        Constraint::AllDifferent { places } => places.len() as u64,
+        Constraint::Linear { sum, .. } => sum.len() as u128,
+        Constraint::ArrayBoolXor { inputs } => inputs.len() as u128,
+        Constraint::AllDifferent { places } => places.len() as u128,
+        Constraint::Row(row) => parts_held(row.parts.as_slice()),
         _ => 0,
+    }
+}
+
+/// How many parts there are, and how many weights are listed for them, together.
+fn parts_held(parts: &[Part]) -> u128
+    ensures { result ≡ length parts.now + listed_in parts.now }
+{
+    let mut held = parts.len() as u128;
+    for part in parts {
+        held += listed_of(part) as u128;
+    }
+    held
+}
+
+fn listed_of(part: &Part) -> usize
+    ensures { result ≡ listed_of part.now.listed }
+{
+    match &part.listed {
+        None => 0,
+        Some(listed) => listed.weights.len(),
     }
 }

@@ -3,7 +3,7 @@ ghost use Rattle.std.specs.Prelude.{◌≡◌, ◌++◌, [], ◌∷◌, ◌+◌,
 ghost use Rattle.std.specs.List.{All};
 ghost use Rattle.fzn_meaning.specs.Meaning.{longest, IsWellFormed as IsWellFormedConstraint};
 ghost use Rattle.fzn_meaning.specs.WellFormed.{IsWellFormed};
-ghost use Rattle.fzn_cert.specs.Derivations.{IsDerivation, IsMultiple, IsVariableNumber};
+ghost use Rattle.fzn_cert.specs.Derivations.{IsDerivation, IsMultiplier, IsMultiple, IsVariableNumber, IsFirstPriced, IsRowItem};
 ghost use Rattle.fzn_cert.specs.Spelling.{IsNumber};
 ghost use Rattle.fzn_head.specs.Extended.{Extends};
 ghost use Rattle.fzn_head.specs.Extender.{IsReadyFor, most_terms};
@@ -12,14 +12,19 @@ ghost use Rattle.fzn_head.specs.Opening.{IsDerivedOpening, IsLinePushed};
 
 use crate::extender::Extender;
 use fzn_cert::{LAST_STEP, LINE_LIMIT, push_derivation};
-use fzn_derive::{Derivation, DeriveFault, Multiple};
+use fzn_cited::{DeriveFault, Multiple};
+use fzn_derive::Derivation;
 use fzn_domain::{Memory, VarId};
 use fzn_list::LONGEST;
 use fzn_meaning::Model;
+use fzn_row::RowItem;
 use std::alloc::Global;
 
-/// The largest multiplier, and the smallest without its sign.
+/// The largest multiplier and the largest price, and the smallest of each without its sign.
 const MULTIPLIER_LIMIT: i64 = 1_000_000_000_000;
+
+/// The largest number that may have the first price, and the smallest without its sign.
+const FIRST_PRICED_LIMIT: i64 = 1_000_000_000;
 
 /// Puts the constraints that these derivations give behind the model's own, and returns the lines that open a certificate which derives
 /// them. A derivation is left out that gives none, that has no line, or by which there would be more than 100,000 constraints or 1,000,000
@@ -88,7 +93,7 @@ fn push_line(
 }
 
 /// Whether each number of the derivation has a spelling.
-#[tactic(auto, using(crate::proofs::SpelledLaws::sum_is_spelled, crate::proofs::SpelledLaws::parity_is_spelled, crate::proofs::SpelledLaws::apart_is_spelled))]
+#[tactic(auto, using(crate::proofs::SpelledLaws::sum_is_spelled, crate::proofs::SpelledLaws::parity_is_spelled, crate::proofs::SpelledLaws::apart_is_spelled, crate::proofs::SpelledLaws::row_is_spelled))]
 fn is_spelled(derivation: &Derivation) -> bool
     ensures { IsTrue result → IsDerivation derivation.now }
 {
@@ -99,17 +104,57 @@ fn is_spelled(derivation: &Derivation) -> bool
             variables,
             constraints,
         } => are_variables(variables.as_slice()) && are_numbers(constraints.as_slice()),
+        Derivation::Row(items) => are_items(items.as_slice()),
+    }
+}
+
+fn are_items(items: &[RowItem]) -> bool
+    ensures { IsTrue result → All IsRowItem items.now }
+{
+    items.iter().all(|item| is_item(item))
+}
+
+#[tactic(auto, using(crate::proofs::SpelledLaws::multiples_are_spelled, crate::proofs::SpelledLaws::prices_are_spelled))]
+fn is_item(item: &RowItem) -> bool
+    ensures { IsTrue result → IsRowItem item.now }
+{
+    match item {
+        RowItem::Multiples(multiples) => are_multiples(multiples.as_slice()),
+        RowItem::Prices {
+            constraint,
+            low,
+            prices,
+        } => is_number(*constraint) && is_first_priced(*low) && are_prices(prices.as_slice()),
+        RowItem::Move {
+            constraint,
+            variable,
+        } => is_number(*constraint) && is_number(variable.0 as u64),
     }
 }
 
 fn are_multiples(multiples: &[Multiple]) -> bool
     ensures { IsTrue result → All IsMultiple multiples.now }
 {
-    multiples.iter().all(|multiple| {
-        -MULTIPLIER_LIMIT <= multiple.multiplier
-            && multiple.multiplier <= MULTIPLIER_LIMIT
-            && is_number(multiple.constraint)
-    })
+    multiples.iter().all(|multiple| is_multiplier(multiple.multiplier)
+        && is_number(multiple.constraint))
+}
+
+fn are_prices(prices: &[i64]) -> bool
+    ensures { IsTrue result → All IsMultiplier prices.now }
+{
+    prices.iter().all(|price| is_multiplier(*price))
+}
+
+fn is_multiplier(number: i64) -> bool
+    ensures { IsTrue result → IsMultiplier number }
+{
+    -MULTIPLIER_LIMIT <= number && number <= MULTIPLIER_LIMIT
+}
+
+fn is_first_priced(number: i64) -> bool
+    ensures { IsTrue result → IsFirstPriced number }
+{
+    -FIRST_PRICED_LIMIT <= number && number <= FIRST_PRICED_LIMIT
 }
 
 fn are_numbers(numbers: &[u64]) -> bool

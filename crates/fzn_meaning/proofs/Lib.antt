@@ -8,5 +8,6 @@ mod InverseLemmas
 mod LoadProfileLemmas
 pub mod OrderLemmas
 mod ReturnLemmas
+pub mod RowLemmas
 pub mod SumLemmas
 pub mod WeightedLemmas

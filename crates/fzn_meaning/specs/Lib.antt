@@ -12,6 +12,7 @@ pub mod Inverse
 pub mod Linear
 pub mod LoadProfile
 pub mod Meaning
+pub mod Separable
 pub mod Sets
 pub mod Solutions
 pub mod Table

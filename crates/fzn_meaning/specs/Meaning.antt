@@ -11,7 +11,7 @@ use Rattle.fzn_meaning.specs.declared.term.Term.TheVariants.{Constant, Variable}
 use Rattle.fzn_meaning.specs.declared.term.Place.{Place}
 use Rattle.fzn_meaning.specs.declared.relation.Comparison.TheVariants.{Equal}
 use Rattle.fzn_meaning.specs.declared.constraint.Constraint.{Constraint}
-use Rattle.fzn_meaning.specs.declared.constraint.Constraint.TheVariants.{Compare, BoolNot, BoolToInt, Linear, BoolLinEq, Arithmetic, IntAbs, Extremum, Element, SetIn, Gated, BoolXor, ArrayBoolXor, BoolClause, AllDifferent, Table, Cumulative, Circuit, Inverse}
+use Rattle.fzn_meaning.specs.declared.constraint.Constraint.TheVariants.{Compare, BoolNot, BoolToInt, Linear, BoolLinEq, Arithmetic, IntAbs, Extremum, Element, SetIn, Gated, BoolXor, ArrayBoolXor, BoolClause, AllDifferent, Table, Cumulative, Circuit, Inverse, Row}
 use Rattle.fzn_meaning.specs.Term.{term_value, values_of, sum_at, IsTerm, IsPlace}
 use Rattle.fzn_meaning.specs.Comparisons.{IsRelated, IsSwitched}
 use Rattle.fzn_meaning.specs.Linear.{IsLinear}
@@ -25,6 +25,7 @@ use Rattle.fzn_meaning.specs.Table.{IsTable}
 use Rattle.fzn_meaning.specs.Cumulative.{IsCumulative}
 use Rattle.fzn_meaning.specs.Circuit.{IsCircuit}
 use Rattle.fzn_meaning.specs.Inverse.{IsInverse}
+use Rattle.fzn_meaning.specs.Separable.{RowHolds, IsSeparableRow}
 
 -- the value of a switch, where there is one
 abbrev pub switch_value : List ℤ → Option Term → Option ℤ
@@ -51,6 +52,7 @@ Meets (Table places rows) values = IsTable (values_of values places) rows
 Meets (Cumulative starts durations uses capacity) values = IsCumulative (values_of values starts) (values_of values durations) (values_of values uses) (term_value values capacity)
 Meets (Circuit successors) values = IsCircuit (values_of values successors)
 Meets (Inverse forward backward) values = IsInverse (values_of values forward) (values_of values backward)
+Meets (Row row) values = RowHolds row values
 
 -- ---- which constraints a model may have
 
@@ -86,6 +88,7 @@ IsWellFormed count (Cumulative starts durations uses capacity) = AreTerms count 
     × (length durations ≡ length starts) × (length uses ≡ length starts)
 IsWellFormed count (Circuit successors) = AreTerms count successors
 IsWellFormed count (Inverse forward backward) = AreTerms count forward × AreTerms count backward × (length backward ≡ length forward)
+IsWellFormed count (Row row) = IsSeparableRow count row
 
 -- the terms that are Boolean wherever the constraint stands in a file: they have to be 0 or 1 for it to say what its name says
 unfoldable pub booleans_of : Constraint → List Term

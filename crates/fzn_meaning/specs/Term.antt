@@ -1,5 +1,5 @@
 -- Terms, and weighted sums of them.
-use Rattle.std.specs.Prelude.{ℕ, ℤ, pos, ◌+ℤ◌, ◌*ℤ◌, ◌≤ℤ◌, List, map}
+use Rattle.std.specs.Prelude.{ℕ, ℤ, pos, ◌+ℤ◌, ◌*ℤ◌, List, map}
 use Rattle.std.specs.List.{fold, zip}
 use Rattle.fzn_domain.specs.Limits.{IsInLimits, IsSmall}
 use Rattle.fzn_domain.specs.Narrow.{IsVariable, value_of}

@@ -4,6 +4,7 @@ use crate::arithmetic::Operation;
 use crate::boolean::Gate;
 use crate::extremum::Extreme;
 use crate::relation::{Comparison, Relation};
+use crate::row::Row;
 use crate::sum::Sum;
 use crate::table::Rows;
 use crate::term::Term;
@@ -121,4 +122,6 @@ pub enum Constraint {
         forward: Shared<Term>,
         backward: Shared<Term>,
     },
+    /// What the variables weigh at their values is at most a bound together. No file states one: a certificate of version three derives it.
+    Row(Row),
 }

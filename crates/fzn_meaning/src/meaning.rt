@@ -18,6 +18,7 @@ use crate::extremum::is_extremum;
 use crate::inverse::is_inverse;
 use crate::linear::{is_linear, is_switched_linear};
 use crate::relation::Comparison;
+use crate::row::meets_row;
 use crate::set::is_in_set;
 use crate::sum::sum_at;
 use crate::table::is_table;
@@ -47,6 +48,7 @@ pub fn holds(constraint: &Constraint, values: &[i64]) -> bool
         | Constraint::Cumulative { .. }
         | Constraint::Circuit { .. }
         | Constraint::Inverse { .. } => holds_global(constraint, values),
+        Constraint::Row(row) => meets_row(row, values),
     }
 }
 

@@ -2,13 +2,12 @@
 ghost use Rattle.fzn_meaning.specs.WellFormed.{IsWellFormed};
 
 use crate::kinds::model_of;
-use fzn_derive::{
-    Derivation, DeriveFault, Deriver, Multiple, derivable, derived_is_formed, derived_is_met,
-    one_derived,
-};
+use fzn_cited::{DeriveFault, Multiple};
+use fzn_derive::{Derivation, Deriver, derivable, derived_is_formed, derived_is_met, one_derived};
 use fzn_domain::{Memory, VarId};
 use fzn_list::Items;
 use fzn_meaning::{Comparison, Constraint, Model};
+use fzn_row::RowItem;
 use std::alloc::Global;
 use std::test::*;
 
@@ -40,6 +39,24 @@ fn apart(alloc: Global, first: usize, second: usize, id: u64) -> Result<Derivati
         variables,
         constraints,
     })
+}
+
+/// The row of these items.
+fn row_of(alloc: Global, first: RowItem, second: RowItem) -> Result<Derivation, Memory> {
+    let mut row = Items::new(alloc);
+    row.push(first)?;
+    row.push(second)?;
+    Ok(Derivation::Row(row))
+}
+
+/// The constraint of this number, as it is.
+fn once(alloc: Global, constraint: u64) -> Result<RowItem, Memory> {
+    let mut multiples = Items::new(alloc);
+    multiples.push(Multiple {
+        multiplier: 1,
+        constraint,
+    })?;
+    Ok(RowItem::Multiples(multiples))
 }
 
 /// The constraint that is derived so from those of the model.
@@ -98,6 +115,30 @@ fn variables_told_apart(rt: HostRuntime) -> Result<(), Fail> {
         Err(_) => false,
     };
     assert!(rt; is_right);
+    Ok(())
+}
+
+/// Whether it is a row with so many parts and this bound.
+fn is_row(constraint: &Constraint, parts: usize, bound: i64) -> bool {
+    match constraint {
+        Constraint::Row(row) => row.parts.len() == parts && row.bound == bound,
+        _ => false,
+    }
+}
+
+#[test]
+fn a_row_of_items(rt: HostRuntime) -> Result<(), Fail> {
+    let model = model_of(rt.alloc(), SUMS)?;
+    let row = row_of(rt.alloc(), once(rt.alloc(), 2)?, once(rt.alloc(), 3)?)?;
+    let is_right = match derived(rt.alloc(), &model, row) {
+        Ok(constraint) => is_row(&constraint, 3, -11),
+        Err(_) => false,
+    };
+    assert!(rt; is_right);
+    let beyond = row_of(rt.alloc(), once(rt.alloc(), 2)?, once(rt.alloc(), 7)?)?;
+    assert!(rt;
+        fault_of(derived(rt.alloc(), &model, beyond)) == Some(DeriveFault::NoSuchConstraint)
+    );
     Ok(())
 }
 

@@ -1,9 +1,12 @@
 // What is found to be derived, on a small model for each way.
 use crate::kinds::model_of;
-use fzn_derive::{Derivation, Multiple};
+use crate::rows::told;
+use fzn_cited::Multiple;
+use fzn_derive::Derivation;
 use fzn_domain::Memory;
 use fzn_find::{cliques, eliminated, found, merged};
 use fzn_multipliers::{Rows, multipliers};
+use fzn_prices::prices;
 use std::alloc::Global;
 use std::fmt::Write;
 use std::test::*;
@@ -29,7 +32,17 @@ const CROWDED: &str =
     "var 0..1: x; var 0..1: y; var 0..1: z; constraint int_lin_le([1,1],[x,y],1); constraint int_lin_le([1,1],[y,z],1);
     constraint int_lin_le([1,1],[x,z],1); constraint int_lin_le([-1,-1,-1],[x,y,z],-2); solve satisfy;";
 
-/// Multipliers with constraints, or variables with constraints, or constraints.
+/// All different, at costs of which the least are 1, 2 and 3. Those of any three different values are 10 together or more.
+const ASSIGNED: &str =
+    "var 1..3: x; var 1..3: y; var 1..3: z; var 0..9: a; var 0..9: b; var 0..9: c; var 0..27: total;
+    constraint fzn_all_different_int([x,y,z]); constraint array_int_element(x,[1,4,5],a); constraint array_int_element(y,[2,6,7],b);
+    constraint array_int_element(z,[3,5,4],c); constraint int_lin_eq([1,1,1,-1],[a,b,c,total],0); solve minimize total;";
+
+/// The same variables, less in total.
+const CHEAPER: &str =
+    "var 1..3: x; var 1..3: y; var 1..3: z; var 0..9: a; var 0..9: b; var 0..9: c; var 0..9: total; solve satisfy;";
+
+/// Multipliers with constraints, or variables with constraints, or constraints, or how many items.
 fn write_one(text: &mut String, derivation: &Derivation) -> Result<(), Memory> {
     match derivation {
         Derivation::Sum(multiples) => {
@@ -53,6 +66,7 @@ fn write_one(text: &mut String, derivation: &Derivation) -> Result<(), Memory> {
                 write!(text, "{constraint} ")?;
             }
         }
+        Derivation::Row(items) => write!(text, "{} items ", items.len())?,
     }
     text.push_str("; ")?;
     Ok(())
@@ -130,5 +144,29 @@ fn a_sum_that_nothing_meets(rt: HostRuntime) -> Result<(), Fail> {
         _ => false,
     };
     assert!(rt; is_refuted);
+    Ok(())
+}
+
+#[test]
+fn a_row_that_bounds_what_is_assigned(rt: HostRuntime) -> Result<(), Fail> {
+    let alloc = rt.alloc();
+    let model = model_of(alloc, ASSIGNED)?;
+    let rows = Rows::of(alloc, &model)?;
+    let found = prices(alloc, &model, &rows)?;
+    let items = match &found {
+        Some(items) => items.as_slice(),
+        None => &[],
+    };
+    assert!(rt; told(alloc, ASSIGNED, items, 100, CHEAPER)? == "refuted");
+    assert!(rt; told(alloc, ASSIGNED, items, 100, ASSIGNED)? == "open");
+    Ok(())
+}
+
+#[test]
+fn the_row_among_all_that_is_found(rt: HostRuntime) -> Result<(), Fail> {
+    let model = model_of(rt.alloc(), ASSIGNED)?;
+    let derivations = found(rt.alloc(), &model)?;
+    let text = written(rt.alloc(), derivations.as_slice())?;
+    assert!(rt; text.as_str() == "5 items ; ");
     Ok(())
 }

@@ -1,10 +1,12 @@
 // Rows that are derived of small models, and the sets that refute them.
 use crate::kinds::model_of;
 use crate::rules::declared;
-use fzn_derive::{DeriveFault, Multiple};
+use fzn_cited::{DeriveFault, Multiple};
 use fzn_domain::{Memory, VarId};
 use fzn_list::Items;
-use fzn_row::{RowDeriver, RowItem, refutes};
+use fzn_meaning::Constraint;
+use fzn_row::{RowDeriver, RowItem, derived_row_holds, derived_row_is_formed, one_derived_row};
+use fzn_rules::{Rule, refutes};
 use std::alloc::Global;
 use std::test::*;
 
@@ -47,7 +49,7 @@ fn moved(constraint: u64, variable: usize) -> RowItem {
 }
 
 /// What comes of the items, with so many weights at most, on the sets of another file.
-fn told(
+pub fn told(
     alloc: Global,
     file: &str,
     items: &[RowItem],
@@ -63,7 +65,7 @@ fn told(
     let mut room = RowDeriver::new(alloc, model.vars.len())?;
     let given = model.constraints.as_slice();
     match room.derive(alloc, given, model.vars.as_slice(), items, most) {
-        Ok(row) => Ok(if refutes(&row, &sets) {
+        Ok(row) => Ok(if refutes(&Constraint::Row(row), &sets, &Rule::Row) {
             "refuted"
         } else {
             "open"
@@ -76,6 +78,13 @@ fn told(
 
 #[test]
 fn places_pay_for_their_values(rt: HostRuntime) -> Result<(), Fail> {
+    assert!(rt;
+        (
+            derived_row_holds(),
+            derived_row_is_formed(),
+            one_derived_row()
+        ) == ((), (), ())
+    );
     let alloc = rt.alloc();
     let items = [prices(alloc, 1, &[1, 1])?];
     assert!(rt; told(alloc, TWO, &items, 6, TWO)? == "refuted");

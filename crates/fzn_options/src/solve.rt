@@ -34,8 +34,7 @@ const LIMIT: &str =
 const FREE: &str =
     "Search freely: annotations only help to find a first solution (without: follow them)";
 
-const DERIVE: &str =
-    "Derive constraints from those of the file before the search, where they bound the objective or refute";
+const DERIVE: &str = "Before the search, derive constraints that follow from those of the file";
 
 const SEED: &str = "Break ties by random words of this seed (0 to 2^64 - 1; without: by order)";
 

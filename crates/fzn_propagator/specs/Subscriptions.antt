@@ -7,7 +7,7 @@ use Rattle.fzn_meaning.specs.declared.term.Term.{Term}
 use Rattle.fzn_meaning.specs.declared.term.Term.TheVariants.{Constant, Variable}
 use Rattle.fzn_meaning.specs.declared.term.Place.{Place}
 use Rattle.fzn_meaning.specs.declared.constraint.Constraint.{Constraint}
-use Rattle.fzn_meaning.specs.declared.constraint.Constraint.TheVariants.{Compare, BoolNot, BoolToInt, Linear, BoolLinEq, Arithmetic, IntAbs, Extremum, Element, SetIn, Gated, BoolXor, ArrayBoolXor, BoolClause, AllDifferent, Table, Cumulative, Circuit, Inverse}
+use Rattle.fzn_meaning.specs.declared.constraint.Constraint.TheVariants.{Compare, BoolNot, BoolToInt, Linear, BoolLinEq, Arithmetic, IntAbs, Extremum, Element, SetIn, Gated, BoolXor, ArrayBoolXor, BoolClause, AllDifferent, Table, Cumulative, Circuit, Inverse, Row}
 use Rattle.fzn_propagator.specs.declared.event.Event.{Event}
 use Rattle.fzn_propagator.specs.declared.subscriptions.Subscription.{Subscription}
 
@@ -37,6 +37,7 @@ terms_of (Table places rows) = places
 terms_of (Cumulative starts durations uses capacity) = starts ++ durations ++ uses ++ capacity ∷ []
 terms_of (Circuit successors) = successors
 terms_of (Inverse forward backward) = forward ++ backward
+terms_of (Row row) = map (λ part. Variable part.var) row.parts
 
 -- ---- what is waited for
 

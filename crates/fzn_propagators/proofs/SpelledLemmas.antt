@@ -6,7 +6,7 @@ use Rattle.fzn_domain.specs.declared.literal.Lit.{Lit}
 use Rattle.fzn_domain.specs.Ascending.{IsAscending}
 use Rattle.fzn_domain.specs.Narrow.{IsVariable, IsClauseOver}
 use Rattle.fzn_rules.specs.declared.rule.Rule.{Rule}
-use Rattle.fzn_rules.specs.declared.rule.Rule.TheVariants.{Lin, Rows, Box, Fixed, Enum, Hall, Load, Energy, Cut, Pair}
+use Rattle.fzn_rules.specs.declared.rule.Rule.TheVariants.{Lin, Rows, Box, Fixed, Enum, Hall, Load, Energy, Cut, Pair, Row}
 use Rattle.fzn_cert.specs.Spelling.{IsHint, IsLiteral, IsNumber, IsRule, Rises}
 use Rattle.fzn_propagator.specs.Clause.{IsWritable}
 use Rattle.fzn_propagator.specs.Inference.{HasWritableHints}
@@ -28,6 +28,7 @@ rule-spelled (Load time) h = recursion_from_All IsHint (time ∷ []) h
 rule-spelled (Energy from to) h = recursion_from_All IsHint (from ∷ to ∷ []) h
 rule-spelled (Cut places) h = (recursion_from_All IsHint places h.0, ascending-rises places h.1)
 rule-spelled (Pair one other) h = recursion_from_All IsHint (one ∷ other ∷ []) h
+rule-spelled Row h = tt
 
 pub few-number : (most n : ℕ) → most ≤ 100000 → 1 ≤ n → n ≤ most → IsNumber n
 few-number most n few one within = (one, omega arith)

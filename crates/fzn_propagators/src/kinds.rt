@@ -15,16 +15,17 @@ use fzn_globals::GlobalPropagator;
 use fzn_linear::ArithPropagator;
 use fzn_meaning::{Constraint, Model};
 use fzn_propagator::Propagator;
+use fzn_separable::RowPropagator;
 use fzn_table::TablePropagator;
 use std::alloc::Global;
 
 /// What reasons for one constraint of any kind: for a sum, for another builtin, or for a global.
 pub type AnyPropagator = Either<ArithPropagator, Either<BuiltinPropagator, AnyGlobal>>;
 
-/// What reasons for one global.
+/// What reasons for one global, or for a row.
 pub type AnyGlobal = Either<
     GlobalPropagator,
-    Either<TablePropagator, Either<CircuitPropagator, CumulativePropagator>>,
+    Either<TablePropagator, Either<CircuitPropagator, Either<CumulativePropagator, RowPropagator>>>,
 >;
 
 impl Complete for AnyPropagator {
@@ -71,7 +72,13 @@ fn propagator_for(
         },
         Constraint::Cumulative { .. } => match fzn_cumulative::propagator_of(model, c)? {
             Some(propagator) => Ok(Either::Other(Either::Other(Either::Other(Either::Other(
-                Either::Other(propagator),
+                Either::Other(Either::This(propagator)),
+            ))))),
+            None => unreachable!(),
+        },
+        Constraint::Row(_) => match fzn_separable::propagator_of(alloc, model, c)? {
+            Some(propagator) => Ok(Either::Other(Either::Other(Either::Other(Either::Other(
+                Either::Other(Either::Other(propagator)),
             ))))),
             None => unreachable!(),
         },

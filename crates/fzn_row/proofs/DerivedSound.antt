@@ -1,22 +1,24 @@
 -- A derived row: values within the declared sets that meet what is cited meet it, and there is but one.
-use Rattle.std.proofs.Common.{◌≡◌, ℕ, ◌+◌, List, [], ◌∷◌, ◌++◌, length, sym, ap, ◌∙◌, subst, arith, ℤ, pos, Result, Ok, IfSome, All}
+use Rattle.std.proofs.Common.{◌≡◌, ℕ, ◌+◌, List, [], ◌∷◌, ◌++◌, length, Bool, true, false, cond, nat_le, sym, ◌∙◌, subst, arith, ℤ, pos, Result, Ok, Err, IfSome, All}
 use Rattle.std.proofs.lemmas.Int.{ints}
 use Rattle.std.proofs.lemmas.List.{get_or_append_left, get_or-append-add, length-append}
 use Rattle.std.proofs.lemmas.List.Elements.{All-nil, All-cons}
+use Rattle.fzn_list.specs.Limits.{longest}
 use Rattle.fzn_domain.specs.IntSet.{IntSet}
 use Rattle.fzn_domain.specs.Narrow.{IsWithin}
 use Rattle.fzn_meaning.specs.declared.constraint.Constraint.{Constraint}
 use Rattle.fzn_meaning.specs.Meaning.{Meets, IsWellFormed, HasBooleanSets}
-use Rattle.fzn_derive.specs.declared.fault.DeriveFault.{DeriveFault}
-use Rattle.fzn_derive.specs.Cited.{constraint_at}
-use Rattle.fzn_derive.specs.Derived.{AreMet}
-use Rattle.fzn_row.specs.declared.row.Row.{Row}
+use Rattle.fzn_cited.specs.declared.fault.DeriveFault.{DeriveFault}
+use Rattle.fzn_cited.specs.declared.fault.DeriveFault.TheVariants.{NotDerived}
+use Rattle.fzn_cited.specs.Cited.{constraint_at}
+use Rattle.fzn_cited.specs.Cited.{AreMet}
+use Rattle.fzn_meaning.specs.declared.row.Row.{Row}
 use Rattle.fzn_row.specs.declared.item.RowItem.{RowItem}
 use Rattle.fzn_row.specs.declared.item.RowItem.TheVariants as item
-use Rattle.fzn_row.specs.Row.{RowHolds}
-use Rattle.fzn_row.specs.Draft.{Draft, empty, row_of}
-use Rattle.fzn_row.specs.Derived.{cited_by, all_cited, item_added, IsDerivedRow}
-use Rattle.fzn_row.proofs.DraftSound.{exceeds-holds, total-nil, turn-keeps}
+use Rattle.fzn_meaning.specs.Separable.{RowHolds}
+use Rattle.fzn_row.specs.Draft.{Draft, empty, row_of, row_stated}
+use Rattle.fzn_row.specs.Derived.{cited_by, all_cited, item_added, drafted, IsDerivedRow, IsRowFault}
+use Rattle.fzn_row.proofs.DraftSound.{exceeds-holds, total-nil, then-both, turn-keeps}
 use Rattle.fzn_row.proofs.MultiplesSound.{multiples-sound}
 use Rattle.fzn_row.proofs.PricesSound.{prices-sound}
 use Rattle.fzn_row.proofs.MovesSound.{moves-sound}
@@ -48,12 +50,32 @@ module _ (given : List Constraint) (declared : List IntSet) (values : List ℤ) 
 
   pub derived-holds : (most : ℕ) (items : List RowItem) (row : Row) → IsDerivedRow given declared most items row → AreMet given (all_cited items) values → RowHolds row values
   derived-holds most items row derived met =
-      subst (λ (r : Row). RowHolds r values) (sym derived.row_is)
-      (turn-keeps (item_added given declared) (λ d. RowHolds (row_of d) values) items (empty most) derived.draft (each_kept items met) (empty-holds most values) derived.made)
+      let parts = then-both (drafted given declared most items) row_stated row derived in
+      let draft = parts.0 in
+      subst (λ (r : Row). RowHolds r values) (stated (nat_le (length draft.parts) longest) (row_of draft) row parts.2)
+      (turn-keeps (item_added given declared) (λ d. RowHolds (row_of d) values) items (empty most) draft (each_kept items met) (empty-holds most values) parts.1)
+    where
+      stated : (test : Bool) (made row : Row) → cond test (Ok made) (Err NotDerived) ≡ Ok row → made ≡ row
+      stated true made row is = cc
+      stated false made row is = absurd (cc)
 
-one_draft : (a b : Draft) → ◌≡◌ {A = Result Draft DeriveFault} (Ok a) (Ok b) → a ≡ b
-one_draft a b e = cc
+-- ---- one row or none, and one fault
 
-pub one-derived : (given : List Constraint) (declared : List IntSet) (most : ℕ) (items : List RowItem) (first second : Row) → IsDerivedRow given declared most items first → IsDerivedRow given declared most items second → first ≡ second
-one-derived given declared most items first second a b =
-    a.row_is ∙ ap row_of (one_draft a.draft b.draft (sym a.made ∙ b.made)) ∙ sym b.row_is
+one_value : (a b : Row) → ◌≡◌ {A = Result Row DeriveFault} (Ok a) (Ok b) → a ≡ b
+one_value a b e = cc
+
+one_error : (a b : DeriveFault) → ◌≡◌ {A = Result Row DeriveFault} (Err a) (Err b) → a ≡ b
+one_error a b e = cc
+
+not_both : (a : Row) (b : DeriveFault) → ◌≡◌ {A = Result Row DeriveFault} (Ok a) (Err b) → ⊥
+not_both a b e = cc
+
+module _ (given : List Constraint) (declared : List IntSet) (most : ℕ) (items : List RowItem) where
+  pub one-derived_row : (first second : Row) → IsDerivedRow given declared most items first → IsDerivedRow given declared most items second → first ≡ second
+  one-derived_row first second a b = one_value first second (sym a ∙ b)
+
+  pub no-row_fault : (row : Row) (fault : DeriveFault) → IsDerivedRow given declared most items row → IsRowFault given declared most items fault → ⊥
+  no-row_fault row fault a b = not_both row fault (sym a ∙ b)
+
+  pub one-row_fault : (first second : DeriveFault) → IsRowFault given declared most items first → IsRowFault given declared most items second → first ≡ second
+  one-row_fault first second a b = one_error first second (sym a ∙ b)

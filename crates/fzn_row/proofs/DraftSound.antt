@@ -5,11 +5,11 @@ use Rattle.std.proofs.lemmas.Bool.{eq-eqb, ne_eqb, cases_eq}
 use Rattle.std.proofs.lemmas.List.Elements.{All-nil, All-cons, All-head, All-tail}
 use Rattle.fzn_domain.specs.declared.literal.VarId.{VarId}
 use Rattle.fzn_domain.specs.Narrow.{value_of}
-use Rattle.fzn_derive.specs.declared.fault.DeriveFault.{DeriveFault}
-use Rattle.fzn_derive.specs.declared.fault.DeriveFault.TheVariants.{NotDerived}
-use Rattle.fzn_row.specs.declared.row.Part.{Part}
-use Rattle.fzn_row.specs.Row.{weighed, listed_at, weight_of, total_weight, RowHolds}
-use Rattle.fzn_row.specs.Draft.{Draft, row_of, blank_part, part_for, with_part, is_row_number, with_bound, with_coefficient, and_then, in_turn}
+use Rattle.fzn_cited.specs.declared.fault.DeriveFault.{DeriveFault}
+use Rattle.fzn_cited.specs.declared.fault.DeriveFault.TheVariants.{NotDerived}
+use Rattle.fzn_meaning.specs.declared.row.Part.{Part}
+use Rattle.fzn_meaning.specs.Separable.{weighed, listed_at, weight_of, total_weight, RowHolds}
+use Rattle.fzn_row.specs.Draft.{Draft, row_of, blank_part, part_for, with_part, is_row_number, is_coefficient, with_bound, with_coefficient, and_then, in_turn}
 use Rattle.fzn_row.proofs.IntLemmas.{plus_times, zero_times}
 use Rattle.fzn_row.proofs.PartLemmas.{var-part_for}
 
@@ -147,14 +147,17 @@ module _ (values : List ℤ) where
       let has : weight_of values new ≡ Some (had.0 +ℤ amount *ℤ v) = more-weight old.coefficient amount v (listed_at old.listed v) had.0 had.1 in
       let put = put-weight new draft.parts had.0 (had.0 +ℤ amount *ℤ v) h.unbarred had_new has in
       let at = ap (λ (x : VarId). amount *ℤ value_of values x) of in
-      subst (λ (d : Draft). Exceeds d (excess +ℤ amount *ℤ value_of values var)) (kept (is_row_number (old.coefficient +ℤ amount)) (record draft { parts = with_part new draft.parts }) after is)
+      subst (λ (d : Draft). Exceeds d (excess +ℤ amount *ℤ value_of values var)) (kept (is_coefficient (old.coefficient +ℤ amount)) (record draft { parts = with_part new draft.parts }) after is)
       (record { unbarred = put.unbarred; is = let e = h.is in let t = put.total in omega (arith, ints) })
 
 -- ---- in turn
 
-pub then-both : (first : Result Draft DeriveFault) (next : Draft → Result Draft DeriveFault) (after : Draft) → and_then first next ≡ Ok after → (middle : Draft) × (first ≡ Ok middle) × (next middle ≡ Ok after)
+pub then-both : {A : Type 0} (first : Result Draft DeriveFault) (next : Draft → Result A DeriveFault) (after : A) → and_then first next ≡ Ok after → (middle : Draft) × (first ≡ Ok middle) × (next middle ≡ Ok after)
 then-both (Ok middle) next after is = (middle, refl, is)
-then-both (Err fault) next after is = absurd (no_error fault after is)
+then-both {A} (Err fault) next after is = absurd (no_value is)
+  where
+    no_value : ◌≡◌ {A = Result A DeriveFault} (Err fault) (Ok after) → ⊥
+    no_value e = cc
 
 -- what each change keeps, all of them keep
 pub turn-keeps : {A : Type 0} (change : Draft → A → Result Draft DeriveFault) (P : Draft → Type 0) (xs : List A) (draft after : Draft) → All (λ x. (before next : Draft) → P before → change before x ≡ Ok next → P next) xs → P draft → in_turn change draft xs ≡ Ok after → P after

@@ -1,55 +1,125 @@
--- The row that stands in a room is one whose parts are of different variables.
-use Rattle.std.proofs.Common.{◌≡◌, ◌≢◌, ℕ, ◌-◌, ◌<◌, ◌≤◌, true, List, [], ◌∷◌, map, length, get_or, refl, sym, ap, ◌∙◌, arith, ℤ, pos, All}
-use Rattle.std.specs.List.{AllPairs}
-use Rattle.std.proofs.lemmas.Int.{ints}
-use Rattle.std.proofs.lemmas.List.{length-map, get_or-map, get_or_default}
-use Rattle.std.proofs.lemmas.List.Elements.{All-head, All-tail}
-use Rattle.fzn_list.specs.Limits.{longest}
-use Rattle.fzn_meaning.proofs.CallerLemmas.{is_inside, places_inside, places_inside-most, places_of-different}
-use Rattle.fzn_row.specs.declared.row.Part.{Part}
-use Rattle.fzn_row.specs.declared.room.RowDeriver.{RowDeriver}
-use Rattle.fzn_row.specs.Row.{IsPart, IsSeparableRow}
-use Rattle.fzn_row.specs.Draft.{row_of}
-use Rattle.fzn_row.specs.Room.{draft_of, room_size, AreFound, IsRoom}
+-- A row in the making whose parts are within the limits, each of another variable, and what keeps it so.
+use Rattle.std.proofs.Common.{◌≡◌, ◌≢◌, ℕ, zero, suc, ◌-◌, ◌≤◌, Bool, true, false, cond, eqb, ◌&&◌, nat_le, List, [], ◌∷◌, length, refl, sym, ap, subst, arith, ℤ, Option, Ok, Err, All}
+use Rattle.std.specs.List.{AllPairs, list_all}
+use Rattle.std.proofs.lemmas.Bool.{eqb-true, eqb-false}
+use Rattle.std.proofs.lemmas.Bool.Decides.{nat_tests}
+use Rattle.std.proofs.lemmas.List.Elements.{All-nil, All-cons, All-head, All-tail}
+use Rattle.fzn_domain.specs.declared.literal.VarId.{VarId}
+use Rattle.fzn_domain.specs.Narrow.{IsVariable}
+use Rattle.fzn_domain.specs.Limits.{IsInLimits}
+use Rattle.fzn_meaning.specs.declared.row.Part.{Part}
+use Rattle.fzn_meaning.specs.Separable.{IsPart, IsWithinLimit, IsCoefficient}
+use Rattle.fzn_cited.specs.declared.fault.DeriveFault.TheVariants.{NotDerived}
+use Rattle.fzn_row.specs.Draft.{Draft, blank_part, part_for, with_part, with_bound, with_coefficient, is_row_number, is_coefficient}
+use Rattle.fzn_row.specs.Prices.{is_entry_within, with_list}
+use Rattle.fzn_row.specs.Room.{IsAbsent}
+use Rattle.fzn_row.proofs.ListLemmas.{listed_with, entries-within}
+use Rattle.fzn_row.proofs.PriceLemmas.{both_true}
+use Rattle.fzn_row.proofs.DraftSound.{kept, no_error}
 
-found-once : (slots : List ℕ) (parts : List Part) → AreFound slots parts → AllPairs (λ (first second : Part). first.var.0 ≢ second.var.0) parts
-found-once slots parts found i j d before inside same =
-    let first : get_or slots ((get_or parts i d).var.0 - 1) 0 ≡ i = found i (get_or parts i d) (omega arith) (get_or_default parts i (get_or parts i d) d (omega arith)) in
-    let second : get_or slots ((get_or parts j d).var.0 - 1) 0 ≡ j = found j (get_or parts j d) inside (get_or_default parts j (get_or parts j d) d inside) in
-    let both = ap (λ (n : ℕ). get_or slots (n - 1) 0) same in
-    omega arith
+-- each part is of another variable than those behind it
+abbrev pub AreOnce : List Part → Type 0
+AreOnce [] = Unit {0}
+AreOnce (part ∷ parts) = IsAbsent part.var parts × AreOnce parts
 
-numbers-different : (parts : List Part) → AllPairs (λ (first second : Part). first.var.0 ≢ second.var.0) parts → AllPairs (λ (x y : ℤ). x ≢ y) (map (λ (p : Part). pos p.var.0) parts)
-numbers-different [] once i j d before inside same = omega arith
-numbers-different (part ∷ parts) once i j d before inside same =
-    let all = part ∷ parts in
-    let within : j < length all = rw (← length-map all (λ (p : Part). pos p.var.0)) inside in
-    let a = get_or-map (λ (p : Part). pos p.var.0) all i part d (omega arith) in
-    let b = get_or-map (λ (p : Part). pos p.var.0) all j part d within in
-    once i j part before within (let e = sym a ∙ same ∙ b in omega (arith, ints))
+-- parts of this many variables
+pub record IsFormed (count : ℕ) (draft : Draft) : Type 0 where
+  pub parts : All (IsPart count) draft.parts
+  pub once : AreOnce draft.parts
+  pub bound : IsWithinLimit draft.bound
 
-inside_all : (count : ℕ) (parts : List Part) → All (IsPart count) parts → places_inside (pos 1) count (map (λ (p : Part). pos p.var.0) parts) ≡ length parts
-inside_all count [] formed = refl
-inside_all count (part ∷ parts) formed =
-    let variable = (All-head (IsPart count) part parts formed).variable in
-    let here : is_inside (pos 1) count (pos part.var.0) ≡ true = inside_one part.var.0 variable.0 variable.1 in
-    rw (here, inside_all count parts (All-tail (IsPart count) part parts formed)) (omega arith)
+pub pairs-once : (parts : List Part) → AreOnce parts → AllPairs (λ (first second : Part). first.var.0 ≢ second.var.0) parts
+pairs-once [] once i j d before inside same = omega arith
+pairs-once (part ∷ parts) once zero zero d before inside same = omega arith
+pairs-once (part ∷ parts) once zero (suc j) d before inside same = once.0 j d (omega arith) (sym same)
+pairs-once (part ∷ parts) once (suc i) zero d before inside same = omega arith
+pairs-once (part ∷ parts) once (suc i) (suc j) d before inside same = pairs-once parts once.1 i j d (omega arith) (omega arith) same
+
+-- ---- another part of a variable
+
+same_var : (a b : VarId) → a.0 ≡ b.0 → a ≡ b
+same_var a b e = ap (λ (n : ℕ). record { 0 = n }) e
+
+absent-put : (var : VarId) (new : Part) (parts : List Part) → new.var.0 ≢ var.0 → IsAbsent var parts → IsAbsent var (with_part new parts)
+absent-put var new [] other absent = All-cons (λ (p : Part). p.var.0 ≢ var.0) new [] other (All-nil (λ (p : Part). p.var.0 ≢ var.0))
+absent-put var new (part ∷ parts) other absent = pick (eqb part.var.0 new.var.0) (absent-put var new parts other later)
   where
-    inside_one : (n : ℕ) → 1 ≤ n → n ≤ count → is_inside (pos 1) count (pos n) ≡ true
-    inside_one n low high = grind (arith, ints)
+    later : IsAbsent var parts
+    later = All-tail (λ (p : Part). p.var.0 ≢ var.0) part parts absent
 
-few : (count : ℕ) (parts : List Part) → All (IsPart count) parts → AllPairs (λ (first second : Part). first.var.0 ≢ second.var.0) parts → length parts ≤ count
-few count parts formed once =
-    let most = places_inside-most (map (λ (p : Part). pos p.var.0) parts) (places_of-different (map (λ (p : Part). pos p.var.0) parts) (numbers-different parts once)) count (pos 1) in
-    let all = inside_all count parts formed in
-    omega arith
+    pick : (test : Bool) → IsAbsent var (with_part new parts) → IsAbsent var (cond test (new ∷ parts) (part ∷ with_part new parts))
+    pick true rest = All-cons (λ (p : Part). p.var.0 ≢ var.0) new parts other later
+    pick false rest = All-cons (λ (p : Part). p.var.0 ≢ var.0) part (with_part new parts) (All-head (λ (p : Part). p.var.0 ≢ var.0) part parts absent) rest
 
-pub room-row : (room : RowDeriver) → IsRoom room → room_size room ≤ longest → IsSeparableRow (room_size room) (row_of (draft_of room))
-room-row room is most =
-    let once = found-once room.slots.items room.parts.items is.found in
-    record {
-      parts = is.parts;
-      once = once;
-      few = let n = few (room_size room) room.parts.items is.parts once in omega arith;
-      bound = is.bound;
-    }
+once-put : (new : Part) (parts : List Part) → AreOnce parts → AreOnce (with_part new parts)
+once-put new [] once = (All-nil (λ (p : Part). p.var.0 ≢ new.var.0), tt)
+once-put new (part ∷ parts) once = pick (eqb part.var.0 new.var.0) refl (once-put new parts once.1)
+  where
+    pick : (test : Bool) → eqb part.var.0 new.var.0 ≡ test → AreOnce (with_part new parts) → AreOnce (cond test (new ∷ parts) (part ∷ with_part new parts))
+    pick true e rest = (subst (λ (var : VarId). IsAbsent var parts) (same_var part.var new.var (eqb-true part.var.0 new.var.0 e)) once.0, once.1)
+    pick false e rest = (absent-put part.var new parts (λ same. eqb-false part.var.0 new.var.0 e (sym same)) once.0, rest)
+
+parts-put : (count : ℕ) (new : Part) (parts : List Part) → IsPart count new → All (IsPart count) parts → All (IsPart count) (with_part new parts)
+parts-put count new [] is formed = All-cons (IsPart count) new [] is (All-nil (IsPart count))
+parts-put count new (part ∷ parts) is formed = pick (eqb part.var.0 new.var.0) (parts-put count new parts is later)
+  where
+    later : All (IsPart count) parts
+    later = All-tail (IsPart count) part parts formed
+
+    pick : (test : Bool) → All (IsPart count) (with_part new parts) → All (IsPart count) (cond test (new ∷ parts) (part ∷ with_part new parts))
+    pick true rest = All-cons (IsPart count) new parts is later
+    pick false rest = All-cons (IsPart count) part (with_part new parts) (All-head (IsPart count) part parts formed) rest
+
+pub blank-formed : (count : ℕ) (var : VarId) → IsVariable count var → IsPart count (blank_part var)
+blank-formed count var is = record { variable = is; coefficient = omega arith; listed = tt }
+
+part_for-formed : (count : ℕ) (var : VarId) (parts : List Part) → IsVariable count var → All (IsPart count) parts → IsPart count (part_for var parts)
+part_for-formed count var [] is formed = blank-formed count var is
+part_for-formed count var (part ∷ parts) is formed = pick (eqb part.var.0 var.0) (part_for-formed count var parts is (All-tail (IsPart count) part parts formed))
+  where
+    pick : (test : Bool) → IsPart count (part_for var parts) → IsPart count (cond test part (part_for var parts))
+    pick true rest = All-head (IsPart count) part parts formed
+    pick false rest = rest
+
+-- ---- what is not refused
+
+passed : (test : Bool) (made draft : Draft) → cond test (Ok made) (Err NotDerived) ≡ Ok draft → test ≡ true
+passed true made draft is = refl
+passed false made draft is = absurd (no_error NotDerived draft is)
+
+limit_of : (number : ℤ) → is_row_number number ≡ true → IsWithinLimit number
+limit_of number test = grind (arith, nat_tests)
+
+coefficient_of : (number : ℤ) → is_coefficient number ≡ true → IsCoefficient number
+coefficient_of number test = grind (arith, nat_tests)
+
+module _ (count : ℕ) (draft after : Draft) (formed : IsFormed count draft) where
+  pub bound-formed : (bound : ℤ) → with_bound bound draft ≡ Ok after → IsFormed count after
+  bound-formed bound is =
+      let test = passed (is_row_number bound) (record draft { bound = bound }) after is in
+      subst (IsFormed count) (kept (is_row_number bound) (record draft { bound = bound }) after is)
+      (record { parts = formed.parts; once = formed.once; bound = limit_of bound test })
+
+  pub coefficient-formed : (var : VarId) (coefficient : ℤ) → IsVariable count var → with_coefficient var coefficient draft ≡ Ok after → IsFormed count after
+  coefficient-formed var coefficient variable is =
+      let old = part_for var draft.parts in
+      let new : Part = record old { coefficient = coefficient } in
+      let made : Draft = record draft { parts = with_part new draft.parts } in
+      let had = part_for-formed count var draft.parts variable formed.parts in
+      let has : IsPart count new = record { variable = had.variable; coefficient = coefficient_of coefficient (passed (is_coefficient coefficient) made after is); listed = had.listed } in
+      subst (IsFormed count) (kept (is_coefficient coefficient) made after is)
+      (record { parts = parts-put count new draft.parts has formed.parts; once = once-put new draft.parts formed.once; bound = formed.bound })
+
+  pub list-formed : (var : VarId) (low : ℤ) (entries : List (Option ℤ)) → IsVariable count var → IsInLimits low → length entries ≤ 65536 → with_list var draft low entries ≡ Ok after → IsFormed count after
+  list-formed var low entries variable limits few is =
+      let new = listed_with (part_for var draft.parts) low entries in
+      let made : Draft = record draft { parts = with_part new draft.parts; left = draft.left - length entries } in
+      let test = nat_le (length entries) draft.left && list_all is_entry_within entries in
+      let within = (both_true (nat_le (length entries) draft.left) (list_all is_entry_within entries) (passed test made after is)).1 in
+      let had = part_for-formed count var draft.parts variable formed.parts in
+      let has : IsPart count new = record { variable = had.variable; coefficient = had.coefficient; listed = record { low = limits; few = few; weights = entries-within entries within } } in
+      subst (IsFormed count) (kept test made after is)
+      (record { parts = parts-put count new draft.parts has formed.parts; once = once-put new draft.parts formed.once; bound = formed.bound })
+
+  pub blank-put-formed : (var : VarId) → IsVariable count var → IsFormed count (record draft { parts = with_part (blank_part var) draft.parts })
+  blank-put-formed var variable = record { parts = parts-put count (blank_part var) draft.parts (blank-formed count var variable) formed.parts; once = once-put (blank_part var) draft.parts formed.once; bound = formed.bound }

@@ -1,31 +1,8 @@
--- Products with one factor kept, and sums of 128 bits.
-use Rattle.std.proofs.Common.{◌≡◌, ℕ, suc, ◌+◌, ◌*◌, ◌≤◌, arith, ℤ, pos, negsuc, ◌+ℤ◌, ◌*ℤ◌, ◌≤ℤ◌, ap, unsigned_abs, FitsSigned, w64, to_z, of_z}
-use Rattle.std.proofs.lemmas.Int.{ints, to_z-of_z, fits_signed_from_abs}
-use Rattle.std.proofs.Math.IntN.{pos-*ℤ-pos, negsuc-*ℤ-negsuc, negsuc-*ℤ-pos, pos-*ℤ-negsuc}
+-- Products of sums, of products and of two that are in order.
+use Rattle.std.proofs.Common.{◌≡◌, ℕ, ◌+◌, ◌*◌, ◌≤◌, arith, ℤ, pos, negsuc, ◌+ℤ◌, ◌*ℤ◌, ◌≤ℤ◌, ap}
+use Rattle.std.proofs.lemmas.Int.{ints}
 use Rattle.std.proofs.Math.Nat.{mul-le-mul_left}
-use mir.Syntax.{w128}
 use borrow.Author.Differences.{up, down}
-
-pub mono_up : (n : ℕ) (a b : ℤ) → a ≤ℤ b → (pos n *ℤ a) ≤ℤ (pos n *ℤ b)
-mono_up n (pos a) (pos b) h = let l : n * a ≤ n * b = mul-le-mul_left n (omega (arith, ints)) in rw (pos-*ℤ-pos n a, pos-*ℤ-pos n b) (omega (arith, ints))
-mono_up n (pos a) (negsuc b) h = omega (arith, ints)
-mono_up n (negsuc a) (pos b) h = rw (pos-*ℤ-negsuc n a, pos-*ℤ-pos n b) (omega (arith, ints))
-mono_up n (negsuc a) (negsuc b) h = let l : n * suc b ≤ n * suc a = mul-le-mul_left n (omega (arith, ints)) in rw (pos-*ℤ-negsuc n a, pos-*ℤ-negsuc n b) (omega (arith, ints))
-
-pub mono_down : (n : ℕ) (a b : ℤ) → a ≤ℤ b → (negsuc n *ℤ b) ≤ℤ (negsuc n *ℤ a)
-mono_down n (pos a) (pos b) h = let l : suc n * a ≤ suc n * b = mul-le-mul_left (suc n) (omega (arith, ints)) in rw (negsuc-*ℤ-pos n a, negsuc-*ℤ-pos n b) (omega (arith, ints))
-mono_down n (pos a) (negsuc b) h = omega (arith, ints)
-mono_down n (negsuc a) (pos b) h = rw (negsuc-*ℤ-pos n b, negsuc-*ℤ-negsuc n a) (omega (arith, ints))
-mono_down n (negsuc a) (negsuc b) h = let l : suc n * suc b ≤ suc n * suc a = mul-le-mul_left (suc n) (omega (arith, ints)) in rw (negsuc-*ℤ-negsuc n a, negsuc-*ℤ-negsuc n b) (omega (arith, ints))
-
-pub sum_cast : (r w p : ℤ) → unsigned_abs r ≤ 2000000000 * 1000000000000000000 → unsigned_abs w ≤ 1000000000000000000 → r ≡ p → to_z w128 (of_z w128 (to_z w128 (of_z w128 r) +ℤ to_z w128 (of_z w128 (to_z w64 (of_z w64 w))))) ≡ p +ℤ w
-sum_cast r w p r_small w_small is =
-    let r_fits : FitsSigned w128 r = fits_signed_from_abs w128 r (omega arith) in
-    let narrow : FitsSigned w64 w = fits_signed_from_abs w64 w (omega arith) in
-    let wide : FitsSigned w128 w = fits_signed_from_abs w128 w (omega arith) in
-    let bound : unsigned_abs (r +ℤ w) ≤ unsigned_abs r + unsigned_abs w = grind (arith, ints) in
-    let sum_fits : FitsSigned w128 (r +ℤ w) = fits_signed_from_abs w128 (r +ℤ w) (omega arith) in
-    rw (to_z-of_z w64 w narrow, to_z-of_z w128 w wide, to_z-of_z w128 r r_fits, to_z-of_z w128 (r +ℤ w) sum_fits) (omega (arith, ints))
 
 pub plus_times : (a b v : ℤ) → (a +ℤ b) *ℤ v ≡ a *ℤ v +ℤ b *ℤ v
 plus_times a b v =

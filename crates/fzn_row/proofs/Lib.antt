@@ -1,9 +1,9 @@
 mod CostLemmas
-mod DerivedSound
+pub mod DerivedSound
 mod DraftSound
 mod FormedLemmas
+pub mod FormedSound
 mod IntLemmas
-mod LeastLemmas
 mod ListLemmas
 mod MoveLemmas
 mod MovesSound
@@ -11,5 +11,4 @@ mod MultiplesSound
 mod PartLemmas
 mod PriceLemmas
 mod PricesSound
-mod RuleSound
 mod TurnLemmas

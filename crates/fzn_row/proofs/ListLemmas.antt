@@ -6,10 +6,10 @@ use Rattle.std.proofs.lemmas.Bool.Decides.{nat_tests}
 use Rattle.std.proofs.lemmas.List.Elements.{All-nil, All-cons}
 use Rattle.fzn_domain.specs.declared.literal.VarId.{VarId}
 use Rattle.fzn_domain.specs.Limits.{IsInLimits}
-use Rattle.fzn_derive.specs.declared.fault.DeriveFault.{DeriveFault}
-use Rattle.fzn_derive.specs.declared.fault.DeriveFault.TheVariants.{NotDerived}
-use Rattle.fzn_row.specs.declared.row.Part.{Part}
-use Rattle.fzn_row.specs.Row.{IsWithinLimit, IsPart}
+use Rattle.fzn_cited.specs.declared.fault.DeriveFault.{DeriveFault}
+use Rattle.fzn_cited.specs.declared.fault.DeriveFault.TheVariants.{NotDerived}
+use Rattle.fzn_meaning.specs.declared.row.Part.{Part}
+use Rattle.fzn_meaning.specs.Separable.{IsWithinLimit, IsPart}
 use Rattle.fzn_row.specs.Draft.{Draft, part_for, with_part, is_row_number}
 use Rattle.fzn_row.specs.Prices.{is_entry_within, with_list}
 use Rattle.fzn_row.specs.Room.{IsPlaceOf}

@@ -8,9 +8,9 @@ use Rattle.fzn_domain.specs.Limits.{IsInLimits}
 use Rattle.fzn_meaning.specs.declared.term.Term.{Term}
 use Rattle.fzn_meaning.specs.declared.term.Term.TheVariants.{Constant, Variable}
 use Rattle.fzn_meaning.specs.Term.{IsTerm, number_in, numbers_in}
-use Rattle.fzn_row.specs.declared.row.Listed.{Listed}
-use Rattle.fzn_row.specs.declared.row.Part.{Part}
-use Rattle.fzn_row.specs.Row.{listed_at, weight_at}
+use Rattle.fzn_meaning.specs.declared.row.Listed.{Listed}
+use Rattle.fzn_meaning.specs.declared.row.Part.{Part}
+use Rattle.fzn_meaning.specs.Separable.{listed_at, weight_at}
 use Rattle.fzn_row.specs.Prices.{is_entry_within}
 use Rattle.fzn_row.specs.Moves.{both_weights, moved_from}
 

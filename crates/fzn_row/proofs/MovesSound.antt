@@ -12,10 +12,10 @@ use Rattle.fzn_meaning.specs.declared.constraint.Constraint.TheVariants.{Element
 use Rattle.fzn_meaning.specs.Term.{values_of, numbers_in}
 use Rattle.fzn_meaning.specs.Elements.{IsElement}
 use Rattle.fzn_meaning.specs.Meaning.{Meets}
-use Rattle.fzn_derive.specs.declared.fault.DeriveFault.TheVariants.{NoSuchConstraint, NotDerived}
-use Rattle.fzn_derive.specs.Cited.{constraint_at}
-use Rattle.fzn_row.specs.declared.row.Part.{Part}
-use Rattle.fzn_row.specs.Row.{entry_in, listed_at, weighed, weight_at, weight_of, RowHolds}
+use Rattle.fzn_cited.specs.declared.fault.DeriveFault.TheVariants.{NoSuchConstraint, NotDerived}
+use Rattle.fzn_cited.specs.Cited.{constraint_at}
+use Rattle.fzn_meaning.specs.declared.row.Part.{Part}
+use Rattle.fzn_meaning.specs.Separable.{entry_in, listed_at, weighed, weight_at, weight_of, RowHolds}
 use Rattle.fzn_row.specs.Draft.{Draft, row_of, blank_part, part_for}
 use Rattle.fzn_row.specs.Moves.{both_weights, moved_from, without_part, part_moved, is_constant, are_targets, element_moved, move_added}
 use Rattle.fzn_row.proofs.PartLemmas.{var-part_for}

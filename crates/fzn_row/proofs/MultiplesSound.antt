@@ -19,12 +19,12 @@ use Rattle.fzn_meaning.proofs.CallerLemmas.{bits-choice}
 use Rattle.fzn_builtin_rules.specs.Form.{Form, form_of, FormHolds}
 use Rattle.fzn_builtin_rules.proofs.CallerLemmas.{total_by-cons}
 use Rattle.fzn_builtin_rules.proofs.FormLemmas.{form_holds}
-use Rattle.fzn_derive.specs.declared.derivation.Multiple.{Multiple}
-use Rattle.fzn_derive.specs.declared.fault.DeriveFault.{DeriveFault}
-use Rattle.fzn_derive.specs.declared.fault.DeriveFault.TheVariants.{NoSuchConstraint, NotDerived}
-use Rattle.fzn_derive.specs.Cited.{constraint_at}
-use Rattle.fzn_derive.proofs.CitedLemmas.{each_at}
-use Rattle.fzn_row.specs.Row.{RowHolds}
+use Rattle.fzn_cited.specs.declared.multiple.Multiple.{Multiple}
+use Rattle.fzn_cited.specs.declared.fault.DeriveFault.{DeriveFault}
+use Rattle.fzn_cited.specs.declared.fault.DeriveFault.TheVariants.{NoSuchConstraint, NotDerived}
+use Rattle.fzn_cited.specs.Cited.{constraint_at}
+use Rattle.fzn_cited.proofs.CitedLemmas.{each_at}
+use Rattle.fzn_meaning.specs.Separable.{RowHolds}
 use Rattle.fzn_row.specs.Draft.{Draft, row_of, with_bound, in_turn}
 use Rattle.fzn_row.specs.Multiples.{term_added, place_added, may_multiply, is_usable, form_added, multiple_added}
 use Rattle.fzn_row.proofs.IntLemmas.{times_le, times_plus, times_times}

@@ -6,11 +6,11 @@ use Rattle.std.proofs.lemmas.List.Elements.{All-head, All-tail}
 use Rattle.fzn_domain.specs.declared.literal.VarId.{VarId}
 use Rattle.std.proofs.lemmas.Bool.Decides.{nat_tests}
 use Rattle.fzn_domain.specs.Narrow.{IsVariable}
-use Rattle.fzn_row.specs.declared.row.Listed.{Listed}
-use Rattle.fzn_row.specs.declared.row.Part.{Part}
-use Rattle.fzn_row.specs.Row.{IsWithinLimit, IsWeightList, IsPart}
-use Rattle.fzn_derive.specs.declared.fault.DeriveFault.{DeriveFault}
-use Rattle.fzn_row.specs.Draft.{Draft, blank_part, part_for, with_part, is_row_number, with_coefficient}
+use Rattle.fzn_meaning.specs.declared.row.Listed.{Listed}
+use Rattle.fzn_meaning.specs.declared.row.Part.{Part}
+use Rattle.fzn_meaning.specs.Separable.{IsCoefficient, IsWeightList, IsPart}
+use Rattle.fzn_cited.specs.declared.fault.DeriveFault.{DeriveFault}
+use Rattle.fzn_row.specs.Draft.{Draft, blank_part, part_for, with_part, is_coefficient, with_coefficient}
 use Rattle.fzn_row.specs.Room.{AreFound, IsAbsent, IsPlaceOf}
 
 -- the first part of the variable stands at this place
@@ -118,7 +118,7 @@ found-set slots parts place new inside same found = λ k part below is.
 
 -- what is written at the place of the variable's part is the draft with that part
 pub with_coefficient-is : (var : VarId) (draft : Draft) (after : List Part) (place : ℕ) (new : Part) (sum bound : ℤ) (left : ℕ)
-    → IsPlaceOf var draft.parts after place → is_row_number sum ≡ true → new ≡ record (part_for var draft.parts) { coefficient = sum } → bound ≡ draft.bound → left ≡ draft.left
+    → IsPlaceOf var draft.parts after place → is_coefficient sum ≡ true → new ≡ record (part_for var draft.parts) { coefficient = sum } → bound ≡ draft.bound → left ≡ draft.left
     → with_coefficient var sum draft ≡ Ok (record { parts = set after place new; bound = bound; left = left })
 with_coefficient-is var draft after place new sum bound left there within is bounds lefts =
     let parts : with_part (record (part_for var draft.parts) { coefficient = sum }) draft.parts ≡ set after place new =
@@ -128,14 +128,14 @@ with_coefficient-is var draft after place new sum bound left there within is bou
     same_draft : (parts parts' : List Part) (bound bound' : ℤ) (left left' : ℕ) → parts ≡ parts' → bound ≡ bound' → left ≡ left' → ◌≡◌ {A = Result Draft DeriveFault} (Ok (record { parts = parts; bound = bound; left = left })) (Ok (record { parts = parts'; bound = bound'; left = left' }))
     same_draft parts parts' bound bound' left left' p q r = cc
 
-pub part-set : (count : ℕ) (old new : Part) → IsPart count old → new.var ≡ old.var → new.listed ≡ old.listed → is_row_number new.coefficient ≡ true → IsPart count new
+pub part-set : (count : ℕ) (old new : Part) → IsPart count old → new.var ≡ old.var → new.listed ≡ old.listed → is_coefficient new.coefficient ≡ true → IsPart count new
 part-set count old new formed vars lists within = record {
   variable = subst (IsVariable count) (sym vars) formed.variable;
   coefficient = within_limit new.coefficient within;
   listed = subst (λ (l : Option Listed). IfSome l IsWeightList) (sym lists) formed.listed;
 }
   where
-    within_limit : (n : ℤ) → is_row_number n ≡ true → IsWithinLimit n
+    within_limit : (n : ℤ) → is_coefficient n ≡ true → IsCoefficient n
     within_limit n h = grind (arith, nat_tests)
 
 pub part-with : (old other : Part) (a b : ℤ) → other ≡ old → a ≡ b → ◌≡◌ {A = Part} (record { var = old.var; coefficient = a; listed = old.listed }) (record other { coefficient = b })

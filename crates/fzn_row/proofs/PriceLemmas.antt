@@ -10,8 +10,8 @@ use Rattle.std.proofs.lemmas.Bool.{ne_eqb}
 use Rattle.std.proofs.lemmas.Bool.Decides.{nat_tests}
 use Rattle.std.proofs.lemmas.List.{take_more, get_or_past, length-take}
 use Rattle.fzn_domain.specs.IntSet.{IntSet, size, least, greatest}
-use Rattle.fzn_row.specs.declared.row.Listed.{Listed}
-use Rattle.fzn_row.specs.Row.{listed_at}
+use Rattle.fzn_meaning.specs.declared.row.Listed.{Listed}
+use Rattle.fzn_meaning.specs.Separable.{listed_at}
 use Rattle.fzn_row.specs.Prices.{price_in, price_at, entries_from, total_price, least_price, is_price, are_prices, is_set_within}
 
 pub both_true : (a b : Bool) → (a && b) ≡ true → (a ≡ true) × (b ≡ true)

@@ -20,16 +20,15 @@ use Rattle.fzn_meaning.specs.AllDifferent.{IsAllDifferent}
 use Rattle.fzn_meaning.specs.Entries.{IsIndex, entry_at}
 use Rattle.fzn_meaning.specs.Inverse.{IsInverse}
 use Rattle.fzn_meaning.specs.Meaning.{Meets, IsWellFormed, AreTerms}
-use Rattle.fzn_meaning.proofs.CallerLemmas.{circuit-different}
-use Rattle.fzn_sets.proofs.CallerLemmas.{length-values_of}
+use Rattle.fzn_meaning.proofs.CallerLemmas.{circuit-different, length-values_of}
 use Rattle.fzn_domain.proofs.SetLemmas.{size_above_zero, least_le, le_greatest}
-use Rattle.fzn_derive.specs.declared.fault.DeriveFault.{DeriveFault}
-use Rattle.fzn_derive.specs.declared.fault.DeriveFault.TheVariants.{NoSuchConstraint, NotDerived}
-use Rattle.fzn_derive.specs.Cited.{constraint_at}
-use Rattle.fzn_derive.proofs.CitedLemmas.{each_at}
-use Rattle.fzn_row.specs.declared.row.Listed.{Listed}
-use Rattle.fzn_row.specs.declared.row.Part.{Part}
-use Rattle.fzn_row.specs.Row.{entry_in, listed_at, weighed, weight_of, RowHolds}
+use Rattle.fzn_cited.specs.declared.fault.DeriveFault.{DeriveFault}
+use Rattle.fzn_cited.specs.declared.fault.DeriveFault.TheVariants.{NoSuchConstraint, NotDerived}
+use Rattle.fzn_cited.specs.Cited.{constraint_at}
+use Rattle.fzn_cited.proofs.CitedLemmas.{each_at}
+use Rattle.fzn_meaning.specs.declared.row.Listed.{Listed}
+use Rattle.fzn_meaning.specs.declared.row.Part.{Part}
+use Rattle.fzn_meaning.specs.Separable.{entry_in, listed_at, weighed, weight_of, RowHolds}
 use Rattle.fzn_row.specs.Draft.{Draft, row_of, part_for, with_part, with_bound, and_then, in_turn}
 use Rattle.fzn_row.specs.Prices.{price_in, price_at, entries_from, is_entry_within, with_list, price_added, most_cost, priced_places, is_term_within, has_each_price, are_prices, prices_added}
 use Rattle.fzn_row.proofs.PartLemmas.{var-part_for}

@@ -1,13 +1,13 @@
 -- Which row the items make.
-use Rattle.std.specs.Prelude.{◌≡◌, ℕ, List, [], ◌∷◌, map, Result, Ok}
+use Rattle.std.specs.Prelude.{◌≡◌, ℕ, List, [], ◌∷◌, map, Result, Ok, Err}
 use Rattle.std.specs.List.{flat_map}
 use Rattle.fzn_domain.specs.IntSet.{IntSet}
 use Rattle.fzn_meaning.specs.declared.constraint.Constraint.{Constraint}
-use Rattle.fzn_derive.specs.declared.fault.DeriveFault.{DeriveFault}
-use Rattle.fzn_row.specs.declared.row.Row.{Row}
+use Rattle.fzn_cited.specs.declared.fault.DeriveFault.{DeriveFault}
+use Rattle.fzn_meaning.specs.declared.row.Row.{Row}
 use Rattle.fzn_row.specs.declared.item.RowItem.{RowItem}
 use Rattle.fzn_row.specs.declared.item.RowItem.TheVariants as item
-use Rattle.fzn_row.specs.Draft.{Draft, empty, row_of, in_turn}
+use Rattle.fzn_row.specs.Draft.{Draft, empty, row_stated, and_then, in_turn}
 use Rattle.fzn_row.specs.Multiples.{multiple_added}
 use Rattle.fzn_row.specs.Prices.{prices_added}
 use Rattle.fzn_row.specs.Moves.{move_added}
@@ -31,8 +31,14 @@ item_added given declared draft (item.Move constraint variable) = move_added giv
 abbrev pub drafted : List Constraint → List IntSet → ℕ → List RowItem → Result Draft DeriveFault
 drafted given declared most items = in_turn (item_added given declared) (empty most) items
 
+-- the row that they make, or the first thing that is wrong
+abbrev pub row_made : List Constraint → List IntSet → ℕ → List RowItem → Result Row DeriveFault
+row_made given declared most items = and_then (drafted given declared most items) row_stated
+
 -- the items make this row
-pub record IsDerivedRow (given : List Constraint) (declared : List IntSet) (most : ℕ) (items : List RowItem) (row : Row) : Type 0 where
-  pub draft : Draft
-  pub made : drafted given declared most items ≡ Ok draft
-  pub row_is : row ≡ row_of draft
+abbrev pub IsDerivedRow : List Constraint → List IntSet → ℕ → List RowItem → Row → Type 0
+IsDerivedRow given declared most items row = row_made given declared most items ≡ Ok row
+
+-- the first thing that is wrong with them
+abbrev pub IsRowFault : List Constraint → List IntSet → ℕ → List RowItem → DeriveFault → Type 0
+IsRowFault given declared most items fault = row_made given declared most items ≡ Err fault

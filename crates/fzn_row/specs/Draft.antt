@@ -1,10 +1,11 @@
 -- A row in the making, and what is changed in it.
-use Rattle.std.specs.Prelude.{ℕ, ℤ, pos, Bool, if◌then◌else◌, nat_eq, nat_le, unsigned_abs, List, [], ◌∷◌, None, Result, Ok, Err}
+use Rattle.std.specs.Prelude.{ℕ, ℤ, pos, Bool, if◌then◌else◌, nat_eq, nat_le, unsigned_abs, List, [], ◌∷◌, length, None, Result, Ok, Err}
+use Rattle.fzn_list.specs.Limits.{longest}
 use Rattle.fzn_domain.specs.declared.literal.VarId.{VarId}
-use Rattle.fzn_derive.specs.declared.fault.DeriveFault.{DeriveFault}
-use Rattle.fzn_derive.specs.declared.fault.DeriveFault.TheVariants.{NotDerived}
-use Rattle.fzn_row.specs.declared.row.Part.{Part}
-use Rattle.fzn_row.specs.declared.row.Row.{Row}
+use Rattle.fzn_cited.specs.declared.fault.DeriveFault.{DeriveFault}
+use Rattle.fzn_cited.specs.declared.fault.DeriveFault.TheVariants.{NotDerived}
+use Rattle.fzn_meaning.specs.declared.row.Part.{Part}
+use Rattle.fzn_meaning.specs.declared.row.Row.{Row}
 
 -- its parts and its bound, and how many weights may still be listed
 pub record Draft : Type 0 where
@@ -33,8 +34,17 @@ abbrev pub with_part : Part → List Part → List Part
 with_part new [] = new ∷ []
 with_part new (part ∷ parts) = if nat_eq part.var.0 new.var.0 then new ∷ parts else part ∷ with_part new parts
 
+-- the number is within this limit
+abbrev pub is_number_within : ℕ → ℤ → Bool
+is_number_within limit number = nat_le (unsigned_abs number) limit
+
+-- from -10^18 to 10^18
 abbrev pub is_row_number : ℤ → Bool
-is_row_number number = nat_le (unsigned_abs number) 1000000000000000000
+is_row_number number = is_number_within 1000000000000000000 number
+
+-- from -10^12 to 10^12
+abbrev pub is_coefficient : ℤ → Bool
+is_coefficient number = is_number_within 1000000000000 number
 
 -- the draft with another bound, or with another coefficient of the variable, unless that leaves the limits
 abbrev pub with_bound : ℤ → Draft → Result Draft DeriveFault
@@ -42,7 +52,11 @@ with_bound bound draft = if is_row_number bound then Ok (record draft { bound = 
 
 abbrev pub with_coefficient : VarId → ℤ → Draft → Result Draft DeriveFault
 with_coefficient var coefficient draft =
-    if is_row_number coefficient then Ok (record draft { parts = with_part (record (part_for var draft.parts) { coefficient = coefficient }) draft.parts }) else Err NotDerived
+    if is_coefficient coefficient then Ok (record draft { parts = with_part (record (part_for var draft.parts) { coefficient = coefficient }) draft.parts }) else Err NotDerived
+
+-- the row that it is, unless it has more parts than a row may have
+abbrev pub row_stated : Draft → Result Row DeriveFault
+row_stated draft = if nat_le (length draft.parts) longest then Ok (row_of draft) else Err NotDerived
 
 -- ---- one change after another, up to the first that is refused
 

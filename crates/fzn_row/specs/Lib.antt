@@ -1,9 +1,6 @@
 pub mod Derived
 pub mod Draft
-pub mod Least
 pub mod Moves
 pub mod Multiples
 pub mod Prices
 pub mod Room
-pub mod Row
-pub mod Rule

@@ -9,10 +9,10 @@ use Rattle.fzn_meaning.specs.declared.relation.Comparison.{Comparison}
 use Rattle.fzn_meaning.specs.declared.relation.Comparison.TheVariants.{AtMost, Equal, NotEqual}
 use Rattle.fzn_meaning.specs.declared.constraint.Constraint.{Constraint}
 use Rattle.fzn_builtin_rules.specs.Form.{Form, form_of}
-use Rattle.fzn_derive.specs.declared.derivation.Multiple.{Multiple}
-use Rattle.fzn_derive.specs.declared.fault.DeriveFault.{DeriveFault}
-use Rattle.fzn_derive.specs.declared.fault.DeriveFault.TheVariants.{NoSuchConstraint, NotDerived}
-use Rattle.fzn_derive.specs.Cited.{constraint_at}
+use Rattle.fzn_cited.specs.declared.multiple.Multiple.{Multiple}
+use Rattle.fzn_cited.specs.declared.fault.DeriveFault.{DeriveFault}
+use Rattle.fzn_cited.specs.declared.fault.DeriveFault.TheVariants.{NoSuchConstraint, NotDerived}
+use Rattle.fzn_cited.specs.Cited.{constraint_at}
 use Rattle.fzn_row.specs.Draft.{Draft, part_for, with_bound, with_coefficient, and_then, in_turn}
 
 -- a constant times this amount goes to the side of the bound, a variable counts so much more

@@ -2,9 +2,9 @@
 use Rattle.std.specs.Prelude.{◌≡◌, ◌≢◌, ℕ, ◌-◌, ◌<◌, List, length, slice_index_or, slice_set}
 use Rattle.std.specs.List.{All}
 use Rattle.fzn_domain.specs.declared.literal.VarId.{VarId}
-use Rattle.fzn_row.specs.declared.row.Part.{Part}
+use Rattle.fzn_meaning.specs.declared.row.Part.{Part}
 use Rattle.fzn_row.specs.declared.room.RowDeriver.{RowDeriver}
-use Rattle.fzn_row.specs.Row.{IsPart, IsWithinLimit}
+use Rattle.fzn_meaning.specs.Separable.{IsPart, IsWithinLimit}
 use Rattle.fzn_row.specs.Draft.{Draft, part_for, with_part}
 
 abbrev pub draft_of : RowDeriver → Draft

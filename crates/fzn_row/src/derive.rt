@@ -1,21 +1,19 @@
 // Rows derived from constraints.
-ghost use Rattle.std.specs.Prelude.{◌≡◌, ◌⊎◌, ◌≤◌, length, IfOk, IfErr, OnOk, Ok, Err};
+ghost use Rattle.std.specs.Prelude.{◌≡◌, ◌⊎◌, length, IfOk, IfErr, OnOk, Ok, Err};
 ghost use Rattle.std.specs.List.{All};
-ghost use Rattle.fzn_list.specs.Limits.{longest};
 ghost use Rattle.fzn_meaning.specs.Meaning.{IsWellFormed};
 ghost use Rattle.fzn_meaning.specs.Solutions.{declared_sets};
-ghost use Rattle.fzn_derive.specs.declared.fault.DeriveFault.TheVariants.{Memory};
-ghost use Rattle.fzn_row.specs.Row.{IsSeparableRow};
-ghost use Rattle.fzn_row.specs.Draft.{empty, row_of, in_turn};
-ghost use Rattle.fzn_row.specs.Derived.{item_added, drafted, IsDerivedRow};
+ghost use Rattle.fzn_cited.specs.declared.fault.DeriveFault.TheVariants.{Memory};
+ghost use Rattle.fzn_meaning.specs.Separable.{IsSeparableRow};
+ghost use Rattle.fzn_row.specs.Draft.{empty, row_stated, in_turn};
+ghost use Rattle.fzn_row.specs.Derived.{item_added, IsDerivedRow, IsRowFault};
 ghost use Rattle.fzn_row.specs.Room.{draft_of, room_size, IsRoom};
 
 use crate::item::RowItem;
 use crate::room::RowDeriver;
-use crate::row::Row;
-use fzn_derive::DeriveFault;
-use fzn_list::Items;
-use fzn_meaning::{Constraint, Var};
+use fzn_cited::DeriveFault;
+use fzn_list::{Items, LONGEST};
+use fzn_meaning::{Constraint, Row, Var};
 use std::alloc::Global;
 use std::mem;
 
@@ -32,16 +30,15 @@ impl RowDeriver {
         most: usize,
     ) -> Result<Row, DeriveFault>
         requires room { room_size self.old ≡ length vars.now }
-        requires few { length vars.now ≤ longest }
         requires given { All (IsWellFormed (length vars.now)) given.now }
         ensures room { room_size self.new ≡ length vars.now }
         ensures derived { IfOk result (IsDerivedRow given.now (declared_sets vars.now) most items.now) }
         ensures formed { IfOk result (IsSeparableRow (length vars.now)) }
-        ensures fault { IfErr result (λ fault. (fault ≡ Memory) ⊎ (drafted given.now (declared_sets vars.now) most items.now ≡ Err fault)) }
+        ensures fault { IfErr result (λ fault. (fault ≡ Memory) ⊎ IsRowFault given.now (declared_sets vars.now) most items.now fault) }
     {
         self.begin(most);
         self.add_items(alloc, given, vars, items)?;
-        Ok(self.take_row(alloc))
+        self.take_row(alloc)
     }
 
     /// Begins a row.
@@ -106,18 +103,20 @@ impl RowDeriver {
         }
     }
 
-    /// Takes the row out.
-    fn take_row(&mut self, alloc: Global) -> Row
+    /// Takes the row out, unless it has more parts than a row may have.
+    fn take_row(&mut self, alloc: Global) -> Result<Row, DeriveFault>
         requires room { IsRoom self.old }
-        requires few { room_size self.old ≤ longest }
         ensures variables { room_size self.new ≡ room_size self.old }
-        ensures row { result ≡ row_of (draft_of self.old) }
-        ensures formed { IsSeparableRow (room_size self.old) result }
+        ensures ok { IfOk result (λ row. row_stated (draft_of self.old) ≡ Ok row) }
+        ensures err { IfErr result (λ fault. row_stated (draft_of self.old) ≡ Err fault) }
     {
+        if self.parts.len() > LONGEST {
+            return Err(DeriveFault::NotDerived);
+        }
         let parts = mem::replace(&mut self.parts, Vec::new(alloc));
-        Row {
+        Ok(Row {
             parts: Items::from_vec(parts),
             bound: self.bound,
-        }
+        })
     }
 }

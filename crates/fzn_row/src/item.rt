@@ -1,5 +1,5 @@
 // The items by which a row is derived.
-use fzn_derive::Multiple;
+use fzn_cited::Multiple;
 use fzn_domain::VarId;
 use fzn_list::Items;
 

@@ -1,25 +1,21 @@
 // Parts that go from one variable to another.
-ghost use Rattle.std.specs.Prelude.{◌≡◌, ◌⊎◌, ℕ, ◌*◌, ◌≤◌, true, false, pos, length, slice_index_or, unsigned_abs, IfOk, IfErr, IfSome, OnOk, Ok, Err};
+ghost use Rattle.std.specs.Prelude.{◌≡◌, ◌⊎◌, ℕ, ◌≤◌, true, false, pos, length, slice_index_or, unsigned_abs, IfOk, IfErr, IfSome, OnOk, Ok, Err};
 ghost use Rattle.std.specs.List.{All, list_all};
 ghost use Rattle.fzn_domain.specs.Narrow.{IsVariable};
 ghost use Rattle.fzn_meaning.specs.Term.{IsTerm, numbers_in};
 ghost use Rattle.fzn_meaning.specs.Meaning.{IsWellFormed};
-ghost use Rattle.fzn_derive.specs.declared.fault.DeriveFault.TheVariants.{Memory, NotDerived};
-ghost use Rattle.fzn_row.specs.Row.{weight_at, IsWeightList, IsWithinLimit};
+ghost use Rattle.fzn_cited.specs.declared.fault.DeriveFault.TheVariants.{Memory, NotDerived};
+ghost use Rattle.fzn_meaning.specs.Separable.{weight_at, IsWeightList, IsCoefficient};
 ghost use Rattle.fzn_row.specs.Draft.{blank_part, part_for, with_part};
 ghost use Rattle.fzn_row.specs.Prices.{is_entry_within};
 ghost use Rattle.fzn_row.specs.Moves.{both_weights, moved_from, part_moved, is_constant, are_targets, element_moved, move_added};
 ghost use Rattle.fzn_row.specs.Room.{draft_of, room_size, IsRoom};
 
-use crate::multiples::constraint_at;
-use crate::prices::listed_at;
-use crate::room::{RowDeriver, sum_within};
-use crate::row::{Listed, Part};
-use crate::rule::weighed;
-use fzn_derive::DeriveFault;
+use crate::room::{LIMIT, RowDeriver, sum_within};
+use fzn_cited::{DeriveFault, constraint_at};
 use fzn_domain::VarId;
 use fzn_list::Items;
-use fzn_meaning::{Constraint, Term};
+use fzn_meaning::{Constraint, Listed, Part, Term, listed_at, weight_at};
 use std::alloc::{AllocError, Global};
 use std::mem;
 
@@ -114,7 +110,7 @@ impl RowDeriver {
         ensures variables { room_size self.new ≡ room_size self.old }
         ensures parts { OnOk result (self.new.parts.items ≡ with_part (blank_part var) self.old.parts.items) }
         ensures part { IfOk result (λ part. part ≡ part_for var self.old.parts.items) }
-        ensures formed { IfOk result (λ part. IfSome part.listed IsWeightList × IsWithinLimit part.coefficient) }
+        ensures formed { IfOk result (λ part. IfSome part.listed IsWeightList × IsCoefficient part.coefficient) }
         ensures bound { self.new.bound ≡ self.old.bound }
         ensures left { self.new.left ≡ self.old.left }
     {
@@ -136,7 +132,7 @@ fn moved(
     targets: &[Term],
 ) -> Result<Items<Option<i64>>, DeriveFault>
     requires old { IfSome old.now IsWeightList }
-    requires part { IfSome part.now.listed IsWeightList × IsWithinLimit part.now.coefficient }
+    requires part { IfSome part.now.listed IsWeightList × IsCoefficient part.now.coefficient }
     requires targets { (k : ℕ) → unsigned_abs (slice_index_or (numbers_in targets.now) k (pos 0)) ≤ 1000000000 }
     requires few { length targets.now ≤ 65536 }
     ensures ok { IfOk result (λ entries. entries ≡ moved_from (pos 1) (numbers_in targets.now) old.now part.now) }
@@ -154,7 +150,7 @@ fn moved(
 
 /// What was listed and what the part weighs at the target, unless that leaves the limits.
 fn plus_weight(entry: Option<i64>, part: &Part, target: &i64) -> Result<Option<i64>, DeriveFault>
-    requires part { IfSome part.now.listed IsWeightList × IsWithinLimit part.now.coefficient }
+    requires part { IfSome part.now.listed IsWeightList × IsCoefficient part.now.coefficient }
     requires target { unsigned_abs target.now ≤ 1000000000 }
     ensures ok { IfOk result (λ both. both ≡ both_weights entry (weight_at part.now target.now)) }
     ensures within { IfOk result (λ both. is_entry_within both ≡ true) }
@@ -166,18 +162,8 @@ fn plus_weight(entry: Option<i64>, part: &Part, target: &i64) -> Result<Option<i
     let Some(more) = weight_at(part, target) else {
         return Ok(None);
     };
-    let both = sum_within(weight, more)?;
+    let both = sum_within(weight, more, LIMIT)?;
     Ok(Some(both))
-}
-
-/// What the variable of the part weighs at a value.
-fn weight_at(part: &Part, value: &i64) -> Option<i128>
-    requires part { IfSome part.now.listed IsWeightList × IsWithinLimit part.now.coefficient }
-    requires value { unsigned_abs value.now ≤ 1000000000 }
-    ensures value { result ≡ weight_at part.now value.now }
-    ensures bounded { IfSome result (λ weight. unsigned_abs weight ≤ 3000000000 * 1000000000000000000) }
-{
-    weighed(part.coefficient, *value, listed_at(&part.listed, value))
 }
 
 /// At most 65,536 entries, which are constants.

@@ -1,5 +1,5 @@
 // Multiples of constraints, added to a row.
-ghost use Rattle.std.specs.Prelude.{◌≡◌, ◌⊎◌, ◌*◌, ◌≤◌, nat_le, pos, ◌-ℤ◌, ◌*ℤ◌, length, unsigned_abs, option_copied, IfErr, OnOk, Ok, Err};
+ghost use Rattle.std.specs.Prelude.{◌≡◌, ◌⊎◌, ◌*◌, ◌≤◌, nat_le, pos, ◌-ℤ◌, ◌*ℤ◌, length, unsigned_abs, IfErr, OnOk, Ok, Err};
 ghost use Rattle.std.specs.List.{All};
 ghost use Rattle.fzn_list.specs.Limits.{longest};
 ghost use Rattle.fzn_domain.specs.Limits.{IsSmall};
@@ -7,15 +7,14 @@ ghost use Rattle.fzn_meaning.specs.Term.{IsPlace};
 ghost use Rattle.fzn_meaning.specs.Meaning.{IsWellFormed};
 ghost use Rattle.fzn_builtin_rules.specs.Borrowed.{places_in, form_in};
 ghost use Rattle.fzn_builtin_rules.specs.Form.{Fits};
-ghost use Rattle.fzn_derive.specs.declared.fault.DeriveFault.TheVariants.{Memory};
-ghost use Rattle.fzn_derive.specs.Cited.{constraint_at};
+ghost use Rattle.fzn_cited.specs.declared.fault.DeriveFault.TheVariants.{Memory};
 ghost use Rattle.fzn_row.specs.Draft.{in_turn};
 ghost use Rattle.fzn_row.specs.Multiples.{place_added, may_multiply, is_usable, form_added, multiple_added};
 ghost use Rattle.fzn_row.specs.Room.{draft_of, room_size, IsRoom};
 
 use crate::room::RowDeriver;
 use fzn_builtin_rules::{Form, Places, form_of};
-use fzn_derive::{DeriveFault, Multiple};
+use fzn_cited::{DeriveFault, Multiple, constraint_at};
 use fzn_meaning::{Comparison, Constraint, Place, Term};
 
 /// How far from 0 a multiplier lies at the most: 10^12.
@@ -130,16 +129,6 @@ fn less_product(amount: &i128, value: &i64) -> i128
     ensures bounded { unsigned_abs result ≤ 1000000000000000000000000000000 }
 {
     -(*amount * *value as i128)
-}
-
-/// The constraint with this number, counted from 1, where there is one.
-pub(crate) fn constraint_at(given: &[Constraint], id: u64) -> Option<&Constraint>
-    ensures { option_copied result ≡ constraint_at given.now id }
-{
-    if id == 0 || id > given.len() as u64 {
-        return None;
-    }
-    Some(&given[(id - 1) as usize])
 }
 
 /// Whether the form may be multiplied so.

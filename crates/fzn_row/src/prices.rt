@@ -8,19 +8,17 @@ ghost use Rattle.fzn_domain.specs.Narrow.{IsVariable};
 ghost use Rattle.fzn_meaning.specs.Term.{IsTerm};
 ghost use Rattle.fzn_meaning.specs.Meaning.{IsWellFormed};
 ghost use Rattle.fzn_meaning.specs.Solutions.{declared_sets};
-ghost use Rattle.fzn_derive.specs.declared.fault.DeriveFault.TheVariants.{Memory};
-ghost use Rattle.fzn_row.specs.Row.{entry_in, listed_at, IsWeightList, IsWithinLimit};
+ghost use Rattle.fzn_cited.specs.declared.fault.DeriveFault.TheVariants.{Memory};
+ghost use Rattle.fzn_meaning.specs.Separable.{IsWeightList, IsWithinLimit};
 ghost use Rattle.fzn_row.specs.Draft.{part_for, in_turn};
 ghost use Rattle.fzn_row.specs.Prices.{price_at, entries_from, is_entry_within, with_list, price_added, total_price, least_price, most_cost, priced_places, is_set_within, is_term_within, has_each_price, is_price, are_prices, prices_added};
 ghost use Rattle.fzn_row.specs.Room.{draft_of, room_size, IsRoom};
 
-use crate::multiples::constraint_at;
-use crate::room::{RowDeriver, is_row_number};
-use crate::row::Listed;
-use fzn_derive::DeriveFault;
+use crate::room::{LIMIT, RowDeriver, is_number_within};
+use fzn_cited::{DeriveFault, constraint_at};
 use fzn_domain::{Domain, VarId};
 use fzn_list::Items;
-use fzn_meaning::{Constraint, Term, Var};
+use fzn_meaning::{Constraint, Listed, Term, Var, listed_at};
 use std::alloc::{AllocError, Global};
 
 /// How many prices an item has at the most.
@@ -174,32 +172,6 @@ fn entries_of(
     Ok(entries)
 }
 
-/// What is listed for a value; 0 for each where there is no list.
-pub(crate) fn listed_at(old: &Option<Listed>, value: &i64) -> Option<i64>
-    requires old { IfSome old.now IsWeightList }
-    requires value { unsigned_abs value.now ≤ 2000000000 }
-    ensures value { result ≡ listed_at old.now value.now }
-    ensures within { IfSome result IsWithinLimit }
-{
-    match old {
-        None => Some(0),
-        Some(listed) => entry_at(listed, value),
-    }
-}
-
-fn entry_at(listed: &Listed, value: &i64) -> Option<i64>
-    requires listed { IsWeightList listed.now }
-    requires value { unsigned_abs value.now ≤ 2000000000 }
-    ensures value { result ≡ entry_in listed.now.weights (value.now -ℤ listed.now.low) }
-    ensures within { IfSome result IsWithinLimit }
-{
-    let distance = *value - listed.low;
-    if distance < 0 || distance >= listed.weights.len() as i64 {
-        return None;
-    }
-    listed.weights.as_slice()[distance as usize]
-}
-
 fn plus_price(entry: Option<i64>, price: &i64) -> Option<i64>
     requires entry { IfSome entry IsWithinLimit }
     requires price { unsigned_abs price.now ≤ 1000000000000 }
@@ -223,7 +195,7 @@ fn is_entry_within(entry: &Option<i64>) -> bool
 {
     match entry {
         None => true,
-        Some(weight) => is_row_number(*weight as i128),
+        Some(weight) => is_number_within(*weight as i128, LIMIT),
     }
 }
 

@@ -1,17 +1,20 @@
 // The room in which a row is made.
 ghost use Rattle.std.specs.Prelude.{◌≡◌, true, false, ◌⊎◌, ◌≤◌, [], ◌+ℤ◌, length, unsigned_abs, IsTrue, IfOk, IfErr, OnOk, Ok, Err};
 ghost use Rattle.fzn_domain.specs.Narrow.{IsVariable};
-ghost use Rattle.fzn_derive.specs.declared.fault.DeriveFault.TheVariants.{Memory, NotDerived};
-ghost use Rattle.fzn_row.specs.Draft.{is_row_number, part_for, with_bound, with_coefficient};
+ghost use Rattle.fzn_cited.specs.declared.fault.DeriveFault.TheVariants.{Memory, NotDerived};
+ghost use Rattle.fzn_row.specs.Draft.{is_number_within, part_for, with_bound, with_coefficient};
 ghost use Rattle.fzn_row.specs.Room.{draft_of, room_size, IsRoom, IsPlaceOf, IsAbsent};
 
-use crate::row::Part;
-use fzn_derive::DeriveFault;
+use fzn_cited::DeriveFault;
 use fzn_domain::VarId;
+use fzn_meaning::Part;
 use std::alloc::{AllocError, Global};
 
-/// What coefficients, the bound and what is listed lie between: 10^18.
-const LIMIT: i128 = 1_000_000_000_000_000_000;
+/// How far from 0 the bound and what is listed lie at the most: 10^18.
+pub(crate) const LIMIT: u64 = 1_000_000_000_000_000_000;
+
+/// How far from 0 a coefficient lies at the most: 10^12.
+const GREATEST_COEFFICIENT: u64 = 1_000_000_000_000;
 
 /// The room in which rows are made, kept from one to the next, so that each costs what its items add: 8 bytes for each variable.
 ///
@@ -92,7 +95,7 @@ impl RowDeriver {
         ensures err { IfErr result (λ fault. (fault ≡ Memory) ⊎ (with_coefficient var ((part_for var self.old.parts.items).coefficient +ℤ amount) (draft_of self.old) ≡ Err fault)) }
     {
         let place = self.place_of(var)?;
-        let coefficient = sum_within(self.parts[place].coefficient, amount)?;
+        let coefficient = sum_within(self.parts[place].coefficient, amount, GREATEST_COEFFICIENT)?;
         self.parts[place].coefficient = coefficient;
         Ok(())
     }
@@ -106,28 +109,31 @@ impl RowDeriver {
         ensures ok { OnOk result (with_bound (self.old.bound +ℤ amount) (draft_of self.old) ≡ Ok (draft_of self.new)) }
         ensures err { IfErr result (λ fault. (fault ≡ Memory) ⊎ (with_bound (self.old.bound +ℤ amount) (draft_of self.old) ≡ Err fault)) }
     {
-        self.bound = sum_within(self.bound, amount)?;
+        self.bound = sum_within(self.bound, amount, LIMIT)?;
         Ok(())
     }
 }
 
-/// A number and what is added to it, unless that leaves the limits.
-pub(crate) fn sum_within(number: i64, amount: i128) -> Result<i64, DeriveFault>
-    requires { unsigned_abs amount ≤ 1000000000000000000000000000000 }
+/// A number and what is added to it, unless that leaves the limit.
+pub(crate) fn sum_within(number: i64, amount: i128, limit: u64) -> Result<i64, DeriveFault>
+    requires amount { unsigned_abs amount ≤ 10000000000000000000000000000000 }
+    requires limit { limit ≤ 1000000000000000000 }
     ensures ok { IfOk result (λ sum. sum ≡ number +ℤ amount) }
-    ensures within { OnOk result (is_row_number (number +ℤ amount) ≡ true) }
-    ensures err { IfErr result (λ fault. (fault ≡ NotDerived) × (is_row_number (number +ℤ amount) ≡ false)) }
+    ensures within { OnOk result (is_number_within limit (number +ℤ amount) ≡ true) }
+    ensures err { IfErr result (λ fault. (fault ≡ NotDerived) × (is_number_within limit (number +ℤ amount) ≡ false)) }
 {
     let sum = number as i128 + amount;
-    if is_row_number(sum) {
+    if is_number_within(sum, limit) {
         Ok(sum as i64)
     } else {
         Err(DeriveFault::NotDerived)
     }
 }
 
-pub(crate) fn is_row_number(number: i128) -> bool
-    ensures { result ≡ is_row_number number }
+/// Whether the number is that far from 0 at the most.
+pub(crate) fn is_number_within(number: i128, limit: u64) -> bool
+    ensures { result ≡ is_number_within limit number }
 {
-    -LIMIT <= number && number <= LIMIT
+    let limit = limit as i128;
+    -limit <= number && number <= limit
 }

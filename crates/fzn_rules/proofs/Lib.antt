@@ -5,10 +5,13 @@ mod EnergyTest
 mod GlobalRowsSound
 mod HallSound
 mod HallTest
+pub mod LeastLemmas
 mod LoadSound
 mod PairSound
 mod PlacesLemmas
+mod ProductLemmas
 mod RisingLemmas
 mod RuleSound
 mod RunLemmas
+pub mod SeparableSound
 mod TaskLemmas

@@ -5,7 +5,7 @@ use Rattle.fzn_domain.specs.Narrow.{IsWithin}
 use Rattle.fzn_meaning.specs.declared.constraint.Constraint.{Constraint}
 use Rattle.fzn_meaning.specs.Meaning.{Meets, IsWellFormed, HasBooleanValues}
 use Rattle.fzn_rules.specs.declared.rule.Rule.{Rule}
-use Rattle.fzn_rules.specs.declared.rule.Rule.TheVariants.{Lin, Rows, Box, Fixed, Enum, Hall, Load, Energy, Cut, Pair}
+use Rattle.fzn_rules.specs.declared.rule.Rule.TheVariants.{Lin, Rows, Box, Fixed, Enum, Hall, Load, Energy, Cut, Pair, Row}
 use Rattle.fzn_rules.specs.Rules.{IsMet}
 use Rattle.fzn_builtin_rules.proofs.CallerLemmas.{fixed_sound, enum_sound, lin_sound, box_sound, rows_sound}
 use Rattle.fzn_rules.proofs.CutSound.{cut_sound}
@@ -14,6 +14,7 @@ use Rattle.fzn_rules.proofs.GlobalRowsSound.{global_rows_sound}
 use Rattle.fzn_rules.proofs.HallSound.{hall_sound}
 use Rattle.fzn_rules.proofs.LoadSound.{load_sound}
 use Rattle.fzn_rules.proofs.PairSound.{pair_sound}
+use Rattle.fzn_rules.proofs.SeparableSound.{row_sound}
 
 pub rule_sound : (constraint : Constraint) (sets : List IntSet) (rule : Rule) (values : List ℤ) → IsWellFormed (length sets) constraint → IsMet constraint sets rule → IsWithin sets values → HasBooleanValues values constraint → Meets constraint values → ⊥
 unfolding IsMet
@@ -30,3 +31,4 @@ rule_sound constraint sets (Load time) values formed rule within bits met = load
 rule_sound constraint sets (Energy from until) values formed rule within bits met = energy_sound constraint sets from until values rule within met
 rule_sound constraint sets (Cut places) values formed rule within bits met = cut_sound constraint sets places values formed rule within met
 rule_sound constraint sets (Pair first second) values formed rule within bits met = pair_sound constraint sets first second values formed rule within met
+rule_sound constraint sets Row values formed rule within bits met = row_sound constraint sets values formed rule within met

@@ -2,7 +2,7 @@
 use Rattle.std.specs.Prelude.{ℤ, ◌≤ℤ◌, List, [], ◌∷◌}
 use Rattle.fzn_rules.specs.declared.rule.TheConstants.{LEAST_HINT, GREATEST_HINT}
 use Rattle.fzn_rules.specs.declared.rule.Rule.{Rule}
-use Rattle.fzn_rules.specs.declared.rule.Rule.TheVariants.{Lin, Rows, Box, Fixed, Enum, Hall, Load, Energy, Cut, Pair}
+use Rattle.fzn_rules.specs.declared.rule.Rule.TheVariants.{Lin, Rows, Box, Fixed, Enum, Hall, Load, Energy, Cut, Pair, Row}
 
 abbrev pub IsHint : ℤ → Type 0
 IsHint hint = (LEAST_HINT ≤ℤ hint) × (hint ≤ℤ GREATEST_HINT)
@@ -18,3 +18,4 @@ hints_of (Load time) = time ∷ []
 hints_of (Energy from until) = from ∷ until ∷ []
 hints_of (Cut places) = places
 hints_of (Pair first second) = first ∷ second ∷ []
+hints_of Row = []

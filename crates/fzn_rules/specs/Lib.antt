@@ -3,8 +3,10 @@ pub mod Energy
 pub mod GlobalRows
 pub mod Hall
 pub mod Hints
+pub mod Least
 pub mod Load
 pub mod Pair
 pub mod Rules
 pub mod Runs
+pub mod Separable
 pub mod Tasks

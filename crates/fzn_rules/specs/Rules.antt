@@ -5,7 +5,7 @@ use Rattle.fzn_domain.specs.IntSet.{IntSet}
 use Rattle.fzn_domain.specs.Narrow.{denied, is_some_empty}
 use Rattle.fzn_meaning.specs.declared.constraint.Constraint.{Constraint}
 use Rattle.fzn_rules.specs.declared.rule.Rule.{Rule}
-use Rattle.fzn_rules.specs.declared.rule.Rule.TheVariants.{Lin, Rows, Box, Fixed, Enum, Hall, Load, Energy, Cut, Pair}
+use Rattle.fzn_rules.specs.declared.rule.Rule.TheVariants.{Lin, Rows, Box, Fixed, Enum, Hall, Load, Energy, Cut, Pair, Row}
 use Rattle.fzn_builtin_rules.specs.Choices.{IsFixedMet, IsEnumMet}
 use Rattle.fzn_rules.specs.Cut.{IsCutMet}
 use Rattle.fzn_rules.specs.Energy.{IsEnergyMet}
@@ -14,6 +14,7 @@ use Rattle.fzn_rules.specs.GlobalRows.{IsGlobalRowsMet}
 use Rattle.fzn_rules.specs.Hall.{IsHallMet}
 use Rattle.fzn_rules.specs.Load.{IsLoadMet}
 use Rattle.fzn_rules.specs.Pair.{IsPairMet}
+use Rattle.fzn_rules.specs.Separable.{IsRowMet}
 use Rattle.fzn_builtin_rules.specs.Product.{IsBoxMet}
 use Rattle.fzn_builtin_rules.specs.Rows.{IsRowsMet}
 
@@ -30,6 +31,7 @@ IsMet constraint sets (Load time) = IsLoadMet constraint sets time
 IsMet constraint sets (Energy from until) = IsEnergyMet constraint sets from until
 IsMet constraint sets (Cut places) = IsCutMet constraint sets places
 IsMet constraint sets (Pair first second) = IsPairMet constraint sets first second
+IsMet constraint sets Row = IsRowMet constraint sets
 
 -- A clause is accepted from a constraint where a set is empty without the values that make the clause
 -- true, or where the rule is met on what is left.

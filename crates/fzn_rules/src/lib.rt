@@ -2,7 +2,7 @@
 //!
 //! In: a constraint, a set for each variable and a rule with its hints. Out: whether the rule is met. Proved against `specs/Rules.antt`
 //! (when a rule is met), with a file of `specs/` for each rule of the five globals (all different, table, cumulative, circuit and
-//! inverse), and against the meaning of constraints: where a rule is met, no choice of values meets the constraint. The rules of builtins
+//! inverse) and for that of rows, and against the meaning of constraints: where a rule is met, no choice of values meets the constraint. The rules of builtins
 //! stand in `fzn_builtin_rules`.
 #![tactic(auto)]
 
@@ -14,6 +14,7 @@ pub use load::is_load_met;
 pub use pair::is_pair_met;
 pub use refutation::refutes;
 pub use rule::{GREATEST_HINT, LEAST_HINT, Rule};
+pub use separable::is_row_met;
 
 mod cut;
 mod energy;
@@ -23,4 +24,5 @@ mod load;
 mod pair;
 mod refutation;
 mod rule;
+mod separable;
 mod task;

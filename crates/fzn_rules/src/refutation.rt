@@ -11,6 +11,7 @@ use crate::hall::is_hall_met;
 use crate::load::is_load_met;
 use crate::pair::is_pair_met;
 use crate::rule::Rule;
+use crate::separable::is_row_met;
 use fzn_builtin_rules::{is_box_met, is_enum_met, is_fixed_met, is_lin_met, is_rows_met};
 use fzn_meaning::Constraint;
 use fzn_sets::Sets;
@@ -43,5 +44,6 @@ fn is_met(constraint: &Constraint, sets: &Sets, rule: &Rule) -> bool
         Rule::Energy(from, until) => is_energy_met(constraint, sets, from, until),
         Rule::Cut(places) => is_cut_met(constraint, sets, places.as_slice()),
         Rule::Pair(first, second) => is_pair_met(constraint, sets, first, second),
+        Rule::Row => is_row_met(constraint, sets),
     }
 }

@@ -4,13 +4,16 @@ use Rattle.std.specs.Prelude.{Contains}
 use Rattle.std.specs.List.{All, filter, range_with_len}
 use Rattle.std.specs.List.Sorted.{IsStrictlyIncreasing}
 use Rattle.std.proofs.lemmas.Bool.{false≢true}
-use Rattle.std.proofs.lemmas.List.{length-set, get_or-set_same, get_or-set_other, take_more, map_more, drop_more, drop_all, get_or_read}
+use Rattle.std.proofs.lemmas.List.{append-nil, length-set, get_or-set_same, get_or-set_other, take_more, map_more, drop_more, drop_all, get_or_read}
+use Rattle.std.proofs.lemmas.List.Concat.{flat_map-append}
 use Rattle.std.proofs.lemmas.List.Elements.{All-contains, All-filter, Contains-append_left, Contains-append_right, Contains-append_cases, Contains-get_or, Contains-push, Contains-push_cases, filter_passes}
 use Rattle.std.proofs.lemmas.List.FromFn.{length-range_with_len, get_or-range_with_len, filter_of_map_range_with_len_more}
 use Rattle.std.proofs.lemmas.List.Kept.{IsStrictlyIncreasing-filter}
 use Rattle.std.proofs.lemmas.Option.{slice_get_cases}
 use Rattle.fzn_derive.specs.declared.derivation.Derivation.{Derivation}
-use Rattle.fzn_derive.specs.declared.derivation.Multiple.{Multiple}
+use Rattle.fzn_cited.specs.declared.multiple.Multiple.{Multiple}
+use Rattle.fzn_row.specs.declared.item.RowItem.{RowItem}
+use Rattle.fzn_row.specs.Derived.{cited_by, all_cited}
 use Rattle.fzn_derive.specs.Derived.{cited}
 use Rattle.fzn_trim.specs.Core.{IsNeeded}
 use Rattle.fzn_trim.specs.Marks.{mark_at, IsMarked, AreMarksOf, HasMore}
@@ -70,6 +73,13 @@ pub more-multiple : (a b c : List Bool) (xs : List Multiple) (i : ℕ) (d : Mult
     → HasMore a c (map (λ multiple. multiple.constraint) (take (i + 1) xs))
 more-multiple a b c xs i d within first second =
     subst (HasMore a c) (sym (map_more (λ (multiple : Multiple). multiple.constraint) xs i d within)) (more-then a b c (map (λ (multiple : Multiple). multiple.constraint) (take i xs)) ((get_or xs i d).constraint ∷ []) first second)
+
+pub more-item : (a b c : List Bool) (xs : List RowItem) (i : ℕ) (item : RowItem) → i < length xs → item ≡ get_or xs i item → HasMore a b (all_cited (take i xs)) → HasMore b c (cited_by item) → HasMore a c (all_cited (take (i + 1) xs))
+more-item a b c xs i item within is first second =
+    let last : all_cited (get_or xs i item ∷ []) ≡ cited_by item = append-nil (cited_by (get_or xs i item)) ∙ ap cited_by (sym is) in
+    let step : all_cited (take (i + 1) xs) ≡ all_cited (take i xs) ++ cited_by item =
+    ap all_cited (take_more xs i item within) ∙ flat_map-append cited_by (take i xs) (get_or xs i item ∷ []) ∙ ap (λ (ns : List ℕ). all_cited (take i xs) ++ ns) last in
+    subst (HasMore a c) (sym step) (more-then a b c (all_cited (take i xs)) (cited_by item) first second)
 
 -- what is read at a number
 pub marked-here : (marks : List Bool) (k : ℕ) (b v : Bool) → k < length marks → b ≡ get_or marks k b → b ≡ v → mark_at marks k ≡ v

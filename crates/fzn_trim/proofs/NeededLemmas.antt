@@ -13,8 +13,9 @@ use Rattle.fzn_meaning.specs.declared.model.Var.{Var}
 use Rattle.fzn_meaning.specs.Meaning.{Meets, IsWellFormed as IsWellFormedConstraint}
 use Rattle.fzn_meaning.specs.Solutions.{declared_sets, IsCovered, IsExhausted, IsSolution}
 use Rattle.fzn_derive.specs.declared.derivation.Derivation.{Derivation}
-use Rattle.fzn_derive.specs.Cited.{constraint_at}
-use Rattle.fzn_derive.specs.Derived.{cited, AreMet}
+use Rattle.fzn_cited.specs.Cited.{constraint_at}
+use Rattle.fzn_cited.specs.Cited.{AreMet}
+use Rattle.fzn_derive.specs.Derived.{cited}
 use Rattle.fzn_derive.proofs.DerivedLaws.{derived-Meets}
 use Rattle.fzn_head.specs.Extended.{with_constraint, IsDerivedOf, Extends}
 use Rattle.fzn_head.proofs.ExtendedLaws.{IsCitable, citable-after, with_constraints, only_constraints}

@@ -3,12 +3,15 @@ ghost use Rattle.std.specs.Prelude.{◌≡◌, ◌+◌, ◌≤◌, ◌<◌, ◌�
 ghost use Rattle.std.specs.List.{filter, range_with_len};
 ghost use Rattle.std.specs.List.Sorted.{IsStrictlyIncreasing};
 ghost use Rattle.fzn_meaning.specs.Meaning.{longest};
+ghost use Rattle.fzn_row.specs.Derived.{cited_by, all_cited};
 ghost use Rattle.fzn_derive.specs.Derived.{cited};
 ghost use Rattle.fzn_trim.specs.Core.{IsNeeded};
 ghost use Rattle.fzn_trim.specs.Marks.{mark_at, HasMore};
 
-use fzn_derive::{Derivation, Multiple};
+use fzn_cited::Multiple;
+use fzn_derive::Derivation;
 use fzn_domain::Memory;
+use fzn_row::RowItem;
 use std::alloc::Global;
 
 /// The numbers from 1 to `own` of the constraints that are needed for those with these numbers, in rising order, where the first of the
@@ -57,6 +60,26 @@ fn mark_cited(marks: &mut Vec<bool>, derivation: &Derivation)
         Derivation::Sum(multiples) => mark_multiples(marks, multiples.as_slice()),
         Derivation::Parity(constraints) => mark_all(marks, constraints.as_slice()),
         Derivation::AllDifferent { constraints, .. } => mark_all(marks, constraints.as_slice()),
+        Derivation::Row(items) => mark_items(marks, items.as_slice()),
+    }
+}
+
+fn mark_items(marks: &mut Vec<bool>, items: &[RowItem])
+    ensures { HasMore marks.old.items marks.new.items (all_cited items.now) }
+{
+    for item in items {
+        mark_item(marks, item);
+    }
+}
+
+/// Marks the constraints that the item of a row cites.
+fn mark_item(marks: &mut Vec<bool>, item: &RowItem)
+    ensures { HasMore marks.old.items marks.new.items (cited_by item.now) }
+{
+    match item {
+        RowItem::Multiples(multiples) => mark_multiples(marks, multiples.as_slice()),
+        RowItem::Prices { constraint, .. } => mark(marks, *constraint),
+        RowItem::Move { constraint, .. } => mark(marks, *constraint),
     }
 }
 

@@ -1,7 +1,7 @@
 use Rattle.std.proofs.Common.{ℕ, List, ◌∷◌, sym, ap, ◌∙◌, rules, w64, of_z, to_z, FitsSigned}
 use Rattle.std.proofs.lemmas.Int.{to_z-of_z}
 use Rattle.fzn_cert.specs.Derivations.{multiples_of}
-use Rattle.fzn_cert_reader.proofs.DerivationLaws.{reads_on, no_multiplier, no_second, no_number, all_read}
+use Rattle.fzn_cert_reader.proofs.MultipleLaws.{reads_on, no_multiplier, no_second, no_number, all_read}
 use Rattle.fzn_cert_reader.proofs.derivation.multiples_of.Goals as goal
 
 pub returns-in_default-multiplier_of : goal.returns-in_default-multiplier_of

@@ -1,6 +1,6 @@
 use Rattle.std.proofs.Common.{◌≡◌}
 use Rattle.fzn_cert.specs.Derivations.{multiples_of}
-use Rattle.fzn_cert_reader.proofs.DerivationLaws.{with_read}
+use Rattle.fzn_cert_reader.proofs.MultipleLaws.{with_read}
 use Rattle.fzn_cert_reader.proofs.derivation.multiples_of.Given as goal
 
 abbrev pub invariant-loop-word : goal.invariant-loop-word

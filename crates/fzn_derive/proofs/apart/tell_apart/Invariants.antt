@@ -1,6 +1,6 @@
 use Rattle.std.proofs.Common.{◌≡◌, length}
 use Rattle.std.specs.List.{All}
-use Rattle.fzn_derive.specs.declared.fault.DeriveFault.{DeriveFault}
+use Rattle.fzn_cited.specs.declared.fault.DeriveFault.{DeriveFault}
 use Rattle.fzn_derive.specs.Apart.{two_by_two, pairs_cited, IsPairTold, IsPairsFault}
 use Rattle.fzn_derive.proofs.apart.tell_apart.Given as goal
 

@@ -6,7 +6,7 @@ use Rattle.std.proofs.lemmas.Result.{err_from_is_err_and}
 use Rattle.fzn_domain.specs.declared.literal.VarId.{VarId}
 use Rattle.fzn_derive.specs.Apart.{IsPairTold, IsPairWrong}
 use Rattle.fzn_derive.proofs.PairLemmas.{paired, get_or-paired, length-paired}
-use Rattle.fzn_derive.proofs.CitedLemmas.{HoldsUpTo-here}
+use Rattle.fzn_cited.proofs.CitedLemmas.{HoldsUpTo-here}
 use Rattle.fzn_derive.proofs.apart.tell_from_others.Goals as goal
 
 pub returns-in_err-tell_pair-clause-fault : goal.returns-in_err-tell_pair-clause-fault

@@ -1,9 +1,9 @@
 use Rattle.std.proofs.Common.{ℕ, arith, inl, inr, ⊎_elim}
 use Rattle.std.proofs.lemmas.Result.{err_from_is_err_and}
 use Rattle.fzn_meaning.specs.Solutions.{declared_sets}
-use Rattle.fzn_derive.specs.Cited.{IsCitedAs, IsCitedWrong}
+use Rattle.fzn_cited.specs.Cited.{IsCitedAs, IsCitedWrong}
 use Rattle.fzn_derive.specs.Parity.{SaysParity}
-use Rattle.fzn_derive.proofs.CitedLemmas.{HoldsUpTo-here}
+use Rattle.fzn_cited.proofs.CitedLemmas.{HoldsUpTo-here}
 use Rattle.fzn_derive.proofs.AddedLemmas.{all_more}
 use Rattle.fzn_derive.proofs.parity.add_all.Goals as goal
 

@@ -56,6 +56,20 @@ loop-candidate-preserved-else-branch-2 c =
     let after = tried-left given declared at.yielded at.found x before (λ is. true≢false (sym (c.in_ok-gives.ensures.gives.1 is) ∙ c.if-branch.false)) in
     (append_assoc at.yielded (x ∷ []) _ ∙ rw (← steps) at.invariant.0, omega arith, c.gives.ensures.clear, after.derivable, after.candidates, after.each)
 
+pub loop-candidate-preserved-else-branch-3 : goal.loop-candidate-preserved-else-branch-3
+loop-candidate-preserved-else-branch-3 c =
+    let at = c.loop-candidate in
+    let x = c.in-Some.candidate in
+    let given = c.args.given.now in
+    let declared = declared_sets c.args.vars.now in
+    let steps : into_iter_items at.candidate-iterator ≡ x ∷ into_iter_items c.next.new.self = c.in-Some.ensures.steps.0 in
+    let was = at.invariant.1 in
+    let gone = c.in-Some.ensures.steps.1 in
+    let short = ap length steps in
+    let before : AreTried given declared at.yielded at.found = record { derivable = at.invariant.3; candidates = at.invariant.4; each = at.invariant.5 } in
+    let after = tried-left given declared at.yielded at.found x before (λ is. true≢false (sym (c.in_ok-gives.ensures.gives.1 is) ∙ c.if-branch.false)) in
+    (append_assoc at.yielded (x ∷ []) _ ∙ rw (← steps) at.invariant.0, omega arith, c.gives.ensures.clear, after.derivable, after.candidates, after.each)
+
 pub loop-candidate-preserved : goal.loop-candidate-preserved
 loop-candidate-preserved c =
     let at = c.loop-candidate in

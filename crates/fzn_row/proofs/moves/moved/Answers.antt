@@ -5,7 +5,7 @@ use Rattle.std.proofs.lemmas.List.{length-map, get_or-map}
 use Rattle.std.proofs.lemmas.Result.{err_from_is_err_and}
 use Rattle.fzn_meaning.specs.declared.term.Term.TheVariants.{Constant}
 use Rattle.fzn_meaning.specs.Term.{number_in, numbers_in}
-use Rattle.fzn_row.specs.Row.{listed_at, weight_at}
+use Rattle.fzn_meaning.specs.Separable.{listed_at, weight_at}
 use Rattle.fzn_row.specs.Prices.{is_entry_within}
 use Rattle.fzn_row.specs.Moves.{both_weights, moved_from}
 use Rattle.fzn_row.proofs.MoveLemmas.{moved-more, moved-at, length-moved, within-push, within-fails}

@@ -1,7 +1,7 @@
 use Rattle.std.proofs.Common.{rules, arith, ◌≡◌, sym, ap, ◌∙◌, ℤ, pos, get_or, ◌+ℤ◌, ◌<◌, ◌≤◌, ◌++◌, ◌∷◌, [], List, Option, unsigned_abs, length, to_z, of_z, w64, FitsSigned}
 use Rattle.std.proofs.lemmas.Int.{ints}
 use Rattle.std.specs.Option.{option_map}
-use Rattle.fzn_row.specs.Row.{listed_at}
+use Rattle.fzn_meaning.specs.Separable.{listed_at}
 use Rattle.fzn_row.proofs.PriceLemmas.{entries-more, prices-facts}
 use Rattle.fzn_row.proofs.prices.entries_of.Goals as goal
 

@@ -1,7 +1,7 @@
 use Rattle.std.proofs.Common.{arith, ◌≡◌, ◌<◌, length, ◌∙◌, subst, ◌⊎◌, Ok, Err}
 use Rattle.std.proofs.lemmas.Result.{err_from_is_err_and}
 use Rattle.fzn_meaning.specs.Solutions.{declared_sets}
-use Rattle.fzn_derive.specs.declared.fault.DeriveFault.TheVariants.{Memory}
+use Rattle.fzn_cited.specs.declared.fault.DeriveFault.TheVariants.{Memory}
 use Rattle.fzn_row.specs.Derived.{item_added}
 use Rattle.fzn_row.specs.Room.{draft_of}
 use Rattle.fzn_row.proofs.TurnLemmas.{turn-more, turn-fault_or}

@@ -3,8 +3,8 @@ use Rattle.fzn_meaning.specs.declared.constraint.Constraint.{Constraint}
 use Rattle.fzn_meaning.specs.Meaning.{IsWellFormed}
 use Rattle.fzn_builtin_rules.specs.Form.{Form, Fits}
 use Rattle.fzn_builtin_rules.proofs.CallerLemmas.{form_fits}
-use Rattle.fzn_derive.specs.Cited.{constraint_at}
-use Rattle.fzn_derive.proofs.CitedLemmas.{each_at}
+use Rattle.fzn_cited.specs.Cited.{constraint_at}
+use Rattle.fzn_cited.proofs.CitedLemmas.{each_at}
 use Rattle.fzn_row.specs.Room.{room_size}
 use Rattle.fzn_row.proofs.room.RowDeriver.add_multiple.Goals as goal
 

@@ -1,7 +1,7 @@
 use Rattle.std.proofs.Common.{rules, arith, ◌≡◌, sym, ap, ◌∙◌, subst, ℤ, pos, ◌+ℤ◌, ◌-ℤ◌, Result, Ok, OnOk, FitsSigned, to_z, of_z}
 use Rattle.std.proofs.lemmas.Int.{ints, to_z-of_z}
 use mir.Syntax.{w128}
-use Rattle.fzn_derive.specs.declared.fault.DeriveFault.{DeriveFault}
+use Rattle.fzn_cited.specs.declared.fault.DeriveFault.{DeriveFault}
 use Rattle.fzn_row.specs.Draft.{Draft, with_bound}
 use Rattle.fzn_row.specs.Prices.{price_at, price_added}
 use Rattle.fzn_row.specs.Room.{draft_of}

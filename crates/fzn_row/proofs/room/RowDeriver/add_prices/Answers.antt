@@ -2,8 +2,8 @@ use Rattle.std.proofs.Common.{◌≡◌, sym, ap, ◌∙◌, subst, List, Option
 use Rattle.fzn_meaning.specs.declared.term.Term.{Term}
 use Rattle.fzn_meaning.specs.declared.constraint.Constraint.{Constraint}
 use Rattle.fzn_meaning.specs.Meaning.{IsWellFormed, AreTerms}
-use Rattle.fzn_derive.specs.Cited.{constraint_at}
-use Rattle.fzn_derive.proofs.CitedLemmas.{each_at}
+use Rattle.fzn_cited.specs.Cited.{constraint_at}
+use Rattle.fzn_cited.proofs.CitedLemmas.{each_at}
 use Rattle.fzn_row.specs.Prices.{priced_places}
 use Rattle.fzn_row.specs.Room.{room_size}
 use Rattle.fzn_row.proofs.PricesSound.{places-formed}

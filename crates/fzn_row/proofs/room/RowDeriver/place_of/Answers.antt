@@ -1,7 +1,7 @@
 use Rattle.std.proofs.Common.{arith, ◌<◌, ◌-◌, length, sym, ap, ◌∙◌}
 use Rattle.std.proofs.lemmas.List.{get_or_read}
 use Rattle.std.proofs.lemmas.Bool.{eqb-true}
-use Rattle.fzn_row.specs.declared.row.Part.{Part}
+use Rattle.fzn_meaning.specs.declared.row.Part.{Part}
 use Rattle.fzn_row.proofs.PartLemmas.{place-found, slot-first}
 use Rattle.fzn_row.proofs.room.RowDeriver.place_of.Goals as goal
 

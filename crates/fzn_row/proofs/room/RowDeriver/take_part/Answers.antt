@@ -1,7 +1,7 @@
 use Rattle.std.proofs.Common.{arith, sym, ap, ◌∙◌, subst}
 use Rattle.std.proofs.lemmas.List.Elements.{All-set}
-use Rattle.fzn_row.specs.declared.row.Part.{Part}
-use Rattle.fzn_row.specs.Row.{IsPart}
+use Rattle.fzn_meaning.specs.declared.row.Part.{Part}
+use Rattle.fzn_meaning.specs.Separable.{IsPart}
 use Rattle.fzn_row.specs.Draft.{blank_part}
 use Rattle.fzn_row.specs.Room.{room_size}
 use Rattle.fzn_row.proofs.PartLemmas.{found-set, var-part_for}

@@ -1,0 +1,311 @@
+// The objective with a sum of rows, each times its multiplier, and with prices, where each variable is free within its declared set.
+use crate::apart::Apart;
+use crate::lists::List;
+use crate::moves::Move;
+use crate::multiplier::{Multiplier, narrowed};
+use crate::problem::Problem;
+use fzn_domain::Memory;
+use fzn_meaning::Term;
+use fzn_multipliers::{Row, Rows};
+use std::alloc::Global;
+
+/// The sum that some multipliers and prices make, and where it is least.
+#[derive(Debug, Drop)]
+pub struct Lagrangian {
+    /// By the numbers of the variables, less one: what each is multiplied with.
+    slopes: Vec<i64>,
+    /// By the places of the values that are listed: what each weighs besides.
+    weights: Vec<i64>,
+    /// What is added besides.
+    constant: i128,
+    /// The greatest number that a variable is multiplied with, without its sign.
+    pub steepest: i64,
+    /// By the places of the definitions: their multipliers.
+    pub defining: Vec<i64>,
+    /// By the places of the moves: whether there was something that moved.
+    pub moving: Vec<bool>,
+    /// By the numbers of the variables, less one: their values where the sum is least.
+    values: Vec<i64>,
+}
+
+impl Lagrangian {
+    /// That of no row.
+    pub fn new(alloc: Global, problem: &Problem) -> Result<Lagrangian, Memory> {
+        let vars = problem.bounds.len();
+        Ok(Lagrangian {
+            slopes: vec![in alloc; 0; vars]?,
+            weights: vec![in alloc; 0; problem.lists.len()]?,
+            constant: 0,
+            steepest: 0,
+            defining: vec![in alloc; 0; problem.definitions.len()]?,
+            moving: vec![in alloc; false; problem.moves.all.len()]?,
+            values: vec![in alloc; 0; vars]?,
+        })
+    }
+
+    /// The objective alone, times this number.
+    pub fn begin(&mut self, problem: &Problem, scale: i64) {
+        for variable in problem.plain.iter() {
+            self.flatten(*variable);
+        }
+        for list in problem.lists.all.iter() {
+            self.flatten(list.variable);
+        }
+        for weight in self.weights.iter_mut() {
+            *weight = 0;
+        }
+        self.constant = 0;
+        self.steepest = 0;
+        if let Some(objective) = problem.objective
+            && let Some(slope) = self.slopes.get_mut(objective.variable)
+        {
+            *slope = objective.sign.saturating_mul(scale);
+        }
+    }
+
+    fn flatten(&mut self, variable: usize) {
+        if let Some(slope) = self.slopes.get_mut(variable) {
+            *slope = 0;
+        }
+    }
+
+    /// Adds a row, so many times.
+    pub fn add(&mut self, rows: &Rows, row: Row, multiplier: i64) {
+        if multiplier == 0 {
+            return;
+        }
+        for entry in rows.entries_of(row) {
+            if let Some(slope) = self.slopes.get_mut(entry.variable) {
+                let more = multiplier.saturating_mul(entry.coefficient);
+                *slope = slope.saturating_add(more);
+            }
+        }
+        let less = (multiplier as i128).wrapping_mul(row.bound as i128);
+        self.constant = self.constant.wrapping_sub(less);
+    }
+
+    /// Adds the prices of the places of a constraint, of which each value has one at the most.
+    pub fn charge(&mut self, problem: &Problem, apart: Apart, prices: &[Multiplier]) {
+        for term in problem.aparts.terms_of(apart) {
+            match *term {
+                Term::Constant(value) => {
+                    if let Some(place) = apart.place_of(value)
+                        && let Some(price) = prices.get(place)
+                    {
+                        self.constant = self.constant.wrapping_add(price.number as i128);
+                    }
+                }
+                Term::Variable(var) => {
+                    if let Some(list) = problem.lists.list_of(var.0.saturating_sub(1)) {
+                        self.charge_list(list, apart, prices);
+                    }
+                }
+            }
+        }
+        for price in prices {
+            self.constant = self.constant.wrapping_sub(price.number as i128);
+        }
+    }
+
+    fn charge_list(&mut self, list: List, apart: Apart, prices: &[Multiplier]) {
+        let mut value = apart.low;
+        for price in prices {
+            if let Some(place) = list.place_of(value)
+                && let Some(weight) = self.weights.get_mut(place)
+            {
+                *weight = weight.saturating_add(price.number);
+            }
+            value = value.saturating_add(1);
+        }
+    }
+
+    /// Takes out what is defined and what moves: the least that is left then.
+    pub fn end(&mut self, problem: &Problem, rows: &Rows) -> i128 {
+        self.define(problem, rows);
+        self.move_all(problem);
+        self.minimise(problem)
+    }
+
+    /// Takes the defined variables out.
+    fn define(&mut self, problem: &Problem, rows: &Rows) {
+        for place in 0..problem.definitions.len() {
+            if let Some(definition) = problem.definitions.get(place) {
+                let slope = self.slope_of(definition.variable);
+                let wanted = slope.saturating_mul(definition.sign.wrapping_neg());
+                let multiplier = if definition.row.is_equal {
+                    wanted
+                } else {
+                    wanted.max(0)
+                };
+                self.add(rows, definition.row, multiplier);
+                if let Some(last) = self.defining.get_mut(place) {
+                    *last = multiplier;
+                }
+            }
+        }
+    }
+
+    fn slope_of(&self, variable: usize) -> i64 {
+        self.slopes.get(variable).copied().unwrap_or(0)
+    }
+
+    /// What a variable is multiplied with at last.
+    fn last_slope_of(&mut self, variable: usize) -> i64 {
+        let slope = self.slope_of(variable);
+        self.steepest = self.steepest.max(slope.saturating_abs());
+        slope
+    }
+
+    fn move_all(&mut self, problem: &Problem) {
+        for place in 0..problem.moves.all.len() {
+            if let Some(one) = problem.moves.all.get(place).copied() {
+                let is_moving = self.move_one(problem, one);
+                if let Some(moving) = self.moving.get_mut(place) {
+                    *moving = is_moving;
+                }
+            }
+        }
+    }
+
+    /// What the value weighs moves to the index. Whether it weighs something.
+    fn move_one(&mut self, problem: &Problem, one: Move) -> bool {
+        let Some(index) = problem.lists.list_of(one.index) else {
+            return false;
+        };
+        let from = problem.lists.list_of(one.value);
+        let slope = self.last_slope_of(one.value);
+        if slope == 0 && from.is_none() {
+            return false;
+        }
+        let mut place_after = 0i64;
+        for entry in problem.moves.entries_of(one) {
+            place_after = place_after.saturating_add(1);
+            let mut more = slope.saturating_mul(*entry);
+            if let Some(from) = from {
+                more = more.saturating_add(self.weight_at(from, *entry));
+            }
+            if let Some(place) = index.place_of(place_after)
+                && let Some(weight) = self.weights.get_mut(place)
+            {
+                *weight = weight.saturating_add(more);
+            }
+        }
+        self.flatten(one.value);
+        if let Some(from) = from {
+            self.clear(from);
+        }
+        true
+    }
+
+    fn weight_at(&self, list: List, value: i64) -> i64 {
+        match list.place_of(value) {
+            Some(place) => self.weights.get(place).copied().unwrap_or(0),
+            None => 0,
+        }
+    }
+
+    fn clear(&mut self, list: List) {
+        for place in list.start..list.end {
+            if let Some(weight) = self.weights.get_mut(place) {
+                *weight = 0;
+            }
+        }
+    }
+
+    /// Finds the values of the variables where the sum is least: what it is there.
+    fn minimise(&mut self, problem: &Problem) -> i128 {
+        let mut least = self.constant;
+        for variable in problem.plain.iter() {
+            let slope = self.last_slope_of(*variable);
+            if let Some(bounds) = problem.bounds.get(*variable) {
+                self.set(*variable, if slope < 0 { bounds.high } else { bounds.low });
+                least = least.wrapping_add(bounds.least_product(slope));
+            }
+        }
+        for list in problem.lists.all.iter() {
+            let slope = self.last_slope_of(list.variable);
+            if let Some((weight, value)) = self.least_in(problem, *list, slope) {
+                self.set(list.variable, value);
+                least = least.wrapping_add(weight as i128);
+            }
+        }
+        least
+    }
+
+    /// The least weight of the values that can be, and where it is.
+    fn least_in(&self, problem: &Problem, list: List, slope: i64) -> Option<(i64, i64)> {
+        let mut least = None;
+        let mut value = list.low;
+        for place in list.start..list.end {
+            if problem.lists.is_allowed(place)
+                && let Some(weight) = self.weights.get(place)
+            {
+                let weight = weight.saturating_add(slope.saturating_mul(value));
+                least = lesser(least, weight, value);
+            }
+            value = value.saturating_add(1);
+        }
+        least
+    }
+
+    fn set(&mut self, variable: usize, value: i64) {
+        if let Some(place) = self.values.get_mut(variable) {
+            *place = value;
+        }
+    }
+
+    fn value_of(&self, variable: usize) -> i64 {
+        self.values.get(variable).copied().unwrap_or(0)
+    }
+
+    /// Finds the values there of the variables that were taken out.
+    pub fn settle(&mut self, problem: &Problem, rows: &Rows) {
+        for one in problem.moves.all.iter() {
+            if let Some(entry) = problem.moves.entry_at(*one, self.value_of(one.index)) {
+                self.set(one.value, entry);
+            }
+        }
+        for definition in problem.definitions.iter().rev() {
+            self.set(definition.variable, 0);
+            let lacking = self.excess(rows, definition.row).saturating_neg();
+            self.set(definition.variable, lacking.saturating_mul(definition.sign));
+        }
+    }
+
+    /// How far the sum of the row lies above its bound there.
+    pub fn excess(&self, rows: &Rows, row: Row) -> i64 {
+        let mut sum = 0i64;
+        for entry in rows.entries_of(row) {
+            let product = entry
+                .coefficient
+                .saturating_mul(self.value_of(entry.variable));
+            sum = sum.saturating_add(product);
+        }
+        sum.saturating_sub(row.bound)
+    }
+
+    /// How many places more than one have each value of the constraint.
+    pub fn count(&self, problem: &Problem, apart: Apart, prices: &mut [Multiplier]) {
+        for price in prices.iter_mut() {
+            price.excess = -1;
+        }
+        for term in problem.aparts.terms_of(apart) {
+            let value = match *term {
+                Term::Constant(value) => value,
+                Term::Variable(var) => self.value_of(var.0.saturating_sub(1)),
+            };
+            if let Some(place) = apart.place_of(value)
+                && let Some(price) = prices.get_mut(place)
+            {
+                price.excess = price.excess.saturating_add(1);
+            }
+        }
+    }
+}
+
+fn lesser(least: Option<(i64, i64)>, weight: i64, value: i64) -> Option<(i64, i64)> {
+    match least {
+        Some((before, _)) if before <= weight => least,
+        _ => Some((weight, value)),
+    }
+}

@@ -1,0 +1,167 @@
+-- The row that items make has parts within the limits, each of another variable.
+use Rattle.std.proofs.Common.{◌≡◌, ℕ, ◌≤◌, Bool, true, false, cond, ◌&&◌, nat_eq, nat_le, List, length, slice_index_or, refl, subst, arith, ℤ, pos, ◌+ℤ◌, ◌-ℤ◌, ◌*ℤ◌, unsigned_abs, Option, None, Some, IfSome, Ok, Err, All}
+use Rattle.std.specs.List.{list_all}
+use Rattle.std.specs.Option.{option_map_or}
+use Rattle.std.proofs.lemmas.Int.{ints}
+use Rattle.std.proofs.lemmas.Bool.Decides.{nat_tests}
+use Rattle.std.proofs.lemmas.List.{length-map}
+use Rattle.fzn_list.specs.Limits.{longest}
+use Rattle.fzn_domain.specs.IntSet.{IntSet}
+use Rattle.fzn_domain.specs.Limits.{IsInLimits}
+use Rattle.fzn_domain.specs.Narrow.{IsVariable}
+use Rattle.fzn_domain.specs.declared.literal.VarId.{VarId}
+use Rattle.fzn_meaning.specs.declared.term.Term.{Term}
+use Rattle.fzn_meaning.specs.declared.term.Term.TheVariants.{Constant, Variable}
+use Rattle.fzn_meaning.specs.declared.term.Place.{Place}
+use Rattle.fzn_meaning.specs.declared.constraint.Constraint.{Constraint}
+use Rattle.fzn_meaning.specs.declared.constraint.Constraint.TheVariants.{Element}
+use Rattle.fzn_meaning.specs.declared.row.Row.{Row}
+use Rattle.fzn_meaning.specs.Term.{IsTerm, IsPlace, number_in, numbers_in}
+use Rattle.fzn_meaning.specs.Meaning.{IsWellFormed, AreTerms}
+use Rattle.fzn_meaning.specs.Separable.{IsSeparableRow}
+use Rattle.fzn_builtin_rules.specs.Form.{Form, Fits, form_of}
+use Rattle.fzn_builtin_rules.proofs.CallerLemmas.{form_fits}
+use Rattle.fzn_cited.specs.declared.fault.DeriveFault.TheVariants.{NoSuchConstraint, NotDerived}
+use Rattle.fzn_cited.specs.declared.multiple.Multiple.{Multiple}
+use Rattle.fzn_cited.specs.Cited.{constraint_at}
+use Rattle.fzn_cited.proofs.CitedLemmas.{each_at}
+use Rattle.fzn_row.specs.declared.item.RowItem.{RowItem}
+use Rattle.fzn_row.specs.declared.item.RowItem.TheVariants as item
+use Rattle.fzn_row.specs.Draft.{Draft, empty, row_of, row_stated, part_for, with_bound, and_then, in_turn}
+use Rattle.fzn_row.specs.Multiples.{term_added, place_added, is_usable, form_added, multiple_added}
+use Rattle.fzn_row.specs.Prices.{entries_from, price_at, price_added, most_cost, priced_places, has_each_price, is_price, are_prices}
+use Rattle.fzn_row.specs.Moves.{moved_from, without_part, part_moved, is_constant, are_targets, element_moved}
+use Rattle.fzn_row.specs.Derived.{item_added, drafted, IsDerivedRow}
+use Rattle.fzn_row.proofs.PriceLemmas.{both_true, length-entries}
+use Rattle.fzn_row.proofs.MoveLemmas.{length-moved}
+use Rattle.fzn_row.proofs.PricesSound.{places-formed}
+use Rattle.fzn_row.proofs.DraftSound.{no_error, then-both, turn-keeps}
+use Rattle.fzn_row.proofs.FormedLemmas.{IsFormed, pairs-once, bound-formed, coefficient-formed, list-formed, blank-put-formed}
+
+-- ---- multiples
+
+module _ (count : ℕ) where
+  term-formed : (amount : ℤ) (term : Term) (draft after : Draft) → IsTerm count term → IsFormed count draft → term_added amount draft term ≡ Ok after → IsFormed count after
+  term-formed amount (Constant k) draft after fits formed is = bound-formed count draft after formed (draft.bound -ℤ amount *ℤ k) is
+  term-formed amount (Variable var) draft after fits formed is = coefficient-formed count draft after formed var ((part_for var draft.parts).coefficient +ℤ amount) fits is
+
+  form-formed : (multiplier : ℤ) (found : Form) (draft after : Draft) → Fits count found → IsFormed count draft → form_added multiplier draft found ≡ Ok after → IsFormed count after
+  unfolding form_added
+  form-formed multiplier found draft after fits formed is =
+      let parts = then-both (in_turn (place_added multiplier) draft found.places) (λ next. with_bound (next.bound +ℤ found.bound *ℤ multiplier) next) after is in
+      let places = turn-keeps (place_added multiplier) (IsFormed count) found.places draft parts.0 (λ k d inside. place-formed (slice_index_or found.places k d) (fits.places_fit k d inside)) formed parts.1 in
+      bound-formed count parts.0 after places (parts.0.bound +ℤ found.bound *ℤ multiplier) parts.2
+    where
+      place-formed : (place : Place) → IsPlace count place → (before next : Draft) → IsFormed count before → place_added multiplier before place ≡ Ok next → IsFormed count next
+      place-formed place fits before next formed is = term-formed (place.coefficient *ℤ multiplier) place.term before next fits.0 formed is
+
+  tested_form-formed : (multiplier : ℤ) (found : Form) (draft after : Draft) (test : Bool) → Fits count found → IsFormed count draft → cond test (form_added multiplier draft found) (Err NotDerived) ≡ Ok after → IsFormed count after
+  tested_form-formed multiplier found draft after true fits formed is = form-formed multiplier found draft after fits formed is
+  tested_form-formed multiplier found draft after false fits formed is = absurd (no_error NotDerived after is)
+
+  maybe_form-formed : (multiplier : ℤ) (o : Option Form) (draft after : Draft) → IfSome o (Fits count) → IsFormed count draft
+      → option_map_or (λ (found : Form). cond (is_usable multiplier found) (form_added multiplier draft found) (Err NotDerived)) o (Err NotDerived) ≡ Ok after → IsFormed count after
+  maybe_form-formed multiplier None draft after fits formed is = absurd (no_error NotDerived after is)
+  maybe_form-formed multiplier (Some found) draft after fits formed is = tested_form-formed multiplier found draft after (is_usable multiplier found) fits formed is
+
+  maybe_multiple-formed : (multiplier : ℤ) (o : Option Constraint) (draft after : Draft) → IfSome o (IsWellFormed count) → IsFormed count draft
+      → option_map_or (λ (c : Constraint). option_map_or (λ (found : Form). cond (is_usable multiplier found) (form_added multiplier draft found) (Err NotDerived)) (form_of c) (Err NotDerived)) o (Err NoSuchConstraint) ≡ Ok after
+      → IsFormed count after
+  maybe_multiple-formed multiplier None draft after well formed is = absurd (no_error NoSuchConstraint after is)
+  maybe_multiple-formed multiplier (Some c) draft after well formed is = maybe_form-formed multiplier (form_of c) draft after (form_fits count c well) formed is
+
+-- ---- prices
+
+low_of : (low : ℤ) → unsigned_abs low ≤ 1000000000 → IsInLimits low
+low_of low h = (grind (arith, ints), grind (arith, ints))
+
+few_of : (m n : ℕ) → nat_le m n ≡ true → m ≤ n
+few_of m n h = grind (arith, nat_tests)
+
+module _ (count : ℕ) (low : ℤ) (prices : List ℤ) (priced : are_prices low prices ≡ true) where
+  limits : (unsigned_abs low ≤ 1000000000) × (length prices ≤ 65536)
+  limits =
+      let first = both_true (nat_le (unsigned_abs low) 1000000000 && nat_le (length prices) 65536) (list_all is_price prices) priced in
+      let second = both_true (nat_le (unsigned_abs low) 1000000000) (nat_le (length prices) 65536) first.0 in
+      (few_of (unsigned_abs low) 1000000000 second.0, few_of (length prices) 65536 second.1)
+
+  price-formed : (place : Term) → IsTerm count place → (before next : Draft) → IsFormed count before → price_added low prices before place ≡ Ok next → IsFormed count next
+  price-formed (Constant k) fits before next formed is = bound-formed count before next formed (before.bound -ℤ price_at low prices k) is
+  price-formed (Variable var) fits before next formed is =
+      let old = (part_for var before.parts).listed in
+      let few : length (entries_from low prices old) ≤ 65536 = rw (length-entries low prices old) limits.1 in
+      list-formed count before next formed var low (entries_from low prices old) fits (low_of low limits.0) few is
+
+  priced-formed : (places : List Term) (draft after : Draft) → All (IsTerm count) places → IsFormed count draft
+      → and_then (in_turn (price_added low prices) draft places) (λ next. with_bound (next.bound +ℤ most_cost (length places) prices) next) ≡ Ok after → IsFormed count after
+  priced-formed places draft after fit formed is =
+      let parts = then-both (in_turn (price_added low prices) draft places) (λ next. with_bound (next.bound +ℤ most_cost (length places) prices) next) after is in
+      let all = turn-keeps (price_added low prices) (IsFormed count) places draft parts.0 (λ k d inside. price-formed (slice_index_or places k d) (fit k d inside)) formed parts.1 in
+      bound-formed count parts.0 after all (parts.0.bound +ℤ most_cost (length places) prices) parts.2
+
+module _ (declared : List IntSet) (low : ℤ) (prices : List ℤ) where
+  places-formed_with : (count : ℕ) (c : Constraint) (o : Option (List Term)) (draft after : Draft) (test : Bool) → (are_prices low prices && has_each_price declared low prices c) ≡ test → IfSome o (AreTerms count) → IsFormed count draft
+      → option_map_or (λ (places : List Term). cond test (and_then (in_turn (price_added low prices) draft places) (λ next. with_bound (next.bound +ℤ most_cost (length places) prices) next)) (Err NotDerived)) o (Err NotDerived) ≡ Ok after → IsFormed count after
+  places-formed_with count c None draft after test test_is fit formed is = absurd (no_error NotDerived after is)
+  places-formed_with count c (Some places) draft after true test_is fit formed is = priced-formed count low prices (both_true (are_prices low prices) (has_each_price declared low prices c) test_is).0 places draft after fit.0 formed is
+  places-formed_with count c (Some places) draft after false test_is fit formed is = absurd (no_error NotDerived after is)
+
+  maybe_prices-formed : (count : ℕ) (o : Option Constraint) (draft after : Draft) → IfSome o (IsWellFormed count) → IsFormed count draft
+      → option_map_or (λ (c : Constraint). option_map_or (λ (places : List Term). cond (are_prices low prices && has_each_price declared low prices c) (and_then (in_turn (price_added low prices) draft places) (λ next. with_bound (next.bound +ℤ most_cost (length places) prices) next)) (Err NotDerived)) (priced_places c) (Err NotDerived)) o (Err NoSuchConstraint) ≡ Ok after
+      → IsFormed count after
+  maybe_prices-formed count None draft after well formed is = absurd (no_error NoSuchConstraint after is)
+  maybe_prices-formed count (Some c) draft after well formed is = places-formed_with count c (priced_places c) draft after _ refl (places-formed count c well) formed is
+
+-- ---- moves
+
+module _ (count : ℕ) where
+  entries-formed : (var index value : VarId) (entries : List Term) (draft after : Draft) (test : Bool) → (nat_eq value.0 var.0 && are_targets entries) ≡ test → IsVariable count index → IsVariable count value → IsFormed count draft
+      → cond test (part_moved value index (pos 1) (numbers_in entries) draft) (Err NotDerived) ≡ Ok after → IsFormed count after
+  entries-formed var index value entries draft after true test index_fits value_fits formed is =
+      let some = both_true (nat_le (length entries) 65536) (list_all is_constant entries) (both_true (nat_eq value.0 var.0) (are_targets entries) test).1 in
+      let targets = numbers_in entries in
+      let old = (part_for index (without_part value draft).parts).listed in
+      let part = part_for value draft.parts in
+      let few : length (moved_from (pos 1) targets old part) ≤ 65536 = rw (length-moved (pos 1) targets old part, length-map entries number_in) (few_of (length entries) 65536 some.0) in
+      list-formed count (without_part value draft) after (blank-put-formed count draft draft formed value value_fits) index (pos 1) (moved_from (pos 1) targets old part) index_fits (low_of (pos 1) (omega arith)) few is
+  entries-formed var index value entries draft after false test index_fits value_fits formed is = absurd (no_error NotDerived after is)
+
+  element-formed : (var : VarId) (c : Constraint) (draft after : Draft) → IsWellFormed count c → IsFormed count draft → element_moved var draft c ≡ Ok after → IsFormed count after
+  unfolding IsWellFormed
+  element-formed var (Element (Variable index) entries (Variable value)) draft after well formed is = entries-formed var index value entries draft after (nat_eq value.0 var.0 && are_targets entries) refl well.0 well.2 formed is
+  element-formed var _ draft after well formed is = absurd (no_error NotDerived after is)
+
+  maybe_move-formed : (var : VarId) (o : Option Constraint) (draft after : Draft) → IfSome o (IsWellFormed count) → IsFormed count draft → option_map_or (element_moved var draft) o (Err NoSuchConstraint) ≡ Ok after → IsFormed count after
+  maybe_move-formed var None draft after well formed is = absurd (no_error NoSuchConstraint after is)
+  maybe_move-formed var (Some c) draft after well formed is = element-formed var c draft after well formed is
+
+-- ---- all items
+
+stated : (test : Bool) (made row : Row) → cond test (Ok made) (Err NotDerived) ≡ Ok row → (test ≡ true) × (made ≡ row)
+stated true made row is = (refl, cc)
+stated false made row is = absurd (cc)
+
+module _ (given : List Constraint) (declared : List IntSet) (well : All (IsWellFormed (length declared)) given) where
+  well_at : (id : ℕ) → IfSome (constraint_at given id) (IsWellFormed (length declared))
+  well_at id = each_at (IsWellFormed (length declared)) given id well
+
+  multiple-formed : (multiple : Multiple) (before next : Draft) → IsFormed (length declared) before → multiple_added given before multiple ≡ Ok next → IsFormed (length declared) next
+  multiple-formed multiple before next formed is = maybe_multiple-formed (length declared) multiple.multiplier (constraint_at given multiple.constraint) before next (well_at multiple.constraint) formed is
+
+  item-formed : (item : RowItem) (before next : Draft) → IsFormed (length declared) before → item_added given declared before item ≡ Ok next → IsFormed (length declared) next
+  item-formed (item.Multiples multiples) before next formed is =
+      turn-keeps (multiple_added given) (IsFormed (length declared)) multiples before next (λ k d inside. multiple-formed (slice_index_or multiples k d)) formed is
+  item-formed (item.Prices constraint low prices) before next formed is = maybe_prices-formed declared low prices (length declared) (constraint_at given constraint) before next (well_at constraint) formed is
+  item-formed (item.Move constraint variable) before next formed is = maybe_move-formed (length declared) variable (constraint_at given constraint) before next (well_at constraint) formed is
+
+  pub derived_row-formed : (most : ℕ) (items : List RowItem) (row : Row) → IsDerivedRow given declared most items row → IsSeparableRow (length declared) row
+  derived_row-formed most items row derived =
+      let parts = then-both (drafted given declared most items) row_stated row derived in
+      let draft = parts.0 in
+      let formed = turn-keeps (item_added given declared) (IsFormed (length declared)) items (empty most) draft (λ k d inside. item-formed (slice_index_or items k d)) nothing-formed parts.1 in
+      let is = stated (nat_le (length draft.parts) longest) (row_of draft) row parts.2 in
+      subst (IsSeparableRow (length declared)) is.1
+      (record { parts = formed.parts; once = pairs-once draft.parts formed.once; few = few_of (length draft.parts) longest is.0; bound = formed.bound })
+    where
+      nothing-formed : IsFormed (length declared) (empty most)
+      nothing-formed = record { parts = λ k d inside. absurd (omega arith); once = tt; bound = omega arith }

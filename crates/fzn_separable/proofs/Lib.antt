@@ -1,0 +1,6 @@
+mod ClaimLemmas
+mod HeardLemmas
+mod LevelLemmas
+mod RowLemmas
+mod TotalLemmas
+mod WeightLemmas

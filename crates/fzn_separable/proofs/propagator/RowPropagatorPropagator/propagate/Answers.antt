@@ -1,0 +1,15 @@
+use Rattle.std.proofs.lemmas.Result.{on_ok_weaker}
+use Rattle.fzn_separable.proofs.RowLemmas.{row_exhausted}
+use Rattle.fzn_separable.proofs.propagator.RowPropagatorPropagator.propagate.Goals as goal
+
+pub find_all-requires : goal.find_all-requires
+find_all-requires c = record { before = record { all = c.requires.before } }
+
+pub returns-clause-found : goal.returns-clause-found
+returns-clause-found c = c.find_all.ensures.found.all
+
+pub returns-clause-none : goal.returns-clause-none
+returns-clause-none c =
+    on_ok_weaker c.find_all.result
+    (λ room nothing constraint same booleans. row_exhausted c.args.trail.now c.args.self.now.row c.requires.fits (room nothing) constraint same)
+    c.find_all.ensures.none

@@ -1,0 +1,40 @@
+use mir.Syntax.{w128}
+use Rattle.std.proofs.lemmas.Int.{to_z-of_z}
+use Rattle.std.proofs.Common.{rules, arith, FitsSigned, ◌++◌, ◌∷◌, [], ◌≡◌, ◌∙◌, sym, ap, subst, ◌≤◌, ◌<◌, length, List, ℤ, None, Some, get_or}
+use Rattle.fzn_domain.specs.IntSet.{IntSet}
+use Rattle.fzn_meaning.specs.declared.row.Part.{Part}
+use Rattle.fzn_rules.specs.Separable.{IsLeastOf, IsWeightIn, IsLeastWeight}
+use Rattle.fzn_separable.specs.Levels.{AreLeasts}
+use Rattle.fzn_separable.proofs.TotalLemmas.{leasts-more, leasts-all, part_at}
+use Rattle.fzn_separable.proofs.search.find_all.Goals as goal
+
+pub find_barred-requires-clause-barred : goal.find_barred-requires-clause-barred
+find_barred-requires-clause-barred c = λ default.
+    let parts = c.args.pass.now.row.now.parts in
+    let part = c.index-parts-k.result in
+    let items = c.as_slice-parts.ensures in
+    let inside : c.loop-k.k < length c.args.pass.now.row.now.parts = subst (λ (ps : List Part). c.loop-k.k < length ps) c.as_slice-parts.ensures c.loop-k-test.true in
+    subst (λ (p : Part). IsLeastWeight c.args.pass.now.trail.now.sets p None) (sym (part_at parts c.as_slice-parts.result.now c.loop-k.k part inside items c.index-parts-k.is default))
+    (subst (λ (set : IntSet). IsLeastOf (IsWeightIn set part) None) c.domain.ensures.value c.in-None.ensures.least)
+
+pub loop-k-preserved : goal.loop-k-preserved
+loop-k-preserved c =
+    let part = c.index-parts-k.result in
+    let inside : c.loop-k.k < length c.args.pass.now.row.now.parts = subst (λ (ps : List Part). c.loop-k.k < length ps) c.as_slice-parts.ensures c.loop-k-test.true in
+    let fits : FitsSigned w128 c.in-Some.least = search rules in
+    record {
+      leasts = leasts-more c.args.pass.now.trail.now.sets c.args.pass.now.row.now.parts c.loop-k.k part c.in-Some.least c.loop-k.leasts.items c.push.new.self.items inside
+          (c.index-parts-k.is ∙ ap (λ (ps : List Part). get_or ps c.loop-k.k part) c.as_slice-parts.ensures) c.loop-k.invariant.leasts
+          (subst (λ (set : IntSet). IsLeastOf (IsWeightIn set part) (Some c.in-Some.least)) c.domain.ensures.value c.in-Some.ensures.least) c.in-Some.ensures.bounded
+          (c.in_ok-push-in-Some.ensures.items ∙ ap (λ (x : ℤ). c.loop-k.leasts.items ++ x ∷ []) (to_z-of_z w128 c.in-Some.least fits));
+      within = omega (arith, inside);
+      before = c.loop-k.invariant.before;
+    }
+
+pub find_by_leasts-requires-clause-leasts : goal.find_by_leasts-requires-clause-leasts
+find_by_leasts-requires-clause-leasts c =
+    let past : length c.args.pass.now.row.now.parts ≤ c.loop-k.k = subst (λ (ps : List Part). length ps ≤ c.loop-k.k) c.as_slice-parts.ensures c.loop-k-test.false in
+    let within = c.loop-k.invariant.within in
+    let whole : c.loop-k.k ≡ length c.args.pass.now.row.now.parts = omega (arith, past, within) in
+    subst (AreLeasts c.args.pass.now.trail.now.sets c.args.pass.now.row.now.parts) (sym c.as_slice.ensures.value)
+    (leasts-all c.args.pass.now.trail.now.sets c.args.pass.now.row.now.parts c.loop-k.k c.loop-k.leasts.items whole c.loop-k.invariant.leasts)

@@ -1,0 +1,78 @@
+-- What the parts of a row weigh at least on sets, and clauses that say so.
+use Rattle.std.specs.Prelude.{◌≡◌, ◌≢◌, ℕ, ◌<◌, ◌≤◌, true, ℤ, pos, ◌+ℤ◌, ◌≤ℤ◌, ◌<ℤ◌, List, [], ◌∷◌, length, slice_index_or, Option, None, Some, unsigned_abs}
+use Rattle.std.specs.List.{All}
+use Rattle.std.proofs.Props.{props}
+use Rattle.fzn_domain.specs.declared.literal.Lit.{Lit}
+use Rattle.fzn_domain.specs.IntSet.{IntSet, contains}
+use Rattle.fzn_domain.specs.Narrow.{set_of}
+use Rattle.fzn_meaning.specs.declared.row.Listed.{Listed}
+use Rattle.fzn_meaning.specs.declared.row.Part.{Part}
+use Rattle.fzn_meaning.specs.declared.row.Row.{Row}
+use Rattle.fzn_meaning.specs.Separable.{weight_at, IsSeparableRow}
+use Rattle.fzn_rules.specs.Separable.{IsLeastWeight, IsLeastTotal}
+use Rattle.fzn_trail.specs.Levels.{Levels}
+use Rattle.fzn_terms.specs.Denied.{IsGrown}
+
+-- of a row's being one over so many variables there is one proof at most
+pub IsSeparableRow-prop : (count : ℕ) (row : Row) → IsProp (IsSeparableRow count row)
+IsSeparableRow-prop count row = Prim.hlevel props
+
+-- as far from 0 as a part can weigh at the most
+abbrev pub IsWeight : ℤ → Type 0
+IsWeight weight = unsigned_abs weight ≤ 9223372036855775808000000000000
+
+-- numbers added up
+abbrev pub sum_of : List ℤ → ℤ
+sum_of [] = pos 0
+sum_of (x ∷ xs) = x +ℤ sum_of xs
+
+-- ---- levels
+
+-- the weight is no less than the level; where there is no level, none is
+abbrev pub Reaches : Option ℤ → ℤ → Type 0
+Reaches None weight = ⊥
+Reaches (Some level) weight = level ≤ℤ weight
+
+-- no value of the set weighs less than the level; where there is none, each is barred
+abbrev pub HasNoLighter : IntSet → Part → Option ℤ → Type 0
+HasNoLighter set part level = (value weight : ℤ) → contains set value ≡ true → weight_at part value ≡ Some weight → Reaches level weight
+
+-- so it is of the part's variable on the sets
+abbrev pub IsNoLighter : List IntSet → Part → Option ℤ → Type 0
+IsNoLighter sets part level = HasNoLighter (set_of sets part.var) part level
+
+-- so it is of each part and its level, but for the part at an index
+abbrev pub AreNoLighterBut : ℕ → List Part → List ℤ → List IntSet → Type 0
+AreNoLighterBut except parts levels sets =
+    (k : ℕ) (default : Part) (none : ℤ) → k < length parts → k ≢ except → IsNoLighter sets (slice_index_or parts k default) (Some (slice_index_or levels k none))
+
+-- the value listed at an index is in the set only if it weighs no less than the level
+abbrev pub IsEntryNoLighter : List IntSet → Part → Listed → ℕ → Option ℤ → Type 0
+IsEntryNoLighter sets part listed k level =
+    (weight : ℤ) → contains (set_of sets part.var) (listed.low +ℤ pos k) ≡ true → weight_at part (listed.low +ℤ pos k) ≡ Some weight → Reaches level weight
+
+-- the clause, grown from a false one, is false, and says besides that the part weighs no less than the level
+abbrev pub SaysNoLighter : Levels → Part → Option ℤ → List Lit → List Lit → Type 0
+SaysNoLighter trail part level old new = IsGrown trail (λ sets. IsNoLighter sets part level) old new
+
+-- so of all parts but for the one at an index
+abbrev pub SaysAllNoLighter : Levels → ℕ → List Part → List ℤ → List Lit → List Lit → Type 0
+SaysAllNoLighter trail except parts levels old new = IsGrown trail (AreNoLighterBut except parts levels) old new
+
+-- ---- least weights
+
+-- one for each part, which it weighs at least on the sets
+pub record AreLeasts (sets : List IntSet) (parts : List Part) (leasts : List ℤ) : Type 0 where
+  pub one_each : length leasts ≡ length parts
+  pub each : (k : ℕ) (default : Part) (none : ℤ) → k < length leasts → IsLeastWeight sets (slice_index_or parts k default) (Some (slice_index_or leasts k none))
+  pub bounded : All IsWeight leasts
+
+-- one level for each part, none above its least weight but for the one at an index, which come to more than the bound together
+pub record AreEnough (except : ℕ) (leasts levels : List ℤ) (bound : ℤ) : Type 0 where
+  pub one_each : length levels ≡ length leasts
+  pub below : (k : ℕ) (none : ℤ) → k < length leasts → k ≢ except → slice_index_or levels k none ≤ℤ slice_index_or leasts k none
+  pub over : bound <ℤ sum_of levels
+
+-- the least weights come to no more than the bound together
+abbrev pub HasRoom : List IntSet → Row → Type 0
+HasRoom sets row = (total : ℤ) × IsLeastTotal sets row.parts total × (total ≤ℤ row.bound)

@@ -1,0 +1,21 @@
+//! The propagator of a row, which says that what its variables weigh at their values is at most a bound together.
+//!
+//! In: a row of a model, then a trail. Out: that the least weights of its parts exceed the bound, or that each value of a part is barred; or
+//! else the values that are barred and those that weigh more than the other parts leave, and of a part without a list the bound past which
+//! its values do; or none, by the law of the trait `Propagator`. So a pass goes over the weights that are listed, and never over the values
+//! of a wide set. A clause says of each other part that no value of it weighs less than a level; how far these levels may lie below the
+//! least weights is only chosen, and tested before it is used. All is proved against `specs/Levels.antt` and `specs/Passes.antt`.
+#![tactic(auto)]
+
+pub use constraint::propagator_of;
+pub use propagator::RowPropagator;
+
+mod choice;
+mod constraint;
+mod copy;
+mod explain;
+mod pass;
+mod propagator;
+mod search;
+mod values;
+mod weights;

@@ -1,0 +1,23 @@
+// What a pass of the propagator reads.
+ghost use Rattle.std.specs.Prelude.{length};
+ghost use Rattle.fzn_domain.specs.Narrow.{NoneEmpty};
+ghost use Rattle.fzn_meaning.specs.Separable.{IsSeparableRow};
+ghost use Rattle.fzn_separable.specs.Levels.{IsSeparableRow-prop};
+
+use fzn_meaning::Row;
+use fzn_trail::Trail;
+use std::alloc::Global;
+
+/// One pass over the parts of a row, as they stand on a trail on which each present set has a value.
+#[derive(Clone, Copy)]
+pub(crate) struct Pass<'a> {
+    pub alloc: Global,
+    /// The number of the constraint, counted from 1.
+    pub number: u64,
+    pub trail: &'a Trail,
+    pub row: &'a Row,
+    /// What each part weighs at least at its declared values. It only chooses which levels are spoken of.
+    pub floors: &'a [i128],
+    ghost ready: { IsSeparableRow (length trail.now.declared) row.now } by { IsSeparableRow-prop _ _ },
+    ghost filled: { NoneEmpty trail.now.sets },
+}

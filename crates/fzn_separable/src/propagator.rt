@@ -1,0 +1,123 @@
+// The propagator of a row.
+ghost use Rattle.std.specs.Prelude.{◌≡◌, ℕ, List, [], IfOk, OnOk};
+ghost use Rattle.fzn_domain.specs.IntSet.{IntSet};
+ghost use Rattle.fzn_domain.specs.Narrow.{NoneEmpty};
+ghost use Rattle.fzn_meaning.specs.declared.constraint.Constraint.{Constraint};
+ghost use Rattle.fzn_meaning.specs.Separable.{IsPart, IsSeparableRow};
+ghost use Rattle.fzn_propagator.specs.declared.cost.Cost.TheVariants as cost;
+ghost use Rattle.fzn_propagator.specs.Inference.{AreInferencesOf, AreExhausted};
+ghost use Rattle.fzn_propagator.specs.Subscriptions.{terms_of, AreHeard};
+ghost use Rattle.fzn_separable.specs.Propagator.{row_number, RowIsFor, RowFits, event_of, waits_for};
+
+use crate::copy::copied_row;
+use crate::pass::Pass;
+use crate::search::find_all;
+use crate::weights::least_weight;
+use fzn_domain::Memory;
+use fzn_meaning::{Part, Row, Term, Var};
+use fzn_propagator::{Cost, Event, Findings, Propagator, Subscriptions};
+use fzn_trail::Trail;
+use std::alloc::{AllocError, Global};
+
+/// What reasons for one row.
+#[derive(Drop)]
+pub struct RowPropagator {
+    /// The number of the constraint, counted from 1.
+    pub number: u64,
+    /// What its variables weigh, and its bound.
+    pub row: Row,
+    /// What each part weighs at least at its declared values.
+    pub(crate) floors: Vec<i128>,
+}
+
+impl RowPropagator {
+    /// The propagator of this row of variables like these, which has this number. `Err` where memory runs out.
+    pub(crate) fn new(
+        alloc: Global,
+        number: u64,
+        vars: &[Var],
+        row: &Row,
+    ) -> Result<RowPropagator, Memory>
+        requires row { (count : ℕ) × IsSeparableRow count row.now }
+        ensures number { IfOk result (λ propagator. propagator.number ≡ number) }
+        ensures row { IfOk result (λ propagator. propagator.row ≡ row.now) }
+    {
+        Ok(RowPropagator {
+            number,
+            row: copied_row(alloc, row)?,
+            floors: floors_of(alloc, vars, row)?,
+        })
+    }
+}
+
+impl Propagator for RowPropagator {
+    ghost number = { row_number };
+
+    ghost is_for = { RowIsFor };
+
+    ghost fits = { RowFits };
+
+    ghost costs = { λ _. cost.Great };
+
+    /// Each change of a variable whose values are listed, and of another each move of the end at which it weighs least.
+    fn subscriptions(&self, alloc: Global) -> Result<Subscriptions, Memory>
+        requires fits { (declared : List IntSet) × RowFits self.now declared }
+        ensures value { IfOk result (λ subscriptions. subscriptions ≡ waits_for self.now.row.parts) }
+        ensures heard { IfOk result (λ subscriptions. (constraint : Constraint) → RowIsFor self.now constraint → AreHeard subscriptions (terms_of constraint)) }
+    {
+        let mut subscriptions = Subscriptions::new(alloc);
+        for part in self.row.parts.as_slice() {
+            subscriptions.add(Term::Variable(part.var), event_of(part))?;
+        }
+        Ok(subscriptions)
+    }
+
+    fn cost(&self) -> Cost
+        ensures { result ≡ cost.Great }
+    {
+        Cost::Great
+    }
+
+    fn propagate(&self, alloc: Global, trail: &Trail, found: &mut Findings) -> Result<(), Memory> {
+        let pass = Pass {
+            alloc,
+            number: self.number,
+            trail,
+            row: &self.row,
+            floors: self.floors.as_slice(),
+        };
+        find_all(&pass, found)
+    }
+}
+
+/// Which change of the part's variable can raise what it weighs at least.
+fn event_of(part: &Part) -> Event
+    ensures { result ≡ event_of part.now }
+{
+    match &part.listed {
+        Some(_) => Event::Any,
+        None if part.coefficient < 0 => Event::High,
+        None => Event::Low,
+    }
+}
+
+/// What each part weighs at least at its declared values, as far as that is told.
+fn floors_of(alloc: Global, vars: &[Var], row: &Row) -> Result<Vec<i128>, AllocError>
+    requires { (count : ℕ) × IsSeparableRow count row.now }
+{
+    let mut floors = Vec::with_capacity(alloc, row.parts.len())?;
+    for part in row.parts.as_slice() {
+        floors.push(floor_of(vars, part))?;
+    }
+    Ok(floors)
+}
+
+/// What the part weighs at least at the declared values of its variable; 0 where there is none that is not barred.
+fn floor_of(vars: &[Var], part: &Part) -> i128
+    requires { (count : ℕ) × IsPart count part.now }
+{
+    match vars.get(part.var.0.wrapping_sub(1)) {
+        Some(var) if !var.domain.is_empty() => least_weight(part, &var.domain).unwrap_or(0),
+        _ => 0,
+    }
+}
