@@ -1,11 +1,13 @@
 #!/usr/bin/env python3
 """What the search does in a second of processor time, on one model of each kind.
 
-    bench/engine.py [--seconds S] SOLVE [OTHER ..]
+    bench/engine.py [--seconds S] [--tune NAME=NUMBER ..] SOLVE [OTHER ..]
 
 Kinds: clauses (pigeons in holes), sums (a packing), builtins (sums of products), tables (chained pairs). Each model is solved by the clause of the
 decisions and by that of the first unique implication point, for S seconds (5) of processor time, with a certificate, and a row has what was done
-in each second. OTHER is another solver, with its words, for the same files: it prints conf=, dec=, inf= and t= and ends by itself; `limit` among
+in each second. With --tune, which may be given several times, each model has a further row `tuned`: by the first unique implication point with
+these numbers in the place of the search's own, as `--tune decay=900 --tune first_restart=50`; their names are the fields of `Parameters` in
+crates/fzn_strategy/src/parameters.rt. OTHER is another solver, with its words, for the same files: it prints conf=, dec=, inf= and t= and ends by itself; `limit` among
 its words is put in for the seconds."""
 import argparse
 import random
@@ -110,6 +112,7 @@ def others(words, seconds, path):
 def main():
     parser = argparse.ArgumentParser(description=__doc__, formatter_class=argparse.RawDescriptionHelpFormatter)
     parser.add_argument('--seconds', type=int, default=5)
+    parser.add_argument('--tune', action='append', default=[], metavar='NAME=NUMBER')
     parser.add_argument('solve')
     parser.add_argument('other', nargs=argparse.REMAINDER)
     options = parser.parse_args()
@@ -120,6 +123,9 @@ def main():
             file.flush()
             for learn in ('plain', 'first'):
                 runs = [(learn, ours(options.solve, ['--learn', learn], options.seconds, file.name))]
+                if options.tune and learn == 'first':
+                    words = [word for number in options.tune for word in ('--tune', number)]
+                    runs.append(('tuned', ours(options.solve, words, options.seconds, file.name)))
                 if options.other:
                     runs.append(('other', others(options.other + ['uip=0'] * (learn == 'plain'), options.seconds, file.name)))
                 for label, (spent, *counts) in runs:

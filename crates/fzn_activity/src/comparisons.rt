@@ -70,9 +70,9 @@ impl Comparisons {
         self.heap.grow(tie)
     }
 
-    /// The present conflict is over.
-    pub fn decay(&mut self) {
-        self.heap.decay();
+    /// The present conflict is over, and counts so many thousandths of the one after it, 1 to 1,000.
+    pub fn decay(&mut self, thousandths: u64) {
+        self.heap.decay(thousandths);
     }
 
     /// The most active comparison that is neither true nor false.

@@ -4,9 +4,7 @@ ghost use Rattle.std.specs.Prelude.{◌≤◌};
 use crate::pool::Pool;
 use fzn_domain::Memory;
 use std::alloc::Global;
-
-/// How much less a conflict counts than the one after it.
-const DECAY: f64 = 0.95;
+use std::num::nearest_u64_to_f64;
 
 /// Where all activities are made smaller, and by how much.
 const MOST: f64 = 1e100;
@@ -114,9 +112,10 @@ impl Heap {
         }
     }
 
-    /// The present conflict is over.
-    pub fn decay(&mut self) {
-        self.weight /= DECAY;
+    /// The present conflict is over, and counts so many thousandths of the one after it: 1 to 1,000, and what is out of this range counts
+    /// as its nearer end.
+    pub fn decay(&mut self, thousandths: u64) {
+        self.weight /= nearest_u64_to_f64(thousandths.clamp(1, 1_000)) / 1000.0;
         if self.weight > MOST {
             self.shrink();
         }

@@ -4,15 +4,13 @@ ghost use Rattle.std.specs.List.{All};
 ghost use Rattle.fzn_domain.specs.IntSet.{IntSet, size};
 ghost use Rattle.fzn_domain.specs.Narrow.{AllFixed};
 
-use crate::counted::Counted;
 use crate::counters::Counters;
 use crate::order::leading_order;
 use crate::queue::Queue;
-use crate::watchers::{Watch, Watchers};
+use crate::watchers::Watchers;
 use fzn_domain::{Domain, Memory, VarId};
 use fzn_meaning::Model;
 use fzn_propagator::{Change, Propagator};
-use fzn_slack::Shift;
 use fzn_trail::Trail;
 use std::alloc::Global;
 
@@ -31,7 +29,7 @@ pub struct Agenda {
 
 impl Agenda {
     /// All of these propagators of the model are to be asked. `Err` where memory runs out.
-    pub fn new<P: Propagator + Counted>(
+    pub fn new<P: Propagator>(
         alloc: Global,
         model: &Model,
         propagators: &[P],
@@ -39,9 +37,12 @@ impl Agenda {
         requires { All (λ propagator. (declared : List IntSet) × P.fits propagator declared) propagators.now }
     {
         let variables = model.vars.len();
-        let mut counters = Counters::new(alloc, model, propagators)?;
-        let watchers = Watchers::new(alloc, variables, propagators, &counters)?;
-        counters.know(model, &watchers);
+        let mut countings = Vec::new(alloc);
+        for propagator in propagators {
+            countings.push(propagator.counting(alloc)?)?;
+        }
+        let watchers = Watchers::new(alloc, variables, propagators, &countings)?;
+        let counters = Counters::new(alloc, model, &countings, &watchers)?;
         let order = leading_order(alloc, variables, propagators, &watchers)?;
         let queue = Queue::new(alloc, propagators, order.as_slice())?;
         Ok(Agenda {
@@ -53,21 +54,32 @@ impl Agenda {
         })
     }
 
-    /// Queues what watches the variables of the entries that were not looked at yet, but for those that have nothing to say by what they
-    /// count. `Err` where memory runs out.
-    pub fn look(&mut self, trail: &Trail, variables: usize) -> Result<(), Memory>
+    /// Queues which of these propagators watch the variables of the entries that were not looked at yet, but for those that have nothing to
+    /// say by what they count. `Err` where memory runs out.
+    pub fn look<P: Propagator>(
+        &mut self,
+        propagators: &[P],
+        trail: &Trail,
+        variables: usize,
+    ) -> Result<(), Memory>
         requires { variables ≡ length trail.now.declared }
     {
         let len = trail.len();
         for place in self.seen..len {
-            self.wake(trail, variables, place)?;
+            self.wake(propagators, trail, variables, place)?;
         }
         self.seen = len;
         Ok(())
     }
 
     /// Queues what watches the variable of the entry at this place.
-    fn wake(&mut self, trail: &Trail, variables: usize, place: usize) -> Result<(), Memory>
+    fn wake<P: Propagator>(
+        &mut self,
+        propagators: &[P],
+        trail: &Trail,
+        variables: usize,
+        place: usize,
+    ) -> Result<(), Memory>
         requires variables { variables ≡ length trail.now.declared }
         requires place { place < length trail.now.entries }
     {
@@ -83,17 +95,12 @@ impl Agenda {
         for i in start..end {
             if let Some(watch) = self.watchers.get(i)
                 && watch.event.is(change)
-                && !self.has_room(watch, shift)
+                && !self.counters.is_idle(propagators, watch, shift)
             {
                 self.queue.push(watch.propagator);
             }
         }
         Ok(())
-    }
-
-    /// Counts that the bounds of the watch's variable move so: whether its propagator has nothing to say then.
-    fn has_room(&mut self, watch: Watch, shift: Shift) -> bool {
-        watch.is_counted && self.counters.count(watch, shift).unwrap_or(false)
     }
 
     /// How many propagators are queued.
@@ -116,15 +123,15 @@ impl Agenda {
         self.queue.put_off();
     }
 
-    /// Only so many entries, the first, are sure to be those that were looked at. Whether there were more: then what is queued is
-    /// dropped, since before each decision all that was queued had been asked.
-    pub fn rewind(&mut self, entries: usize) -> bool {
+    /// Only so many entries, the first, are sure to be those that were looked at for these propagators. Whether there were more: then what is
+    /// queued is dropped, since before each decision all that was queued had been asked.
+    pub fn rewind<P: Propagator>(&mut self, propagators: &[P], entries: usize) -> bool {
         self.rewind_opens(entries);
         if self.seen <= entries {
             return false;
         }
         self.seen = entries;
-        self.counters.rewind(entries, &self.watchers);
+        self.counters.rewind(propagators, entries, &self.watchers);
         self.queue.clear();
         true
     }

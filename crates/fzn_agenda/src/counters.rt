@@ -1,10 +1,9 @@
 // What propagators count, moved as bounds move, and moved back as the trail goes back. It only chooses: nothing is promised of what is
 // counted.
-use crate::counted::Counted;
 use crate::watchers::{Watch, Watchers};
 use fzn_domain::{Domain, Memory};
 use fzn_meaning::Model;
-use fzn_slack::{Bounds, Counter, Shift};
+use fzn_propagator::{Bounds, Counting, Propagator, Shift, Tally};
 use std::alloc::Global;
 
 /// What the bounds of a variable were before an entry of the trail.
@@ -22,7 +21,7 @@ struct Move {
 #[derive(Debug, Drop)]
 pub struct Counters {
     /// By the places of the propagators: `None` of one that counts nothing.
-    counters: Vec<Option<Counter>>,
+    tallies: Vec<Option<Tally>>,
     /// By the numbers of the variables, less one: `None` where no propagator waits for the variable that counts.
     bounds: Vec<Option<Bounds>>,
     /// Newest last, as the trail grows and goes back.
@@ -30,40 +29,34 @@ pub struct Counters {
 }
 
 impl Counters {
-    /// What these propagators of the model count, on the declared sets. No bounds are known yet.
-    pub fn new<P: Counted>(
+    /// What propagators of the model begin to count with, who wait so for its variables. The bounds are known of each variable for which one
+    /// waits that counts.
+    pub fn new(
         alloc: Global,
         model: &Model,
-        propagators: &[P],
+        countings: &[Option<Counting>],
+        watchers: &Watchers,
     ) -> Result<Counters, Memory> {
-        let mut declared = Vec::new(alloc);
-        for var in model.vars.as_slice() {
-            declared.push(Bounds::of(&var.domain))?;
-        }
-        let mut counters = Vec::new(alloc);
-        for propagator in propagators {
-            counters.push(propagator.counter(&declared))?;
-        }
-        Ok(Counters {
-            counters,
-            bounds: vec![in alloc; None; declared.len()]?,
-            moves: Vec::new(alloc),
-        })
-    }
-
-    /// From then on the bounds are known, at first those of the declared sets, of each variable for which a propagator waits that counts.
-    pub fn know(&mut self, model: &Model, watchers: &Watchers) {
-        for (i, var) in model.vars.as_slice().iter().enumerate() {
-            let variable = i.wrapping_add(1);
-            if is_counted_by_any(watchers, variable) {
-                self.set_bounds(variable, Bounds::of(&var.domain));
+        let mut tallies = Vec::new(alloc);
+        for counting in countings {
+            match counting {
+                Some(counting) => tallies.push(Some(counting.tally))?,
+                None => tallies.push(None)?,
             }
         }
-    }
-
-    /// Whether the propagator at this place counts.
-    pub fn is_counted(&self, propagator: usize) -> bool {
-        matches!(self.counters.get(propagator), Some(Some(_)))
+        let mut bounds = Vec::new(alloc);
+        for (i, var) in model.vars.as_slice().iter().enumerate() {
+            if is_counted_by_any(watchers, i.wrapping_add(1)) {
+                bounds.push(Some(Bounds::of(&var.domain)))?;
+            } else {
+                bounds.push(None)?;
+            }
+        }
+        Ok(Counters {
+            tallies,
+            bounds,
+            moves: Vec::new(alloc),
+        })
     }
 
     /// How far the bounds of the variable of this number moved since they were counted, up to its present set. Before the entry at this place
@@ -91,25 +84,45 @@ impl Counters {
         Ok(counted.shift_to(now))
     }
 
-    /// The bounds of the watch's variable move so: whether its propagator has nothing to say then. `None` of one that counts nothing.
-    pub fn count(&mut self, watch: Watch, shift: Shift) -> Option<bool> {
-        let counter = self.counters.get_mut(watch.propagator)?.as_mut()?;
-        counter.shift(watch.coefficient, shift);
-        Some(counter.has_room(&self.bounds))
+    /// The bounds of the watch's variable move so: whether its propagator, one of these, has nothing to say then.
+    pub fn is_idle<P: Propagator>(
+        &mut self,
+        propagators: &[P],
+        watch: Watch,
+        shift: Shift,
+    ) -> bool {
+        let Some(weight) = watch.weight else {
+            return false;
+        };
+        let Some(propagator) = propagators.get(watch.propagator) else {
+            return false;
+        };
+        let Some(Some(tally)) = self.tallies.get_mut(watch.propagator) else {
+            return false;
+        };
+        *tally = propagator.count(*tally, weight, shift);
+        propagator.is_idle(*tally, &self.bounds)
     }
 
-    /// Only so many entries, the first, are sure to be those that were counted: what was counted since is taken back.
-    pub fn rewind(&mut self, entries: usize, watchers: &Watchers) {
+    /// Only so many entries, the first, are sure to be those that were counted: what these propagators counted since is taken back.
+    pub fn rewind<P: Propagator>(
+        &mut self,
+        propagators: &[P],
+        entries: usize,
+        watchers: &Watchers,
+    ) {
         for _ in 0..self.moves.len() {
             match self.moves.last().copied() {
-                Some(last) if entries <= last.entry => self.take_back(last, watchers),
+                Some(last) if entries <= last.entry => {
+                    self.take_back(propagators, last, watchers);
+                }
                 _ => return,
             }
             let _ = self.moves.pop();
         }
     }
 
-    fn take_back(&mut self, last: Move, watchers: &Watchers) {
+    fn take_back<P: Propagator>(&mut self, propagators: &[P], last: Move, watchers: &Watchers) {
         let Some(counted) = self.bounds_of(last.variable) else {
             return;
         };
@@ -119,17 +132,25 @@ impl Counters {
         let (start, end) = watchers.span(last.variable);
         for i in start..end {
             if let Some(watch) = watchers.get(i)
-                && watch.is_counted
+                && let Some(weight) = watch.weight
                 && watch.event.is(change)
             {
-                self.count_back(watch, shift);
+                self.count_back(propagators, watch.propagator, weight, shift);
             }
         }
     }
 
-    fn count_back(&mut self, watch: Watch, shift: Shift) {
-        if let Some(Some(counter)) = self.counters.get_mut(watch.propagator) {
-            counter.shift(watch.coefficient, shift);
+    fn count_back<P: Propagator>(
+        &mut self,
+        propagators: &[P],
+        place: usize,
+        weight: i64,
+        shift: Shift,
+    ) {
+        if let Some(propagator) = propagators.get(place)
+            && let Some(Some(tally)) = self.tallies.get_mut(place)
+        {
+            *tally = propagator.count(*tally, weight, shift);
         }
     }
 
@@ -155,7 +176,7 @@ fn is_counted_by_any(watchers: &Watchers, variable: usize) -> bool {
     let (start, end) = watchers.span(variable);
     for i in start..end {
         if let Some(watch) = watchers.get(i)
-            && watch.is_counted
+            && watch.weight.is_some()
         {
             return true;
         }

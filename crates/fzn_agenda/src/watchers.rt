@@ -3,10 +3,8 @@ ghost use Rattle.std.specs.Prelude.{List};
 ghost use Rattle.std.specs.List.{All};
 ghost use Rattle.fzn_domain.specs.IntSet.{IntSet};
 
-use crate::counted::Counted;
-use crate::counters::Counters;
 use fzn_domain::Memory;
-use fzn_propagator::{Event, Propagator};
+use fzn_propagator::{Counting, Event, Propagator};
 use std::alloc::Global;
 
 /// That the propagator at a place looks at a variable.
@@ -16,10 +14,8 @@ pub struct Watch {
     pub propagator: usize,
     /// The changes that wake it.
     pub event: Event,
-    /// Whether the propagator counts.
-    pub is_counted: bool,
-    /// By what the variable counts in that: from -10^9 to 10^9, and 0 where it does not.
-    pub coefficient: i64,
+    /// By what the variable counts in what the propagator counts. `None` where it counts nothing.
+    pub weight: Option<i64>,
 }
 
 /// A watch with its variable.
@@ -40,19 +36,19 @@ pub struct Watchers {
 }
 
 impl Watchers {
-    /// What these propagators wait for, of so many variables, and what is counted of them.
-    pub fn new<P: Propagator + Counted>(
+    /// What these propagators wait for, of so many variables, where they count this.
+    pub fn new<P: Propagator>(
         alloc: Global,
         variables: usize,
         propagators: &[P],
-        counters: &Counters,
+        countings: &[Option<Counting>],
     ) -> Result<Watchers, Memory>
         requires { All (λ propagator. (declared : List IntSet) × P.fits propagator declared) propagators.now }
     {
         let mut list = Vec::new(alloc);
         for place in 0..propagators.len() {
-            let is_counted = counters.is_counted(place);
-            add_watches(alloc, &mut list, place, &propagators[place], is_counted)?;
+            let counting = counting_at(countings, place);
+            add_watches(alloc, &mut list, place, &propagators[place], counting)?;
         }
         let starts = starts_of(alloc, variables, list.as_slice())?;
         let watches = by_variable(alloc, starts.as_slice(), list.as_slice())?;
@@ -120,24 +116,27 @@ fn by_variable(alloc: Global, starts: &[usize], list: &[Listed]) -> Result<Vec<W
     Ok(watches)
 }
 
-/// The propagator at this place watches what it waits for.
-fn add_watches<P: Propagator + Counted>(
+/// What the propagator at this place begins to count with.
+fn counting_at(countings: &[Option<Counting>], place: usize) -> Option<&Counting> {
+    countings.get(place)?.as_ref()
+}
+
+/// The propagator at this place watches what it waits for, and counts this.
+fn add_watches<P: Propagator>(
     alloc: Global,
     list: &mut Vec<Listed>,
     place: usize,
     propagator: &P,
-    is_counted: bool,
+    counting: Option<&Counting>,
 ) -> Result<(), Memory>
     requires { (declared : List IntSet) × P.fits propagator.now declared }
 {
     let subscriptions = propagator.subscriptions(alloc)?;
-    let coefficients = propagator.coefficients(alloc)?;
     for (i, subscription) in subscriptions.as_slice().iter().enumerate() {
         let watch = Watch {
             propagator: place,
             event: subscription.event,
-            is_counted,
-            coefficient: coefficients.get(i).copied().unwrap_or(0),
+            weight: counting.map(|counting| counting.weights.get(i).copied().unwrap_or(0)),
         };
         list.push(Listed {
             variable: subscription.variable.0,

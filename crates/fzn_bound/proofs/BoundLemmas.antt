@@ -276,7 +276,7 @@ front_of : {X : Type 0} (P : X → Type 0) (xs : List X) (y : X) → All P (xs +
 front_of P xs y h = let r = All-front P xs y (recursion_from_All P (xs ++ y ∷ []) h) in (All-from_recursion P xs r.0, r.1)
 
 passes-first : (model : Model) (past : StepsPast) (step : Step) (a : List ℤ) → PassesCuts model (after_step model past step).solutions a → PassesCuts model past.solutions a
-passes-first model past (Infer constraint rule clause) a passes = passes
+passes-first model past (Infer it) a passes = passes
 passes-first model past (Resolve clause ids) a passes = passes
 passes-first model past (Delete ids) a passes = passes
 passes-first model past (Solution values) a passes = (front_of (λ m. is_clause_true a (cut_of model m) ≡ true) past.solutions values passes).0
@@ -288,8 +288,8 @@ passes-before model past (step ∷ later) a passes = passes-first model past ste
 -- what an accepted step says holds where all cuts so far are passed
 step-says : (model : Model) (past : StepsPast) (step : Step) (a : List ℤ) → IsSound model (after_step model past step) → IsSolution model a → PassesCuts model (after_step model past step).solutions a
     → IfSome (said_in model.goal (clause_given step)) (λ m. IsBetterValue model.goal (objective_in model.goal a) m → ⊥)
-step-says model past (Infer constraint rule clause) a sound solution passes =
-    said-holds model.goal clause a ((front_of (λ held. IfSome held (λ c. is_clause_true a c ≡ true)) past.clauses (Some clause) (sound.clauses a solution passes)).1)
+step-says model past (Infer it) a sound solution passes =
+    said-holds model.goal it.clause a ((front_of (λ held. IfSome held (λ c. is_clause_true a c ≡ true)) past.clauses (Some it.clause) (sound.clauses a solution passes)).1)
 step-says model past (Resolve clause ids) a sound solution passes =
     said-holds model.goal clause a ((front_of (λ held. IfSome held (λ c. is_clause_true a c ≡ true)) past.clauses (Some clause) (sound.clauses a solution passes)).1)
 step-says model past (Solution values) a sound solution passes = said-nothing model.goal a

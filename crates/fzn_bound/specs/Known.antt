@@ -73,7 +73,7 @@ SaysBound goal _ bound = ⊥
 
 -- the clause that a step gives
 abbrev pub clause_given : Step → List Lit
-clause_given (Infer constraint rule clause) = clause
+clause_given (Infer it) = it.clause
 clause_given (Resolve clause ids) = clause
 clause_given _ = []
 

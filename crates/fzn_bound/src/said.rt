@@ -55,7 +55,7 @@ fn said_by(goal: Goal, step: &Step) -> Option<i64>
     ensures { result ≡ said_in goal (clause_given step.now) }
 {
     match step {
-        Step::Infer { clause, .. } => said_in(goal, clause.as_slice()),
+        Step::Infer(inference) => said_in(goal, inference.clause.as_slice()),
         Step::Resolve { clause, .. } => said_in(goal, clause.as_slice()),
         Step::Solution(_) | Step::Delete { .. } => None,
     }

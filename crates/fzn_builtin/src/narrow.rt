@@ -3,7 +3,7 @@ ghost use Rattle.std.specs.Prelude.{length};
 ghost use Rattle.fzn_domain.specs.Narrow.{NoneEmpty};
 ghost use Rattle.fzn_meaning.specs.declared.constraint.Constraint.TheVariants as constraint;
 ghost use Rattle.fzn_meaning.specs.Term.{IsTerm};
-ghost use Rattle.fzn_meaning.specs.Meaning.{IsWellFormed};
+ghost use Rattle.fzn_meaning.specs.Meaning.{IsWellFormedConstraint};
 ghost use Rattle.fzn_propagator.specs.Inference.{AreFoundOf};
 ghost use Rattle.fzn_fixed.specs.Parts.{ArePartsReady};
 
@@ -41,7 +41,7 @@ pub fn narrow(
 }
 
 /// The same by ends and small sets.
-#[tactic(auto, unfolding(fzn_meaning::specs::Meaning::IsWellFormed))]
+#[tactic(auto, unfolding(fzn_meaning::specs::Meaning::IsWellFormedConstraint))]
 fn narrow_rows(
     alloc: Global,
     trail: &Trail,
@@ -49,7 +49,7 @@ fn narrow_rows(
     constraint: &Constraint,
     found: &mut Findings,
 ) -> Result<(), Memory>
-    requires formed { IsWellFormed (length trail.now.declared) constraint.now }
+    requires formed { IsWellFormedConstraint (length trail.now.declared) constraint.now }
     requires filled { NoneEmpty trail.now.sets }
     requires before { AreFoundOf number constraint.now trail.now found.old }
     ensures { AreFoundOf number constraint.now trail.now found.new }

@@ -5,7 +5,7 @@ use Rattle.std.proofs.lemmas.Int.{ints}
 use Rattle.fzn_meaning.specs.declared.term.Term.{Term}
 use Rattle.fzn_meaning.specs.Term.{term_value, values_of, product_at, sum_at}
 use Rattle.fzn_meaning.specs.Meaning.{IsBit}
-use Rattle.fzn_builtin_rules.specs.Form.{weighted, each_with}
+use Rattle.fzn_builtin_rules.specs.Form.{place_with, each_with}
 use Rattle.fzn_builtin_rules.proofs.SumLemmas.{total_by-cons}
 
 pub one_times : (x : ℤ) → pos 1 *ℤ x ≡ x
@@ -26,7 +26,7 @@ unfolding ones
 sum-ones values [] = omega (arith, ints)
 sum-ones values (t ∷ terms) =
     let rest = sum-ones values terms in
-    let both = total_by-cons (product_at values) (weighted (pos 1) t) (each_with (pos 1) terms) in
+    let both = total_by-cons (product_at values) (place_with (pos 1) t) (each_with (pos 1) terms) in
     let here = one_times (term_value values t) in
     omega (arith, ints)
 
@@ -35,7 +35,7 @@ unfolding ones
 sum-minus values [] = omega (arith, ints)
 sum-minus values (t ∷ terms) =
     let rest = sum-minus values terms in
-    let both = total_by-cons (product_at values) (weighted (negsuc 0) t) (each_with (negsuc 0) terms) in
+    let both = total_by-cons (product_at values) (place_with (negsuc 0) t) (each_with (negsuc 0) terms) in
     let here = minus_times (term_value values t) in
     omega (arith, ints)
 

@@ -16,7 +16,7 @@ use Rattle.fzn_meaning.specs.Term.{term_value, values_of, product_at, sum_at, Is
 use Rattle.fzn_meaning.specs.Comparisons.{IsSwitched}
 use Rattle.fzn_meaning.specs.Linear.{IsLinear}
 use Rattle.fzn_meaning.specs.Booleans.{IsBoolClause}
-use Rattle.fzn_meaning.specs.Meaning.{Meets, IsWellFormed, switch_value}
+use Rattle.fzn_meaning.specs.Meaning.{Meets, IsWellFormedConstraint, switch_value}
 use Rattle.fzn_builtin_rules.specs.Choices.{inputs_of, result_of, weighted_sum, Relates, IsChoice, NoneOf, NoChoiceFits, IsFixedMet, IsEnumMet}
 use Rattle.fzn_builtin_rules.proofs.SumLemmas.{total_by-cons}
 use Rattle.fzn_sets.proofs.CallerLemmas.{MayBe-term_value}
@@ -74,8 +74,8 @@ relates_by : (c : Constraint) (values : List ℤ) (found : Option (List Term)) �
 relates_by c values None same met = tt
 relates_by c values (Some inputs) same met = same.0 met
 
-result_formed : (c : Constraint) (sets : List IntSet) → IsWellFormed (length sets) c → IfSome (result_of c) (IsTerm (length sets))
-unfolding IsWellFormed result_of
+result_formed : (c : Constraint) (sets : List IntSet) → IsWellFormedConstraint (length sets) c → IfSome (result_of c) (IsTerm (length sets))
+unfolding IsWellFormedConstraint result_of
 result_formed (constraint.Compare relation left right switch) sets formed = formed.2
 result_formed (constraint.BoolToInt boolean integer) sets formed = formed.1
 result_formed (constraint.Linear sum comparison bound switch) sets formed = formed.2
@@ -106,12 +106,12 @@ both_parts : {A : Type 0} (found : Option A) (P Q : A → Type 0) → IsSomeAnd 
 both_parts None P Q is = is
 both_parts (Some a) P Q is = is.1
 
-no_choice_sound : (c : Constraint) (sets : List IntSet) (values : List ℤ) → IsWellFormed (length sets) c → IsSomeAnd (inputs_of c) (NoChoiceFits c sets) → IsWithin sets values → Meets c values → ⊥
+no_choice_sound : (c : Constraint) (sets : List IntSet) (values : List ℤ) → IsWellFormedConstraint (length sets) c → IsSomeAnd (inputs_of c) (NoChoiceFits c sets) → IsWithin sets values → Meets c values → ⊥
 no_choice_sound c sets values formed none within met =
     some_choice_fits sets values within c (inputs_of c) (inputs_formed (length sets) c formed) (result_formed c sets formed) (relates_by c values (inputs_of c) (Relates-Meets c values) met) none
 
-pub fixed_sound : (c : Constraint) (sets : List IntSet) (values : List ℤ) → IsWellFormed (length sets) c → IsFixedMet c sets → IsWithin sets values → Meets c values → ⊥
+pub fixed_sound : (c : Constraint) (sets : List IntSet) (values : List ℤ) → IsWellFormedConstraint (length sets) c → IsFixedMet c sets → IsWithin sets values → Meets c values → ⊥
 fixed_sound c sets values formed rule within met = no_choice_sound c sets values formed (both_parts (inputs_of c) _ (NoChoiceFits c sets) rule) within met
 
-pub enum_sound : (c : Constraint) (sets : List IntSet) (values : List ℤ) → IsWellFormed (length sets) c → IsEnumMet c sets → IsWithin sets values → Meets c values → ⊥
+pub enum_sound : (c : Constraint) (sets : List IntSet) (values : List ℤ) → IsWellFormedConstraint (length sets) c → IsEnumMet c sets → IsWithin sets values → Meets c values → ⊥
 enum_sound c sets values formed rule within met = no_choice_sound c sets values formed (both_parts (inputs_of c) _ (NoChoiceFits c sets) rule) within met

@@ -11,7 +11,7 @@ use Rattle.fzn_meaning.specs.declared.term.Place.{Place}
 use Rattle.fzn_meaning.specs.declared.constraint.Constraint.{Constraint}
 use Rattle.fzn_meaning.specs.declared.constraint.Constraint.TheVariants as constraint
 use Rattle.fzn_meaning.specs.Term.{IsTerm, IsPlace}
-use Rattle.fzn_meaning.specs.Meaning.{IsWellFormed}
+use Rattle.fzn_meaning.specs.Meaning.{IsWellFormedConstraint}
 use Rattle.fzn_builtin_rules.specs.Choices.{count_of, choices, inputs_of, result_of, Relates, NoneOf, NoChoiceFits}
 use Rattle.fzn_builtin_rules.specs.Numbered.{choice_at}
 use Rattle.fzn_builtin_rules.proofs.ChoiceLemmas.{choice_found, IsChoice-choice_at}
@@ -48,8 +48,8 @@ too_many_parts a b many some = let least : a * 1 ≤ a * b = mul-le-mul_left a s
 pub place_terms : (count : ℕ) (places : List Place) → All (IsPlace count) places → All (IsTerm count) (map (λ (place : Place). place.term) places)
 place_terms count places formed = All-map (IsTerm count) (λ (place : Place). place.term) places (All-weaker (IsPlace count) (λ (place : Place). IsTerm count place.term) (λ place is. is.0) places formed)
 
-pub inputs_formed : (count : ℕ) (c : Constraint) → IsWellFormed count c → IfSome (inputs_of c) (All (IsTerm count))
-unfolding IsWellFormed inputs_of
+pub inputs_formed : (count : ℕ) (c : Constraint) → IsWellFormedConstraint count c → IfSome (inputs_of c) (All (IsTerm count))
+unfolding IsWellFormedConstraint inputs_of
 inputs_formed count (constraint.Compare relation left right switch) formed = two count left right formed.0 formed.1
   where
     two : (count : ℕ) (a b : Term) → IsTerm count a → IsTerm count b → All (IsTerm count) (a ∷ b ∷ [])

@@ -18,7 +18,7 @@ use Rattle.fzn_meaning.specs.Comparisons.{IsRelated, IsSwitched}
 use Rattle.fzn_meaning.specs.Linear.{IsLinear}
 use Rattle.fzn_meaning.specs.Meaning.{Meets, switch_value, booleans_of, IsBit, HasBooleanValues}
 use Rattle.fzn_meaning.specs.Booleans.{Passes, IsBoolClause}
-use Rattle.fzn_builtin_rules.specs.Form.{Form, weighted, each_with, difference, comparison_of, bound_of, passing_bound, form_of, FormHolds}
+use Rattle.fzn_builtin_rules.specs.Form.{Form, place_with, each_with, difference, comparison_of, bound_of, passing_bound, form_of, FormHolds}
 use Rattle.fzn_builtin_rules.proofs.SumLemmas.{total_by-append}
 use Rattle.fzn_builtin_rules.proofs.BitSums.{one_times, minus_times, ones, sum-ones, sum-minus, AreBits, bits_of, ones_ge, ones_le, ones_of_all, all_of_ones, ones_of_any, any_of_ones, any_of_noughts, ones_of_nought}
 
@@ -99,7 +99,7 @@ form-Meets (constraint.BoolToInt boolean integer) values bits =
     (λ met. omega (arith, ints), λ holds. omega (arith, ints))
 form-Meets (constraint.Linear sum comparison bound switch) values bits = (λ met. met, λ holds. holds)
 form-Meets (constraint.BoolLinEq sum total) values bits =
-    let split = total_by-append (product_at values) sum (weighted (negsuc 0) total ∷ []) in
+    let split = total_by-append (product_at values) sum (place_with (negsuc 0) total ∷ []) in
     let less = minus_times (term_value values total) in
     (λ met. omega (arith, ints), λ holds. omega (arith, ints))
 form-Meets (constraint.Arithmetic Plus left right result) values bits =

@@ -18,9 +18,9 @@ use Rattle.fzn_meaning.specs.Term.{term_value, values_of, IsTerm}
 use Rattle.fzn_meaning.specs.Comparisons.{IsRelated, IsSwitched}
 use Rattle.fzn_meaning.specs.Extrema.{Bounds}
 use Rattle.fzn_meaning.specs.Sets.{IsInSet}
-use Rattle.fzn_meaning.specs.Meaning.{Meets, IsWellFormed, switch_value}
+use Rattle.fzn_meaning.specs.Meaning.{Meets, IsWellFormedConstraint, switch_value}
 use Rattle.fzn_sets.specs.Terms.{MayBe, term_at}
-use Rattle.fzn_builtin_rules.specs.Rows.{ShareNone, AsksEquality, IsSetMissed, NoEntryFits, Passes, IsRowsMet}
+use Rattle.fzn_builtin_rules.specs.Rows.{ShareNone, AsksEquality, IsSetMissed, NoEntryFits, IsBeyond, IsRowsMet}
 use Rattle.fzn_sets.proofs.CallerLemmas.{MayBe-term_value, length-values_of, MayBe-entry_at, term_between, fixed_value}
 use Rattle.fzn_builtin_rules.proofs.LinSound.{zero_not_one}
 
@@ -56,11 +56,11 @@ module _ (sets : List IntSet) (values : List ℤ) (within : IsWithin sets values
       (MayBe-term_value sets values result within last)
 
   -- an entry beyond every value of the result
-  beyond : (extreme : Extreme) (result entry : Term) → Passes sets extreme result entry → Bounds extreme (value result) (value entry) → ⊥
+  beyond : (extreme : Extreme) (result entry : Term) → IsBeyond sets extreme result entry → Bounds extreme (value result) (value entry) → ⊥
   beyond Least result entry passes bounds = let r = term_between sets values result within in let e = term_between sets values entry within in omega (arith, ints)
   beyond Greatest result entry passes bounds = let r = term_between sets values result within in let e = term_between sets values entry within in omega (arith, ints)
 
-  some_beyond : (extreme : Extreme) (result : Term) (entries : List Term) → Any (Passes sets extreme result) entries → All (Bounds extreme (value result)) (values_of values entries) → ⊥
+  some_beyond : (extreme : Extreme) (result : Term) (entries : List Term) → Any (IsBeyond sets extreme result) entries → All (Bounds extreme (value result)) (values_of values entries) → ⊥
   some_beyond extreme result entries (k, entry, below, at, passes) all =
       let there = get_or-map (term_value values) entries k entry in
       beyond extreme result entry passes
@@ -73,8 +73,8 @@ module _ (sets : List IntSet) (values : List ℤ) (within : IsWithin sets values
       let in_entries : k < length entries = omega (arith, length-values_of values entries) in
       apart (get_or entries k x) result (all k x in_entries) last (none k x in_entries) (sym there ∙ at)
 
-  pub rows_cases : (c : Constraint) → IsWellFormed (length sets) c → IsRowsMet c sets → Meets c values → ⊥
-  unfolding IsWellFormed IsRowsMet Meets
+  pub rows_cases : (c : Constraint) → IsWellFormedConstraint (length sets) c → IsRowsMet c sets → Meets c values → ⊥
+  unfolding IsWellFormedConstraint IsRowsMet Meets
   rows_cases (constraint.Compare relation left right switch) formed rule met =
       have_equal relation switch (value left) (value right) rule.0 met (apart left right formed.0 formed.1 rule.1)
   rows_cases (constraint.BoolToInt boolean integer) formed rule met = apart boolean integer formed.0 formed.1 rule met
@@ -89,5 +89,5 @@ module _ (sets : List IntSet) (values : List ℤ) (within : IsWithin sets values
       rule (value of) (MayBe-term_value sets values of within formed.0) (subst (MayBe sets result) (sym met) (MayBe-term_value sets values result within formed.1))
   rows_cases _ formed rule met = rule
 
-pub rows_sound : (c : Constraint) (sets : List IntSet) (values : List ℤ) → IsWellFormed (length sets) c → IsRowsMet c sets → IsWithin sets values → Meets c values → ⊥
+pub rows_sound : (c : Constraint) (sets : List IntSet) (values : List ℤ) → IsWellFormedConstraint (length sets) c → IsRowsMet c sets → IsWithin sets values → Meets c values → ⊥
 rows_sound c sets values formed rule within met = rows_cases sets values within c formed rule met

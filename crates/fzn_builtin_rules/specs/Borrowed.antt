@@ -4,14 +4,14 @@ use Rattle.fzn_meaning.specs.declared.term.Place.{Place}
 use Rattle.fzn_builtin_rules.specs.declared.form.Places.{Places}
 use Rattle.fzn_builtin_rules.specs.declared.form.Places.TheVariants.{Both, Difference, BothLess, All, AllLess, Minus, Less}
 use Rattle.fzn_builtin_rules.specs.declared.form.Form.{Form as Borrowed}
-use Rattle.fzn_builtin_rules.specs.Form.{Form, form, weighted, difference, each_with}
+use Rattle.fzn_builtin_rules.specs.Form.{Form, form, place_with, difference, each_with}
 
 abbrev pub places_in : Places → List Place
-places_in (Both left right) = weighted (pos 1) left ∷ weighted (pos 1) right ∷ []
+places_in (Both left right) = place_with (pos 1) left ∷ place_with (pos 1) right ∷ []
 places_in (Difference left right) = difference left right
-places_in (BothLess left right result) = weighted (pos 1) left ∷ weighted (pos 1) right ∷ weighted (negsuc 0) result ∷ []
+places_in (BothLess left right result) = place_with (pos 1) left ∷ place_with (pos 1) right ∷ place_with (negsuc 0) result ∷ []
 places_in (All sum) = sum.now
-places_in (AllLess sum total) = sum.now ++ weighted (negsuc 0) total ∷ []
+places_in (AllLess sum total) = sum.now ++ place_with (negsuc 0) total ∷ []
 places_in (Minus terms) = each_with (negsuc 0) terms.now
 places_in (Less first second) = each_with (pos 1) first.now ++ each_with (negsuc 0) second.now
 

@@ -31,16 +31,16 @@ pub record Form : Type 0 where
 abbrev pub form : List Place → Comparison → ℤ → Option Term → Form
 form places comparison bound switch = record { places = places; comparison = comparison; bound = bound; switch = switch }
 
-abbrev pub weighted : ℤ → Term → Place
-weighted coefficient term = record { coefficient = coefficient; term = term }
+abbrev pub place_with : ℤ → Term → Place
+place_with coefficient term = record { coefficient = coefficient; term = term }
 
 -- the same coefficient at each term
 abbrev pub each_with : ℤ → List Term → List Place
-each_with coefficient terms = map (weighted coefficient) terms
+each_with coefficient terms = map (place_with coefficient) terms
 
 -- the one term less the other
 abbrev pub difference : Term → Term → List Place
-difference left right = weighted (pos 1) left ∷ weighted (negsuc 0) right ∷ []
+difference left right = place_with (pos 1) left ∷ place_with (negsuc 0) right ∷ []
 
 -- how the difference of two terms that stand so compares with a bound
 abbrev pub comparison_of : Relation → Comparison
@@ -62,11 +62,11 @@ passing_bound Or inputs = negsuc 0
 
 unfoldable pub form_of : Constraint → Option Form
 form_of (Compare relation left right switch) = Some (form (difference left right) (comparison_of relation) (bound_of relation) switch)
-form_of (BoolNot left right) = Some (form (weighted (pos 1) left ∷ weighted (pos 1) right ∷ []) sum.Equal (pos 1) None)
+form_of (BoolNot left right) = Some (form (place_with (pos 1) left ∷ place_with (pos 1) right ∷ []) sum.Equal (pos 1) None)
 form_of (BoolToInt boolean integer) = Some (form (difference boolean integer) sum.Equal (pos 0) None)
 form_of (Linear places comparison bound switch) = Some (form places comparison bound switch)
-form_of (BoolLinEq places total) = Some (form (places ++ weighted (negsuc 0) total ∷ []) sum.Equal (pos 0) None)
-form_of (Arithmetic Plus left right result) = Some (form (weighted (pos 1) left ∷ weighted (pos 1) right ∷ weighted (negsuc 0) result ∷ []) sum.Equal (pos 0) None)
+form_of (BoolLinEq places total) = Some (form (places ++ place_with (negsuc 0) total ∷ []) sum.Equal (pos 0) None)
+form_of (Arithmetic Plus left right result) = Some (form (place_with (pos 1) left ∷ place_with (pos 1) right ∷ place_with (negsuc 0) result ∷ []) sum.Equal (pos 0) None)
 form_of (Gated gate inputs result) = Some (form (each_with (negsuc 0) inputs) sum.AtMost (passing_bound gate inputs) (Some result))
 form_of (BoolClause positive negative) = Some (form (each_with (pos 1) negative ++ each_with (negsuc 0) positive) sum.AtMost (pos (length negative) -ℤ pos 1) None)
 form_of _ = None

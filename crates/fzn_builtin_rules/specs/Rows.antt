@@ -36,24 +36,24 @@ AsksEquality sets NotEqual (Some switch) = IsFixedTo sets switch (pos 0)
 AsksEquality sets _ _ = ⊥
 
 -- no value of the term is in the set, or every value is
-abbrev pub IsOutside : List IntSet → Term → IntSet → Type 0
-IsOutside sets term set = (v : ℤ) → MayBe sets term v → contains set v ≡ true → ⊥
+abbrev pub IsSetAvoided : List IntSet → Term → IntSet → Type 0
+IsSetAvoided sets term set = (v : ℤ) → MayBe sets term v → contains set v ≡ true → ⊥
 
 abbrev pub IsInside : List IntSet → Term → IntSet → Type 0
 IsInside sets term set = (v : ℤ) → MayBe sets term v → contains set v ≡ true
 
 abbrev pub IsSetMissed : List IntSet → Term → IntSet → Option Term → Type 0
-IsSetMissed sets term set None = IsOutside sets term set
-IsSetMissed sets term set (Some switch) = (IsFixedTo sets switch (pos 1) × IsOutside sets term set) ⊎ (IsFixedTo sets switch (pos 0) × IsInside sets term set)
+IsSetMissed sets term set None = IsSetAvoided sets term set
+IsSetMissed sets term set (Some switch) = (IsFixedTo sets switch (pos 1) × IsSetAvoided sets term set) ⊎ (IsFixedTo sets switch (pos 0) × IsInside sets term set)
 
 -- no index has an entry that shares a value with the term
 abbrev pub NoEntryFits : List IntSet → Term → List Term → Term → Type 0
 NoEntryFits sets index entries value = (k : ℤ) → IsIndex (length entries) k → MayBe sets index k → ShareNone sets (term_at entries k) value
 
 -- every value of the entry is beyond every value of the result
-abbrev pub Passes : List IntSet → Extreme → Term → Term → Type 0
-Passes sets Greatest result entry = greatest_value sets result <ℤ least_value sets entry
-Passes sets Least result entry = greatest_value sets entry <ℤ least_value sets result
+abbrev pub IsBeyond : List IntSet → Extreme → Term → Term → Type 0
+IsBeyond sets Greatest result entry = greatest_value sets result <ℤ least_value sets entry
+IsBeyond sets Least result entry = greatest_value sets entry <ℤ least_value sets result
 
 -- no value of the one term has its absolute value in the set of the other
 abbrev pub NoAbsoluteFits : List IntSet → Term → Term → Type 0
@@ -64,7 +64,7 @@ IsRowsMet (Compare relation left right switch) sets = AsksEquality sets relation
 IsRowsMet (BoolToInt boolean integer) sets = ShareNone sets boolean integer
 IsRowsMet (SetIn term set switch) sets = IsSetMissed sets term set switch
 IsRowsMet (Element index entries value) sets = NoEntryFits sets index entries value
-IsRowsMet (Extremum extreme entries result) sets = Any (Passes sets extreme result) entries ⊎ All (λ entry. ShareNone sets entry result) entries
+IsRowsMet (Extremum extreme entries result) sets = Any (IsBeyond sets extreme result) entries ⊎ All (λ entry. ShareNone sets entry result) entries
 IsRowsMet (IntAbs of result) sets = NoAbsoluteFits sets of result
 IsRowsMet _ sets = ⊥
 

@@ -3,7 +3,7 @@ ghost use Rattle.std.specs.Prelude.{◌≡◌, ◌↔◌, ◌*◌, ◌++◌, ◌
 ghost use Rattle.std.specs.List.{All};
 ghost use Rattle.fzn_domain.specs.Narrow.{is_some_empty};
 ghost use Rattle.fzn_meaning.specs.Term.{IsTerm, IsPlace};
-ghost use Rattle.fzn_meaning.specs.Meaning.{IsWellFormed};
+ghost use Rattle.fzn_meaning.specs.Meaning.{IsWellFormedConstraint};
 ghost use Rattle.fzn_builtin_rules.specs.Choices.{inputs_of, count_of, choices, NoChoiceFits, IsFixedMet, IsEnumMet};
 
 use crate::numbered::count_of;
@@ -16,7 +16,7 @@ const MOST_CHOICES: usize = 4096;
 
 /// Whether there is one choice for the inputs, and it leaves no value for the result. No set may be empty. `false` for the five globals.
 pub fn is_fixed_met(constraint: &Constraint, sets: &Sets) -> bool
-    requires constraint { IsWellFormed (length sets.now.present) constraint.now }
+    requires constraint { IsWellFormedConstraint (length sets.now.present) constraint.now }
     requires nonempty { is_some_empty sets.now.present ≡ false }
     ensures { IsTrue result ↔ IsFixedMet constraint.now sets.now.present }
 {
@@ -29,7 +29,7 @@ pub fn is_fixed_met(constraint: &Constraint, sets: &Sets) -> bool
 /// Whether there are at most 4,096 choices for the inputs, and none leaves a value for the result. It goes over the inputs once for
 /// each choice. No set may be empty. `false` for the five globals.
 pub fn is_enum_met(constraint: &Constraint, sets: &Sets) -> bool
-    requires constraint { IsWellFormed (length sets.now.present) constraint.now }
+    requires constraint { IsWellFormedConstraint (length sets.now.present) constraint.now }
     requires nonempty { is_some_empty sets.now.present ≡ false }
     ensures { IsTrue result ↔ IsEnumMet constraint.now sets.now.present }
 {
@@ -40,7 +40,7 @@ pub fn is_enum_met(constraint: &Constraint, sets: &Sets) -> bool
 }
 
 fn no_choice_fits(constraint: &Constraint, sets: &Sets, count: usize) -> bool
-    requires constraint { IsWellFormed (length sets.now.present) constraint.now }
+    requires constraint { IsWellFormedConstraint (length sets.now.present) constraint.now }
     requires nonempty { is_some_empty sets.now.present ≡ false }
     requires count { IsSomeAnd (inputs_of constraint.now) (λ inputs. count ≡ choices sets.now.present inputs) }
     ensures { IsTrue result ↔ IsSomeAnd (inputs_of constraint.now) (NoChoiceFits constraint.now sets.now.present) }
@@ -54,9 +54,9 @@ fn no_choice_fits(constraint: &Constraint, sets: &Sets, count: usize) -> bool
 }
 
 /// How many choices there are for the inputs, and nothing where they are too many or the constraint has no inputs.
-#[tactic(auto, unfolding(crate::specs::Choices::inputs_of, fzn_meaning::specs::Meaning::IsWellFormed))]
+#[tactic(auto, unfolding(crate::specs::Choices::inputs_of, fzn_meaning::specs::Meaning::IsWellFormedConstraint))]
 fn count_choices(constraint: &Constraint, sets: &Sets) -> Option<usize>
-    requires constraint { IsWellFormed (length sets.now.present) constraint.now }
+    requires constraint { IsWellFormedConstraint (length sets.now.present) constraint.now }
     requires nonempty { is_some_empty sets.now.present ≡ false }
     ensures some { IfSome result (λ count. IsSomeAnd (inputs_of constraint.now) (λ inputs. (count ≡ choices sets.now.present inputs) × (count ≤ 4096))) }
     ensures none { IfNone result (IfSome (inputs_of constraint.now) (λ inputs. 4096 < choices sets.now.present inputs)) }

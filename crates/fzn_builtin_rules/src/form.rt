@@ -3,7 +3,7 @@ ghost use Rattle.std.specs.Prelude.{◌≡◌, ◌*◌, ◌<◌, ◌≤◌, pos,
 ghost use Rattle.fzn_list.specs.Limits.{longest};
 ghost use Rattle.fzn_meaning.specs.declared.term.Term.TheVariants.{Constant};
 ghost use Rattle.fzn_meaning.specs.declared.relation.Comparison.TheVariants as sum;
-ghost use Rattle.fzn_builtin_rules.specs.Form.{form, form_of, comparison_of, bound_of, passing_bound, weighted};
+ghost use Rattle.fzn_builtin_rules.specs.Form.{form, form_of, comparison_of, bound_of, passing_bound, place_with};
 ghost use Rattle.fzn_builtin_rules.specs.Borrowed.{form_in, places_in};
 
 use fzn_meaning::{Comparison, Constraint, Gate, Operation, Place, Relation, Sum, Term};
@@ -112,8 +112,8 @@ fn equal<'a>(places: Places<'a>, bound: i64) -> Form<'a>
     }
 }
 
-fn weighted(coefficient: i64, term: Term) -> Place
-    ensures { result ≡ weighted coefficient term }
+fn place_with(coefficient: i64, term: Term) -> Place
+    ensures { result ≡ place_with coefficient term }
 {
     Place { coefficient, term }
 }
@@ -171,26 +171,26 @@ impl<'a> Places<'a> {
     {
         match self {
             Places::Both(left, right) => if place == 0 {
-                weighted(1, *left)
+                place_with(1, *left)
             } else {
-                weighted(1, *right)
+                place_with(1, *right)
             },
             Places::Difference(left, right) => if place == 0 {
-                weighted(1, *left)
+                place_with(1, *left)
             } else {
-                weighted(-1, *right)
+                place_with(-1, *right)
             },
             Places::BothLess(left, right, of) => match place {
-                0 => weighted(1, *left),
-                1 => weighted(1, *right),
-                _ => weighted(-1, *of),
+                0 => place_with(1, *left),
+                1 => place_with(1, *right),
+                _ => place_with(-1, *of),
             },
             Places::All(sum) => sum.place(place),
             Places::AllLess(sum, term) if place < sum.len() => sum.place(place),
-            Places::AllLess(_, term) => weighted(-1, *term),
-            Places::Minus(terms) => weighted(-1, terms[place]),
-            Places::Less(first, second) if place < first.len() => weighted(1, first[place]),
-            Places::Less(first, second) => weighted(-1, second[place - first.len()]),
+            Places::AllLess(_, term) => place_with(-1, *term),
+            Places::Minus(terms) => place_with(-1, terms[place]),
+            Places::Less(first, second) if place < first.len() => place_with(1, first[place]),
+            Places::Less(first, second) => place_with(-1, second[place - first.len()]),
         }
     }
 }

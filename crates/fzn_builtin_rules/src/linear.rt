@@ -1,7 +1,7 @@
 // The rule `lin`: the ends of the sum of a constraint's form leave no way to meet it.
 ghost use Rattle.std.specs.Prelude.{◌≡◌, ◌↔◌, IsTrue, false, length};
 ghost use Rattle.fzn_domain.specs.Narrow.{is_some_empty};
-ghost use Rattle.fzn_meaning.specs.Meaning.{IsWellFormed};
+ghost use Rattle.fzn_meaning.specs.Meaning.{IsWellFormedConstraint};
 ghost use Rattle.fzn_builtin_rules.specs.Linear.{NoneCompares, AllCompare};
 ghost use Rattle.fzn_builtin_rules.specs.Form.{IsFormMet, IsLinMet, Fits};
 ghost use Rattle.fzn_builtin_rules.specs.Borrowed.{form_in};
@@ -14,7 +14,7 @@ use fzn_sets::{Sets, is_fixed_to};
 /// Whether the ends of the sum of the constraint's form leave no way to meet it. No set may be empty. `false` for a constraint without a
 /// form.
 pub fn is_lin_met(constraint: &Constraint, sets: &Sets) -> bool
-    requires constraint { IsWellFormed (length sets.now.present) constraint.now }
+    requires constraint { IsWellFormedConstraint (length sets.now.present) constraint.now }
     requires nonempty { is_some_empty sets.now.present ≡ false }
     ensures { IsTrue result ↔ IsLinMet constraint.now sets.now.present }
 {

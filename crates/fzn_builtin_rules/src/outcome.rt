@@ -11,7 +11,7 @@ ghost use Rattle.fzn_meaning.specs.Arithmetic.{IsArithmetic};
 ghost use Rattle.fzn_meaning.specs.Extrema.{IsExtremum};
 ghost use Rattle.fzn_meaning.specs.Elements.{IsElement};
 ghost use Rattle.fzn_meaning.specs.Booleans.{Passes, IsBoolClause};
-ghost use Rattle.fzn_meaning.specs.Meaning.{IsWellFormed, IsSwitch};
+ghost use Rattle.fzn_meaning.specs.Meaning.{IsWellFormedConstraint, IsSwitch};
 ghost use Rattle.fzn_sets.specs.Terms.{MayBe};
 ghost use Rattle.fzn_builtin_rules.specs.Choices.{NoneOf};
 ghost use Rattle.fzn_builtin_rules.specs.Numbered.{value_in, rest_in, choice_at, IsOneOfTwo, FailsAt};
@@ -22,9 +22,9 @@ use fzn_meaning::{Comparison, Constraint, Extreme, Gate, Operation, Relation, Te
 use fzn_sets::{Sets, greatest_value, is_fixed_to, is_index, least_value, may_be};
 
 /// Whether the choice with this number fits no value of the result.
-#[tactic(auto, unfolding(crate::specs::Choices::inputs_of, crate::specs::Choices::result_of, crate::specs::Choices::Relates, fzn_meaning::specs::Meaning::IsWellFormed))]
+#[tactic(auto, unfolding(crate::specs::Choices::inputs_of, crate::specs::Choices::result_of, crate::specs::Choices::Relates, fzn_meaning::specs::Meaning::IsWellFormedConstraint))]
 pub(crate) fn fails_at(constraint: &Constraint, sets: &Sets, number: usize) -> bool
-    requires constraint { IsWellFormed (length sets.now.present) constraint.now }
+    requires constraint { IsWellFormedConstraint (length sets.now.present) constraint.now }
     requires nonempty { is_some_empty sets.now.present ≡ false }
     ensures { IsTrue result ↔ FailsAt constraint.now sets.now.present number }
 {

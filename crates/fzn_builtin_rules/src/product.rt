@@ -4,7 +4,7 @@ ghost use Rattle.std.specs.List.{All};
 ghost use Rattle.fzn_domain.specs.Narrow.{is_some_empty};
 ghost use Rattle.fzn_domain.specs.Limits.{IsInLimits};
 ghost use Rattle.fzn_meaning.specs.Term.{IsTerm};
-ghost use Rattle.fzn_meaning.specs.Meaning.{IsWellFormed};
+ghost use Rattle.fzn_meaning.specs.Meaning.{IsWellFormedConstraint};
 ghost use Rattle.fzn_sets.specs.Terms.{least_value, greatest_value};
 ghost use Rattle.fzn_builtin_rules.specs.Product.{corners, IsProductOut, IsArithmeticOut, IsBoxMet};
 
@@ -12,9 +12,9 @@ use fzn_meaning::{Constraint, Operation, Term};
 use fzn_sets::{Sets, greatest_value, least_value};
 
 /// Whether the bounds of a product exclude each value of the result. No set may be empty. `false` for any constraint but `int_times`.
-#[tactic(auto, unfolding(crate::specs::Product::IsBoxMet, fzn_meaning::specs::Meaning::IsWellFormed))]
+#[tactic(auto, unfolding(crate::specs::Product::IsBoxMet, fzn_meaning::specs::Meaning::IsWellFormedConstraint))]
 pub fn is_box_met(constraint: &Constraint, sets: &Sets) -> bool
-    requires constraint { IsWellFormed (length sets.now.present) constraint.now }
+    requires constraint { IsWellFormedConstraint (length sets.now.present) constraint.now }
     requires nonempty { is_some_empty sets.now.present ≡ false }
     ensures { IsTrue result ↔ IsBoxMet constraint.now sets.now.present }
 {

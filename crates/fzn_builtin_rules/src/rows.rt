@@ -3,8 +3,8 @@ ghost use Rattle.std.specs.Prelude.{◌≡◌, ◌↔◌, ◌≤◌, IsTrue, fal
 ghost use Rattle.std.specs.List.{All, Any};
 ghost use Rattle.fzn_domain.specs.Narrow.{is_some_empty};
 ghost use Rattle.fzn_meaning.specs.Term.{IsTerm};
-ghost use Rattle.fzn_meaning.specs.Meaning.{IsWellFormed, IsSwitch};
-ghost use Rattle.fzn_builtin_rules.specs.Rows.{AsksEquality, ShareNone, IsOutside, IsInside, IsSetMissed, NoEntryFits, Passes, NoAbsoluteFits, IsRowsMet};
+ghost use Rattle.fzn_meaning.specs.Meaning.{IsWellFormedConstraint, IsSwitch};
+ghost use Rattle.fzn_builtin_rules.specs.Rows.{AsksEquality, ShareNone, IsSetAvoided, IsInside, IsSetMissed, NoEntryFits, IsBeyond, NoAbsoluteFits, IsRowsMet};
 
 use crate::overlap::{absolutes_apart, are_apart, is_absolute_in, is_part_of};
 use fzn_domain::Domain;
@@ -13,9 +13,9 @@ use fzn_sets::{Sets, greatest_value, is_fixed_to, least_value, may_be};
 
 /// Whether the sets leave no value or no entry that the constraint asks for. No set may be empty. `false` for a constraint that the rule is
 /// not for.
-#[tactic(auto, unfolding(crate::specs::Rows::IsRowsMet, fzn_meaning::specs::Meaning::IsWellFormed))]
+#[tactic(auto, unfolding(crate::specs::Rows::IsRowsMet, fzn_meaning::specs::Meaning::IsWellFormedConstraint))]
 pub fn is_rows_met(constraint: &Constraint, sets: &Sets) -> bool
-    requires constraint { IsWellFormed (length sets.now.present) constraint.now }
+    requires constraint { IsWellFormedConstraint (length sets.now.present) constraint.now }
     requires nonempty { is_some_empty sets.now.present ≡ false }
     ensures { IsTrue result ↔ IsRowsMet constraint.now sets.now.present }
 {
@@ -91,7 +91,7 @@ fn is_set_missed(sets: &Sets, term: Term, set: &Domain, switch: Option<Term>) ->
 fn is_outside(sets: &Sets, term: Term, set: &Domain) -> bool
     requires term { IsTerm (length sets.now.present) term }
     requires nonempty { is_some_empty sets.now.present ≡ false }
-    ensures { IsTrue result ↔ IsOutside sets.now.present term set.now }
+    ensures { IsTrue result ↔ IsSetAvoided sets.now.present term set.now }
 {
     match term {
         Term::Constant(k) => !set.contains(k),
@@ -134,7 +134,7 @@ fn some_passes(sets: &Sets, extreme: Extreme, bound: Term, entries: &[Term]) -> 
     requires bound { IsTerm (length sets.now.present) bound }
     requires entries { All (IsTerm (length sets.now.present)) entries.now }
     requires nonempty { is_some_empty sets.now.present ≡ false }
-    ensures { IsTrue result ↔ Any (Passes sets.now.present extreme bound) entries.now }
+    ensures { IsTrue result ↔ Any (IsBeyond sets.now.present extreme bound) entries.now }
 {
     for entry in entries {
         if passes(sets, extreme, bound, *entry) {
@@ -148,7 +148,7 @@ fn passes(sets: &Sets, extreme: Extreme, bound: Term, entry: Term) -> bool
     requires bound { IsTerm (length sets.now.present) bound }
     requires entry { IsTerm (length sets.now.present) entry }
     requires nonempty { is_some_empty sets.now.present ≡ false }
-    ensures { IsTrue result ↔ Passes sets.now.present extreme bound entry }
+    ensures { IsTrue result ↔ IsBeyond sets.now.present extreme bound entry }
 {
     match extreme {
         Extreme::Greatest => greatest_value(sets, bound) < least_value(sets, entry),

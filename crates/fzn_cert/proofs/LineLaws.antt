@@ -86,15 +86,15 @@ plain_joined [] ys h k = k
 plain_joined (x ∷ xs) ys h k = (h.0, plain_joined xs ys h.1 k)
 
 pub step_words_are_plain : (v : Version) (step : Step) → IsSpelled v step → ArePlain (step_words step)
-step_words_are_plain v (Infer constraint rule clause) h = (
+step_words_are_plain v (Infer it) h = (
   refl,
   (
-    plain_decimal constraint h.0.1,
+    plain_decimal it.constraint h.0.1,
     (
-      plain_name rule,
-      plain_joined (map signed_decimal (hints rule)) (codes ";" ∷ map literal_text clause)
-          (plain_map signed_decimal IsHint (λ z k. plain_signed z (hint_is_short z k)) (hints rule) (hints_fit rule h.1))
-          (refl, plain_map literal_text IsLiteral plain_literal clause h.2),
+      plain_name it.rule,
+      plain_joined (map signed_decimal (hints it.rule)) (codes ";" ∷ map literal_text it.clause)
+          (plain_map signed_decimal IsHint (λ z k. plain_signed z (hint_is_short z k)) (hints it.rule) (hints_fit it.rule h.1))
+          (refl, plain_map literal_text IsLiteral plain_literal it.clause h.2),
     ),
   ),
 )
@@ -141,7 +141,7 @@ words_of-spaced [] some h = absurd (omega arith)
 words_of-spaced (word ∷ words) some h = words_joined word words h.0 h.1
 
 words_some : (step : Step) → 0 < length (step_words step)
-words_some (Infer constraint rule clause) = omega arith
+words_some (Infer it) = omega arith
 words_some (Resolve clause ids) = omega arith
 words_some (Solution values) = omega arith
 words_some (Delete ids) = omega arith
@@ -192,7 +192,7 @@ same_lines (b ∷ p) (c ∷ q) x y h k e =
 
 -- what has a spelling in version 1 has it in version 2
 in_two : (v : Version) (step : Step) → IsSpelled v step → IsSpelled Two step
-in_two v (Infer constraint rule clause) h = h
+in_two v (Infer it) h = h
 in_two v (Resolve clause ids) h = h
 in_two v (Solution values) h = h
 in_two v (Delete ids) h = (refl, h.1, h.2, h.3)

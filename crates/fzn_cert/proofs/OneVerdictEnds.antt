@@ -35,8 +35,8 @@ step_is_line bytes version count step rest line e =
 
 -- a step's text begins with another letter than an end's
 other_letter : (step : Step) (closed : Bool) → step_parts step ≡ end_text closed → ⊥
-other_letter (Infer constraint rule clause) true e = omega (arith, ap (λ (t : List ℕ). get_or t 0 0) e)
-other_letter (Infer constraint rule clause) false e = omega (arith, ap (λ (t : List ℕ). get_or t 0 0) e)
+other_letter (Infer it) true e = omega (arith, ap (λ (t : List ℕ). get_or t 0 0) e)
+other_letter (Infer it) false e = omega (arith, ap (λ (t : List ℕ). get_or t 0 0) e)
 other_letter (Resolve clause ids) true e = omega (arith, ap (λ (t : List ℕ). get_or t 0 0) e)
 other_letter (Resolve clause ids) false e = omega (arith, ap (λ (t : List ℕ). get_or t 0 0) e)
 other_letter (Solution values) true e = omega (arith, ap (λ (t : List ℕ). get_or t 0 0) e)

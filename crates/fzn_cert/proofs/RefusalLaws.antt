@@ -5,7 +5,7 @@ use Rattle.fzn_domain.specs.declared.literal.Lit.{Lit}
 use Rattle.fzn_domain.specs.Narrow.{ChainOutcome, not_unit, no_conflict, chain_outcome}
 use Rattle.fzn_meaning.specs.declared.model.Model.{Model}
 use Rattle.fzn_meaning.specs.Solutions.{IsSolution}
-use Rattle.fzn_rules.specs.declared.rule.Rule.{Rule}
+use Rattle.fzn_cert.specs.declared.step.Inference.{Inference}
 use Rattle.fzn_cert.specs.declared.step.Step.{Step}
 use Rattle.fzn_cert.specs.declared.step.Step.TheVariants.{Infer, Resolve, Solution, Delete}
 use Rattle.fzn_cert.specs.declared.refusal.Refusal.{Refusal}
@@ -18,10 +18,10 @@ neither (inl a) p q = p a
 neither (inr b) p q = q b
 
 pub not_accepted : (model : Model) (past : StepsPast) (step : Step) (fault : Refusal) → HasFault model past step fault → IsAccepted model past step → ⊥
-not_accepted model past (Infer c rule clause) NoSuchVariable f a = f a.0
-not_accepted model past (Infer c rule clause) NoSuchConstraint f a = f.1 a.1
-not_accepted model past (Infer c rule clause) RuleFails f a = f.2 a.2
-not_accepted model past (Infer c rule clause) _ f a = f
+not_accepted model past (Infer it) NoSuchVariable f a = f a.0
+not_accepted model past (Infer it) NoSuchConstraint f a = f.1 a.1
+not_accepted model past (Infer it) RuleFails f a = f.2 a.2
+not_accepted model past (Infer it) _ f a = f
 not_accepted model past (Resolve clause ids) NoSuchVariable f a = f a.0
 not_accepted model past (Resolve clause ids) NoSuchClause f a = f.1 a.1
 not_accepted model past (Resolve clause ids) NotUnit f a = neither a.2 f.2 (λ conflict. let e = sym conflict ∙ f.3 in cc)
@@ -50,11 +50,11 @@ one_view First Second p q Rest one a b (inr (inr x)) (inl y) = absurd (y.1 x.0)
 one_view First Second p q Rest one a b (inr (inr x)) (inr (inl y)) = absurd (y.2 x.1)
 one_view First Second p q Rest one a b (inr (inr x)) (inr (inr y)) = one a b x.2 y.2
 
-infer_view : (model : Model) (past : StepsPast) (c : ℕ) (rule : Rule) (clause : List Lit) (a : Refusal) → HasFault model past (Infer c rule clause) a → View (HasVariables model clause) (IsConstraintNumber model c) NoSuchVariable NoSuchConstraint (λ r. r ≡ RuleFails) a
-infer_view model past c rule clause NoSuchVariable f = inl (refl, f)
-infer_view model past c rule clause NoSuchConstraint f = inr (inl (refl, f.0, f.1))
-infer_view model past c rule clause RuleFails f = inr (inr (f.0, f.1, refl))
-infer_view model past c rule clause _ f = absurd f
+infer_view : (model : Model) (past : StepsPast) (it : Inference) (a : Refusal) → HasFault model past (Infer it) a → View (HasVariables model it.clause) (IsConstraintNumber model it.constraint) NoSuchVariable NoSuchConstraint (λ r. r ≡ RuleFails) a
+infer_view model past it NoSuchVariable f = inl (refl, f)
+infer_view model past it NoSuchConstraint f = inr (inl (refl, f.0, f.1))
+infer_view model past it RuleFails f = inr (inr (f.0, f.1, refl))
+infer_view model past it _ f = absurd f
 
 abbrev IsChainFault : ChainOutcome → Refusal → Type 0
 IsChainFault outcome a = ((a ≡ NotUnit) × (outcome ≡ not_unit)) ⊎ ((a ≡ NoConflict) × (outcome ≡ no_conflict))
@@ -88,9 +88,9 @@ one_of_two p q a b (inr x) (inl y) = absurd (y.1 x.1)
 one_of_two p q a b (inr x) (inr y) = x.0 ∙ sym y.0
 
 pub one_fault : (model : Model) (past : StepsPast) (step : Step) (a b : Refusal) → HasFault model past step a → HasFault model past step b → a ≡ b
-one_fault model past (Infer c rule clause) a b f g =
-    one_view (HasVariables model clause) (IsConstraintNumber model c) NoSuchVariable NoSuchConstraint (λ r. r ≡ RuleFails) (λ r s p q. p ∙ sym q) a b
-    (infer_view model past c rule clause a f) (infer_view model past c rule clause b g)
+one_fault model past (Infer it) a b f g =
+    one_view (HasVariables model it.clause) (IsConstraintNumber model it.constraint) NoSuchVariable NoSuchConstraint (λ r. r ≡ RuleFails) (λ r s p q. p ∙ sym q) a b
+    (infer_view model past it a f) (infer_view model past it b g)
 one_fault model past (Resolve clause ids) a b f g =
     let outcome = chain_outcome (denying model clause) (clauses_held past ids) in
     one_view (HasVariables model clause) (All (IsClauseHeld past) ids) NoSuchVariable NoSuchClause (IsChainFault outcome) (one_chain outcome) a b

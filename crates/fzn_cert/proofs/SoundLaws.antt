@@ -11,13 +11,13 @@ use Rattle.fzn_domain.specs.Narrow.{IsClauseOver, is_clause_true}
 use Rattle.fzn_domain.proofs.NarrowLemmas.{accepted_sound}
 use Rattle.fzn_meaning.specs.declared.constraint.Constraint.{Constraint}
 use Rattle.fzn_meaning.specs.declared.model.Model.{Model}
-use Rattle.fzn_meaning.specs.Meaning.{Meets, HasBooleanSets, IsWellFormed as IsWellFormedConstraint}
+use Rattle.fzn_meaning.specs.Meaning.{Meets, HasBooleanSets, IsWellFormedConstraint}
 use Rattle.fzn_meaning.specs.Solutions.{declared_sets, IsSolution, IsProper, IsExhausted, PassesCuts, cut_of}
 use Rattle.fzn_meaning.specs.WellFormed.{IsWellFormed}
 use Rattle.fzn_meaning.proofs.CutLemmas.{cut_of-variables, bits-choice, proper-from_cuts, exhausted-from_cuts}
-use Rattle.fzn_rules.specs.declared.rule.Rule.{Rule}
 use Rattle.fzn_rules.specs.Rules.{IsAcceptedBy}
 use Rattle.fzn_rules.proofs.CallerLemmas.{accepted_by_sound}
+use Rattle.fzn_cert.specs.declared.step.Inference.{Inference}
 use Rattle.fzn_cert.specs.declared.step.Step.{Step}
 use Rattle.fzn_cert.specs.declared.step.Step.TheVariants.{Infer, Resolve, Solution, Delete}
 use Rattle.fzn_cert.specs.Past.{StepsPast, no_past, clause_held, IsClauseHeld, clauses_held, is_empty_clause, after_clause, after_solution, without, after_deletion}
@@ -36,16 +36,16 @@ formed_sets model constraint h = subst (λ n. IsWellFormedConstraint n constrain
 
 -- ---- the clause of an accepted step is true at every solution that passes the cuts so far
 
-infer_true : (model : Model) (past : StepsPast) (c : ℕ) (rule : Rule) (clause : List Lit) (a : List ℤ) → IsWellFormed model → IsAccepted model past (Infer c rule clause) → IsSolution model a → is_clause_true a clause ≡ true
-infer_true model past c rule clause a wf accepted solution =
-    elim (slice_get_cases model.constraints (c - 1)).1 [
+infer_true : (model : Model) (past : StepsPast) (it : Inference) (a : List ℤ) → IsWellFormed model → IsAccepted model past (Infer it) → IsSolution model a → is_clause_true a it.clause ≡ true
+infer_true model past it a wf accepted solution =
+    elim (slice_get_cases model.constraints (it.constraint - 1)).1 [
       | inl (constraint, within, is, at) ↦
-          accepted_by_sound constraint rule (declared_sets model.vars) clause
-          (formed_sets model constraint (subst (λ k. IsWellFormedConstraint (length model.vars) k) at (wf.constraints (c - 1) constraint within)))
-          (over_sets model clause accepted.0)
-          (subst (λ o. IfSome o (λ k. IsAcceptedBy k rule (declared_sets model.vars) clause)) is accepted.2) a solution.0
-          (bits-choice (declared_sets model.vars) a constraint solution.0 (subst (λ k. HasBooleanSets (declared_sets model.vars) k) at (wf.booleans (c - 1) constraint within)))
-          (subst (λ k. Meets k a) at (solution.1 (c - 1) constraint within))
+          accepted_by_sound constraint it.rule (declared_sets model.vars) it.clause
+          (formed_sets model constraint (subst (λ k. IsWellFormedConstraint (length model.vars) k) at (wf.constraints (it.constraint - 1) constraint within)))
+          (over_sets model it.clause accepted.0)
+          (subst (λ o. IfSome o (λ k. IsAcceptedBy k it.rule (declared_sets model.vars) it.clause)) is accepted.2) a solution.0
+          (bits-choice (declared_sets model.vars) a constraint solution.0 (subst (λ k. HasBooleanSets (declared_sets model.vars) k) at (wf.booleans (it.constraint - 1) constraint within)))
+          (subst (λ k. Meets k a) at (solution.1 (it.constraint - 1) constraint within))
       | inr past_end ↦ absurd (omega (arith, past_end.0, accepted.1.0, accepted.1.1))
     ]
 
@@ -140,8 +140,8 @@ sound-deletion model past ids sound = record {
 
 -- an accepted step keeps the past sound
 pub sound-after : (model : Model) (past : StepsPast) (step : Step) → IsWellFormed model → IsSound model past → IsAccepted model past step → IsSound model (after_step model past step)
-sound-after model past (Infer c rule clause) wf sound accepted =
-    sound-clause model past clause sound accepted.0 (λ a solution passes. infer_true model past c rule clause a wf accepted solution)
+sound-after model past (Infer it) wf sound accepted =
+    sound-clause model past it.clause sound accepted.0 (λ a solution passes. infer_true model past it a wf accepted solution)
 sound-after model past (Resolve clause ids) wf sound accepted =
     sound-clause model past clause sound accepted.0 (λ a solution passes. resolve_true model past clause ids a sound accepted solution passes)
 sound-after model past (Solution values) wf sound accepted = sound-solution model past values wf sound accepted.0 accepted.1

@@ -28,12 +28,12 @@ regrouped : (a b c d e f : List ℕ) → (((a ++ b) ++ (c ++ d)) ++ e) ++ f ≡ 
 regrouped a b c d e f = simp append_assoc
 
 pub step_text_is : (step : Step) → step_text step ≡ step_parts step
-step_text_is (Infer constraint rule clause) =
-    let hs = map signed_decimal (hints rule) in
-    let ls = map literal_text clause in
-    spaced-cons (codes "i") (decimal constraint ∷ rule_name rule ∷ (hs ++ codes ";" ∷ ls))
-    ∙ ap (λ (t : List ℕ). 105 ∷ 32 ∷ (decimal constraint ++ 32 ∷ (rule_name rule ++ t))) (marked hs ls)
-    ∙ ap (λ (t : List ℕ). 105 ∷ 32 ∷ t) (sym (regrouped (decimal constraint) (codes " ") (rule_name rule) (after_spaces hs) (codes " ;") (after_spaces ls)))
+step_text_is (Infer it) =
+    let hs = map signed_decimal (hints it.rule) in
+    let ls = map literal_text it.clause in
+    spaced-cons (codes "i") (decimal it.constraint ∷ rule_name it.rule ∷ (hs ++ codes ";" ∷ ls))
+    ∙ ap (λ (t : List ℕ). 105 ∷ 32 ∷ (decimal it.constraint ++ 32 ∷ (rule_name it.rule ++ t))) (marked hs ls)
+    ∙ ap (λ (t : List ℕ). 105 ∷ 32 ∷ t) (sym (regrouped (decimal it.constraint) (codes " ") (rule_name it.rule) (after_spaces hs) (codes " ;") (after_spaces ls)))
 step_text_is (Resolve clause ids) =
     let ls = map literal_text clause in
     spaced-cons (codes "r") (ls ++ codes ";" ∷ map decimal ids)

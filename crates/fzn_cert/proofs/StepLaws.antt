@@ -69,12 +69,12 @@ values_are_hints (z ∷ zs) h = ((omega (arith, ints, h.0), omega (arith, ints, 
 
 pub step_again : (v : Version) (step : Step) → IsSpelled v step → step_of_words v (step_words step) ≡ Some step
 unfolding step_of_words infer_of resolve_of solution_of delete_of
-step_again v (Infer constraint rule clause) h =
+step_again v (Infer it) h =
     rw (
-      number_again constraint h.0,
-      marked_again hint_of signed_decimal IsHint hint_again hint_apart (hints rule) (map literal_text clause) (hints_fit rule h.1),
-      rule_again rule h.1,
-      items_again literal_of literal_text IsLiteral literal_again clause h.2,
+      number_again it.constraint h.0,
+      marked_again hint_of signed_decimal IsHint hint_again hint_apart (hints it.rule) (map literal_text it.clause) (hints_fit it.rule h.1),
+      rule_again it.rule h.1,
+      items_again literal_of literal_text IsLiteral literal_again it.clause h.2,
     ) refl
 step_again v (Resolve clause ids) h =
     rw (

@@ -37,7 +37,7 @@ IsInferredBy model c rule clause =
 
 -- A step from a constraint, one from clauses, a solution, a deletion.
 abbrev pub IsAccepted : Model → StepsPast → Step → Type 0
-IsAccepted model past (Infer c rule clause) = HasVariables model clause × IsConstraintNumber model c × IsInferredBy model c rule clause
+IsAccepted model past (Infer it) = HasVariables model it.clause × IsConstraintNumber model it.constraint × IsInferredBy model it.constraint it.rule it.clause
 IsAccepted model past (Resolve clause ids) =
     HasVariables model clause × All (IsClauseHeld past) ids × IsAcceptedFrom (declared_sets model.vars) clause (clauses_held past ids)
 IsAccepted model past (Solution values) = IsSolution model values × PassesCuts model past.solutions values
@@ -45,10 +45,10 @@ IsAccepted model past (Delete ids) = All (IsClauseHeld past) ids
 
 -- What is wrong with a step that is not accepted. The tests come in the order in which the parts stand.
 abbrev pub HasFault : Model → StepsPast → Step → Refusal → Type 0
-HasFault model past (Infer c rule clause) NoSuchVariable = ¬ HasVariables model clause
-HasFault model past (Infer c rule clause) NoSuchConstraint = HasVariables model clause × ¬ IsConstraintNumber model c
-HasFault model past (Infer c rule clause) RuleFails =
-    HasVariables model clause × IsConstraintNumber model c × ¬ IsInferredBy model c rule clause
+HasFault model past (Infer it) NoSuchVariable = ¬ HasVariables model it.clause
+HasFault model past (Infer it) NoSuchConstraint = HasVariables model it.clause × ¬ IsConstraintNumber model it.constraint
+HasFault model past (Infer it) RuleFails =
+    HasVariables model it.clause × IsConstraintNumber model it.constraint × ¬ IsInferredBy model it.constraint it.rule it.clause
 HasFault model past (Resolve clause ids) NoSuchVariable = ¬ HasVariables model clause
 HasFault model past (Resolve clause ids) NoSuchClause = HasVariables model clause × ¬ All (IsClauseHeld past) ids
 HasFault model past (Resolve clause ids) NotUnit =
@@ -68,7 +68,7 @@ IsJudged model past step fault = MatchOption fault (IsAccepted model past step) 
 
 -- what an accepted step leaves
 abbrev pub after_step : Model → StepsPast → Step → StepsPast
-after_step model past (Infer c rule clause) = after_clause past clause
+after_step model past (Infer it) = after_clause past it.clause
 after_step model past (Resolve clause ids) = after_clause past clause
 after_step model past (Solution values) = after_solution past (cut_of model values) values
 after_step model past (Delete ids) = after_deletion past ids

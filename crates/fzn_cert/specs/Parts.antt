@@ -17,7 +17,7 @@ abbrev pub after_spaces : List (List ℕ) → List ℕ
 after_spaces words = flat_map after_space words
 
 abbrev pub step_parts : Step → List ℕ
-step_parts (Infer constraint rule clause) = codes "i " ++ decimal constraint ++ codes " " ++ (rule_name rule ++ after_spaces (map signed_decimal (hints rule))) ++ codes " ;" ++ after_spaces (map literal_text clause)
+step_parts (Infer it) = codes "i " ++ decimal it.constraint ++ codes " " ++ (rule_name it.rule ++ after_spaces (map signed_decimal (hints it.rule))) ++ codes " ;" ++ after_spaces (map literal_text it.clause)
 step_parts (Resolve clause ids) = codes "r" ++ after_spaces (map literal_text clause) ++ codes " ;" ++ after_spaces (map decimal ids)
 step_parts (Solution values) = codes "s" ++ after_spaces (map signed_decimal values)
 step_parts (Delete ids) = codes "d" ++ after_spaces (map decimal ids)

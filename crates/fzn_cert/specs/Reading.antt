@@ -53,7 +53,7 @@ infer_of (number ∷ name ∷ words) = do
   hints ← items_before_mark hint_of words
   rule ← rule_spelled name hints.0
   clause ← items_of literal_of hints.1
-  Some (Infer constraint rule clause)
+  Some (Infer (record { constraint = constraint; rule = rule; clause = clause }))
 
 unfoldable pub resolve_of : List (List ℕ) → Option Step
 resolve_of words = do

@@ -50,7 +50,7 @@ IsRule rule = AllByRecursion IsHint (hints rule)
 
 -- version 1 has no `d` step, and the ids of one rise
 abbrev pub IsSpelled : Version → Step → Type 0
-IsSpelled v (Infer constraint rule clause) = IsNumber constraint × IsRule rule × AllByRecursion IsLiteral clause
+IsSpelled v (Infer it) = IsNumber it.constraint × IsRule it.rule × AllByRecursion IsLiteral it.clause
 IsSpelled v (Resolve clause ids) = AllByRecursion IsLiteral clause × AllByRecursion IsNumber ids
 IsSpelled v (Solution values) = AllByRecursion IsValue values
 IsSpelled v (Delete ids) = (v ≡ Two) × (0 < length ids) × AllByRecursion IsNumber ids × IdsRise ids

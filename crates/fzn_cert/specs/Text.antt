@@ -43,7 +43,7 @@ hints rule = hints_of rule
 
 -- the words of a step's line
 abbrev pub step_words : Step → List (List ℕ)
-step_words (Infer constraint rule clause) = codes "i" ∷ decimal constraint ∷ rule_name rule ∷ (map signed_decimal (hints rule) ++ codes ";" ∷ map literal_text clause)
+step_words (Infer it) = codes "i" ∷ decimal it.constraint ∷ rule_name it.rule ∷ (map signed_decimal (hints it.rule) ++ codes ";" ∷ map literal_text it.clause)
 step_words (Resolve clause ids) = codes "r" ∷ (map literal_text clause ++ codes ";" ∷ map decimal ids)
 step_words (Solution values) = codes "s" ∷ map signed_decimal values
 step_words (Delete ids) = codes "d" ∷ map decimal ids

@@ -12,7 +12,7 @@ pub use law::{one_derivation, one_line, one_verdict};
 pub use limits::{LAST_STEP, LINE_LIMIT};
 pub use line::push_step;
 pub use refusal::Refusal;
-pub use step::{Step, Version};
+pub use step::{Inference, Step, Version};
 pub use write_fault::WriteFault;
 pub use writer::{NotBegun, Stage, StepWriter, header_of, put_end};
 

@@ -5,7 +5,7 @@ ghost use Rattle.std.specs.Fmt.{decimal, signed_decimal};
 ghost use Rattle.fzn_cert.specs.Spelling.{op_text, rule_name, hints, literal_text, step_words, step_text};
 ghost use Rattle.fzn_cert.specs.Parts.{after_space, after_spaces, step_parts};
 
-use crate::step::Step;
+use crate::step::{Inference, Step};
 use fzn_domain::{Lit, Memory, Op};
 use fzn_rules::Rule;
 use itoa::Buffer;
@@ -22,11 +22,13 @@ fn push_parts(text: &mut String, step: &Step) -> Result<(), Memory>
     ensures { OnOk result (string_bytes text.new ≡ string_bytes text.old ++ step_parts step.now) }
 {
     match step {
-        Step::Infer {
-            constraint,
-            rule,
-            clause,
-        } => {
+        Step::Infer(
+            Inference {
+                constraint,
+                rule,
+                clause,
+            },
+        ) => {
             write!(text, "i {constraint} ")?;
             push_rule(text, rule)?;
             text.push_str(" ;")?;

@@ -108,10 +108,10 @@ unfolding infer_of
 infer_takes v [] step e = absurd cc
 infer_takes v (number ∷ []) step e = absurd cc
 infer_takes v (number ∷ name ∷ words) step e =
-    let a = bind_some (positive_of number) (λ constraint. items_before_mark hint_of words >>= λ hs. rule_spelled name hs.0 >>= λ rule. items_of literal_of hs.1 >>= λ clause. Some (Infer constraint rule clause)) step e in
-    let b = bind_some (items_before_mark hint_of words) (λ hs. rule_spelled name hs.0 >>= λ rule. items_of literal_of hs.1 >>= λ clause. Some (Infer a.0 rule clause)) step a.2 in
-    let r = bind_some (rule_spelled name b.0.0) (λ rule. items_of literal_of b.0.1 >>= λ clause. Some (Infer a.0 rule clause)) step b.2 in
-    let l = bind_some (items_of literal_of b.0.1) (λ clause. Some (Infer a.0 r.0 clause)) step r.2 in
+    let a = bind_some (positive_of number) (λ constraint. items_before_mark hint_of words >>= λ hs. rule_spelled name hs.0 >>= λ rule. items_of literal_of hs.1 >>= λ clause. Some (Infer (record { constraint = constraint; rule = rule; clause = clause }))) step e in
+    let b = bind_some (items_before_mark hint_of words) (λ hs. rule_spelled name hs.0 >>= λ rule. items_of literal_of hs.1 >>= λ clause. Some (Infer (record { constraint = a.0; rule = rule; clause = clause }))) step a.2 in
+    let r = bind_some (rule_spelled name b.0.0) (λ rule. items_of literal_of b.0.1 >>= λ clause. Some (Infer (record { constraint = a.0; rule = rule; clause = clause }))) step b.2 in
+    let l = bind_some (items_of literal_of b.0.1) (λ clause. Some (Infer (record { constraint = a.0; rule = r.0; clause = clause }))) step r.2 in
     let n = number_takes number a.0 a.1 in
     let hs = marked_take hint_of signed_decimal IsHint hint_takes words b.0 b.1 in
     let rule = rule_takes name b.0.0 r.0 hs.1 r.1 in
@@ -119,7 +119,7 @@ infer_takes v (number ∷ name ∷ words) step e =
     let tail : words ≡ map signed_decimal (hints r.0) ++ codes ";" ∷ map literal_text l.0 =
     hs.0 ∙ ap (λ (xs : List ℤ). map signed_decimal xs ++ codes ";" ∷ b.0.1) rule.hints_are
     ∙ ap (λ (ws : List (List ℕ)). map signed_decimal (hints r.0) ++ codes ";" ∷ ws) clause.0 in
-    let made : Step = Infer a.0 r.0 l.0 in
+    let made : Step = Infer (record { constraint = a.0; rule = r.0; clause = l.0 }) in
     subst (λ (s : Step). Spells v (codes "i" ∷ number ∷ name ∷ words) s) (some_is made step l.2) (record {
       words_are = ap (λ (w : List ℕ). codes "i" ∷ w ∷ name ∷ words) n.0
           ∙ ap (λ (w : List ℕ). codes "i" ∷ decimal a.0 ∷ w ∷ words) rule.name_is

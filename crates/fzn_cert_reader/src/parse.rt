@@ -11,7 +11,7 @@ use crate::number::{is_value, number_of};
 use crate::rule::rule_of;
 use crate::words::{items_before_mark, items_of, words_of};
 use bstr::Split;
-use fzn_cert::{LAST_STEP, LINE_LIMIT, Step, Version};
+use fzn_cert::{Inference, LAST_STEP, LINE_LIMIT, Step, Version};
 use fzn_domain::{Lit, Memory};
 use std::alloc::Global;
 
@@ -99,11 +99,11 @@ fn read_infer(alloc: Global, mut words: Split<'_, '_>) -> Result<Option<Step>, M
     let Some(clause) = items_of::<Lit>(alloc, words)? else {
         return Ok(None);
     };
-    Ok(Some(Step::Infer {
+    Ok(Some(Step::Infer(Inference {
         constraint,
         rule,
         clause,
-    }))
+    })))
 }
 
 #[tactic(auto, unfolding(fzn_cert::specs::Reading::resolve_of))]

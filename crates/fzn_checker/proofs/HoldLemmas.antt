@@ -68,7 +68,7 @@ taken-more model old new step is_accepted history ready steps taken = record {
 
 -- what any version spells, version 2 spells
 pub spelled-two : (version : Version) (step : Step) → IsSpelled version step → IsSpelled Two step
-spelled-two version (Infer constraint rule clause) h = h
+spelled-two version (Infer it) h = h
 spelled-two version (Resolve clause ids) h = h
 spelled-two version (Solution values) h = h
 spelled-two version (Delete ids) h = (refl, h.1, h.2, h.3)

@@ -8,7 +8,7 @@ use Rattle.fzn_domain.specs.Narrow.{denied, is_some_empty}
 use Rattle.fzn_domain.proofs.NarrowLemmas.{length-denied}
 use Rattle.fzn_meaning.specs.declared.constraint.Constraint.{Constraint}
 use Rattle.fzn_meaning.specs.declared.model.Model.{Model}
-use Rattle.fzn_meaning.specs.Meaning.{IsWellFormed as IsWellFormedConstraint}
+use Rattle.fzn_meaning.specs.Meaning.{IsWellFormedConstraint}
 use Rattle.fzn_meaning.specs.Solutions.{declared_sets}
 use Rattle.fzn_meaning.specs.WellFormed.{IsWellFormed}
 use Rattle.fzn_rules.specs.declared.rule.Rule.{Rule}
@@ -19,6 +19,10 @@ use Rattle.fzn_cert.specs.Accepted.{denying, IsTrivial, IsInferredBy}
 -- the present sets that began with the declared ones, after a clause was denied
 pub denied_from : (model : Model) (old : Narrowed) (new : List IntSet) (clause : List Lit) → old ≡ start (declared_sets model.vars) → new ≡ denied old.present clause → new ≡ denying model clause
 denied_from model old new clause old_is new_is = new_is ∙ ap (λ (s : Narrowed). denied s.present clause) old_is
+
+-- the same where the clause is read as a slice
+pub denied_by : (model : Model) (old : Narrowed) (new : List IntSet) (slice clause : List Lit) → slice ≡ clause → old ≡ start (declared_sets model.vars) → new ≡ denied old.present slice → new ≡ denying model clause
+denied_by model old new slice clause same old_is new_is = denied_from model old new slice old_is new_is ∙ ap (denying model) same
 
 pub count-declared : (model : Model) → length (declared_sets model.vars) ≡ length model.vars
 count-declared model = length-map model.vars (λ var. var.domain)

@@ -87,17 +87,17 @@ in_bounds [] h = tt
 in_bounds (lit ∷ rest) h = (h.0.1, in_bounds rest h.1)
 
 pub bounds-spelled : (version : Version) (step : Step) → IsSpelled version step → HasLitsInRange step
-bounds-spelled version (Infer c rule clause) h = All-from_recursion IsBound clause (in_bounds clause h.2)
+bounds-spelled version (Infer it) h = All-from_recursion IsBound it.clause (in_bounds it.clause h.2)
 bounds-spelled version (Resolve clause ids) h = All-from_recursion IsBound clause (in_bounds clause h.0)
 bounds-spelled version (Solution values) h = tt
 bounds-spelled version (Delete ids) h = tt
 
 -- its line, and its fault
 refused-step : (model : Model) (version : Version) (past : StepsPast) (count : ℕ) (left next : Option (List ℕ)) (step : Step) (refusal : Refusal) → HasLine version count step → Consumes left next (step_line step) → HasFault model past step refusal → EndsIn model version past count left (refused (count + 3) refusal)
-refused-step model version past count left next (Infer c rule clause) refusals.NoSuchVariable line taken f = (refl, (Infer c rule clause, line, (next, taken, tt), f))
-refused-step model version past count left next (Infer c rule clause) refusals.NoSuchConstraint line taken f = (refl, (Infer c rule clause, line, (next, taken, tt), f))
-refused-step model version past count left next (Infer c rule clause) refusals.RuleFails line taken f = (refl, (Infer c rule clause, line, (next, taken, tt), f))
-refused-step model version past count left next (Infer c rule clause) _ line taken f = absurd f
+refused-step model version past count left next (Infer it) refusals.NoSuchVariable line taken f = (refl, (Infer it, line, (next, taken, tt), f))
+refused-step model version past count left next (Infer it) refusals.NoSuchConstraint line taken f = (refl, (Infer it, line, (next, taken, tt), f))
+refused-step model version past count left next (Infer it) refusals.RuleFails line taken f = (refl, (Infer it, line, (next, taken, tt), f))
+refused-step model version past count left next (Infer it) _ line taken f = absurd f
 refused-step model version past count left next (Resolve clause ids) refusals.NoSuchVariable line taken f = (refl, (Resolve clause ids, line, (next, taken, tt), f))
 refused-step model version past count left next (Resolve clause ids) refusals.NoSuchClause line taken f = (refl, (Resolve clause ids, line, (next, taken, tt), f))
 refused-step model version past count left next (Resolve clause ids) refusals.NotUnit line taken f = (refl, (Resolve clause ids, line, (next, taken, tt), f))

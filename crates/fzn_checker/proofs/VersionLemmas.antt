@@ -28,7 +28,7 @@ use Rattle.fzn_checker.specs.Rewritten.{first_line, second_line}
 
 -- what version 1 spells, each version spells
 in_any : (w : Version) (step : Step) → IsSpelled One step → IsSpelled w step
-in_any w (Infer constraint rule clause) h = h
+in_any w (Infer it) h = h
 in_any w (Resolve clause ids) h = h
 in_any w (Solution values) h = h
 in_any w (Delete ids) h = absurd (apart h.0)

@@ -23,7 +23,7 @@ pub record IsJudgedOn (model : Model) (past : StepsPast) (sets : Narrowed) (has_
 
 -- the numbers of the step's literals are in their range
 abbrev pub HasLitsInRange : Step → Type 0
-HasLitsInRange (Infer c rule clause) = All IsBound clause
+HasLitsInRange (Infer it) = All IsBound it.clause
 HasLitsInRange (Resolve clause ids) = All IsBound clause
 HasLitsInRange (Solution values) = Unit {0}
 HasLitsInRange (Delete ids) = Unit {0}

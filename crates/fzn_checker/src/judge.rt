@@ -18,10 +18,10 @@ use crate::chain::{are_held, follow};
 use crate::given::Given;
 use crate::history::History;
 use crate::solution::passes_cuts;
-use fzn_cert::{Refusal, Step};
+use fzn_cert::{Inference, Refusal, Step};
 use fzn_domain::{Lit, Memory};
 use fzn_meaning::{Model, is_solution};
-use fzn_rules::{Rule, refutes};
+use fzn_rules::refutes;
 use fzn_sets::{Sets, deny};
 use std::alloc::Global;
 
@@ -64,11 +64,7 @@ fn judge_on(
     ensures declared { sets.new.declared ≡ sets.old.declared }
 {
     match step {
-        Step::Infer {
-            constraint,
-            rule,
-            clause,
-        } => judge_infer(model, sets, has_empty, *constraint, rule, clause.as_slice()),
+        Step::Infer(inference) => judge_infer(model, sets, has_empty, inference),
         Step::Resolve { clause, ids } => judge_resolve(
             model,
             history,
@@ -86,17 +82,17 @@ fn judge_infer(
     model: &Model,
     sets: &mut Sets,
     has_empty: bool,
-    constraint: u64,
-    rule: &Rule,
-    clause: &[Lit],
+    inference: &Inference,
 ) -> Result<Option<Refusal>, Memory>
     requires model { IsWellFormed model.now }
     requires sets { sets.old ≡ start (declared_sets model.now.vars) }
     requires empty { has_empty ≡ is_some_empty (declared_sets model.now.vars) }
-    requires bounds { All IsBound clause.now }
-    ensures judged { IfOk result (λ fault. (past : StepsPast) → IsJudged model.now past (Infer constraint rule.now clause.now) fault) }
+    requires bounds { All IsBound inference.now.clause }
+    ensures judged { IfOk result (λ fault. (past : StepsPast) → IsJudged model.now past (Infer inference.now) fault) }
     ensures declared { sets.new.declared ≡ sets.old.declared }
 {
+    let constraint = inference.constraint;
+    let clause = inference.clause.as_slice();
     if !has_variables(model.vars.len(), clause) {
         return Ok(Some(Refusal::NoSuchVariable));
     }
@@ -110,7 +106,7 @@ fn judge_infer(
     if refutes(
         &model.constraints.as_slice()[(constraint - 1) as usize],
         sets,
-        rule,
+        &inference.rule,
     ) {
         Ok(None)
     } else {

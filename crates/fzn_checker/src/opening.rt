@@ -1,7 +1,7 @@
 // The first lines of a certificate, up to its first step.
 ghost use Rattle.std.specs.Prelude.{◌≡◌, ◌↔◌, ◌+◌, ◌≤◌, ◌++◌, ◌∷◌, [], true, length, IfOk, IfErr, IsTrue, OnOk, OnErr};
 ghost use Rattle.std.specs.List.{All};
-ghost use Rattle.fzn_meaning.specs.Meaning.{longest, IsWellFormed as IsWellFormedConstraint};
+ghost use Rattle.fzn_meaning.specs.Meaning.{longest, IsWellFormedConstraint};
 ghost use Rattle.fzn_meaning.specs.WellFormed.{IsWellFormed};
 ghost use Rattle.fzn_cert_reader.specs.Reader.{progress, reader_below};
 ghost use Rattle.fzn_cert_reader.specs.Opening.{IsInHead};

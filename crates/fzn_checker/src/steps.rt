@@ -10,7 +10,7 @@ use crate::given::Given;
 use crate::history::History;
 use crate::judge::fault_of;
 use crate::solution::note;
-use fzn_cert::{Refusal, Step};
+use fzn_cert::{Inference, Refusal, Step};
 use fzn_domain::Memory;
 use fzn_list::Items;
 use fzn_meaning::{Model, cut};
@@ -58,7 +58,7 @@ pub fn accept(
     ensures given { OnOk result (AreGiven model.now history.new.solutions given.new) }
 {
     match step {
-        Step::Infer { clause, .. } => history.add_clause(clause),
+        Step::Infer(Inference { clause, .. }) => history.add_clause(clause),
         Step::Resolve { clause, .. } => history.add_clause(clause),
         Step::Solution(values) => {
             let clause = cut(alloc, model, values.as_slice())?;

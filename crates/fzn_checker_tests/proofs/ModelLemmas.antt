@@ -14,7 +14,7 @@ use Rattle.fzn_meaning.specs.declared.model.Kind.{Kind}
 use Rattle.fzn_meaning.specs.declared.model.OutputItem.TheVariants.{Single}
 use Rattle.fzn_meaning.specs.declared.model.Var.{Var}
 use Rattle.fzn_meaning.specs.declared.model.Model.{Model}
-use Rattle.fzn_meaning.specs.Meaning.{HasBooleanSets, IsWellFormed as IsWellFormedConstraint}
+use Rattle.fzn_meaning.specs.Meaning.{HasBooleanSets, IsWellFormedConstraint}
 use Rattle.fzn_meaning.specs.Solutions.{declared_sets}
 use Rattle.fzn_meaning.specs.WellFormed.{IsOutputItem, IsWellFormed}
 

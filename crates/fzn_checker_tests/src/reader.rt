@@ -1,5 +1,5 @@
 use crate::writer::LINES;
-use fzn_cert::{CertFault, FaultKind, Header, Step, StepWriter, Version, WriteFault};
+use fzn_cert::{CertFault, FaultKind, Header, Inference, Step, StepWriter, Version, WriteFault};
 use fzn_cert_reader::StepReader;
 use fzn_derive::Derivation;
 use fzn_head::Head;
@@ -232,11 +232,11 @@ fn is_told(reader: &Steps<'_>) -> bool {
 fn has_lin(alloc: Global, reader: &mut Steps<'_>) -> bool {
     matches!(
         reader.next(alloc),
-        Ok(Some(Step::Infer {
+        Ok(Some(Step::Infer(Inference {
             constraint: 2,
             rule: Rule::Lin,
             ..
-        }))
+        })))
     )
 }
 
@@ -252,11 +252,11 @@ fn write_two(
     alloc: Global,
     writer: &mut StepWriter<'_, TrackedWriter<'_, Vec<u8>>>,
 ) -> Result<(), WriteFault> {
-    let step = Step::Infer {
+    let step = Step::Infer(Inference {
         constraint: 8,
         rule: Rule::Hall(2, -3),
         clause: Items::new(alloc),
-    };
+    });
     writer.write(alloc, &step)?;
     writer.write(alloc, &Step::Solution(Items::new(alloc)))?;
     writer.finish(true)
@@ -266,11 +266,11 @@ fn write_two(
 fn has_hall(alloc: Global, reader: &mut Steps<'_>) -> bool {
     matches!(
         reader.next(alloc),
-        Ok(Some(Step::Infer {
+        Ok(Some(Step::Infer(Inference {
             constraint: 8,
             rule: Rule::Hall(2, -3),
             ..
-        }))
+        })))
     )
 }
 

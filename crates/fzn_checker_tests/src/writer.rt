@@ -4,7 +4,9 @@ ghost use Rattle.fzn_cert.specs.declared.step.Version.TheVariants.{Two};
 ghost use Rattle.fzn_cert.specs.Spelling.{IsNumber, IsSpelled};
 ghost use Rattle.fzn_cert.specs.Writer.{version_of};
 
-use fzn_cert::{FaultKind, Refusal, Step, StepWriter, Version, WriteFault, one_line, one_verdict};
+use fzn_cert::{
+    FaultKind, Inference, Refusal, Step, StepWriter, Version, WriteFault, one_line, one_verdict,
+};
 use fzn_domain::{Lit, Memory, Op, VarId};
 use fzn_list::Items;
 use fzn_rules::Rule;
@@ -83,11 +85,11 @@ fn cut_step(alloc: Global) -> Result<Step, Memory>
     };
     let clause = items_of(alloc, lit, lit)?;
     let hints = items_of(alloc, -4_000_000_000i64, 1i64)?;
-    Ok(Step::Infer {
+    Ok(Step::Infer(Inference {
         constraint: 7,
         rule: Rule::Cut(hints),
         clause,
-    })
+    }))
 }
 
 #[tactic(auto, unfolding(fzn_cert::specs::Spelling::IdsRise))]
@@ -101,11 +103,11 @@ fn delete_step(alloc: Global) -> Result<Step, Memory>
 fn hall_step(alloc: Global) -> Step
     ensures { IsSpelled Two result }
 {
-    Step::Infer {
+    Step::Infer(Inference {
         constraint: 8,
         rule: Rule::Hall(2, -3),
         clause: Items::new(alloc),
-    }
+    })
 }
 
 fn solution_step(alloc: Global) -> Result<Step, Memory>

@@ -6,9 +6,8 @@ use Rattle.fzn_meaning.specs.declared.constraint.Constraint.TheVariants.{Circuit
 use Rattle.fzn_rules.specs.declared.rule.Rule.{Rule}
 use Rattle.fzn_rules.specs.declared.rule.Rule.TheVariants.{Rows}
 use Rattle.fzn_rules.specs.Rules.{IsMet}
-use Rattle.fzn_propagator.specs.declared.propagator.Inference.{Inference}
 use Rattle.fzn_propagator.specs.Clause.{IsJustified}
-use Rattle.fzn_propagator.specs.Inference.{AreFoundOf}
+use Rattle.fzn_propagator.specs.Inference.{Inference, AreFoundOf}
 use Rattle.fzn_terms.specs.declared.claim.Claim.{Claim}
 use Rattle.fzn_terms.specs.Denied.{IsEntailed}
 use Rattle.fzn_circuit.specs.declared.pass.Pass.{Pass}

@@ -3,7 +3,8 @@ use Rattle.std.proofs.Common.{◌≡◌, ◌⊎◌, ℕ, ◌<◌, List, [], leng
 use Rattle.fzn_domain.specs.declared.literal.Lit.{Lit}
 use Rattle.fzn_domain.specs.Narrow.{IsVariable, IsClauseOver}
 use Rattle.fzn_trail.specs.declared.trail.ClauseId.{ClauseId}
-use Rattle.fzn_trail.specs.declared.trail.Reason.TheVariants.{Clause}
+use Rattle.fzn_trail.specs.declared.trail.Antecedent.TheVariants.{Clause}
+use Rattle.fzn_trail.specs.declared.trail.Reason.TheVariants.{Implied}
 use Rattle.fzn_trail.specs.Levels.{Levels, NoneEmpty}
 use Rattle.fzn_trail.specs.Unit.{IsUnit}
 use Rattle.fzn_clauses.specs.declared.clauses.Clauses.{Clauses}
@@ -50,7 +51,7 @@ module _ (clauses : Clauses) (id : ClauseId) (is_held : IsHeld (held_by clauses)
   watching_by (inr forces) =
       let lit = forces.unit.0 in
       let var = variable-unit told.sets clause forces.unit.0 forces.unit.1 (length told.declared) over_it in
-      subst (IsWatching clauses) (sym forces.unit.2) (IsWatching-asserted clauses told watching lit (Clause id) (subst (λ (n : ℕ). IsVariable n forces.unit.0.var) (sym one_each) var))
+      subst (IsWatching clauses) (sym forces.unit.2) (IsWatching-asserted clauses told watching lit (Implied (Clause id)) (subst (λ (n : ℕ). IsVariable n forces.unit.0.var) (sym one_each) var))
 
   pub applied-propagated : IsPropagated (held_by clauses) told tnew
   applied-propagated = propagated_by outcome

@@ -25,7 +25,7 @@ use crate::state::{
     state_of,
 };
 use fzn_domain::{Lit, Memory, VarId};
-use fzn_trail::{ClauseId, Reason, Trail};
+use fzn_trail::{Antecedent, ClauseId, Reason, Trail};
 use std::alloc::Global;
 
 /// A clause that had one possible literal when it was looked at, after the visits of this many entries.
@@ -726,7 +726,7 @@ fn force(lit: Lit, id: ClauseId, trail: &mut Trail) -> Result<(), Memory>
     ensures err { OnErr result (trail.new ≡ trail.old) }
 {
     if can_fail(trail.domain(lit.var), lit) {
-        trail.assert(lit, Reason::Clause(id))?;
+        trail.assert(lit, Reason::Implied(Antecedent::Clause(id)))?;
     }
     Ok(())
 }

@@ -17,7 +17,7 @@ use fzn_learned::{Learned, is_derived, is_sound, plain_learned};
 use fzn_propagator::Inferences;
 use fzn_sets::Sets;
 use fzn_strategy::Learn;
-use fzn_trail::{Reason, Trail};
+use fzn_trail::{Antecedent, Trail};
 use std::alloc::Global;
 
 /// What is learned from a known clause that is false on the trail. The sets are the declared ones, and are restored. It answers `Err` where
@@ -29,7 +29,7 @@ pub fn analyse(
     inferences: &Inferences,
     sets: &mut Sets,
     marks: &mut Marks,
-    conflict: Reason,
+    conflict: Antecedent,
     learn: Learn,
 ) -> Result<Learned, Memory>
     requires reasoned { IsReasoned (known_of clauses.now inferences.now) trail.now }
@@ -55,7 +55,7 @@ fn first_or_plain(
     inferences: &Inferences,
     sets: &mut Sets,
     marks: &mut Marks,
-    conflict: Reason,
+    conflict: Antecedent,
 ) -> Result<Learned, Memory>
     requires reasoned { IsReasoned (known_of clauses.now inferences.now) trail.now }
     requires limited { All IsLimited trail.now.declared }

@@ -6,7 +6,7 @@ use fzn_domain::{Clause, Lit, Memory};
 use fzn_explanation::{Implications, canonical, opposite};
 use fzn_learned::Learned;
 use fzn_list::Items;
-use fzn_trail::{ClauseId, Reason};
+use fzn_trail::{Antecedent, ClauseId, Reason};
 use std::alloc::Global;
 
 /// A clause with the antecedents that it follows from, if it does.
@@ -14,7 +14,7 @@ pub fn first_uip(
     alloc: Global,
     graph: &Implications,
     marks: &mut Marks,
-    conflict: Reason,
+    conflict: Antecedent,
 ) -> Result<Learned, Memory> {
     marks.begin(graph)?;
     marks.explain(graph, conflict)?;
@@ -32,7 +32,7 @@ fn told(
     alloc: Global,
     graph: &Implications,
     marks: &Marks,
-    conflict: Reason,
+    conflict: Antecedent,
 ) -> Result<Learned, Memory> {
     let places = marks.outcome.denied.as_slice();
     Ok(Learned {
@@ -88,7 +88,7 @@ pub fn replace_level_0(graph: &Implications, marks: &mut Marks) -> Result<(), Me
         };
         if let Some(entry) = graph.entry(place) {
             match marks.replace_root(graph, place, entry)? {
-                Some(id) => marks.outcome.units.push(Reason::Clause(id))?,
+                Some(id) => marks.outcome.units.push(Antecedent::Clause(id))?,
                 None => marks.outcome.replaced.insert(place),
             }
         }
@@ -146,8 +146,8 @@ fn antecedents_of(
     alloc: Global,
     graph: &Implications,
     outcome: &Outcome,
-    conflict: Reason,
-) -> Result<Items<Reason>, Memory> {
+    conflict: Antecedent,
+) -> Result<Items<Antecedent>, Memory> {
     let places = outcome.places();
     let gaps = outcome.gaps();
     let count = places.len().saturating_add(outcome.units.len());
@@ -158,8 +158,10 @@ fn antecedents_of(
     for back in 0..places.len() {
         let place = places[places.len() - 1 - back];
         cited = cite_gaps(gaps, cited, place, &mut antecedents)?;
-        if let Some(entry) = graph.entry(place) {
-            antecedents.push(entry.reason)?;
+        if let Some(entry) = graph.entry(place)
+            && let Reason::Implied(antecedent) = entry.reason
+        {
+            antecedents.push(antecedent)?;
         }
     }
     cite_gaps(gaps, cited, usize::MAX, &mut antecedents)?;
@@ -172,14 +174,14 @@ fn cite_gaps(
     gaps: &[(usize, usize, u64)],
     cited: usize,
     place: usize,
-    antecedents: &mut Vec<Reason>,
+    antecedents: &mut Vec<Antecedent>,
 ) -> Result<usize, Memory> {
     for i in cited..gaps.len() {
         let (at, _, id) = gaps[i];
         if at >= place {
             return Ok(i);
         }
-        antecedents.push(Reason::Clause(ClauseId(id)))?;
+        antecedents.push(Antecedent::Clause(ClauseId(id)))?;
     }
     Ok(gaps.len().max(cited))
 }

@@ -5,7 +5,7 @@ use crate::roots::Roots;
 use fzn_domain::{Lit, Memory, Op, VarId};
 use fzn_explanation::{Cause, Causes, Gap, Implications, canonical, implies, opposite};
 use fzn_list::Items;
-use fzn_trail::{ClauseId, Entry, Reason};
+use fzn_trail::{Antecedent, ClauseId, Entry, Reason};
 use std::alloc::Global;
 
 /// What a clause is wanted for.
@@ -161,8 +161,8 @@ impl Marks {
     }
 
     /// Marks what made the literals of the conflict's clause false.
-    pub fn explain(&mut self, graph: &Implications, conflict: Reason) -> Result<(), Memory> {
-        self.visit(graph, conflict, NO_LITERAL)?;
+    pub fn explain(&mut self, graph: &Implications, conflict: Antecedent) -> Result<(), Memory> {
+        self.visit(graph, graph.clause(conflict), NO_LITERAL)?;
         self.causes.note_marked()
     }
 
@@ -173,16 +173,16 @@ impl Marks {
         place: usize,
         entry: Entry,
     ) -> Result<(), Memory> {
-        self.visit(graph, entry.reason, entry.lit)?;
+        self.visit(graph, graph.clause_behind(entry), entry.lit)?;
         self.add_behind(graph, place, entry.lit)?;
         self.mark_found(graph)?;
         self.causes.note_marked()
     }
 
-    /// Marks what made the literals of the reason's clause false, but for the one that it forced, and notes the equations among them.
+    /// Marks what made the literals of the clause false, but for the one that it forced, and notes the equations among them.
     #[inline(always)]
-    fn visit(&mut self, graph: &Implications, reason: Reason, forced: Lit) -> Result<(), Memory> {
-        for lit in graph.clause(reason) {
+    fn visit(&mut self, graph: &Implications, clause: &[Lit], forced: Lit) -> Result<(), Memory> {
+        for lit in clause {
             if *lit != forced {
                 if lit.op == Op::NotEqual {
                     self.equations.push(opposite(*lit))?;
@@ -248,7 +248,7 @@ impl Marks {
         if let Some(id) = self.roots.unit(place) {
             return Ok(Some(id));
         }
-        graph.find_causes(&mut self.causes, entry.reason, entry.lit)?;
+        graph.find_causes(&mut self.causes, entry)?;
         let is_reason_alone = self.causes.len() == 0;
         self.mark_found(graph)?;
         self.causes.note_marked()?;
@@ -267,7 +267,7 @@ impl Marks {
         entry: Entry,
     ) -> Result<bool, Memory> {
         self.causes.clear();
-        for lit in graph.clause(entry.reason) {
+        for lit in graph.clause_behind(entry) {
             if *lit != entry.lit && !self.are_kept_for(graph, *lit)? {
                 return Ok(false);
             }
@@ -376,7 +376,7 @@ impl Marks {
         alloc: Global,
         graph: &Implications,
         gap: Gap,
-    ) -> Result<Items<Reason>, Memory> {
+    ) -> Result<Items<Antecedent>, Memory> {
         let mut places = Vec::new(alloc);
         let mut last = graph.last_of(VarId(gap.var));
         for _ in 0..graph.trail.len() {
@@ -404,9 +404,9 @@ impl Marks {
         alloc: Global,
         graph: &Implications,
         entry: Entry,
-    ) -> Result<Items<Reason>, Memory> {
+    ) -> Result<Items<Antecedent>, Memory> {
         self.causes.begin(graph)?;
-        graph.find_causes(&mut self.causes, entry.reason, entry.lit)?;
+        graph.find_causes(&mut self.causes, entry)?;
         let mut places = Vec::with_capacity(alloc, self.causes.len())?;
         for i in 0..self.causes.len() {
             if let Some(cause) = self.causes.get(i) {
@@ -414,7 +414,9 @@ impl Marks {
             }
         }
         let mut antecedents = self.all_cited(alloc, graph, places)?;
-        antecedents.push(entry.reason)?;
+        if let Reason::Implied(antecedent) = entry.reason {
+            antecedents.push(antecedent)?;
+        }
         Ok(antecedents)
     }
 
@@ -424,7 +426,7 @@ impl Marks {
         alloc: Global,
         graph: &Implications,
         mut places: Vec<usize>,
-    ) -> Result<Items<Reason>, Memory> {
+    ) -> Result<Items<Antecedent>, Memory> {
         places.sort_unstable();
         let mut antecedents = Items::with_capacity(alloc, places.len().saturating_add(1))?;
         for place in &places {
@@ -436,10 +438,13 @@ impl Marks {
     }
 
     /// What stands for an entry of level 0, or its reason.
-    fn cited(&self, graph: &Implications, place: usize) -> Option<Reason> {
-        match self.roots.unit(place) {
-            Some(id) => Some(Reason::Clause(id)),
-            None => Some(graph.entry(place)?.reason),
+    fn cited(&self, graph: &Implications, place: usize) -> Option<Antecedent> {
+        if let Some(id) = self.roots.unit(place) {
+            return Some(Antecedent::Clause(id));
+        }
+        match graph.entry(place)?.reason {
+            Reason::Decision => None,
+            Reason::Implied(antecedent) => Some(antecedent),
         }
     }
 }

@@ -2,7 +2,7 @@
 use crate::places::Places;
 use fzn_domain::{Lit, Memory, VarId};
 use fzn_explanation::{Implications, implies};
-use fzn_trail::{ClauseId, Reason};
+use fzn_trail::{Antecedent, ClauseId};
 use std::alloc::Global;
 
 /// Which entries are denied by the learned clause, and which reasons it follows from. It is kept from one analysis to the next, so that no
@@ -14,7 +14,7 @@ pub struct Outcome {
     /// The entries that are replaced by what they rest on.
     pub replaced: Places,
     /// What stands for entries of level 0.
-    pub units: Vec<Reason>,
+    pub units: Vec<Antecedent>,
     /// The entries that the clause denies, newest first.
     pub denied: Vec<usize>,
     /// What is needed of them.

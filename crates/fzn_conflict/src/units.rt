@@ -5,7 +5,7 @@ use fzn_domain::{Clause, Lit, Memory};
 use fzn_explanation::{Cause, Implications, canonical};
 use fzn_learned::Learned;
 use fzn_list::Items;
-use fzn_trail::Reason;
+use fzn_trail::Antecedent;
 use std::alloc::Global;
 
 /// Notes that a clause is wanted for the entry of level 0 at this place, and for those that it rests on.
@@ -70,7 +70,7 @@ fn unit_clause(
 fn at_level_0(
     alloc: Global,
     clause: &[Lit],
-    antecedents: Items<Reason>,
+    antecedents: Items<Antecedent>,
 ) -> Result<Learned, Memory> {
     Ok(Learned {
         clause: Clause::from_slice(alloc, clause)?,

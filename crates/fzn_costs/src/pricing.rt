@@ -9,14 +9,10 @@ use fzn_meaning::{Comparison, Constraint, Goal, Model, Place, Relation, Sum, Ter
 use std::alloc::Global;
 use std::slice;
 
-/// How many terms are looked at, at most: a list that many constraints name counts for each of them.
-const TERMS: usize = 1_000_000;
-
-/// How often the constraints are gone over, at most: what makes up a variable may stand before what it is used for.
-const PASSES: usize = 4;
-
-/// What the variables of a model cost. It answers `Err` where memory runs out.
-pub fn costs_of(alloc: Global, model: &Model) -> Result<Costs, Memory>
+/// What the variables of a model cost. So many terms are looked at, at most: a list that many constraints name counts for each of them. The
+/// constraints are gone over so many times, at most: what makes up a variable may stand before what it is used for. It answers `Err` where
+/// memory runs out.
+pub fn costs_of(alloc: Global, model: &Model, terms: usize, passes: usize) -> Result<Costs, Memory>
     ensures { model.now.goal ≡ Satisfy → IfOk result CostsNothing }
 {
     let (objective, weight) = match model.goal {
@@ -29,10 +25,10 @@ pub fn costs_of(alloc: Global, model: &Model) -> Result<Costs, Memory>
         weights: vec![in alloc; 0; model.vars.len()]?,
         prices: Vec::new(alloc),
         is_done: vec![in alloc; false; model.constraints.len()]?,
-        left: TERMS,
+        left: terms,
     };
     pricing.add(objective, weight);
-    for _ in 0..PASSES {
+    for _ in 0..passes {
         if !pricing.pass(alloc, model)? {
             break;
         }

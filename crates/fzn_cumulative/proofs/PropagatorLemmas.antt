@@ -16,7 +16,7 @@ use Rattle.fzn_meaning.specs.declared.constraint.Constraint.{Constraint}
 use Rattle.fzn_meaning.specs.declared.constraint.Constraint.TheVariants.{Cumulative}
 use Rattle.fzn_meaning.specs.Cumulative.{tasks, load_at, IsCumulative}
 use Rattle.fzn_meaning.specs.Term.{IsTerm, term_value, values_of}
-use Rattle.fzn_meaning.specs.Meaning.{Meets, IsWellFormed}
+use Rattle.fzn_meaning.specs.Meaning.{Meets, IsWellFormedConstraint}
 use Rattle.fzn_meaning.proofs.CallerLemmas.{All-values_of}
 use Rattle.fzn_meaning.proofs.CumulativeLemmas.{cumulative_from}
 use Rattle.fzn_sets.proofs.CallerLemmas.{MayBe-term_value}
@@ -123,8 +123,8 @@ not_fixed sets count terms r same fit test told values within fixed =
 
 -- ---- tasks of constants
 
-pub constants_formed : (sets : List IntSet) (count : ℕ) (group : Tasks) (ss ds rs : List Term) (most : ℤ) → AreReady count group → ss ≡ least_terms sets group.starts → ds ≡ least_terms sets group.durations → rs ≡ least_terms sets group.uses → All (IsTerm 0) ss → All (IsTerm 0) ds → All (IsTerm 0) rs → IsInLimits most → IsWellFormed 0 (Cumulative ss ds rs (Constant most))
-unfolding IsWellFormed
+pub constants_formed : (sets : List IntSet) (count : ℕ) (group : Tasks) (ss ds rs : List Term) (most : ℤ) → AreReady count group → ss ≡ least_terms sets group.starts → ds ≡ least_terms sets group.durations → rs ≡ least_terms sets group.uses → All (IsTerm 0) ss → All (IsTerm 0) ds → All (IsTerm 0) rs → IsInLimits most → IsWellFormedConstraint 0 (Cumulative ss ds rs (Constant most))
+unfolding IsWellFormedConstraint
 constants_formed sets count group ss ds rs most ready a b c fit_starts fit_durations fit_uses limits =
     let len_starts = ap length a ∙ length-map group.starts (λ term. Constant (least_value sets term)) in
     let len_durations = ap length b ∙ length-map group.durations (λ term. Constant (least_value sets term)) in

@@ -2,9 +2,8 @@
 use Rattle.std.specs.Prelude.{List}
 use Rattle.fzn_domain.specs.declared.literal.Lit.{Lit}
 use Rattle.fzn_rules.specs.declared.rule.Rule.{Rule}
-use Rattle.fzn_propagator.specs.declared.propagator.Inference.{Inference}
 use Rattle.fzn_propagator.specs.Clause.{IsJustified}
-use Rattle.fzn_propagator.specs.Inference.{AreFoundOf}
+use Rattle.fzn_propagator.specs.Inference.{Inference, AreFoundOf}
 use Rattle.fzn_cumulative.specs.declared.pass.Pass.{Pass}
 use Rattle.fzn_cumulative.specs.declared.tasks.Tasks.{Tasks}
 use Rattle.fzn_cumulative.specs.Loads.{cumulative_of}

@@ -21,7 +21,7 @@ use Rattle.fzn_meaning.specs.Term.{term_value, values_of, sum_at, IsTerm}
 use Rattle.fzn_meaning.specs.Entries.{IsIndex, entry_at}
 use Rattle.fzn_meaning.specs.AllDifferent.{IsAllDifferent}
 use Rattle.fzn_meaning.specs.Inverse.{IsInverse}
-use Rattle.fzn_meaning.specs.Meaning.{Meets, IsWellFormed, AreTerms, HasBooleanSets, IsBoolean, booleans_of}
+use Rattle.fzn_meaning.specs.Meaning.{Meets, IsWellFormedConstraint, AreTerms, HasBooleanSets, IsBoolean, booleans_of}
 use Rattle.fzn_meaning.proofs.CircuitLemmas.{circuit-different}
 use Rattle.fzn_cited.specs.declared.fault.DeriveFault.{DeriveFault}
 use Rattle.fzn_cited.specs.declared.fault.DeriveFault.TheVariants as faults
@@ -112,8 +112,8 @@ inverse-different f g same h i j d l m e =
 -- ---- what each constraint says
 
 -- values that meet the constraint differ at two variables that it tells apart
-pub told-different : (values : List ℤ) (count : ℕ) (c : Constraint) (x y : VarId) → IsWellFormed count c → Meets c values → TellsApart c x y → value_of values x ≢ value_of values y
-unfolding Meets IsWellFormed TellsApart
+pub told-different : (values : List ℤ) (count : ℕ) (c : Constraint) (x y : VarId) → IsWellFormedConstraint count c → Meets c values → TellsApart c x y → value_of values x ≢ value_of values y
+unfolding Meets IsWellFormedConstraint TellsApart
 told-different values count (constraint.Compare relation.NotEqual left right None) x y formed meets told = stand-different values (left ∷ right ∷ []) x y (two-different (term_value values left) (term_value values right) meets) told
 told-different values count (constraint.Linear places comparison.NotEqual bound None) x y formed meets told = stand-different values (map (λ (place : Place). place.term) places) x y (opposite-different values places bound told.0 told.1 meets) told.2
 told-different values count (constraint.AllDifferent places) x y formed meets told = stand-different values places x y meets told
@@ -129,14 +129,14 @@ told-different values count _ x y formed meets told = absurd told
 abbrev pub Differ : List ℤ → VarId × VarId → Type 0
 Differ values pair = value_of values pair.0 ≢ value_of values pair.1
 
-pair-differs : (given : List Constraint) (values : List ℤ) (count : ℕ) (pair : VarId × VarId) (id : ℕ) → All (IsWellFormed count) given → IsCitedMet given values id → IsPairTold given (pair, id) → Differ values pair
-pair-differs given values count pair id formed met = by_constraint (constraint_at given id) (each_at (IsWellFormed count) given id formed) met
+pair-differs : (given : List Constraint) (values : List ℤ) (count : ℕ) (pair : VarId × VarId) (id : ℕ) → All (IsWellFormedConstraint count) given → IsCitedMet given values id → IsPairTold given (pair, id) → Differ values pair
+pair-differs given values count pair id formed met = by_constraint (constraint_at given id) (each_at (IsWellFormedConstraint count) given id formed) met
   where
-    by_constraint : (found : Option Constraint) → IfSome found (IsWellFormed count) → IfSome found (λ constraint. Meets constraint values) → IsSomeAnd found (λ constraint. TellsApart constraint pair.0 pair.1) → Differ values pair
+    by_constraint : (found : Option Constraint) → IfSome found (IsWellFormedConstraint count) → IfSome found (λ constraint. Meets constraint values) → IsSomeAnd found (λ constraint. TellsApart constraint pair.0 pair.1) → Differ values pair
     by_constraint None formed met told = absurd told
     by_constraint (Some c) formed met told = told-different values count c pair.0 pair.1 formed met told
 
-pairs-differ : (given : List Constraint) (values : List ℤ) (count : ℕ) (pairs : List (VarId × VarId)) (ids : List ℕ) → All (IsWellFormed count) given → length ids ≡ length pairs → AllByRecursion (IsCitedMet given values) ids → AllByRecursion (IsPairTold given) (zip pairs ids) → AllByRecursion (Differ values) pairs
+pairs-differ : (given : List Constraint) (values : List ℤ) (count : ℕ) (pairs : List (VarId × VarId)) (ids : List ℕ) → All (IsWellFormedConstraint count) given → length ids ≡ length pairs → AllByRecursion (IsCitedMet given values) ids → AllByRecursion (IsPairTold given) (zip pairs ids) → AllByRecursion (Differ values) pairs
 pairs-differ given values count [] ids formed same met told = tt
 pairs-differ given values count (pair ∷ pairs) [] formed same met told = absurd (omega arith)
 pairs-differ given values count (pair ∷ pairs) (id ∷ ids) formed same met told = (pair-differs given values count pair id formed met.0 told.0, pairs-differ given values count pairs ids formed (omega arith) met.1 told.1)
@@ -158,7 +158,7 @@ all-different values (x ∷ xs) differ =
 -- ---- the laws
 
 -- values that meet every constraint that is cited meet the derived one
-pub apart-met : (given : List Constraint) (count : ℕ) (variables : List VarId) (ids : List ℕ) (c : Constraint) (values : List ℤ) → All (IsWellFormed count) given → AreToldApart given count variables ids c → All (IsCitedMet given values) ids → Meets c values
+pub apart-met : (given : List Constraint) (count : ℕ) (variables : List VarId) (ids : List ℕ) (c : Constraint) (values : List ℤ) → All (IsWellFormedConstraint count) given → AreToldApart given count variables ids c → All (IsCitedMet given values) ids → Meets c values
 unfolding Meets
 apart-met given count variables ids (constraint.AllDifferent places) values formed apart met =
     let told = recursion_from_All (IsPairTold given) (pairs_cited variables ids) apart.2 in
@@ -175,8 +175,8 @@ pairs-fault given count variables ids faults.NoSuchConstraint vars one_each h = 
 pairs-fault given count variables ids faults.NotDerived vars one_each h = (vars, inr (one_each, h))
 
 -- the derived constraint is well formed, and has no Boolean terms
-pub apart-formed : (given : List Constraint) (count : ℕ) (variables : List VarId) (ids : List ℕ) (c : Constraint) → AreToldApart given count variables ids c → IsWellFormed count c
-unfolding IsWellFormed
+pub apart-formed : (given : List Constraint) (count : ℕ) (variables : List VarId) (ids : List ℕ) (c : Constraint) → AreToldApart given count variables ids c → IsWellFormedConstraint count c
+unfolding IsWellFormedConstraint
 apart-formed given count variables ids (constraint.AllDifferent places) apart = subst (AreTerms count) (sym apart.3) (All-map (IsTerm count) Variable variables apart.0, omega (arith, length-map variables Variable, apart.1.0))
 apart-formed given count variables ids _ apart = absurd apart
 

@@ -7,7 +7,7 @@ use Rattle.fzn_meaning.specs.declared.constraint.Constraint.{Constraint}
 use Rattle.fzn_meaning.specs.declared.constraint.Constraint.TheVariants as constraint
 use Rattle.fzn_meaning.specs.declared.row.Row.{Row}
 use Rattle.fzn_meaning.specs.Separable.{IsSeparableRow, RowHolds}
-use Rattle.fzn_meaning.specs.Meaning.{Meets, IsWellFormed, HasBooleanSets, IsBoolean, booleans_of}
+use Rattle.fzn_meaning.specs.Meaning.{Meets, IsWellFormedConstraint, HasBooleanSets, IsBoolean, booleans_of}
 use Rattle.fzn_derive.specs.declared.derivation.Derivation.{Derivation}
 use Rattle.fzn_derive.specs.declared.derivation.Derivation.TheVariants as by
 use Rattle.fzn_cited.specs.declared.fault.DeriveFault.{DeriveFault}
@@ -24,12 +24,12 @@ row-Meets : (row : Row) (c : Constraint) (values : List ℤ) → c ≡ constrain
 unfolding Meets
 row-Meets row c values is holds = rw is holds
 
-row-formed : (declared : List IntSet) (row : Row) (c : Constraint) → c ≡ constraint.Row row → IsSeparableRow (length declared) row → IsWellFormed (length declared) c × HasBooleanSets declared c
-unfolding IsWellFormed booleans_of
+row-formed : (declared : List IntSet) (row : Row) (c : Constraint) → c ≡ constraint.Row row → IsSeparableRow (length declared) row → IsWellFormedConstraint (length declared) c × HasBooleanSets declared c
+unfolding IsWellFormedConstraint booleans_of
 row-formed declared row c is formed = rw is (formed, All-nil (IsBoolean declared))
 
 pub derived-Meets : (given : List Constraint) (declared : List IntSet) (derivation : Derivation) (constraint : Constraint) (values : List ℤ)
-    → All (IsWellFormed (length declared)) given → All (HasBooleanSets declared) given
+    → All (IsWellFormedConstraint (length declared)) given → All (HasBooleanSets declared) given
     → IsDerivedBy given declared derivation constraint → IsWithin declared values
     → AreMet given (cited derivation) values
     → Meets constraint values
@@ -40,8 +40,8 @@ derived-Meets given declared (by.Row items) constraint values well booleans deri
     row-Meets derived.0 constraint values derived.2 (derived-holds given declared values well booleans within most_row_weights items derived.0 derived.1 met)
 
 pub derived-formed : (given : List Constraint) (declared : List IntSet) (derivation : Derivation) (constraint : Constraint)
-    → All (IsWellFormed (length declared)) given → IsDerivedBy given declared derivation constraint
-    → IsWellFormed (length declared) constraint × HasBooleanSets declared constraint
+    → All (IsWellFormedConstraint (length declared)) given → IsDerivedBy given declared derivation constraint
+    → IsWellFormedConstraint (length declared) constraint × HasBooleanSets declared constraint
 derived-formed given declared (by.Sum multiples) constraint well derived = sum-formed given declared multiples constraint derived
 derived-formed given declared (by.Parity ids) constraint well derived = (parity-formed given declared (length declared) ids constraint well derived, parity-Boolean given declared ids constraint derived)
 derived-formed given declared (by.AllDifferent variables ids) constraint well derived = (apart-formed given (length declared) variables ids constraint derived, apart-Boolean given (length declared) variables ids constraint declared derived)

@@ -11,7 +11,7 @@ use Rattle.fzn_meaning.specs.declared.relation.Relation.TheVariants as relation
 use Rattle.fzn_meaning.specs.declared.constraint.Constraint.{Constraint}
 use Rattle.fzn_meaning.specs.declared.constraint.Constraint.TheVariants as constraint
 use Rattle.fzn_meaning.specs.Term.{IsTerm}
-use Rattle.fzn_meaning.specs.Meaning.{IsWellFormed, AreTerms, IsBoolean, HasBooleanSets, booleans_of}
+use Rattle.fzn_meaning.specs.Meaning.{IsWellFormedConstraint, AreTerms, IsBoolean, HasBooleanSets, booleans_of}
 use Rattle.fzn_cited.specs.declared.fault.DeriveFault.{DeriveFault}
 use Rattle.fzn_cited.specs.declared.fault.DeriveFault.TheVariants as faults
 use Rattle.fzn_cited.specs.Cited.{constraint_at, IsCitedAs, IsCitedWrong}
@@ -59,8 +59,8 @@ of-inputs P sums odd one all are_odd = All-append P (map variable_with odd) (one
 
 -- ---- the derived constraint
 
-sum-formed : (count : ℕ) (c : Constraint) → IsWellFormed count c → IfSome (parity_of c) (λ sum. AllByRecursion (IsTerm count) sum.terms)
-unfolding IsWellFormed parity_of
+sum-formed : (count : ℕ) (c : Constraint) → IsWellFormedConstraint count c → IfSome (parity_of c) (λ sum. AllByRecursion (IsTerm count) sum.terms)
+unfolding IsWellFormedConstraint parity_of
 sum-formed count (constraint.ArrayBoolXor inputs) formed = recursion_from_All (IsTerm count) inputs formed.0
 sum-formed count (constraint.BoolNot left right) formed = (formed.0, (formed.1, tt))
 sum-formed count (constraint.BoolXor left right result) formed = (formed.0, (formed.1, (formed.2, tt)))
@@ -68,15 +68,15 @@ sum-formed count (constraint.Compare relation.Equal left right None) formed = (f
 sum-formed count (constraint.BoolToInt boolean integer) formed = (formed.0, (formed.1, tt))
 sum-formed count _ formed = tt
 
-sums-formed : (given : List Constraint) (count : ℕ) (ids : List ℕ) → All (IsWellFormed count) given → AllByRecursion (λ (sum : Parity). AllByRecursion (IsTerm count) sum.terms) (parities given ids)
+sums-formed : (given : List Constraint) (count : ℕ) (ids : List ℕ) → All (IsWellFormedConstraint count) given → AllByRecursion (λ (sum : Parity). AllByRecursion (IsTerm count) sum.terms) (parities given ids)
 sums-formed given count [] formed = tt
-sums-formed given count (id ∷ ids) formed = by_constraint (constraint_at given id) (each_at (IsWellFormed count) given id formed) (sums-formed given count ids formed)
+sums-formed given count (id ∷ ids) formed = by_constraint (constraint_at given id) (each_at (IsWellFormedConstraint count) given id formed) (sums-formed given count ids formed)
   where
     by_sum : (found : Option Parity) → IfSome found (λ sum. AllByRecursion (IsTerm count) sum.terms) → AllByRecursion (λ (sum : Parity). AllByRecursion (IsTerm count) sum.terms) (parities given ids) → AllByRecursion (λ (sum : Parity). AllByRecursion (IsTerm count) sum.terms) (cons_option found (parities given ids))
     by_sum None h rest = rest
     by_sum (Some sum) h rest = (h, rest)
 
-    by_constraint : (found : Option Constraint) → IfSome found (IsWellFormed count) → AllByRecursion (λ (sum : Parity). AllByRecursion (IsTerm count) sum.terms) (parities given ids) → AllByRecursion (λ (sum : Parity). AllByRecursion (IsTerm count) sum.terms) (cons_option (option_and_then parity_of found) (parities given ids))
+    by_constraint : (found : Option Constraint) → IfSome found (IsWellFormedConstraint count) → AllByRecursion (λ (sum : Parity). AllByRecursion (IsTerm count) sum.terms) (parities given ids) → AllByRecursion (λ (sum : Parity). AllByRecursion (IsTerm count) sum.terms) (cons_option (option_and_then parity_of found) (parities given ids))
     by_constraint None h rest = rest
     by_constraint (Some c) h rest = by_sum (parity_of c) (sum-formed count c h) rest
 
@@ -93,8 +93,8 @@ sums-Boolean given declared (id ∷ ids) says = by_constraint (constraint_at giv
     by_constraint (Some c) h rest = by_sum (parity_of c) h rest
 
 -- it is well formed
-pub parity-formed : (given : List Constraint) (declared : List IntSet) (count : ℕ) (ids : List ℕ) (c : Constraint) → All (IsWellFormed count) given → IsParity given declared ids c → IsWellFormed count c
-unfolding IsWellFormed
+pub parity-formed : (given : List Constraint) (declared : List IntSet) (count : ℕ) (ids : List ℕ) (c : Constraint) → All (IsWellFormedConstraint count) given → IsParity given declared ids c → IsWellFormedConstraint count c
+unfolding IsWellFormedConstraint
 parity-formed given declared count ids (constraint.ArrayBoolXor inputs) formed parity =
     let sums : List Parity = parities given ids in
     let odd : List ℕ = parity.1.0 in

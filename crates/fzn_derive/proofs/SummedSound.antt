@@ -18,7 +18,7 @@ use Rattle.fzn_meaning.specs.declared.constraint.Constraint.TheVariants.{Linear}
 use Rattle.fzn_meaning.specs.Term.{IsTerm, IsPlace, term_value, product_at, sum_at}
 use Rattle.fzn_meaning.specs.Comparisons.{IsSwitched}
 use Rattle.fzn_meaning.specs.Linear.{IsLinear}
-use Rattle.fzn_meaning.specs.Meaning.{Meets, IsWellFormed, switch_value, booleans_of, IsBoolean, HasBooleanSets}
+use Rattle.fzn_meaning.specs.Meaning.{Meets, IsWellFormedConstraint, switch_value, booleans_of, IsBoolean, HasBooleanSets}
 use Rattle.fzn_meaning.proofs.CallerLemmas.{bits-choice}
 use Rattle.fzn_builtin_rules.specs.Form.{Form, form_of, FormHolds, Fits}
 use Rattle.fzn_builtin_rules.proofs.CallerLemmas.{total_by-cons, total_by-append, form_fits}
@@ -69,7 +69,7 @@ holds-given : (declared : List IntSet) (values : List ℤ) (c : Option Constrain
 holds-given declared values None within bits met = tt
 holds-given declared values (Some c) within bits met = form_holds c values (bits-choice declared values c within bits) met
 
-pub fits-given : (count : ℕ) (c : Option Constraint) → IfSome c (IsWellFormed count) → IfSome (option_and_then form_of c) (Fits count)
+pub fits-given : (count : ℕ) (c : Option Constraint) → IfSome c (IsWellFormedConstraint count) → IfSome (option_and_then form_of c) (Fits count)
 fits-given count None well = tt
 fits-given count (Some c) well = form_fits count c well
 
@@ -121,10 +121,10 @@ module _ (given : List Constraint) (declared : List IntSet) (values : List ℤ) 
       let rest = sum-most booleans multiples usable.1 met.1 in
       omega (arith, ints)
 
-among-all : (given : List Constraint) (count : ℕ) → All (IsWellFormed count) given → (multiples : List Multiple) → AreAmong count (scaled_all given multiples)
+among-all : (given : List Constraint) (count : ℕ) → All (IsWellFormedConstraint count) given → (multiples : List Multiple) → AreAmong count (scaled_all given multiples)
 among-all given count well [] = subst (AreAmong count) (sym (scaled_all-nil given)) tt
 among-all given count well (m ∷ multiples) =
-    let fits = fits-given count (constraint_at given m.constraint) (each_at (IsWellFormed count) given m.constraint well) in
+    let fits = fits-given count (constraint_at given m.constraint) (each_at (IsWellFormedConstraint count) given m.constraint well) in
     subst (AreAmong count) (sym (scaled_all-cons given m multiples))
     (among-append count (scaled given m) (scaled_all given multiples) (among-scaled count m.multiplier (form_given given m.constraint) fits) (among-all given count well multiples))
 
@@ -139,7 +139,7 @@ linear-meets values sum bound most = most
 
 -- Values within the declared sets that meet the constraints that are added up meet their sum.
 pub sum-Meets : (given : List Constraint) (declared : List IntSet) (multiples : List Multiple) (constraint : Constraint) (values : List ℤ)
-    → All (IsWellFormed (length declared)) given → All (HasBooleanSets declared) given
+    → All (IsWellFormedConstraint (length declared)) given → All (HasBooleanSets declared) given
     → IsSummed given (length declared) multiples constraint → IsWithin declared values
     → All (λ (number : ℕ). IfSome (constraint_at given number) (λ (c : Constraint). Meets c values)) (map (λ (m : Multiple). m.constraint) multiples)
     → Meets constraint values
@@ -165,8 +165,8 @@ merged-terms count places =
     let P = λ (p : Place). IsTerm count p.term in
     All-filter has_weight P (map (whole places) (range_with_len 1 count)) (All-map P (whole places) (range_with_len 1 count) (range-inside count))
 
-linear-formed : (count : ℕ) (sum : List Place) (bound : ℤ) → All (λ (p : Place). IsTerm count p.term) sum → IsStatable sum bound → IsWellFormed count (Linear sum AtMost bound None)
-unfolding IsWellFormed
+linear-formed : (count : ℕ) (sum : List Place) (bound : ℤ) → All (λ (p : Place). IsTerm count p.term) sum → IsStatable sum bound → IsWellFormedConstraint count (Linear sum AtMost bound None)
+unfolding IsWellFormedConstraint
 linear-formed count sum bound terms statable = ((λ k d inside. (terms k d inside, statable.coefficients k d inside), statable.short), statable.bounded, tt)
 
 linear-booleans : (declared : List IntSet) (sum : List Place) (bound : ℤ) → HasBooleanSets declared (Linear sum AtMost bound None)
@@ -174,12 +174,12 @@ unfolding booleans_of
 linear-booleans declared sum bound = All-nil (IsBoolean declared)
 
 pub sum-formed : (given : List Constraint) (declared : List IntSet) (multiples : List Multiple) (constraint : Constraint)
-    → IsSummed given (length declared) multiples constraint → IsWellFormed (length declared) constraint × HasBooleanSets declared constraint
+    → IsSummed given (length declared) multiples constraint → IsWellFormedConstraint (length declared) constraint × HasBooleanSets declared constraint
 sum-formed given declared multiples constraint summed =
     let count = length declared in
     let sum = sum_left given count multiples in
     let bound = bound_left given multiples in (
-      subst (IsWellFormed count) (sym summed.is) (linear-formed count sum bound (merged-terms count (scaled_all given multiples)) summed.statable),
+      subst (IsWellFormedConstraint count) (sym summed.is) (linear-formed count sum bound (merged-terms count (scaled_all given multiples)) summed.statable),
       subst (HasBooleanSets declared) (sym summed.is) (linear-booleans declared sum bound),
     )
 

@@ -1,7 +1,7 @@
 // Constraints added up.
 ghost use Rattle.std.specs.Prelude.{◌≡◌, ◌↔◌, ◌⊎◌, ◌≤◌, unsigned_abs, IsTrue, IfOk, IfErr};
 ghost use Rattle.std.specs.List.{All};
-ghost use Rattle.fzn_meaning.specs.Meaning.{IsWellFormed};
+ghost use Rattle.fzn_meaning.specs.Meaning.{IsWellFormedConstraint};
 ghost use Rattle.fzn_builtin_rules.specs.Borrowed.{form_in};
 ghost use Rattle.fzn_cited.specs.declared.fault.DeriveFault.TheVariants.{Memory};
 ghost use Rattle.fzn_derive.specs.Summed.{IsUsable, MayMultiply, IsFirstSumFault, IsSummed, IsSumFault};
@@ -25,7 +25,7 @@ impl Adder {
         multiples: &[Multiple],
     ) -> Result<Constraint, DeriveFault>
         requires clear { HoldsNothing (variables_in self.old) self.old }
-        requires given { All (IsWellFormed (variables_in self.old)) given.now }
+        requires given { All (IsWellFormedConstraint (variables_in self.old)) given.now }
         ensures clear { HoldsNothing (variables_in self.old) self.new }
         ensures derived { IfOk result (IsSummed given.now (variables_in self.old) multiples.now) }
         ensures fault { IfErr result (λ fault. (fault ≡ Memory) ⊎ IsSumFault given.now (variables_in self.old) multiples.now fault) }
@@ -43,7 +43,7 @@ impl Adder {
         multiples: &[Multiple],
     ) -> Result<Constraint, DeriveFault>
         requires clear { HoldsNothing (variables_in self.old) self.old }
-        requires given { All (IsWellFormed (variables_in self.old)) given.now }
+        requires given { All (IsWellFormedConstraint (variables_in self.old)) given.now }
         ensures listed { ListsTouched self.new }
         ensures variables { variables_in self.new ≡ variables_in self.old }
         ensures derived { IfOk result (IsSummed given.now (variables_in self.old) multiples.now) }
@@ -56,7 +56,7 @@ impl Adder {
     /// Adds up the forms, each times its multiplier, and answers what the constants leave of the bound.
     fn add_all(&mut self, given: &[Constraint], multiples: &[Multiple]) -> Result<i128, DeriveFault>
         requires clear { HoldsNothing (variables_in self.old) self.old }
-        requires given { All (IsWellFormed (variables_in self.old)) given.now }
+        requires given { All (IsWellFormedConstraint (variables_in self.old)) given.now }
         ensures listed { ListsTouched self.new }
         ensures variables { variables_in self.new ≡ variables_in self.old }
         ensures added { IfOk result (AreSummedUp given.now self.new multiples.now) }
@@ -77,7 +77,7 @@ impl Adder {
         bound: i128,
     ) -> Result<i128, DeriveFault>
         requires listed { ListsTouched self.old }
-        requires given { All (IsWellFormed (variables_in self.old)) given.now }
+        requires given { All (IsWellFormedConstraint (variables_in self.old)) given.now }
         requires sums { AreWithinLimit self.old }
         requires bound { IsWithinLimit bound }
         ensures listed { ListsTouched self.new }

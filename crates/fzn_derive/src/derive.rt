@@ -1,7 +1,7 @@
 // Constraints derived from constraints.
 ghost use Rattle.std.specs.Prelude.{◌≡◌, ◌⊎◌, length, IfOk, IfErr};
 ghost use Rattle.std.specs.List.{All};
-ghost use Rattle.fzn_meaning.specs.Meaning.{IsWellFormed};
+ghost use Rattle.fzn_meaning.specs.Meaning.{IsWellFormedConstraint};
 ghost use Rattle.fzn_cited.specs.declared.fault.DeriveFault.TheVariants.{Memory};
 ghost use Rattle.fzn_meaning.specs.Solutions.{declared_sets};
 ghost use Rattle.fzn_row.specs.Derived.{IsRowFault};
@@ -33,7 +33,7 @@ impl Deriver {
         derivation: &Derivation,
     ) -> Result<Constraint, DeriveFault>
         requires clear { IsClear (length vars.now) self.old }
-        requires given { All (IsWellFormed (length vars.now)) given.now }
+        requires given { All (IsWellFormedConstraint (length vars.now)) given.now }
         ensures clear { IsClear (length vars.now) self.new }
         ensures derived { IfOk result (IsDerivedBy given.now (declared_sets vars.now) derivation.now) }
         ensures fault { IfErr result (λ fault. (fault ≡ Memory) ⊎ IsDeriveFault given.now (declared_sets vars.now) derivation.now fault) }
@@ -67,7 +67,7 @@ fn derive_row(
     items: &[RowItem],
 ) -> Result<Constraint, DeriveFault>
     requires room { room_size room.old ≡ length vars.now }
-    requires given { All (IsWellFormed (length vars.now)) given.now }
+    requires given { All (IsWellFormedConstraint (length vars.now)) given.now }
     ensures room { room_size room.new ≡ length vars.now }
     ensures derived { IfOk result (IsRowConstraint given.now (declared_sets vars.now) items.now) }
     ensures fault { IfErr result (λ fault. (fault ≡ Memory) ⊎ IsRowFault given.now (declared_sets vars.now) most_row_weights items.now fault) }

@@ -4,7 +4,7 @@ ghost use Rattle.std.specs.List.{All};
 ghost use Rattle.fzn_domain.specs.IntSet.{IntSet};
 ghost use Rattle.fzn_domain.specs.Narrow.{IsWithin};
 ghost use Rattle.fzn_meaning.specs.declared.constraint.Constraint.{Constraint};
-ghost use Rattle.fzn_meaning.specs.Meaning.{Meets, IsWellFormed, HasBooleanSets};
+ghost use Rattle.fzn_meaning.specs.Meaning.{Meets, IsWellFormedConstraint, HasBooleanSets};
 ghost use Rattle.fzn_derive.specs.declared.derivation.Derivation.{Derivation};
 ghost use Rattle.fzn_cited.specs.declared.fault.DeriveFault.{DeriveFault};
 ghost use Rattle.fzn_cited.specs.Cited.{AreMet};
@@ -13,7 +13,7 @@ ghost use Rattle.fzn_derive.specs.Derived.{cited, IsDerivedBy, IsDeriveFault};
 /// Values within the declared sets that meet the constraints that a derivation cites meet the constraint that it gives.
 pub fn derived_is_met()
     ensures { (given : List Constraint) (declared : List IntSet) (derivation : Derivation) (constraint : Constraint) (values : List ℤ)
-        → All (IsWellFormed (length declared)) given → All (HasBooleanSets declared) given
+        → All (IsWellFormedConstraint (length declared)) given → All (HasBooleanSets declared) given
         → IsDerivedBy given declared derivation constraint → IsWithin declared values
         → AreMet given (cited derivation) values
         → Meets constraint values }
@@ -22,9 +22,9 @@ pub fn derived_is_met()
 /// The constraint that a derivation gives is one that a model may have.
 pub fn derived_is_formed()
     ensures { (given : List Constraint) (declared : List IntSet) (derivation : Derivation) (constraint : Constraint)
-        → All (IsWellFormed (length declared)) given
+        → All (IsWellFormedConstraint (length declared)) given
         → IsDerivedBy given declared derivation constraint
-        → IsWellFormed (length declared) constraint × HasBooleanSets declared constraint }
+        → IsWellFormedConstraint (length declared) constraint × HasBooleanSets declared constraint }
 {}
 
 /// A derivation gives one constraint or none, and where it gives none it is for one fault.

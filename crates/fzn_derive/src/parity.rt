@@ -1,5 +1,5 @@
 // What constraints say together of sums of Booleans that are odd or even.
-#![tactic(auto, unfolding(crate::specs::Parity::parity_of, fzn_meaning::specs::Meaning::IsWellFormed))]
+#![tactic(auto, unfolding(crate::specs::Parity::parity_of, fzn_meaning::specs::Meaning::IsWellFormedConstraint))]
 
 ghost use Rattle.std.specs.Prelude.{◌≡◌, ◌↔◌, ◌⊎◌, ◌+◌, ◌%◌, ℤ, pos, true, [], ◌∷◌, ◌++◌, if◌then◌else◌, length, map, IsTrue, IsSome, IfOk, IfErr, OnOk, MatchOption};
 ghost use Rattle.std.specs.Ordering.{int_eq};
@@ -8,7 +8,7 @@ ghost use Rattle.std.specs.List.Sorted.{IsNonDecreasing};
 ghost use Rattle.fzn_domain.specs.IntSet.{contains};
 ghost use Rattle.fzn_meaning.specs.declared.term.Term.TheVariants.{Constant};
 ghost use Rattle.fzn_meaning.specs.Term.{IsTerm};
-ghost use Rattle.fzn_meaning.specs.Meaning.{IsWellFormed, IsBit, IsBoolean};
+ghost use Rattle.fzn_meaning.specs.Meaning.{IsWellFormedConstraint, IsBit, IsBoolean};
 ghost use Rattle.fzn_meaning.specs.Solutions.{declared_sets};
 ghost use Rattle.fzn_derive.specs.Parity.{SaysParity, IsSumAdded, IsConstraintAdded, AreAllAdded, IsSumsFault, AreOddIn, EndsWith, is_one, variable_with, variable_numbers, remainder_of, IsParity, IsParityFault};
 ghost use Rattle.fzn_cited.specs.Cited.{IsCitedAs, IsCitedWrong};
@@ -30,7 +30,7 @@ pub(crate) fn derive_parity(
     vars: &[Var],
     ids: &[u64],
 ) -> Result<Constraint, DeriveFault>
-    requires { All (IsWellFormed (length vars.now)) given.now }
+    requires { All (IsWellFormedConstraint (length vars.now)) given.now }
     ensures derived { IfOk result (λ constraint. IsParity given.now (declared_sets vars.now) ids.now constraint) }
     ensures fault { IfErr result (λ fault. (fault ≡ Memory) ⊎ IsParityFault given.now (declared_sets vars.now) ids.now fault) }
 {
@@ -53,7 +53,7 @@ fn add_all(
     vars: &[Var],
     ids: &[u64],
 ) -> Result<bool, DeriveFault>
-    requires given { All (IsWellFormed (length vars.now)) given.now }
+    requires given { All (IsWellFormedConstraint (length vars.now)) given.now }
     requires none { numbers.old.items ≡ [] }
     ensures added { IfOk result (AreAllAdded given.now (declared_sets vars.now) ids.now numbers.new.items) }
     ensures fault { IfErr result (λ fault. (fault ≡ Memory) ⊎ IsSumsFault given.now (declared_sets vars.now) ids.now fault) }
@@ -72,7 +72,7 @@ fn add_cited(
     vars: &[Var],
     id: u64,
 ) -> Result<bool, DeriveFault>
-    requires { All (IsWellFormed (length vars.now)) given.now }
+    requires { All (IsWellFormedConstraint (length vars.now)) given.now }
     ensures added { IfOk result (λ odd. IsCitedAs (λ constraint. IsConstraintAdded (declared_sets vars.now) numbers.old.items numbers.new.items constraint odd) given.now id) }
     ensures fault { IfErr result (λ fault. (fault ≡ Memory) ⊎ IsCitedWrong (SaysParity (declared_sets vars.now)) given.now id fault) }
 {
@@ -93,7 +93,7 @@ fn add_constraint(
     vars: &[Var],
     constraint: &Constraint,
 ) -> Result<Option<bool>, AllocError>
-    requires { IsWellFormed (length vars.now) constraint.now }
+    requires { IsWellFormedConstraint (length vars.now) constraint.now }
     ensures { IfOk result (λ odd. MatchOption odd (¬ SaysParity (declared_sets vars.now) constraint.now) (IsConstraintAdded (declared_sets vars.now) numbers.old.items numbers.new.items constraint.now)) }
 {
     match constraint {

@@ -1,7 +1,7 @@
 // Derivations that are tried before they are used.
 ghost use Rattle.std.specs.Prelude.{◌≢◌, ◌↔◌, length, IsTrue, IsOk, IfOk, IfErr, OnOk};
 ghost use Rattle.std.specs.List.{All, Contains};
-ghost use Rattle.fzn_meaning.specs.Meaning.{IsWellFormed};
+ghost use Rattle.fzn_meaning.specs.Meaning.{IsWellFormedConstraint};
 ghost use Rattle.fzn_meaning.specs.Solutions.{declared_sets};
 ghost use Rattle.fzn_cited.specs.declared.fault.DeriveFault.TheVariants.{Memory};
 ghost use Rattle.fzn_derive.specs.Derived.{IsDerivable};
@@ -25,7 +25,7 @@ impl Deriver {
         derivation: &Derivation,
     ) -> Result<bool, AllocError>
         requires clear { IsClear (length vars.now) self.old }
-        requires given { All (IsWellFormed (length vars.now)) given.now }
+        requires given { All (IsWellFormedConstraint (length vars.now)) given.now }
         ensures clear { IsClear (length vars.now) self.new }
         ensures gives { IfOk result (λ gives. IsTrue gives ↔ IsDerivable given.now (declared_sets vars.now) derivation.now) }
     {
@@ -54,7 +54,7 @@ pub fn derivable(
     vars: &[Var],
     candidates: Vec<Derivation>,
 ) -> Result<Items<Derivation>, AllocError>
-    requires { All (IsWellFormed (length vars.now)) given.now }
+    requires { All (IsWellFormedConstraint (length vars.now)) given.now }
     ensures derivable { IfOk result (All (IsDerivable given.now (declared_sets vars.now))) }
     ensures candidates { IfOk result (All (Contains candidates.items)) }
     ensures each { IfOk result (λ found. All (λ candidate. IsDerivable given.now (declared_sets vars.now) candidate → Contains found candidate) candidates.items) }

@@ -7,10 +7,11 @@ use Rattle.fzn_domain.specs.Narrow.{IsClauseOver, possible_in}
 use Rattle.fzn_meaning.specs.declared.model.Model.{Model}
 use Rattle.fzn_cert.specs.declared.step.Step.{Step}
 use Rattle.fzn_cert.specs.declared.step.Step.TheVariants.{Resolve}
-use Rattle.fzn_trail.specs.declared.trail.Reason.{Reason}
+use Rattle.fzn_trail.specs.declared.trail.Antecedent.{Antecedent}
 use Rattle.fzn_trail.specs.declared.trail.ClauseId.{ClauseId}
 use Rattle.fzn_trail.specs.declared.trail.Entry.{Entry}
-use Rattle.fzn_trail.specs.declared.trail.Reason.TheVariants.{Clause}
+use Rattle.fzn_trail.specs.declared.trail.Antecedent.TheVariants.{Clause}
+use Rattle.fzn_trail.specs.declared.trail.Reason.TheVariants.{Implied}
 use Rattle.fzn_trail.specs.Levels.{Levels, level_of, asserted, returned}
 use Rattle.fzn_trail.proofs.CallerLemmas.{declared-returned}
 use Rattle.fzn_clauses.specs.declared.clauses.Clauses.{Clauses}
@@ -19,7 +20,7 @@ use Rattle.fzn_clauses.proofs.HeldLemmas.{IsHeld-newest, clause_of-newest}
 use Rattle.fzn_clauses.proofs.WatchingLemmas.{IsWatching-asserted, IsWatching-returned}
 use Rattle.fzn_strategy.specs.declared.learn.Learn.TheVariants.{Plain}
 use Rattle.fzn_learned.specs.declared.learned.Learned.{Learned}
-use Rattle.fzn_learned.specs.Reasoned.{IsKnown, IsBelow, reason_clause}
+use Rattle.fzn_learned.specs.Reasoned.{IsKnown, IsBelow, antecedent_clause}
 use Rattle.fzn_learned.proofs.CallerLemmas.{IsReasoned-returned}
 use Rattle.fzn_state.specs.declared.solver.Solver.{Solver}
 use Rattle.fzn_engine.specs.Loop.{IsBehind}
@@ -34,7 +35,7 @@ use Rattle.fzn_state.proofs.TakenLemmas.{Leads-length}
 use Rattle.fzn_state.proofs.VariableLemmas.{variable-of}
 use Rattle.fzn_state.proofs.SolverLemmas.{solver-is, order-step}
 
-module _ {model : Model} {mid : Solver} {before : List Step} {conflict : Reason} {learned : Learned} {numbers : List ℕ} (h : Learns model mid before conflict learned numbers) {now : List Step} (now_is : now ≡ before ++ Resolve learned.clause numbers ∷ []) where
+module _ {model : Model} {mid : Solver} {before : List Step} {conflict : Antecedent} {learned : Learned} {numbers : List ℕ} (h : Learns model mid before conflict learned numbers) {now : List Step} (now_is : now ≡ before ++ Resolve learned.clause numbers ∷ []) where
   module _ (few : length now < 10 ^ 18) (some : learned.clause ≢ []) where
     -- the search at a level, with the clause and fewer inferences
     module _ {level : ℕ} {held back : Solver} (holds : Holds learned.clause mid held) (at : IsBackAt level held back) where
@@ -76,23 +77,23 @@ module _ {model : Model} {mid : Solver} {before : List Step} {conflict : Reason}
 
     -- back where it forces a literal
     module _ {held back : Solver} (holds : Holds learned.clause mid held) (at : IsBackAt learned.level held back) (id : ClauseId) (newest : id.0 ≡ length (held_by mid.clauses)) where
-      clause_is : reason_clause (known_in (stock_of back)) (Clause id) ≡ learned.clause
-      clause_is = ap (λ (k : Stock). reason_clause (known_in k) (Clause id)) (stock_is holds at) ∙ clause_of-newest (held_by mid.clauses) learned.clause id newest
+      clause_is : antecedent_clause (known_in (stock_of back)) (Clause id) ≡ learned.clause
+      clause_is = ap (λ (k : Stock). antecedent_clause (known_in k) (Clause id)) (stock_is holds at) ∙ clause_of-newest (held_by mid.clauses) learned.clause id newest
 
-      forcing : (lit : Lit) (rest : List Lit) → possible_in (returned learned.level mid.trail).sets learned.clause ≡ lit ∷ rest → (limit : ℕ) → IsBehind model limit mid (record (there holds at) { trail = asserted lit (Clause id) (returned learned.level mid.trail) }) now
+      forcing : (lit : Lit) (rest : List Lit) → possible_in (returned learned.level mid.trail).sets learned.clause ≡ lit ∷ rest → (limit : ℕ) → IsBehind model limit mid (record (there holds at) { trail = asserted lit (Implied (Clause id)) (returned learned.level mid.trail) }) now
       forcing lit rest e limit =
           let back_trail = returned learned.level mid.trail in
-          let trail = asserted lit (Clause id) (returned learned.level mid.trail) in
+          let trail = asserted lit (Implied (Clause id)) (returned learned.level mid.trail) in
           let state = learned-state h.state.state learned conflict h.is h.plain numbers h.give some lit rest e id newest (mid.steps + 1) (next holds at) in
           let works = learned-works h.state.state learned conflict h.is h.plain numbers h.give some lit rest e id newest (mid.steps + 1) (next holds at) limit in
-          let entry : Entry = record { lit = lit; reason = Clause id; level = level_of (returned learned.level mid.trail) } in
+          let entry : Entry = record { lit = lit; reason = Implied (Clause id); level = level_of (returned learned.level mid.trail) } in
           let below : All (λ (entry : Entry). IsBelow at.count entry.reason) trail.entries = All-push (λ (entry : Entry). IsBelow at.count entry.reason) back_trail.entries entry (enough holds at) tt in
           let known = known_in (stock_of mid) in
           let less = h.is.below (learned-above h.state.state learned conflict h.is h.plain numbers h.give some) in
           let leads = (IsReasoned-returned known mid.trail learned.level h.state.state.core.reasoned (omega arith)).leads in
           let sizes : length back_trail.sets ≡ length mid.trail.declared = Leads-length known back_trail.declared back_trail.entries back_trail.sets leads ∙ ap length (declared-returned learned.level mid.trail) in
           let Over : ℕ → Type 0 = λ n. IsClauseOver n learned.clause in
-          let watching = IsWatching-asserted back.clauses back_trail (watched holds at) lit (Clause id) (variable-of back_trail.sets (length back_trail.sets) learned.clause lit rest (subst Over (sym sizes) h.is.over) e) in
+          let watching = IsWatching-asserted back.clauses back_trail (watched holds at) lit (Implied (Clause id)) (variable-of back_trail.sets (length back_trail.sets) learned.clause lit rest (subst Over (sym sizes) h.is.over) e) in
           behind holds at trail state below watching limit works
 
       forced-there : (new : Solver) (any : Bool) → IsForcedBy (there holds at) (Clause id) new any → (limit : ℕ) → IsBehind model limit mid new now
@@ -111,7 +112,7 @@ module _ {model : Model} {mid : Solver} {before : List Step} {conflict : Reason}
           let K : Stock → Type 0 = λ k. IsKnown (known_in k) (Clause id) in
           subst K (sym (stock_is holds at)) (IsHeld-newest (held_by mid.clauses) learned.clause id newest)
 
-      pub learn-over : IsClauseOver (length back.trail.declared) (reason_clause (known_in (stock_of back)) (Clause id))
+      pub learn-over : IsClauseOver (length back.trail.declared) (antecedent_clause (known_in (stock_of back)) (Clause id))
       learn-over =
           let C : List Lit → Type 0 = λ c. IsClauseOver (length back.trail.declared) c in
           let D : List IntSet → Type 0 = λ d. IsClauseOver (length d) learned.clause in

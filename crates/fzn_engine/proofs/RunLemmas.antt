@@ -16,7 +16,8 @@ use Rattle.fzn_cert.specs.Accepted.{IsAccepted, AllAccepted, past_after}
 use Rattle.fzn_cert.proofs.SoundLaws.{accepted-proper, closed-exhausted}
 use Rattle.fzn_cert.specs.Spelling.{IsSpelled}
 use Rattle.fzn_trail.specs.declared.trail.ClauseId.{ClauseId}
-use Rattle.fzn_trail.specs.declared.trail.Reason.TheVariants.{Decision, Clause}
+use Rattle.fzn_trail.specs.declared.trail.Antecedent.TheVariants.{Clause}
+use Rattle.fzn_trail.specs.declared.trail.Reason.TheVariants.{Decision}
 use Rattle.fzn_trail.specs.Levels.{Levels, pushed, asserted}
 use Rattle.fzn_clauses.specs.declared.clauses.Clauses.{Clauses}
 use Rattle.fzn_clauses.specs.Watching.{held_by, IsWatching}
@@ -24,7 +25,7 @@ use Rattle.fzn_clauses.proofs.HeldLemmas.{IsHeld-newest, clause_of-newest}
 use Rattle.fzn_clauses.proofs.WatchingLemmas.{IsWatching-asserted, IsWatching-pushed}
 use Rattle.fzn_strategy.specs.declared.learn.Learn.{Learn}
 use Rattle.fzn_strategy.specs.declared.learn.Learn.TheVariants.{Plain}
-use Rattle.fzn_learned.specs.Reasoned.{IsKnown, reason_clause}
+use Rattle.fzn_learned.specs.Reasoned.{IsKnown, antecedent_clause}
 use Rattle.fzn_learned.proofs.CallerLemmas.{IsReasoned-decided}
 use Rattle.fzn_search.specs.Fixed.{HasMany}
 use Rattle.fzn_printer.specs.declared.printer.Ending.{Ending}
@@ -166,8 +167,8 @@ module _ {model : Model} (good : IsWellFormed model) {old : Solver} {before : Li
       let S : List Step → Type 0 = λ s. StateOf model old.learn (with_cuts flags (with_held (cut_of model values) (old.steps + 1) (stock_of old))) s old.trail old.search.nodes in
       let K : Stock → Type 0 = λ k. StateOf model old.learn (with_cuts flags k) now old.trail old.search.nodes in
       let L : Stock → Type 0 = λ k. IsKnown (known_in k) (Clause id) in
-      let clause_is : reason_clause (known_in (stock_of held)) (Clause id) ≡ cut_of model values =
-      ap (λ (k : Stock). reason_clause (known_in k) (Clause id)) holds.stock ∙ clause_of-newest (held_by old.clauses) (cut_of model values) id newest in
+      let clause_is : antecedent_clause (known_in (stock_of held)) (Clause id) ≡ cut_of model values =
+      ap (λ (k : Stock). antecedent_clause (known_in k) (Clause id)) holds.stock ∙ clause_of-newest (held_by old.clauses) (cut_of model values) id newest in
       let P : Solver → Type 0 = λ s. HasWritten model values old (record s { cuts = flags; found = s.found + 1 }) now id in
       subst P (sym (solver-is held holds.trail holds.search holds.scratch holds.learn holds.found holds.steps)) (record {
         state = record {

@@ -3,11 +3,11 @@ use Rattle.std.specs.Prelude.{◌≡◌, ◌≢◌, ℕ, ◌==◌, if◌then◌e
 use Rattle.fzn_meaning.specs.declared.model.Model.{Model}
 use Rattle.fzn_meaning.specs.Solutions.{cut_of}
 use Rattle.fzn_cert.specs.declared.step.Step.{Step}
-use Rattle.fzn_trail.specs.declared.trail.Reason.TheVariants.{Clause}
+use Rattle.fzn_trail.specs.declared.trail.Antecedent.TheVariants.{Clause}
 use Rattle.fzn_trail.specs.declared.trail.ClauseId.{ClauseId}
 use Rattle.fzn_clauses.specs.Watching.{held_by}
 use Rattle.fzn_strategy.specs.declared.learn.Learn.{Learn}
-use Rattle.fzn_learned.specs.Reasoned.{IsKnown, reason_clause}
+use Rattle.fzn_learned.specs.Reasoned.{IsKnown, antecedent_clause}
 use Rattle.fzn_learned.specs.Learned.{IsConflicting}
 use Rattle.fzn_state.specs.State.{known_in}
 use Rattle.fzn_state.specs.Certified.{count}
@@ -53,7 +53,7 @@ Goes model old new steps false = LeavesNothing model old new steps
 pub record HasWritten (model : Model) (values : List ℤ) (old new : Solver) (steps : List Step) (id : ClauseId) : Type 0 where
   pub state : IsAfter model new steps
   pub known : IsKnown (known_in (stock_of new)) (Clause id)
-  pub cut : reason_clause (known_in (stock_of new)) (Clause id) ≡ cut_of model values
+  pub cut : antecedent_clause (known_in (stock_of new)) (Clause id) ≡ cut_of model values
   pub trail : new.trail ≡ old.trail
   pub tally : tally_of new ≡ record (tally_of old) { found = old.found + 1 }
 

@@ -3,11 +3,11 @@ use Rattle.std.specs.Prelude.{◌≡◌, ℕ, ◌+◌, Bool, true, false, List, 
 use Rattle.fzn_domain.specs.declared.literal.Lit.{Lit}
 use Rattle.fzn_domain.specs.Narrow.{possible_in}
 use Rattle.std.specs.List.{All}
-use Rattle.fzn_trail.specs.declared.trail.Reason.{Reason}
+use Rattle.fzn_trail.specs.declared.trail.Antecedent.{Antecedent}
 use Rattle.fzn_trail.specs.declared.trail.Entry.{Entry}
-use Rattle.fzn_trail.specs.declared.trail.Reason.TheVariants.{Decision}
+use Rattle.fzn_trail.specs.declared.trail.Reason.TheVariants.{Decision, Implied}
 use Rattle.fzn_trail.specs.Levels.{pushed, asserted, returned}
-use Rattle.fzn_learned.specs.Reasoned.{IsBelow, reason_clause}
+use Rattle.fzn_learned.specs.Reasoned.{IsBelow, antecedent_clause}
 use Rattle.fzn_search.specs.Fixed.{Splits}
 use Rattle.fzn_state.specs.State.{known_in, with_stack}
 use Rattle.fzn_state.specs.declared.solver.Solver.{Solver}
@@ -35,10 +35,10 @@ pub record IsBackAt (level : ℕ) (old new : Solver) : Type 0 where
   pub steps : new.steps ≡ old.steps
 
 -- the clause's first possible literal was asserted, or it has none
-abbrev pub IsForcedBy : Solver → Reason → Solver → Bool → Type 0
-IsForcedBy old reason new true =
-    (lit : Lit) × (rest : List Lit) × (possible_in old.trail.sets (reason_clause (known_in (stock_of old)) reason) ≡ lit ∷ rest) × (new ≡ record old { trail = asserted lit reason old.trail })
-IsForcedBy old reason new false = (possible_in old.trail.sets (reason_clause (known_in (stock_of old)) reason) ≡ []) × (new ≡ old)
+abbrev pub IsForcedBy : Solver → Antecedent → Solver → Bool → Type 0
+IsForcedBy old antecedent new true =
+    (lit : Lit) × (rest : List Lit) × (possible_in old.trail.sets (antecedent_clause (known_in (stock_of old)) antecedent) ≡ lit ∷ rest) × (new ≡ record old { trail = asserted lit (Implied antecedent) old.trail })
+IsForcedBy old antecedent new false = (possible_in old.trail.sets (antecedent_clause (known_in (stock_of old)) antecedent) ≡ []) × (new ≡ old)
 
 -- a decision was made
 pub record IsDecided (old new : Solver) : Type 0 where

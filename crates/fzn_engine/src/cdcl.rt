@@ -14,11 +14,12 @@ use crate::hinting::take_hints;
 use crate::limits::Limits;
 use crate::moves::{backjump, decide, enqueue, is_fixed, is_restart_due, restart};
 use crate::solutions::{is_reached, record_solution};
+use fzn_cert::Inference;
 use fzn_meaning::Model;
 use fzn_printer::Ending;
-use fzn_propagator::{Constraints, Inference};
+use fzn_propagator::Constraints;
 use fzn_state::{Fault, Sink, Solver};
-use fzn_trail::Reason;
+use fzn_trail::Antecedent;
 use std::alloc::Global;
 
 /// Searches to the end by conflict-driven clause learning: propagates, learns from each conflict and jumps back or restarts, and decides
@@ -95,7 +96,13 @@ fn cdcl_round<S: Sink, C: Constraints>(
 {
     match solver.clauses.propagate(&mut solver.trail)? {
         Some(conflict) => {
-            let goes_on = resolve_conflict(solver, alloc, model, sink, Reason::Clause(conflict))?;
+            let goes_on = resolve_conflict(
+                solver,
+                alloc,
+                model,
+                sink,
+                Antecedent::Clause(conflict),
+            )?;
             Ok(ending_of(goes_on, solver.found))
         }
         None => infer_or_decide(solver, alloc, model, limits, constraints, sink),
@@ -109,7 +116,7 @@ fn resolve_conflict<S: Sink>(
     alloc: Global,
     model: &Model,
     sink: &mut S,
-    conflict: Reason,
+    conflict: Antecedent,
 ) -> Result<bool, Fault>
     requires ready { IsSearchReady model.now solver.old (S.written sink.old) (S.keeps model.now sink.old) }
     requires conflict { IsConflicting (known_in (stock_of solver.old)) solver.old.trail.sets conflict }
@@ -125,7 +132,7 @@ fn resolve_conflict<S: Sink>(
         return Ok(true);
     }
     backjump(solver, lesson.level);
-    enqueue(solver, Reason::Clause(lesson.id))?;
+    enqueue(solver, Antecedent::Clause(lesson.id))?;
     Ok(true)
 }
 
@@ -173,17 +180,12 @@ fn propagate_inference<S: Sink>(
     ensures goes { IfOk result (Goes model.now solver.old solver.new (S.written sink.new)) }
     ensures left { IsLeftBySearch model.now (S.written sink.new) (S.keeps model.now sink.new) (S.origin sink.new ≡ S.origin sink.old) }
 {
-    let Inference {
-        constraint,
-        rule,
-        clause,
-    } = inference;
-    let place = solver.inferences.push(constraint, rule, clause)?;
-    let reason = Reason::Inference(place);
-    if enqueue(solver, reason)? {
+    let place = solver.inferences.push(inference)?;
+    let antecedent = Antecedent::Inference(place);
+    if enqueue(solver, antecedent)? {
         return Ok(true);
     }
-    resolve_conflict(solver, alloc, model, sink, reason)
+    resolve_conflict(solver, alloc, model, sink, antecedent)
 }
 
 /// Records a solution and, where there is room for another, cuts it off: its cut is in conflict.
@@ -204,7 +206,7 @@ fn cut_off_solution<S: Sink>(
     if is_reached(model.goal, limits.solutions, solver.found) {
         return Ok(Some(Ending::SolutionLimit));
     }
-    let goes_on = resolve_conflict(solver, alloc, model, sink, Reason::Clause(id))?;
+    let goes_on = resolve_conflict(solver, alloc, model, sink, Antecedent::Clause(id))?;
     Ok(ending_of(goes_on, solver.found))
 }
 

@@ -21,9 +21,6 @@ use fzn_state::{Fault, Sink, Solver};
 use fzn_trail::ClauseId;
 use std::alloc::Global;
 
-/// How many hints are looked at one after the other, before the search goes on.
-const MOST_HINTS: usize = 65_536;
-
 /// Takes the solutions that the sink proposes, at the start and after each restart, until it has no more for now. Answers how the search
 /// ends where there are as many solutions then as the limit.
 pub(crate) fn take_hints<S: Sink>(
@@ -38,7 +35,8 @@ pub(crate) fn take_hints<S: Sink>(
     ensures takes { IfOk result (TakesHints model.now limits solver.old solver.new (S.written sink.new)) }
     ensures left { IsLeftBySearch model.now (S.written sink.new) (S.keeps model.now sink.new) (S.origin sink.new ≡ S.origin sink.old) }
 {
-    'hints: for _ in 0..MOST_HINTS {
+    let most = solver.notes.parameters.hints_at_once as usize;
+    'hints: for _ in 0..most {
         if !solver.notes.hints.is_hint_due() {
             return Ok(None);
         }

@@ -3,7 +3,7 @@ ghost use Rattle.std.specs.Prelude.{◌≡◌, ◌+◌, ◌<◌, ◌≤◌, [], 
 ghost use Rattle.fzn_domain.specs.declared.literal.Lit.{Lit};
 ghost use Rattle.fzn_domain.specs.Narrow.{IsClauseOver, NoneEmpty, possible_in};
 ghost use Rattle.fzn_strategy.specs.declared.learn.Learn.TheVariants.{First};
-ghost use Rattle.fzn_learned.specs.Reasoned.{IsKnown, IsReasoned, reason_clause};
+ghost use Rattle.fzn_learned.specs.Reasoned.{IsKnown, IsReasoned, antecedent_clause};
 ghost use Rattle.fzn_search.specs.Fixed.{AllFixed, HasMany};
 ghost use Rattle.fzn_trail.specs.Levels.{level_of};
 ghost use Rattle.fzn_state.specs.State.{known_in};
@@ -14,21 +14,21 @@ use fzn_domain::{Lit, Memory};
 use fzn_learned::clause_of;
 use fzn_state::Solver;
 use fzn_strategy::Learn;
-use fzn_trail::{Reason, Trail};
+use fzn_trail::{Antecedent, Reason, Trail};
 
-/// Puts the literal that the clause of a reason forces on the trail, and answers whether the clause has a possible literal: else it is in
-/// conflict.
-pub(crate) fn enqueue(solver: &mut Solver, reason: Reason) -> Result<bool, Memory>
-    requires known { IsKnown (known_in (stock_of solver.old)) reason }
-    requires over { IsClauseOver (length solver.old.trail.declared) (reason_clause (known_in (stock_of solver.old)) reason) }
-    ensures { IfOk result (IsForcedBy solver.old reason solver.new) }
+/// Puts the literal that the clause of an antecedent forces on the trail, and answers whether the clause has a possible literal: else it is
+/// in conflict.
+pub(crate) fn enqueue(solver: &mut Solver, antecedent: Antecedent) -> Result<bool, Memory>
+    requires known { IsKnown (known_in (stock_of solver.old)) antecedent }
+    requires over { IsClauseOver (length solver.old.trail.declared) (antecedent_clause (known_in (stock_of solver.old)) antecedent) }
+    ensures { IfOk result (IsForcedBy solver.old antecedent solver.new) }
 {
     match first_possible(
-        clause_of(&solver.clauses, &solver.inferences, reason),
+        clause_of(&solver.clauses, &solver.inferences, antecedent),
         &solver.trail,
     ) {
         Some(lit) => {
-            solver.trail.assert(lit, reason)?;
+            solver.trail.assert(lit, Reason::Implied(antecedent))?;
             Ok(true)
         }
         None => Ok(false),

@@ -10,7 +10,7 @@ use Rattle.fzn_meaning.specs.declared.term.Term.TheVariants.{Constant}
 use Rattle.fzn_meaning.specs.Term.{IsTerm}
 use Rattle.fzn_sets.specs.Terms.{MayBe, term_at, least_value, greatest_value}
 use Rattle.fzn_sets.proofs.ValueLemmas.{MayBe-ends}
-use Rattle.fzn_builtin_rules.specs.Rows.{ShareNone, NoEntryFits, Passes, IsRowsMet}
+use Rattle.fzn_builtin_rules.specs.Rows.{ShareNone, NoEntryFits, IsBeyond, IsRowsMet}
 use Rattle.fzn_rules.specs.declared.rule.Rule.TheVariants as rule
 use Rattle.fzn_rules.specs.Rules.{IsMet}
 use Rattle.fzn_terms.specs.declared.claim.Claim.{Claim}
@@ -124,7 +124,7 @@ refuted_against pass claim claims against sets denying = met_of pass sets (unfit
 
 -- ---- an extremum
 
-met_passing : (pass : ExtremumPass) (sets : List IntSet) (k : ℕ) (d : Term) → k < length pass.entries.now → Passes sets pass.extreme pass.of (get_or pass.entries.now k d) → IsMet (extremum.extremum_constraint pass) sets rule.Rows
+met_passing : (pass : ExtremumPass) (sets : List IntSet) (k : ℕ) (d : Term) → k < length pass.entries.now → IsBeyond sets pass.extreme pass.of (get_or pass.entries.now k d) → IsMet (extremum.extremum_constraint pass) sets rule.Rows
 unfolding IsMet IsRowsMet
 met_passing pass sets k d below passes =
     let entry = get_or pass.entries.now k d in inl (inl (k, entry, below, get_or_default pass.entries.now k entry d below, passes))
@@ -134,7 +134,7 @@ unfolding IsMet IsRowsMet
 met_apart pass sets all = inl (inr all)
 
 -- an entry and the result lie on the wrong sides of a number
-pub refuted_passing : (pass : ExtremumPass) (place : ℕ) (d : Term) (lower upper : Term) (high low : ℤ) (first second : Claim) → place < length pass.entries.now → IsTerm (length pass.trail.now.declared) lower → IsTerm (length pass.trail.now.declared) upper → high <ℤ low → ((sets : List IntSet) (v : ℤ) → IsDenied sets first → MayBe sets lower v → v ≤ℤ high) → ((sets : List IntSet) (v : ℤ) → IsDenied sets second → MayBe sets upper v → low ≤ℤ v) → ((sets : List IntSet) → greatest_value sets lower <ℤ least_value sets upper → Passes sets pass.extreme pass.of (get_or pass.entries.now place d)) → Refute (length pass.trail.now.declared) (first ∷ second ∷ []) (extremum.extremum_constraint pass) rule.Rows
+pub refuted_passing : (pass : ExtremumPass) (place : ℕ) (d : Term) (lower upper : Term) (high low : ℤ) (first second : Claim) → place < length pass.entries.now → IsTerm (length pass.trail.now.declared) lower → IsTerm (length pass.trail.now.declared) upper → high <ℤ low → ((sets : List IntSet) (v : ℤ) → IsDenied sets first → MayBe sets lower v → v ≤ℤ high) → ((sets : List IntSet) (v : ℤ) → IsDenied sets second → MayBe sets upper v → low ≤ℤ v) → ((sets : List IntSet) → greatest_value sets lower <ℤ least_value sets upper → IsBeyond sets pass.extreme pass.of (get_or pass.entries.now place d)) → Refute (length pass.trail.now.declared) (first ∷ second ∷ []) (extremum.extremum_constraint pass) rule.Rows
 refuted_passing pass place d lower upper high low first second below lower_fits upper_fits order first_is second_is passes sets denying =
     let each = recursion_from_All (IsDenied sets) (first ∷ second ∷ []) denying.denied in
     let under = MayBe-ends sets lower denying.filled (subst (λ (n : ℕ). IsTerm n lower) (sym denying.one_each) lower_fits) in

@@ -8,9 +8,8 @@ use Rattle.fzn_meaning.specs.declared.constraint.Constraint.TheVariants.{Element
 use Rattle.fzn_meaning.specs.Entries.{IsIndex}
 use Rattle.fzn_rules.specs.declared.rule.Rule.TheVariants.{Rows}
 use Rattle.fzn_sets.specs.Terms.{MayBe}
-use Rattle.fzn_propagator.specs.declared.propagator.Inference.{Inference}
 use Rattle.fzn_propagator.specs.Clause.{IsJustified}
-use Rattle.fzn_propagator.specs.Inference.{AreFoundOf}
+use Rattle.fzn_propagator.specs.Inference.{Inference, AreFoundOf}
 use Rattle.fzn_terms.specs.declared.claim.Claim.{Claim}
 use Rattle.fzn_terms.specs.Denied.{IsDenied}
 use Rattle.fzn_equality.specs.declared.element.pass.ElementPass.{ElementPass}

@@ -4,9 +4,8 @@ use Rattle.fzn_domain.specs.declared.literal.Lit.{Lit}
 use Rattle.fzn_meaning.specs.declared.constraint.Constraint.{Constraint}
 use Rattle.fzn_meaning.specs.declared.constraint.Constraint.TheVariants.{Extremum}
 use Rattle.fzn_rules.specs.declared.rule.Rule.TheVariants.{Rows}
-use Rattle.fzn_propagator.specs.declared.propagator.Inference.{Inference}
 use Rattle.fzn_propagator.specs.Clause.{IsJustified}
-use Rattle.fzn_propagator.specs.Inference.{AreFoundOf}
+use Rattle.fzn_propagator.specs.Inference.{Inference, AreFoundOf}
 use Rattle.fzn_equality.specs.declared.extremum.pass.ExtremumPass.{ExtremumPass}
 
 abbrev pub extremum_constraint : ExtremumPass → Constraint

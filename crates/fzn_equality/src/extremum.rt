@@ -7,7 +7,7 @@ ghost use Rattle.fzn_domain.specs.Narrow.{NoneEmpty};
 ghost use Rattle.fzn_meaning.specs.declared.constraint.Constraint.TheVariants as constraint;
 ghost use Rattle.fzn_meaning.specs.Term.{IsTerm};
 ghost use Rattle.fzn_sets.specs.Terms.{least_value, greatest_value};
-ghost use Rattle.fzn_builtin_rules.specs.Rows.{Passes};
+ghost use Rattle.fzn_builtin_rules.specs.Rows.{IsBeyond};
 ghost use Rattle.fzn_propagator.specs.Inference.{AreFoundOf};
 ghost use Rattle.fzn_equality.specs.ExtremumPasses.{IsJustifiedByExtremum, AreFoundOfExtremum};
 
@@ -228,7 +228,7 @@ impl<'a> ExtremumPass<'a> {
         requires { IsTerm (length self.now.trail.now.declared) entry }
         ensures lower { IsTerm (length self.now.trail.now.declared) result.0 }
         ensures upper { IsTerm (length self.now.trail.now.declared) result.1 }
-        ensures passes { (sets : List IntSet) → greatest_value sets result.0 <ℤ least_value sets result.1 → Passes sets self.now.extreme self.now.of entry }
+        ensures passes { (sets : List IntSet) → greatest_value sets result.0 <ℤ least_value sets result.1 → IsBeyond sets self.now.extreme self.now.of entry }
     {
         match self.extreme {
             Extreme::Greatest => (self.of, entry),

@@ -6,7 +6,7 @@ use fzn_clauses::Clauses;
 use fzn_domain::{Domain, Lit, Memory, VarId};
 use fzn_learned::{clause_of, is_known};
 use fzn_propagator::Inferences;
-use fzn_trail::{Entry, Reason, Trail};
+use fzn_trail::{Antecedent, Entry, Reason, Trail};
 
 /// The entries of a trail, and the clauses of their reasons.
 #[derive(Clone, Copy)]
@@ -90,27 +90,30 @@ impl<'a> Implications<'a> {
         }
     }
 
-    /// Finds what made the literals of the reason's clause false, but for the one that it forced. It answers `Err` where memory runs out,
-    /// and some may be found then.
-    pub fn find_causes(
-        &self,
-        causes: &mut Causes,
-        reason: Reason,
-        forced: Lit,
-    ) -> Result<(), Memory> {
+    /// Finds what made the literals of the clause that forced the entry false, but for its own. It answers `Err` where memory runs out, and
+    /// some may be found then.
+    pub fn find_causes(&self, causes: &mut Causes, entry: Entry) -> Result<(), Memory> {
         causes.clear();
-        for lit in self.clause(reason) {
-            if *lit != forced {
+        for lit in self.clause_behind(entry) {
+            if *lit != entry.lit {
                 causes.add(self, *lit)?;
             }
         }
         Ok(())
     }
 
-    /// The clause of a reason, without literals where there is none.
-    pub fn clause(&self, reason: Reason) -> &'a [Lit] {
-        if is_known(self.clauses, self.inferences, reason) {
-            clause_of(self.clauses, self.inferences, reason)
+    /// The clause that forced the entry, without literals where there is none.
+    pub fn clause_behind(&self, entry: Entry) -> &'a [Lit] {
+        match entry.reason {
+            Reason::Decision => [].as_slice(),
+            Reason::Implied(antecedent) => self.clause(antecedent),
+        }
+    }
+
+    /// The clause of an antecedent, without literals where there is none.
+    pub fn clause(&self, antecedent: Antecedent) -> &'a [Lit] {
+        if is_known(self.clauses, self.inferences, antecedent) {
+            clause_of(self.clauses, self.inferences, antecedent)
         } else {
             [].as_slice()
         }

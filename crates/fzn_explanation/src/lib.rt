@@ -6,7 +6,7 @@
 #![tactic(auto)]
 
 pub use causes::{Cause, Causes};
-pub use gaps::{Gap, Gaps};
+pub use gaps::Gap;
 pub use implications::Implications;
 pub use implied::{canonical, implies, opposite};
 

@@ -9,7 +9,7 @@ use Rattle.fzn_meaning.specs.declared.term.Term.{Term}
 use Rattle.fzn_meaning.specs.declared.constraint.Constraint.{Constraint}
 use Rattle.fzn_meaning.specs.declared.constraint.Constraint.TheVariants as constraint
 use Rattle.fzn_meaning.specs.Term.{IsTerm, term_value, values_of}
-use Rattle.fzn_meaning.specs.Meaning.{Meets, IsWellFormed, IsSwitch, switch_value}
+use Rattle.fzn_meaning.specs.Meaning.{Meets, IsWellFormedConstraint, IsSwitch, switch_value}
 use Rattle.fzn_sets.specs.Terms.{least_value}
 use Rattle.fzn_sets.proofs.CallerLemmas.{MayBe-term_value}
 use Rattle.fzn_builtin_rules.specs.Form.{form_of}
@@ -27,10 +27,10 @@ use Rattle.fzn_fixed.specs.Passes.{HoldsFixed, AreFixed, least_values}
 
 -- the input places and the result's are terms, and their values stand in the constraint's relation where, and only where, the values meet it
 abbrev pub AreInputs : Constraint → List Term → Type 0
-AreInputs c inputs = ((count : ℕ) → IsWellFormed count c → All (IsTerm count) inputs × IsSwitch count (result_of c)) × ((values : List ℤ) → Relates c (values_of values inputs) (switch_value values (result_of c)) → Meets c values)
+AreInputs c inputs = ((count : ℕ) → IsWellFormedConstraint count c → All (IsTerm count) inputs × IsSwitch count (result_of c)) × ((values : List ℤ) → Relates c (values_of values inputs) (switch_value values (result_of c)) → Meets c values)
 
 facts_of : (c : Constraint) → form_of c ≡ None → IfSome (inputs_of c) (AreInputs c)
-unfolding Meets inputs_of result_of Relates IsWellFormed form_of
+unfolding Meets inputs_of result_of Relates IsWellFormedConstraint form_of
 facts_of (constraint.Arithmetic operation left right result) other = (λ count formed. (All-from_recursion (IsTerm count) (left ∷ right ∷ []) (formed.0, (formed.1, tt)), formed.2), λ values related. related)
 facts_of (constraint.IntAbs of result) other = (λ count formed. (All-from_recursion (IsTerm count) (of ∷ []) (formed.0, tt), formed.1), λ values related. related)
 facts_of (constraint.Extremum extreme entries result) other = (λ count formed. (formed.0.0, formed.1), λ values related. related)

@@ -1,7 +1,7 @@
 -- The parts of a constraint that is no sum.
 use Rattle.std.specs.Prelude.{◌≡◌, ℕ, Some, None}
 use Rattle.fzn_meaning.specs.declared.constraint.Constraint.{Constraint}
-use Rattle.fzn_meaning.specs.Meaning.{IsWellFormed}
+use Rattle.fzn_meaning.specs.Meaning.{IsWellFormedConstraint}
 use Rattle.fzn_builtin_rules.specs.Choices.{inputs_of, result_of}
 use Rattle.fzn_builtin_rules.specs.Form.{form_of}
 use Rattle.fzn_fixed.specs.declared.parts.Parts.{Parts}
@@ -14,6 +14,6 @@ pub record ArePartsOf (constraint : Constraint) (parts : Parts) : Type 0 where
 
 -- parts of a constraint on this many variables that is no sum
 pub record ArePartsReady (count : ℕ) (parts : Parts) : Type 0 where
-  pub formed : IsWellFormed count parts.constraint
+  pub formed : IsWellFormedConstraint count parts.constraint
   pub parts_of : ArePartsOf parts.constraint parts
   pub other : form_of parts.constraint ≡ None

@@ -8,9 +8,8 @@ use Rattle.fzn_meaning.specs.declared.constraint.Constraint.TheVariants.{AllDiff
 use Rattle.fzn_sets.specs.Terms.{MayBe}
 use Rattle.fzn_rules.specs.declared.rule.Rule.TheVariants.{Hall}
 use Rattle.fzn_rules.specs.Hall.{lies_within}
-use Rattle.fzn_propagator.specs.declared.propagator.Inference.{Inference}
 use Rattle.fzn_propagator.specs.Clause.{IsJustified}
-use Rattle.fzn_propagator.specs.Inference.{AreFoundOf, HoldsWhereFixed}
+use Rattle.fzn_propagator.specs.Inference.{Inference, AreFoundOf, HoldsWhereFixed}
 use Rattle.fzn_terms.specs.Values.{IsOnly}
 use Rattle.fzn_globals.specs.declared.all_different.span.Span.{Span}
 use Rattle.fzn_globals.specs.declared.all_different.pass.Pass.{Pass}

@@ -6,9 +6,8 @@ use Rattle.fzn_meaning.specs.declared.constraint.Constraint.{Constraint}
 use Rattle.fzn_meaning.specs.Entries.{IsIndex}
 use Rattle.fzn_rules.specs.declared.rule.Rule.{Rule}
 use Rattle.fzn_sets.specs.Terms.{MayBe, term_at}
-use Rattle.fzn_propagator.specs.declared.propagator.Inference.{Inference}
 use Rattle.fzn_propagator.specs.Clause.{IsJustified}
-use Rattle.fzn_propagator.specs.Inference.{AreFoundOf}
+use Rattle.fzn_propagator.specs.Inference.{Inference, AreFoundOf}
 use Rattle.fzn_globals.specs.declared.inverse.pass.Pass.{Pass}
 use Rattle.fzn_globals.specs.Ways.{inverse_of, AreIndices, LeadsBackFrom, LeadsBackOn}
 

@@ -8,7 +8,7 @@ use Rattle.fzn_meaning.specs.declared.constraint.Constraint.{Constraint}
 use Rattle.fzn_meaning.specs.declared.row.Part.{Part}
 use Rattle.fzn_meaning.specs.declared.model.Var.{Var}
 use Rattle.fzn_meaning.specs.declared.model.Model.{Model}
-use Rattle.fzn_meaning.specs.Meaning.{Meets, HasBooleanSets, longest, IsWellFormed as IsWellFormedConstraint}
+use Rattle.fzn_meaning.specs.Meaning.{Meets, HasBooleanSets, longest, IsWellFormedConstraint}
 use Rattle.fzn_meaning.specs.Solutions.{declared_sets, IsSolution, IsInOrder, IsCovered, IsProper, IsExhausted}
 use Rattle.fzn_meaning.specs.WellFormed.{IsWellFormed}
 use Rattle.fzn_derive.specs.declared.derivation.Derivation.{Derivation}

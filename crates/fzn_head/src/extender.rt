@@ -1,7 +1,7 @@
 // Constraints more, one after the other.
 ghost use Rattle.std.specs.Prelude.{◌≡◌, ◌⊎◌, ◌+◌, [], ◌∷◌, IfOk, IfErr, OnOk, OnErr, length};
 ghost use Rattle.std.specs.List.{All};
-ghost use Rattle.fzn_meaning.specs.Meaning.{IsWellFormed};
+ghost use Rattle.fzn_meaning.specs.Meaning.{IsWellFormedConstraint};
 ghost use Rattle.fzn_cited.specs.declared.fault.DeriveFault.TheVariants.{Memory};
 ghost use Rattle.fzn_head.specs.Extended.{Extends, IsFaultyWithin, terms_held, listed_of, listed_in};
 ghost use Rattle.fzn_head.specs.Extender.{IsReadyFor, most_terms};
@@ -45,7 +45,7 @@ impl Extender {
         derivation: &Derivation,
     ) -> Result<(), DeriveFault>
         requires ready { IsReadyFor (length model.old.vars) self.old }
-        requires formed { All (IsWellFormed (length model.old.vars)) model.old.constraints }
+        requires formed { All (IsWellFormedConstraint (length model.old.vars)) model.old.constraints }
         ensures ready { IsReadyFor (length model.old.vars) self.new }
         ensures same_vars { model.new.vars ≡ model.old.vars }
         ensures same_most { most_terms self.new model.new ≡ most_terms self.old model.old }

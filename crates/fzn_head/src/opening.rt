@@ -1,7 +1,7 @@
 // The first lines of a certificate of version three.
 ghost use Rattle.std.specs.Prelude.{◌≡◌, ◌++◌, [], ◌∷◌, ◌+◌, ◌<◌, ◌≤◌, false, true, length, string_bytes, option_map, IfOk, IfErr, OnOk, OnErr, IsTrue};
 ghost use Rattle.std.specs.List.{All};
-ghost use Rattle.fzn_meaning.specs.Meaning.{longest, IsWellFormed as IsWellFormedConstraint};
+ghost use Rattle.fzn_meaning.specs.Meaning.{longest, IsWellFormedConstraint};
 ghost use Rattle.fzn_meaning.specs.WellFormed.{IsWellFormed};
 ghost use Rattle.fzn_cert.specs.Derivations.{IsDerivation, IsMultiplier, IsMultiple, IsVariableNumber, IsFirstPriced, IsRowItem};
 ghost use Rattle.fzn_cert.specs.Spelling.{IsNumber};

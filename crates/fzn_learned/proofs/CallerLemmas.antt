@@ -1,5 +1,5 @@
 -- How a trail stays reasoned as it changes, and what becomes of its decisions.
-use Rattle.std.proofs.Common.{◌≡◌, ◌≢◌, ℕ, ◌+◌, ◌<◌, ◌≤◌, List, [], ◌∷◌, ◌++◌, map, length, take, length-append, refl, sym, ap, subst, ◌∙◌, inl, inr, arith, All}
+use Rattle.std.proofs.Common.{◌≡◌, ℕ, ◌+◌, ◌<◌, ◌≤◌, List, [], ◌∷◌, ◌++◌, map, length, take, length-append, refl, sym, ap, subst, ◌∙◌, inl, inr, arith, All}
 use Rattle.std.proofs.lemmas.Bool.{cases_lt}
 use Rattle.std.proofs.lemmas.List.{append-nil, append_assoc, map-append, take-map, length-take-le, take_all, length_push, take_more}
 use Rattle.std.proofs.lemmas.Option.{get_or_from_slice_get}
@@ -9,13 +9,14 @@ use Rattle.fzn_domain.specs.IntSet.{IntSet}
 use Rattle.fzn_domain.specs.Narrow.{IsVariable, IsOpen, narrowed}
 use Rattle.fzn_clauses.specs.Held as numbered
 use Rattle.fzn_trail.specs.declared.trail.Entry.{Entry}
+use Rattle.fzn_trail.specs.declared.trail.Antecedent.{Antecedent}
 use Rattle.fzn_trail.specs.declared.trail.Reason.{Reason}
-use Rattle.fzn_trail.specs.declared.trail.Reason.TheVariants.{Decision, Clause, Inference}
+use Rattle.fzn_trail.specs.declared.trail.Reason.TheVariants.{Decision, Implied}
 use Rattle.fzn_trail.specs.Levels.{Levels, standing, level_of, fresh, pushed, asserted, restored, returned}
 use Rattle.fzn_trail.proofs.CallerLemmas.{returned-present}
-use Rattle.fzn_learned.specs.Reasoned.{Known, IsBelow, cut_at, IsForcedFrom, open_at, IsReason, Leads, Open, opens, IsLevelStanding, IsReasoned, negated_decisions}
+use Rattle.fzn_learned.specs.Reasoned.{Known, IsBelow, cut_at, IsForcedFrom, IsReason, Leads, Open, opens, IsLevelStanding, IsReasoned, negated_decisions}
 use Rattle.fzn_learned.proofs.KnownLemmas.{grown, stacked_more, All-front}
-pub use Rattle.fzn_learned.proofs.KnownLemmas.{IsKnown-undecided, IsStill}
+pub use Rattle.fzn_learned.proofs.KnownLemmas.{IsStill}
 use Rattle.fzn_learned.proofs.EntryLemmas.{after, Leads-after, Leads-append, Leads-grown, Leads-stacked, Leads-below, Leads-still, opens-append, front_cases}
 use Rattle.fzn_learned.proofs.DecisionLemmas.{slice_get_front, slice_get_at, slice_get_take, opens-below, returned-standing}
 pub use Rattle.fzn_learned.proofs.DecisionLemmas.{length-reasoned, narrower-reasoned, filled-reasoned, length-opens, taken-reasoned, IsDecisionAt, decision_at}
@@ -182,33 +183,22 @@ module _ (known : Known) (trail : Levels) (lit : Lit) (reasoned : IsReasoned kno
 
 -- ---- a forced literal
 
-reason-forced : (known : Known) (sets : List IntSet) (lit : Lit) (reason : Reason) → IsForcedFrom known sets lit reason → IsReason known sets lit reason
-reason-forced known sets lit Decision h = absurd h.0
-reason-forced known sets lit (Clause id) h = h
-reason-forced known sets lit (Inference place) h = h
-
-opened : (sets : List IntSet) (lit : Lit) (reason : Reason) (later : List Open) → reason ≢ Decision → open_at sets lit reason later ≡ later
-opened sets lit Decision later apart = absurd (apart refl)
-opened sets lit (Clause id) later apart = refl
-opened sets lit (Inference place) later apart = refl
-
-pub opens-forced : (trail : Levels) (lit : Lit) (reason : Reason) → reason ≢ Decision → opens (asserted lit reason trail).declared (asserted lit reason trail).entries ≡ opens trail.declared trail.entries
-opens-forced trail lit reason apart =
-    opens-append trail.entries (record { lit = lit; reason = reason; level = level_of trail } ∷ []) trail.declared
-    ∙ ap (λ (os : List Open). opens trail.declared trail.entries ++ os) (opened (after trail.declared trail.entries) lit reason [] apart)
+pub opens-forced : (trail : Levels) (lit : Lit) (antecedent : Antecedent) → opens (asserted lit (Implied antecedent) trail).declared (asserted lit (Implied antecedent) trail).entries ≡ opens trail.declared trail.entries
+opens-forced trail lit antecedent =
+    opens-append trail.entries (record { lit = lit; reason = Implied antecedent; level = level_of trail } ∷ []) trail.declared
     ∙ append-nil (opens trail.declared trail.entries)
 
-pub IsReasoned-forced : (known : Known) (trail : Levels) (lit : Lit) (reason : Reason) → IsReasoned known trail → IsVariable (length trail.declared) lit.var → IsForcedFrom known trail.sets lit reason → IsReasoned known (asserted lit reason trail)
-IsReasoned-forced known trail lit reason reasoned var forced = record {
-  leads = Leads-more known trail lit reason reasoned var (reason-forced known trail.sets lit reason forced) (level_of trail);
-  one_each = ap length (opens-forced trail lit reason (IsKnown-undecided known reason forced.0)) ∙ reasoned.one_each;
+pub IsReasoned-forced : (known : Known) (trail : Levels) (lit : Lit) (antecedent : Antecedent) → IsReasoned known trail → IsVariable (length trail.declared) lit.var → IsForcedFrom known trail.sets lit antecedent → IsReasoned known (asserted lit (Implied antecedent) trail)
+IsReasoned-forced known trail lit antecedent reasoned var forced = record {
+  leads = Leads-more known trail lit (Implied antecedent) reasoned var forced (level_of trail);
+  one_each = ap length (opens-forced trail lit antecedent) ∙ reasoned.one_each;
   standing = λ k below. let stands = reasoned.standing k below in record {
     stood = stands.stood;
     here = stands.here;
     lit = stands.lit;
     level = stands.level;
-    later = stands.later ++ record { lit = lit; reason = reason; level = level_of trail } ∷ [];
-    parts = parts_more known trail lit reason reasoned var (reason-forced known trail.sets lit reason forced) (level_of trail) k stands;
+    later = stands.later ++ record { lit = lit; reason = Implied antecedent; level = level_of trail } ∷ [];
+    parts = parts_more known trail lit (Implied antecedent) reasoned var forced (level_of trail) k stands;
     leads = stands.leads;
     below = stands.below;
   };

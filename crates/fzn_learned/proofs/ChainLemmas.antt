@@ -7,12 +7,13 @@ use Rattle.fzn_domain.specs.IntSet.{IntSet, is_possible}
 use Rattle.fzn_domain.specs.Narrow.{IsVariable, set_of, narrowed, denied, possible_in, ChainOutcome, accepted, not_unit, by_count, chain_outcome, IsAcceptedFrom}
 use Rattle.fzn_domain.proofs.NarrowLemmas.{length-narrowed}
 use Rattle.fzn_trail.specs.declared.trail.Entry.{Entry}
+use Rattle.fzn_trail.specs.declared.trail.Antecedent.{Antecedent}
 use Rattle.fzn_trail.specs.declared.trail.Reason.{Reason}
-use Rattle.fzn_trail.specs.declared.trail.Reason.TheVariants.{Decision, Clause, Inference}
+use Rattle.fzn_trail.specs.declared.trail.Reason.TheVariants.{Decision, Implied}
 use Rattle.fzn_trail.specs.Levels.{IsNarrower}
 use Rattle.fzn_trail.proofs.CallerLemmas.{IsNarrower-narrowed}
-use Rattle.fzn_learned.specs.Learned.{reason_before, reasons}
-use Rattle.fzn_learned.specs.Reasoned.{Known, reason_clause, IsReason, Leads, Open, open_at, opens, negated_decisions}
+use Rattle.fzn_learned.specs.Learned.{antecedent_before, antecedents_of}
+use Rattle.fzn_learned.specs.Reasoned.{Known, antecedent_clause, IsReason, Leads, Open, open_at, opens, negated_decisions}
 use Rattle.fzn_learned.proofs.NarrowerLemmas.{IsTrueOn, IsNarrower-self, IsNarrower-through, IsTrueOn-narrower, IsTrueOn-twice, narrowed_both, narrowed_where_true, false_on_narrower, unit_on_narrower, impossible-negated}
 use Rattle.fzn_learned.proofs.EntryLemmas.{IsTaken, opens-taken}
 
@@ -34,31 +35,25 @@ by_one possible lit after (inl e) h = by_none possible after e
 by_one possible lit after (inr e) h = ap (λ (p : List Lit). by_count p accepted after not_unit) e ∙ h
 
 -- along one entry, and then along the rest
-step : (known : Known) (rest : List (List Lit)) (ids : List Reason) (taken : List Open) (small from : List IntSet) (lit : Lit) (reason : Reason) → IsVariable (length from) lit.var → IsNarrower small from → IsReason known from lit reason → AllTrueOn small (open_at from lit reason taken) → ((s : List IntSet) → IsNarrower s (narrowed from lit) → AllTrueOn s taken → chain_outcome s (map (reason_clause known) ids ++ rest) ≡ accepted) → chain_outcome small (map (reason_clause known) (reason_before reason ids) ++ rest) ≡ accepted
+step : (known : Known) (rest : List (List Lit)) (ids : List Antecedent) (taken : List Open) (small from : List IntSet) (lit : Lit) (reason : Reason) → IsVariable (length from) lit.var → IsNarrower small from → IsReason known from lit reason → AllTrueOn small (open_at from lit reason taken) → ((s : List IntSet) → IsNarrower s (narrowed from lit) → AllTrueOn s taken → chain_outcome s (map (antecedent_clause known) ids ++ rest) ≡ accepted) → chain_outcome small (map (antecedent_clause known) (antecedent_before reason ids) ++ rest) ≡ accepted
 step known rest ids taken small from lit Decision var narrower h holds go_on =
     go_on small
     (narrowed_where_true small from lit var (All-head (λ (at : Open). IsTrueOn small at.decision) (record { sets = from; decision = lit }) taken holds) narrower)
     (All-tail (λ (at : Open). IsTrueOn small at.decision) (record { sets = from; decision = lit }) taken holds)
-step known rest ids taken small from lit (Clause id) var narrower h holds go_on =
+step known rest ids taken small from lit (Implied antecedent) var narrower h holds go_on =
     let var_small : IsVariable (length small) lit.var = subst (λ (n : ℕ). IsVariable n lit.var) (sym narrower.one_each) var in
-    by_one (possible_in small (reason_clause known (Clause id))) lit (λ l. chain_outcome (narrowed small l) (map (reason_clause known) ids ++ rest))
-    (unit_on_narrower small from (reason_clause known (Clause id)) lit narrower h.1.0)
-    (go_on (narrowed small lit) (narrowed_both small from lit var narrower)
-    (AllTrueOn-narrower (narrowed small lit) small taken (IsNarrower-narrowed small small lit var_small (IsNarrower-self small)) holds))
-step known rest ids taken small from lit (Inference place) var narrower h holds go_on =
-    let var_small : IsVariable (length small) lit.var = subst (λ (n : ℕ). IsVariable n lit.var) (sym narrower.one_each) var in
-    by_one (possible_in small (reason_clause known (Inference place))) lit (λ l. chain_outcome (narrowed small l) (map (reason_clause known) ids ++ rest))
-    (unit_on_narrower small from (reason_clause known (Inference place)) lit narrower h.1.0)
+    by_one (possible_in small (antecedent_clause known antecedent)) lit (λ l. chain_outcome (narrowed small l) (map (antecedent_clause known) ids ++ rest))
+    (unit_on_narrower small from (antecedent_clause known antecedent) lit narrower h.1.0)
     (go_on (narrowed small lit) (narrowed_both small from lit var narrower)
     (AllTrueOn-narrower (narrowed small lit) small taken (IsNarrower-narrowed small small lit var_small (IsNarrower-self small)) holds))
 
--- a clause that is false on the last sets ends the chain of all reasons, from any smaller sets on which the decisions are true
-pub chain_along : (known : Known) (conflict : List Lit) (entries : List Entry) (small from to : List IntSet) → IsNarrower small from → AllTrueOn small (opens from entries) → Leads known from entries to → possible_in to conflict ≡ [] → chain_outcome small (map (reason_clause known) (reasons entries) ++ conflict ∷ []) ≡ accepted
+-- a clause that is false on the last sets ends the chain of all antecedents, from any smaller sets on which the decisions are true
+pub chain_along : (known : Known) (conflict : List Lit) (entries : List Entry) (small from to : List IntSet) → IsNarrower small from → AllTrueOn small (opens from entries) → Leads known from entries to → possible_in to conflict ≡ [] → chain_outcome small (map (antecedent_clause known) (antecedents_of entries) ++ conflict ∷ []) ≡ accepted
 chain_along known conflict [] small from to narrower holds leads none =
     by_none (possible_in small conflict) (λ l. chain_outcome (narrowed small l) [])
     (false_on_narrower small from conflict narrower (subst (λ (s : List IntSet). possible_in s conflict ≡ []) (sym leads) none))
 chain_along known conflict (entry ∷ later) small from to narrower holds leads none =
-    step known (conflict ∷ []) (reasons later) (opens (narrowed from entry.lit) later) small from entry.lit entry.reason leads.0 narrower leads.1 holds
+    step known (conflict ∷ []) (antecedents_of later) (opens (narrowed from entry.lit) later) small from entry.lit entry.reason leads.0 narrower leads.1 holds
     (λ s s_narrower s_holds. chain_along known conflict later s (narrowed from entry.lit) to s_narrower s_holds leads.2 none)
 
 -- ---- the denied clause
@@ -93,8 +88,8 @@ denied_true (at ∷ taken) sets vars =
     (IsTrueOn-narrower last next at.decision (denied_narrower taken next (later_vars at taken sets vars)) (IsTrueOn-twice sets at.decision (first_var at taken sets vars)))
     (denied_true taken next (later_vars at taken sets vars))
 
--- the clause of all negated decisions is accepted, by all reasons and then a clause that is false
-pub accepted_plain : (known : Known) (conflict : List Lit) (entries : List Entry) (declared to : List IntSet) → Leads known declared entries to → possible_in to conflict ≡ [] → IsAcceptedFrom declared (negated_decisions declared entries) (map (reason_clause known) (reasons entries) ++ conflict ∷ [])
+-- the clause of all negated decisions is accepted, by what the entries follow from and then a clause that is false
+pub accepted_plain : (known : Known) (conflict : List Lit) (entries : List Entry) (declared to : List IntSet) → Leads known declared entries to → possible_in to conflict ≡ [] → IsAcceptedFrom declared (negated_decisions declared entries) (map (antecedent_clause known) (antecedents_of entries) ++ conflict ∷ [])
 accepted_plain known conflict entries declared to leads none =
     let vars : AllVariables (length declared) (opens declared entries) =
     All-weaker (IsTaken declared) (λ (at : Open). IsVariable (length declared) at.decision.var) (λ at taken. taken.variable) (opens declared entries) (opens-taken known entries declared to leads) in

@@ -8,14 +8,15 @@ use Rattle.fzn_domain.specs.Narrow.{IsVariable, IsOpen, set_of, narrowed}
 use Rattle.fzn_domain.proofs.NarrowLemmas.{length-narrowed}
 use Rattle.fzn_clauses.specs.Held as numbered
 use Rattle.fzn_trail.specs.declared.trail.Entry.{Entry}
+use Rattle.fzn_trail.specs.declared.trail.Antecedent.{Antecedent}
 use Rattle.fzn_trail.specs.declared.trail.Reason.{Reason}
-use Rattle.fzn_trail.specs.declared.trail.Reason.TheVariants.{Decision, Clause, Inference}
+use Rattle.fzn_trail.specs.declared.trail.Reason.TheVariants.{Decision, Implied}
 use Rattle.fzn_trail.specs.Levels.{IsNarrower, NoneEmpty}
 use Rattle.fzn_trail.proofs.CallerLemmas.{IsNarrower-narrowed, NoneEmpty-narrowed}
-use Rattle.fzn_learned.specs.Learned.{reason_before, reasons}
+use Rattle.fzn_learned.specs.Learned.{antecedent_before, antecedents_of}
 use Rattle.fzn_learned.proofs.KnownLemmas.{grown, IsForcedFrom-grown, stacked_more, IsForcedFrom-stacked, IsForcedFrom-below, IsStill, IsForcedFrom-still}
 use Rattle.fzn_learned.specs.Reasoned.{IsBelow, cut_at}
-use Rattle.fzn_learned.specs.Reasoned.{Known, IsKnown, reason_clause, IsReason, Leads, Open, open_at, opens}
+use Rattle.fzn_learned.specs.Reasoned.{Known, IsKnown, antecedent_clause, IsReason, Leads, Open, open_at, opens}
 use Rattle.fzn_learned.proofs.NarrowerLemmas.{IsTrueOn, IsNarrower-self, IsNarrower-through, IsTrueOn-narrower, IsTrueOn-narrowed, possible_if_unit}
 
 -- the sets after these entries
@@ -55,8 +56,7 @@ Leads-narrower known (entry ∷ later) from to leads =
 -- a reason stays one where more clauses are known
 IsReason-grown : (known : Known) (more : numbered.Held) (sets : List IntSet) (lit : Lit) (reason : Reason) → IsReason known sets lit reason → IsReason (grown more known) sets lit reason
 IsReason-grown known more sets lit Decision h = h
-IsReason-grown known more sets lit (Clause id) h = IsForcedFrom-grown known more sets lit (Clause id) h
-IsReason-grown known more sets lit (Inference place) h = IsForcedFrom-grown known more sets lit (Inference place) h
+IsReason-grown known more sets lit (Implied antecedent) h = IsForcedFrom-grown known more sets lit antecedent h
 
 pub Leads-grown : (known : Known) (more : numbered.Held) (entries : List Entry) (from to : List IntSet) → Leads known from entries to → Leads (grown more known) from entries to
 Leads-grown known more [] from to leads = leads
@@ -66,8 +66,7 @@ Leads-grown known more (entry ∷ later) from to leads =
 -- and where more inferences are stacked
 IsReason-stacked : (known : Known) (more : List (List Lit)) (sets : List IntSet) (lit : Lit) (reason : Reason) → IsReason known sets lit reason → IsReason (stacked_more more known) sets lit reason
 IsReason-stacked known more sets lit Decision h = h
-IsReason-stacked known more sets lit (Clause id) h = IsForcedFrom-stacked known more sets lit (Clause id) h
-IsReason-stacked known more sets lit (Inference place) h = IsForcedFrom-stacked known more sets lit (Inference place) h
+IsReason-stacked known more sets lit (Implied antecedent) h = IsForcedFrom-stacked known more sets lit antecedent h
 
 pub Leads-stacked : (known : Known) (more : List (List Lit)) (entries : List Entry) (from to : List IntSet) → Leads known from entries to → Leads (stacked_more more known) from entries to
 Leads-stacked known more [] from to leads = leads
@@ -77,8 +76,7 @@ Leads-stacked known more (entry ∷ later) from to leads =
 -- and where the stack is cut above the reasons that are used
 IsReason-below : (known : Known) (n : ℕ) (sets : List IntSet) (lit : Lit) (reason : Reason) → IsBelow n reason → IsReason known sets lit reason → IsReason (cut_at n known) sets lit reason
 IsReason-below known n sets lit Decision low h = h
-IsReason-below known n sets lit (Clause id) low h = IsForcedFrom-below known n sets lit (Clause id) tt h
-IsReason-below known n sets lit (Inference place) low h = IsForcedFrom-below known n sets lit (Inference place) low h
+IsReason-below known n sets lit (Implied antecedent) low h = IsForcedFrom-below known n sets lit antecedent low h
 
 pub Leads-below : (known : Known) (n : ℕ) (entries : List Entry) (from to : List IntSet) → All (λ (entry : Entry). IsBelow n entry.reason) entries → Leads known from entries to → Leads (cut_at n known) from entries to
 Leads-below known n [] from to low leads = leads
@@ -91,8 +89,7 @@ Leads-below known n (entry ∷ later) from to low leads = (
 -- and where other clauses are held, the reasons among them
 IsReason-still : (known : Known) (held : numbered.Held) (sets : List IntSet) (lit : Lit) (reason : Reason) → IsStill known.held held reason → IsReason known sets lit reason → IsReason (record known { held = held }) sets lit reason
 IsReason-still known held sets lit Decision still h = h
-IsReason-still known held sets lit (Clause id) still h = IsForcedFrom-still known held sets lit (Clause id) still h
-IsReason-still known held sets lit (Inference place) still h = h
+IsReason-still known held sets lit (Implied antecedent) still h = IsForcedFrom-still known held sets lit antecedent still h
 
 pub Leads-still : (known : Known) (held : numbered.Held) (entries : List Entry) (from to : List IntSet) → All (λ (entry : Entry). IsStill known.held held entry.reason) entries → Leads known from entries to → Leads (record known { held = held }) from entries to
 Leads-still known held [] from to still leads = leads
@@ -104,8 +101,7 @@ Leads-still known held (entry ∷ later) from to still leads = (
 
 possible_by_reason : (known : Known) (sets : List IntSet) (lit : Lit) (reason : Reason) → IsReason known sets lit reason → is_possible (set_of sets lit.var) lit ≡ true
 possible_by_reason known sets lit Decision h = h.0
-possible_by_reason known sets lit (Clause id) h = possible_if_unit sets (reason_clause known (Clause id)) lit h.1.0
-possible_by_reason known sets lit (Inference place) h = possible_if_unit sets (reason_clause known (Inference place)) lit h.1.0
+possible_by_reason known sets lit (Implied antecedent) h = possible_if_unit sets (antecedent_clause known antecedent) lit h.1.0
 
 pub Leads-filled : (known : Known) (entries : List Entry) (from to : List IntSet) → Leads known from entries to → NoneEmpty from → NoneEmpty to
 Leads-filled known [] from to leads filled = subst NoneEmpty leads filled
@@ -113,31 +109,28 @@ Leads-filled known (entry ∷ later) from to leads filled =
     Leads-filled known later (narrowed from entry.lit) to leads.2
     (NoneEmpty-narrowed from entry.lit (possible_by_reason known from entry.lit entry.reason leads.1) filled)
 
-held_reason : (known : Known) (sets : List IntSet) (lit : Lit) (reason : Reason) (later : List Reason) → IsReason known sets lit reason → All (IsKnown known) later → All (IsKnown known) (reason_before reason later)
-held_reason known sets lit Decision later h rest = rest
-held_reason known sets lit (Clause id) later h rest = All-cons (IsKnown known) (Clause id) later h.0 rest
-held_reason known sets lit (Inference place) later h rest = All-cons (IsKnown known) (Inference place) later h.0 rest
+known_before : (known : Known) (sets : List IntSet) (lit : Lit) (reason : Reason) (later : List Antecedent) → IsReason known sets lit reason → All (IsKnown known) later → All (IsKnown known) (antecedent_before reason later)
+known_before known sets lit Decision later h rest = rest
+known_before known sets lit (Implied antecedent) later h rest = All-cons (IsKnown known) antecedent later h.0 rest
 
-pub held_reasons : (known : Known) (entries : List Entry) (from to : List IntSet) → Leads known from entries to → All (IsKnown known) (reasons entries)
-held_reasons known [] from to leads = All-nil (IsKnown known)
-held_reasons known (entry ∷ later) from to leads =
-    held_reason known from entry.lit entry.reason (reasons later) leads.1 (held_reasons known later (narrowed from entry.lit) to leads.2)
+pub antecedents_known : (known : Known) (entries : List Entry) (from to : List IntSet) → Leads known from entries to → All (IsKnown known) (antecedents_of entries)
+antecedents_known known [] from to leads = All-nil (IsKnown known)
+antecedents_known known (entry ∷ later) from to leads =
+    known_before known from entry.lit entry.reason (antecedents_of later) leads.1 (antecedents_known known later (narrowed from entry.lit) to leads.2)
 
-reason_before-append : (reason : Reason) (later more : List Reason) → reason_before reason later ++ more ≡ reason_before reason (later ++ more)
-reason_before-append Decision later more = refl
-reason_before-append (Clause id) later more = refl
-reason_before-append (Inference place) later more = refl
+antecedent_before-append : (reason : Reason) (later more : List Antecedent) → antecedent_before reason later ++ more ≡ antecedent_before reason (later ++ more)
+antecedent_before-append Decision later more = refl
+antecedent_before-append (Implied antecedent) later more = refl
 
-pub reasons-append : (xs ys : List Entry) → reasons (xs ++ ys) ≡ reasons xs ++ reasons ys
-reasons-append [] ys = refl
-reasons-append (x ∷ xs) ys = ap (reason_before x.reason) (reasons-append xs ys) ∙ sym (reason_before-append x.reason (reasons xs) (reasons ys))
+pub antecedents_of-append : (xs ys : List Entry) → antecedents_of (xs ++ ys) ≡ antecedents_of xs ++ antecedents_of ys
+antecedents_of-append [] ys = refl
+antecedents_of-append (x ∷ xs) ys = ap (antecedent_before x.reason) (antecedents_of-append xs ys) ∙ sym (antecedent_before-append x.reason (antecedents_of xs) (antecedents_of ys))
 
 -- ---- decisions
 
 open_at-append : (sets : List IntSet) (lit : Lit) (reason : Reason) (later more : List Open) → open_at sets lit reason later ++ more ≡ open_at sets lit reason (later ++ more)
 open_at-append sets lit Decision later more = refl
-open_at-append sets lit (Clause id) later more = refl
-open_at-append sets lit (Inference place) later more = refl
+open_at-append sets lit (Implied antecedent) later more = refl
 
 pub opens-append : (xs ys : List Entry) (from : List IntSet) → opens from (xs ++ ys) ≡ opens from xs ++ opens (after from xs) ys
 opens-append [] ys from = refl
@@ -161,8 +154,7 @@ IsTaken-before from lit at var taken = record {
 taken_here : (known : Known) (from : List IntSet) (lit : Lit) (reason : Reason) (later : List Open) → IsVariable (length from) lit.var → IsReason known from lit reason → All (IsTaken from) later → All (IsTaken from) (open_at from lit reason later)
 taken_here known from lit Decision later var h rest =
     All-cons (IsTaken from) (record { sets = from; decision = lit }) later (record { variable = var; narrower = IsNarrower-self from; is_open = h }) rest
-taken_here known from lit (Clause id) later var h rest = rest
-taken_here known from lit (Inference place) later var h rest = rest
+taken_here known from lit (Implied antecedent) later var h rest = rest
 
 pub opens-taken : (known : Known) (entries : List Entry) (from to : List IntSet) → Leads known from entries to → All (IsTaken from) (opens from entries)
 opens-taken known [] from to leads = All-nil (IsTaken from)
@@ -173,8 +165,7 @@ opens-taken known (entry ∷ later) from to leads =
 
 true_here : (known : Known) (from to : List IntSet) (lit : Lit) (reason : Reason) (later : List Open) → IsTrueOn to lit → All (λ (at : Open). IsTrueOn to at.decision) later → All (λ (at : Open). IsTrueOn to at.decision) (open_at from lit reason later)
 true_here known from to lit Decision later holds rest = All-cons (λ (at : Open). IsTrueOn to at.decision) (record { sets = from; decision = lit }) later holds rest
-true_here known from to lit (Clause id) later holds rest = rest
-true_here known from to lit (Inference place) later holds rest = rest
+true_here known from to lit (Implied antecedent) later holds rest = rest
 
 -- each decision is true on the sets that the entries lead to
 pub opens-true : (known : Known) (entries : List Entry) (from to : List IntSet) → Leads known from entries to → All (λ (at : Open). IsTrueOn to at.decision) (opens from entries)

@@ -1,5 +1,5 @@
 -- The learned clause and its ids, as far as the entries were read, and what they promise.
-use Rattle.std.proofs.Common.{◌≡◌, ◌≢◌, ℕ, ◌+◌, ◌-◌, ◌<◌, true, ℤ, pos, ◌+ℤ◌, ◌-ℤ◌, ◌≤ℤ◌, cond, List, [], ◌∷◌, ◌++◌, map, length, take, get_or, Some, refl, sym, ap, subst, ◌∙◌, inr, arith, All}
+use Rattle.std.proofs.Common.{◌≡◌, ℕ, ◌+◌, ◌-◌, ◌<◌, true, ℤ, pos, ◌+ℤ◌, ◌-ℤ◌, ◌≤ℤ◌, cond, List, [], ◌∷◌, ◌++◌, map, length, take, get_or, Some, refl, sym, ap, subst, ◌∙◌, inr, arith, All}
 use Rattle.std.specs.List.{slice_get}
 use Rattle.std.proofs.lemmas.Int.{ints}
 use Rattle.std.proofs.lemmas.Bool.Decides.{Decides-int_eq}
@@ -14,16 +14,16 @@ use Rattle.fzn_domain.specs.IntSet.{IntSet, contains, no_values, is_possible}
 use Rattle.fzn_domain.specs.Limits.{IsInLimits, IsLimited}
 use Rattle.fzn_domain.specs.Narrow.{IsVariable, IsOpen, set_of, possible_in, IsAcceptedFrom}
 use Rattle.fzn_domain.proofs.SetLemmas.{witness}
-use Rattle.fzn_trail.specs.declared.trail.ClauseId.{ClauseId}
 use Rattle.fzn_trail.specs.declared.trail.Entry.{Entry}
+use Rattle.fzn_trail.specs.declared.trail.Antecedent.{Antecedent}
 use Rattle.fzn_trail.specs.declared.trail.Reason.{Reason}
-use Rattle.fzn_trail.specs.declared.trail.Reason.TheVariants.{Decision, Clause, Inference}
+use Rattle.fzn_trail.specs.declared.trail.Reason.TheVariants.{Decision, Implied}
 use Rattle.fzn_trail.specs.Levels.{Levels, level_of, returned, IsNarrower}
 use Rattle.fzn_learned.specs.declared.learned.Learned.{Learned}
-use Rattle.fzn_learned.specs.Learned.{reasons, IsConflicting, IsLearned, IsPlain, ForcesBack}
-use Rattle.fzn_learned.specs.Reasoned.{Known, IsKnown, reason_clause, IsLoneLiteral, IsReason, Open, opens, IsReasoned, negated_decisions}
+use Rattle.fzn_learned.specs.Learned.{antecedents_of, IsConflicting, IsLearned, IsPlain, ForcesBack}
+use Rattle.fzn_learned.specs.Reasoned.{Known, IsKnown, antecedent_clause, IsLoneLiteral, IsReason, Open, opens, IsReasoned, negated_decisions}
 use Rattle.fzn_learned.proofs.NarrowerLemmas.{possible-twice}
-use Rattle.fzn_learned.proofs.EntryLemmas.{after, IsTaken, entry_at, opens-append, opens-true, reasons-append, held_reasons}
+use Rattle.fzn_learned.proofs.EntryLemmas.{after, IsTaken, entry_at, opens-append, opens-true, antecedents_of-append, antecedents_known}
 use Rattle.fzn_learned.proofs.ChainLemmas.{accepted_plain, negations_false}
 use Rattle.fzn_learned.proofs.CallerLemmas.{decision_at, opens-last, IsReasoned-returned, taken-reasoned}
 
@@ -38,33 +38,26 @@ module _ (from : List IntSet) (entries : List Entry) (i : ℕ) (entry : Entry) (
   pub opens-more : opens from (take (i + 1) entries) ≡ opens from (take i entries) ++ opens (after from (take i entries)) (entry ∷ [])
   opens-more = ap (opens from) taken_more ∙ opens-append (take i entries) (entry ∷ []) from
 
-  pub reasons-more : reasons (take (i + 1) entries) ≡ reasons (take i entries) ++ reasons (entry ∷ [])
-  reasons-more = ap reasons taken_more ∙ reasons-append (take i entries) (entry ∷ [])
+  pub antecedents_of-more : antecedents_of (take (i + 1) entries) ≡ antecedents_of (take i entries) ++ antecedents_of (entry ∷ [])
+  antecedents_of-more = ap antecedents_of taken_more ∙ antecedents_of-append (take i entries) (entry ∷ [])
 
 by_decision : (sets : List IntSet) (lit : Lit) (reason : Reason) (level : ℕ) → reason ≡ Decision → opens sets (record { lit = lit; reason = reason; level = level } ∷ []) ≡ record { sets = sets; decision = lit } ∷ []
 by_decision sets lit Decision level e = refl
-by_decision sets lit (Clause id) level e = cc
-by_decision sets lit (Inference place) level e = cc
+by_decision sets lit (Implied antecedent) level e = cc
 
-by_clause : (sets : List IntSet) (lit : Lit) (reason : Reason) (level : ℕ) (id : ClauseId) → reason ≡ Clause id → opens sets (record { lit = lit; reason = reason; level = level } ∷ []) ≡ []
-by_clause sets lit Decision level id e = cc
-by_clause sets lit (Clause other) level id e = refl
-by_clause sets lit (Inference place) level id e = refl
+by_antecedent : (sets : List IntSet) (lit : Lit) (reason : Reason) (level : ℕ) (antecedent : Antecedent) → reason ≡ Implied antecedent → opens sets (record { lit = lit; reason = reason; level = level } ∷ []) ≡ []
+by_antecedent sets lit Decision level antecedent e = cc
+by_antecedent sets lit (Implied other) level antecedent e = refl
 
-by_inference : (sets : List IntSet) (lit : Lit) (reason : Reason) (level place : ℕ) → reason ≡ Inference place → opens sets (record { lit = lit; reason = reason; level = level } ∷ []) ≡ []
-by_inference sets lit Decision level place e = cc
-by_inference sets lit (Clause id) level place e = refl
-by_inference sets lit (Inference other) level place e = refl
+no_antecedent : (lit : Lit) (reason : Reason) (level : ℕ) → reason ≡ Decision → antecedents_of (record { lit = lit; reason = reason; level = level } ∷ []) ≡ []
+no_antecedent lit Decision level e = refl
+no_antecedent lit (Implied antecedent) level e = cc
 
-no_reason : (lit : Lit) (reason : Reason) (level : ℕ) → reason ≡ Decision → reasons (record { lit = lit; reason = reason; level = level } ∷ []) ≡ []
-no_reason lit Decision level e = refl
-no_reason lit (Clause id) level e = cc
-no_reason lit (Inference place) level e = cc
-
-one_reason : (lit : Lit) (reason : Reason) (level : ℕ) → reason ≢ Decision → reasons (record { lit = lit; reason = reason; level = level } ∷ []) ≡ reason ∷ []
-one_reason lit Decision level apart = absurd (apart refl)
-one_reason lit (Clause id) level apart = refl
-one_reason lit (Inference place) level apart = refl
+one_antecedent : (lit : Lit) (reason : Reason) (level : ℕ) (antecedent : Antecedent) → reason ≡ Implied antecedent → antecedents_of (record { lit = lit; reason = reason; level = level } ∷ []) ≡ antecedent ∷ []
+one_antecedent lit Decision level antecedent e = cc
+one_antecedent lit (Implied other) level antecedent e =
+    let same : other ≡ antecedent = cc in
+    ap (λ (a : Antecedent). a ∷ []) same
 
 module _ (from : List IntSet) (entries : List Entry) (i : ℕ) (entry : Entry) (is : slice_get entries i ≡ Some entry) where
   pub negated_decisions-decision : entry.reason ≡ Decision → negated_decisions from (take (i + 1) entries) ≡ negated_decisions from (take i entries) ++ negated entry.lit ∷ []
@@ -74,30 +67,23 @@ module _ (from : List IntSet) (entries : List Entry) (i : ℕ) (entry : Entry) (
       (opens-more from entries i entry is ∙ ap (λ (taken : List Open). opens from (take i entries) ++ taken) (by_decision now entry.lit entry.reason entry.level e))
       ∙ map-append (λ (at : Open). negated at.decision) (opens from (take i entries)) (record { sets = now; decision = entry.lit } ∷ [])
 
-  pub negated_decisions-clause : (id : ClauseId) → entry.reason ≡ Clause id → negated_decisions from (take (i + 1) entries) ≡ negated_decisions from (take i entries)
-  negated_decisions-clause id e =
+  pub negated_decisions-implied : (antecedent : Antecedent) → entry.reason ≡ Implied antecedent → negated_decisions from (take (i + 1) entries) ≡ negated_decisions from (take i entries)
+  negated_decisions-implied antecedent e =
       ap (λ (taken : List Open). map (λ (at : Open). negated at.decision) taken)
       (opens-more from entries i entry is
-      ∙ ap (λ (taken : List Open). opens from (take i entries) ++ taken) (by_clause (after from (take i entries)) entry.lit entry.reason entry.level id e)
+      ∙ ap (λ (taken : List Open). opens from (take i entries) ++ taken) (by_antecedent (after from (take i entries)) entry.lit entry.reason entry.level antecedent e)
       ∙ append-nil (opens from (take i entries)))
 
-  pub reasons-decision : entry.reason ≡ Decision → reasons (take (i + 1) entries) ≡ reasons (take i entries)
-  reasons-decision e =
-      reasons-more from entries i entry is
-      ∙ ap (λ (antecedents : List Reason). reasons (take i entries) ++ antecedents) (no_reason entry.lit entry.reason entry.level e)
-      ∙ append-nil (reasons (take i entries))
+  pub antecedents_of-decision : entry.reason ≡ Decision → antecedents_of (take (i + 1) entries) ≡ antecedents_of (take i entries)
+  antecedents_of-decision e =
+      antecedents_of-more from entries i entry is
+      ∙ ap (λ (antecedents : List Antecedent). antecedents_of (take i entries) ++ antecedents) (no_antecedent entry.lit entry.reason entry.level e)
+      ∙ append-nil (antecedents_of (take i entries))
 
-  pub reasons-other : entry.reason ≢ Decision → reasons (take (i + 1) entries) ≡ reasons (take i entries) ++ entry.reason ∷ []
-  reasons-other apart =
-      reasons-more from entries i entry is
-      ∙ ap (λ (antecedents : List Reason). reasons (take i entries) ++ antecedents) (one_reason entry.lit entry.reason entry.level apart)
-
-  pub negated_decisions-inference : (place : ℕ) → entry.reason ≡ Inference place → negated_decisions from (take (i + 1) entries) ≡ negated_decisions from (take i entries)
-  negated_decisions-inference place e =
-      ap (λ (taken : List Open). map (λ (at : Open). negated at.decision) taken)
-      (opens-more from entries i entry is
-      ∙ ap (λ (taken : List Open). opens from (take i entries) ++ taken) (by_inference (after from (take i entries)) entry.lit entry.reason entry.level place e)
-      ∙ append-nil (opens from (take i entries)))
+  pub antecedents_of-implied : (antecedent : Antecedent) → entry.reason ≡ Implied antecedent → antecedents_of (take (i + 1) entries) ≡ antecedents_of (take i entries) ++ antecedent ∷ []
+  antecedents_of-implied antecedent e =
+      antecedents_of-more from entries i entry is
+      ∙ ap (λ (antecedents : List Antecedent). antecedents_of (take i entries) ++ antecedents) (one_antecedent entry.lit entry.reason entry.level antecedent e)
 
 -- ---- numbers
 
@@ -133,8 +119,7 @@ open_in_limits sets declared lit var narrower limited is_open =
 
 open_by_reason : (known : Known) (sets : List IntSet) (lit : Lit) (reason : Reason) → reason ≡ Decision → IsReason known sets lit reason → IsOpen sets lit
 open_by_reason known sets lit Decision e h = h
-open_by_reason known sets lit (Clause id) e h = cc
-open_by_reason known sets lit (Inference place) e h = cc
+open_by_reason known sets lit (Implied antecedent) e h = cc
 
 -- the number of a decision among the entries
 pub decision_in_limits : (known : Known) (trail : Levels) (i : ℕ) (entry : Entry) → IsReasoned known trail → All IsLimited trail.declared → slice_get trail.entries i ≡ Some entry → entry.reason ≡ Decision → IsInLimits entry.lit.value
@@ -155,21 +140,21 @@ forced_there sets before clause lit is none is_open = (
   possible-twice (set_of sets lit.var) lit is_open.0,
 )
 
-module _ (known : Known) (trail : Levels) (conflict : Reason) (learned : Learned) (reasoned : IsReasoned known trail) (limited : All IsLimited trail.declared) (false_there : IsConflicting known trail.sets conflict) (clause_is : learned.clause ≡ negated_decisions trail.declared trail.entries) (antecedents_is : learned.antecedents ≡ reasons trail.entries ++ conflict ∷ []) (level_is : learned.level ≡ level_of trail - 1) where
-  clauses_is : map (reason_clause known) learned.antecedents ≡ map (reason_clause known) (reasons trail.entries) ++ reason_clause known conflict ∷ []
-  clauses_is = ap (map (reason_clause known)) antecedents_is ∙ map-append (reason_clause known) (reasons trail.entries) (conflict ∷ [])
+module _ (known : Known) (trail : Levels) (conflict : Antecedent) (learned : Learned) (reasoned : IsReasoned known trail) (limited : All IsLimited trail.declared) (false_there : IsConflicting known trail.sets conflict) (clause_is : learned.clause ≡ negated_decisions trail.declared trail.entries) (antecedents_is : learned.antecedents ≡ antecedents_of trail.entries ++ conflict ∷ []) (level_is : learned.level ≡ level_of trail - 1) where
+  clauses_is : map (antecedent_clause known) learned.antecedents ≡ map (antecedent_clause known) (antecedents_of trail.entries) ++ antecedent_clause known conflict ∷ []
+  clauses_is = ap (map (antecedent_clause known)) antecedents_is ∙ map-append (antecedent_clause known) (antecedents_of trail.entries) (conflict ∷ [])
 
-  is_accepted : IsAcceptedFrom trail.declared learned.clause (map (reason_clause known) learned.antecedents)
+  is_accepted : IsAcceptedFrom trail.declared learned.clause (map (antecedent_clause known) learned.antecedents)
   is_accepted =
-      let all = accepted_plain known (reason_clause known conflict) trail.entries trail.declared trail.sets reasoned.leads false_there.is_false in
+      let all = accepted_plain known (antecedent_clause known conflict) trail.entries trail.declared trail.sets reasoned.leads false_there.is_false in
       let with_ids = subst (λ (earlier : List (List Lit)). IsAcceptedFrom trail.declared (negated_decisions trail.declared trail.entries) earlier) (sym clauses_is) all in
-      subst (λ (c : List Lit). IsAcceptedFrom trail.declared c (map (reason_clause known) learned.antecedents)) (sym clause_is) with_ids
+      subst (λ (c : List Lit). IsAcceptedFrom trail.declared c (map (antecedent_clause known) learned.antecedents)) (sym clause_is) with_ids
 
   all_known : All (IsKnown known) learned.antecedents
   all_known =
-      let P : Reason → Type 0 = IsKnown known in
-      All-same P learned.antecedents (reasons trail.entries ++ conflict ∷ []) antecedents_is
-      (All-append P (reasons trail.entries) (conflict ∷ []) (held_reasons known trail.entries trail.declared trail.sets reasoned.leads) (All-cons P conflict [] false_there.is_known (All-nil P)))
+      let P : Antecedent → Type 0 = IsKnown known in
+      All-same P learned.antecedents (antecedents_of trail.entries ++ conflict ∷ []) antecedents_is
+      (All-append P (antecedents_of trail.entries) (conflict ∷ []) (antecedents_known known trail.entries trail.declared trail.sets reasoned.leads) (All-cons P conflict [] false_there.is_known (All-nil P)))
 
   each_negation : (P : Lit → Type 0) → ((at : Open) → IsTaken trail.declared at → P (negated at.decision)) → All P learned.clause
   each_negation P each =

@@ -3,12 +3,13 @@ use Rattle.std.proofs.Common.{◌≡◌, List, [], ◌∷◌, length, sym, ap, s
 use Rattle.fzn_domain.specs.declared.literal.Lit.{Lit}
 use Rattle.fzn_domain.specs.IntSet.{IntSet}
 use Rattle.fzn_domain.specs.Narrow.{IsClauseOver}
-use Rattle.fzn_trail.specs.declared.trail.Reason.TheVariants.{Clause}
+use Rattle.fzn_trail.specs.declared.trail.Antecedent.TheVariants.{Clause}
+use Rattle.fzn_trail.specs.declared.trail.Reason.TheVariants.{Implied}
 use Rattle.fzn_trail.specs.Levels.{Levels, asserted}
 use Rattle.fzn_trail.specs.Unit.{IsUnit}
 use Rattle.fzn_clauses.specs.Held.{AllHeld}
 use Rattle.fzn_clauses.specs.Propagation.{Forced, Propagates, IsPropagated}
-use Rattle.fzn_learned.specs.Reasoned.{Known, reason_clause, IsLoneLiteral, opens, IsReasoned}
+use Rattle.fzn_learned.specs.Reasoned.{Known, antecedent_clause, IsLoneLiteral, opens, IsReasoned}
 use Rattle.fzn_learned.proofs.NarrowerLemmas.{IsVariable-unit}
 use Rattle.fzn_learned.proofs.CallerLemmas.{IsReasoned-forced, IsReasoned-marked, opens-forced}
 
@@ -36,17 +37,17 @@ along known [] old new over reasoned is = record {
 }
 along known (forced ∷ rest) old new over reasoned is =
     let unit = is.0.unit in
-    let over_here : IsClauseOver (length old.declared) (reason_clause known (Clause forced.id)) = over forced.id is.0.is_held in
-    let var = IsVariable-unit old.sets (reason_clause known (Clause forced.id)) forced.lit (length old.declared) over_here unit.only in
-    let next : IsReasoned known (asserted forced.lit (Clause forced.id) old) =
-    IsReasoned-forced known old forced.lit (Clause forced.id) reasoned var (is.0.is_held, IsForced-from_unit old.sets (reason_clause known (Clause forced.id)) forced.lit unit) in
-    let later = along known rest (asserted forced.lit (Clause forced.id) old) new over next is.1 in
+    let over_here : IsClauseOver (length old.declared) (antecedent_clause known (Clause forced.id)) = over forced.id is.0.is_held in
+    let var = IsVariable-unit old.sets (antecedent_clause known (Clause forced.id)) forced.lit (length old.declared) over_here unit.only in
+    let next : IsReasoned known (asserted forced.lit (Implied (Clause forced.id)) old) =
+    IsReasoned-forced known old forced.lit (Clause forced.id) reasoned var (is.0.is_held, IsForced-from_unit old.sets (antecedent_clause known (Clause forced.id)) forced.lit unit) in
+    let later = along known rest (asserted forced.lit (Implied (Clause forced.id)) old) new over next is.1 in
     record {
       reasoned = later.reasoned;
       keeps = record {
         declared = later.keeps.declared;
         saved = later.keeps.saved;
-        same_opens = later.keeps.same_opens ∙ opens-forced old forced.lit (Clause forced.id) (λ e. cc);
+        same_opens = later.keeps.same_opens ∙ opens-forced old forced.lit (Clause forced.id);
       };
     }
 

@@ -9,24 +9,24 @@ use Rattle.fzn_domain.specs.declared.literal.Lit.{Lit}
 use Rattle.fzn_domain.specs.IntSet.{IntSet, is_possible}
 use Rattle.fzn_domain.specs.Narrow.{IsVariable, set_of, narrowed, possible_in, by_count, ChainOutcome, accepted, not_unit, chain_outcome}
 use Rattle.fzn_domain.proofs.NarrowLemmas.{length-narrowed}
-use Rattle.fzn_trail.specs.declared.trail.Reason.{Reason}
+use Rattle.fzn_trail.specs.declared.trail.Antecedent.{Antecedent}
 use Rattle.fzn_trail.specs.declared.trail.Entry.{Entry}
 use Rattle.fzn_trail.specs.Replay.{replayed}
 use Rattle.fzn_learned.specs.Reasoned.{Known, Leads}
 
 -- along one more clause
-pub chain-more : (clause : Reason → List Lit) (sets new : List IntSet) (antecedents : List Reason) (i : ℕ) (d : Reason) (lit : Lit) (all : ChainOutcome) → i < length antecedents → possible_in sets (clause (get_or antecedents i d)) ≡ lit ∷ [] → new ≡ narrowed sets lit → chain_outcome sets (map clause (drop i antecedents)) ≡ all → chain_outcome new (map clause (drop (i + 1) antecedents)) ≡ all
+pub chain-more : (clause : Antecedent → List Lit) (sets new : List IntSet) (antecedents : List Antecedent) (i : ℕ) (d : Antecedent) (lit : Lit) (all : ChainOutcome) → i < length antecedents → possible_in sets (clause (get_or antecedents i d)) ≡ lit ∷ [] → new ≡ narrowed sets lit → chain_outcome sets (map clause (drop i antecedents)) ≡ all → chain_outcome new (map clause (drop (i + 1) antecedents)) ≡ all
 chain-more clause sets new antecedents i d lit all below one new_is rest =
     ap (λ (n : ℕ). chain_outcome new (map clause (drop n antecedents))) (add-one i)
     ∙ ap (λ (s : List IntSet). chain_outcome s (map clause (drop (suc i) antecedents))) new_is
     ∙ sym (ap (λ (p : List Lit). by_count p accepted (λ l. chain_outcome (narrowed sets l) (map clause (drop (suc i) antecedents))) not_unit) one)
-    ∙ sym (ap (λ (rest_of : List Reason). chain_outcome sets (map clause rest_of)) (drop-cons antecedents i d below))
+    ∙ sym (ap (λ (rest_of : List Antecedent). chain_outcome sets (map clause rest_of)) (drop-cons antecedents i d below))
     ∙ rest
 
 -- a clause without a possible literal
-pub chain-ends : (clause : Reason → List Lit) (sets : List IntSet) (antecedents : List Reason) (i : ℕ) (d : Reason) (all : ChainOutcome) → i < length antecedents → possible_in sets (clause (get_or antecedents i d)) ≡ [] → chain_outcome sets (map clause (drop i antecedents)) ≡ all → all ≡ accepted
+pub chain-ends : (clause : Antecedent → List Lit) (sets : List IntSet) (antecedents : List Antecedent) (i : ℕ) (d : Antecedent) (all : ChainOutcome) → i < length antecedents → possible_in sets (clause (get_or antecedents i d)) ≡ [] → chain_outcome sets (map clause (drop i antecedents)) ≡ all → all ≡ accepted
 chain-ends clause sets antecedents i d all below none rest =
-    sym rest ∙ ap (λ (rest_of : List Reason). chain_outcome sets (map clause rest_of)) (drop-cons antecedents i d below)
+    sym rest ∙ ap (λ (rest_of : List Antecedent). chain_outcome sets (map clause rest_of)) (drop-cons antecedents i d below)
     ∙ ap (λ (p : List Lit). by_count p accepted (λ l. chain_outcome (narrowed sets l) (map clause (drop (suc i) antecedents))) not_unit) none
 
 -- by one more entry

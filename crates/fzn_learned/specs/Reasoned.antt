@@ -10,18 +10,20 @@ use Rattle.fzn_clauses.specs.Held as numbered
 use Rattle.fzn_clauses.specs.Watching.{held_by}
 use Rattle.fzn_propagator.specs.declared.inferences.Inferred.{Inferred}
 use Rattle.fzn_trail.specs.declared.trail.Entry.{Entry}
+use Rattle.fzn_trail.specs.declared.trail.Antecedent.{Antecedent}
+use Rattle.fzn_trail.specs.declared.trail.Antecedent.TheVariants.{Clause, Inference}
 use Rattle.fzn_trail.specs.declared.trail.Reason.{Reason}
-use Rattle.fzn_trail.specs.declared.trail.Reason.TheVariants.{Decision, Clause, Inference}
+use Rattle.fzn_trail.specs.declared.trail.Reason.TheVariants.{Decision, Implied}
 use Rattle.fzn_trail.specs.Levels.{Levels, Standing}
 
--- the clauses that may be reasons: those that are held, and those of the inferences that stand
+-- the clauses that may be antecedents: those that are held, and those of the inferences that stand
 pub record Known : Type 0 where
   pub held : numbered.Held
   pub stacked : List (List Lit)
 
 -- held clauses, and a stack of inferences
 abbrev pub known_from : numbered.Held → List Inferred → Known
-known_from held stack = record { held = held; stacked = map (λ (it : Inferred). it.clause) stack }
+known_from held stack = record { held = held; stacked = map (λ (it : Inferred). it.inference.clause) stack }
 
 abbrev pub known_of : Clauses → List Inferred → Known
 known_of clauses stack = known_from (held_by clauses) stack
@@ -31,16 +33,14 @@ pub record AreOver (count : ℕ) (known : Known) : Type 0 where
   pub held : numbered.AllHeld (IsClauseOver count) known.held
   pub stacked : All (IsClauseOver count) known.stacked
 
--- the reason is one of them; a decision is none
-abbrev pub IsKnown : Known → Reason → Type 0
-IsKnown known Decision = ⊥
+-- the antecedent is one of them
+abbrev pub IsKnown : Known → Antecedent → Type 0
 IsKnown known (Clause id) = numbered.IsHeld known.held id
 IsKnown known (Inference place) = place < length known.stacked
 
-abbrev pub reason_clause : Known → Reason → List Lit
-reason_clause known Decision = []
-reason_clause known (Clause id) = numbered.clause_of known.held id
-reason_clause known (Inference place) = slice_index_or known.stacked place []
+abbrev pub antecedent_clause : Known → Antecedent → List Lit
+antecedent_clause known (Clause id) = numbered.clause_of known.held id
+antecedent_clause known (Inference place) = slice_index_or known.stacked place []
 
 -- with so many inferences left
 abbrev pub cut_at : ℕ → Known → Known
@@ -49,22 +49,21 @@ cut_at n known = record known { stacked = take n known.stacked }
 -- the reason is no inference from this place of the stack on
 abbrev pub IsBelow : ℕ → Reason → Type 0
 IsBelow n Decision = Unit {0}
-IsBelow n (Clause id) = Unit {0}
-IsBelow n (Inference place) = place < n
+IsBelow n (Implied (Clause id)) = Unit {0}
+IsBelow n (Implied (Inference place)) = place < n
 
 -- the literal is the one possible literal of the clause, and not yet true
 abbrev pub IsLoneLiteral : List IntSet → List Lit → Lit → Type 0
 IsLoneLiteral sets clause lit = (possible_in sets clause ≡ lit ∷ []) × (can_fail sets lit ≡ true)
 
 -- the literal is forced by a known clause
-abbrev pub IsForcedFrom : Known → List IntSet → Lit → Reason → Type 0
-IsForcedFrom known sets lit reason = IsKnown known reason × IsLoneLiteral sets (reason_clause known reason) lit
+abbrev pub IsForcedFrom : Known → List IntSet → Lit → Antecedent → Type 0
+IsForcedFrom known sets lit antecedent = IsKnown known antecedent × IsLoneLiteral sets (antecedent_clause known antecedent) lit
 
 -- the reason for asserting the literal on these sets: a decision is open there, any other is forced by a known clause
 abbrev pub IsReason : Known → List IntSet → Lit → Reason → Type 0
 IsReason known sets lit Decision = IsOpen sets lit
-IsReason known sets lit (Clause id) = IsForcedFrom known sets lit (Clause id)
-IsReason known sets lit (Inference place) = IsForcedFrom known sets lit (Inference place)
+IsReason known sets lit (Implied antecedent) = IsForcedFrom known sets lit antecedent
 
 -- the entries, each with its reason, lead one after another from the first sets to the last
 abbrev pub Leads : Known → List IntSet → List Entry → List IntSet → Type 0
@@ -79,8 +78,7 @@ pub record Open : Type 0 where
 -- where an entry is a decision, what stood there, before what is found further on
 abbrev pub open_at : List IntSet → Lit → Reason → List Open → List Open
 open_at sets lit Decision later = record { sets = sets; decision = lit } ∷ later
-open_at sets lit (Clause id) later = later
-open_at sets lit (Inference place) later = later
+open_at sets lit (Implied antecedent) later = later
 
 -- the decisions among the entries, in order, each with the sets at which it was taken
 abbrev pub opens : List IntSet → List Entry → List Open

@@ -2,15 +2,15 @@
 
 use fzn_domain::{Clause, Lit};
 use fzn_list::Items;
-use fzn_trail::Reason;
+use fzn_trail::Antecedent;
 
 /// A clause that follows by unit propagation from the clauses of these antecedents, in this order.
 #[derive(Debug, Drop)]
 pub struct Learned {
     /// What is learned. It forces a literal at `level`, or is empty.
     pub clause: Clause,
-    /// The reasons whose clauses it follows from, none of them a decision, in the order of the propagation.
-    pub antecedents: Items<Reason>,
+    /// What it follows from, in the order of the propagation.
+    pub antecedents: Items<Antecedent>,
     /// The level, counted from 0, where the search goes back to: below the present one.
     pub level: usize,
     /// Its literal block distance: how many levels its literals stand on (Audemard and Simon, 2009).

@@ -2,7 +2,7 @@
 ghost use Rattle.std.specs.Prelude.{◌≡◌, ◌++◌, ◌∷◌, [], IfOk};
 ghost use Rattle.std.specs.List.{All};
 ghost use Rattle.fzn_domain.specs.Limits.{IsLimited};
-ghost use Rattle.fzn_learned.specs.Learned.{reasons, IsConflicting, IsLearned, IsPlain};
+ghost use Rattle.fzn_learned.specs.Learned.{antecedents_of, IsConflicting, IsLearned, IsPlain};
 ghost use Rattle.fzn_learned.specs.Reasoned.{known_of, IsReasoned, negated_decisions};
 
 use crate::learned::Learned;
@@ -10,7 +10,7 @@ use fzn_clauses::Clauses;
 use fzn_domain::{Clause, Memory};
 use fzn_list::Items;
 use fzn_propagator::Inferences;
-use fzn_trail::{Reason, Trail};
+use fzn_trail::{Antecedent, Reason, Trail};
 use std::alloc::Global;
 
 /// The clause that one of the decisions is wrong, learned from a known clause that is false on the trail. It answers `Err` where memory
@@ -20,7 +20,7 @@ pub fn plain_learned(
     trail: &Trail,
     clauses: &Clauses,
     inferences: &Inferences,
-    conflict: Reason,
+    conflict: Antecedent,
 ) -> Result<Learned, Memory>
     requires reasoned { IsReasoned (known_of clauses.now inferences.now) trail.now }
     requires limited { All IsLimited trail.now.declared }
@@ -53,27 +53,26 @@ fn plain_clause(
         let entry = trail.entry(i);
         match entry.reason {
             Reason::Decision => clause.push(entry.lit.negated())?,
-            Reason::Clause(_) => {}
-            Reason::Inference(_) => {}
+            Reason::Implied(_) => {}
         }
     }
     Ok(clause)
 }
 
-/// The reasons of all other entries, and then the conflict.
+/// What all other entries follow from, and then the conflict.
 fn plain_antecedents(
     alloc: Global,
     trail: &Trail,
-    conflict: Reason,
-) -> Result<Items<Reason>, Memory>
-    ensures { IfOk result (λ it. it ≡ reasons trail.now.entries ++ conflict ∷ []) }
+    conflict: Antecedent,
+) -> Result<Items<Antecedent>, Memory>
+    ensures { IfOk result (λ it. it ≡ antecedents_of trail.now.entries ++ conflict ∷ []) }
 {
     let mut antecedents = Items::with_capacity(alloc, trail.len())?;
     for place in 0..trail.len() {
         let reason = trail.entry(place).reason;
         match reason {
             Reason::Decision => {}
-            Reason::Clause(_) | Reason::Inference(_) => antecedents.push(reason)?,
+            Reason::Implied(antecedent) => antecedents.push(antecedent)?,
         }
     }
     antecedents.push(conflict)?;

@@ -8,7 +8,7 @@ ghost use Rattle.fzn_domain.specs.Narrow.{IsVariable, IsClauseOver, IsAcceptedFr
 ghost use Rattle.fzn_sets.specs.Sets.{start};
 ghost use Rattle.fzn_trail.specs.Levels.{level_of};
 ghost use Rattle.fzn_learned.specs.Learned.{IsDerived, IsLearned};
-ghost use Rattle.fzn_learned.specs.Reasoned.{known_of, AreOver, IsKnown, IsReasoned, reason_clause};
+ghost use Rattle.fzn_learned.specs.Reasoned.{known_of, AreOver, IsKnown, IsReasoned, antecedent_clause};
 
 use crate::antecedent::{clause_of, is_known};
 use crate::learned::Learned;
@@ -17,7 +17,7 @@ use fzn_clauses::Clauses;
 use fzn_domain::{GREATEST_VALUE, LEAST_VALUE, Lit, Memory};
 use fzn_propagator::Inferences;
 use fzn_sets::{Link, Sets, deny, follow};
-use fzn_trail::{Reason, Trail};
+use fzn_trail::{Antecedent, Trail};
 
 /// Whether the clause may be learned. The sets are used and restored. It answers `Err` where memory runs out, and the sets may be narrowed
 /// then.
@@ -96,7 +96,7 @@ fn is_allowed(lit: Lit, vars: usize) -> bool
 }
 
 /// Whether there is a clause of each of the antecedents.
-fn are_known(clauses: &Clauses, inferences: &Inferences, antecedents: &[Reason]) -> bool
+fn are_known(clauses: &Clauses, inferences: &Inferences, antecedents: &[Antecedent]) -> bool
     ensures { IsTrue result → All (IsKnown (known_of clauses.now inferences.now)) antecedents.now }
 {
     for antecedent in antecedents {
@@ -125,13 +125,13 @@ fn is_refuted(
     inferences: &Inferences,
     sets: &mut Sets,
     clause: &[Lit],
-    antecedents: &[Reason],
+    antecedents: &[Antecedent],
 ) -> Result<bool, Memory>
     requires over { IsClauseOver (length sets.old.present) clause.now }
     requires bounds { All IsBound clause.now }
     requires known { All (IsKnown (known_of clauses.now inferences.now)) antecedents.now }
     requires all_over { AreOver (length sets.old.present) (known_of clauses.now inferences.now) }
-    ensures accepted { IfOk result (λ yes. IsTrue yes → IsAcceptedFrom sets.old.present clause.now (map (reason_clause (known_of clauses.now inferences.now)) antecedents.now)) }
+    ensures accepted { IfOk result (λ yes. IsTrue yes → IsAcceptedFrom sets.old.present clause.now (map (antecedent_clause (known_of clauses.now inferences.now)) antecedents.now)) }
     ensures declared { sets.new.declared ≡ sets.old.declared }
 {
     if deny(sets, clause)? {
@@ -145,11 +145,11 @@ fn ends_well(
     clauses: &Clauses,
     inferences: &Inferences,
     sets: &mut Sets,
-    antecedents: &[Reason],
+    antecedents: &[Antecedent],
 ) -> Result<bool, Memory>
     requires known { All (IsKnown (known_of clauses.now inferences.now)) antecedents.now }
     requires over { AreOver (length sets.old.present) (known_of clauses.now inferences.now) }
-    ensures accepted { IfOk result (λ yes. IsTrue yes → chain_outcome sets.old.present (map (reason_clause (known_of clauses.now inferences.now)) antecedents.now) ≡ accepted) }
+    ensures accepted { IfOk result (λ yes. IsTrue yes → chain_outcome sets.old.present (map (antecedent_clause (known_of clauses.now inferences.now)) antecedents.now) ≡ accepted) }
     ensures declared { sets.new.declared ≡ sets.old.declared }
 {
     for antecedent in antecedents {

@@ -7,7 +7,7 @@ use Rattle.fzn_meaning.specs.declared.relation.Comparison.{Comparison}
 use Rattle.fzn_meaning.specs.declared.relation.Comparison.TheVariants.{AtMost, Equal, NotEqual}
 use Rattle.fzn_meaning.specs.declared.constraint.Constraint.{Constraint}
 use Rattle.fzn_meaning.specs.Term.{IsPlace}
-use Rattle.fzn_meaning.specs.Meaning.{IsWellFormed}
+use Rattle.fzn_meaning.specs.Meaning.{IsWellFormedConstraint}
 use Rattle.fzn_builtin_rules.specs.Form.{Form, Fits}
 use Rattle.fzn_builtin_rules.proofs.CallerLemmas.{form_fits}
 use Rattle.fzn_linear.specs.Opposite.{opposites}
@@ -16,7 +16,7 @@ use Rattle.fzn_linear.specs.declared.form.SumForm.{SumForm}
 use Rattle.fzn_linear.specs.OppositeForm.{other_bound, opposite_form}
 use Rattle.fzn_linear.specs.Kinds.{form_of_sum, IsFormOf, IsSumReady}
 
-pub fits_of : (count : ℕ) (c : Constraint) (sum : SumForm) → IsFormOf c sum → IsWellFormed count c → Fits count (form_of_sum sum)
+pub fits_of : (count : ℕ) (c : Constraint) (sum : SumForm) → IsFormOf c sum → IsWellFormedConstraint count c → Fits count (form_of_sum sum)
 fits_of count c sum same well = subst (λ (f : Option Form). IfSome f (Fits count)) same (form_fits count c well)
 
 -- ---- with its opposite

@@ -7,7 +7,7 @@ use Rattle.fzn_meaning.specs.declared.term.Place.{Place}
 use Rattle.fzn_meaning.specs.declared.arithmetic.Operation.TheVariants.{Plus}
 use Rattle.fzn_meaning.specs.declared.constraint.Constraint.{Constraint}
 use Rattle.fzn_meaning.specs.declared.constraint.Constraint.TheVariants.{Compare, BoolNot, BoolToInt, Linear, BoolLinEq, Arithmetic, Gated, BoolClause}
-use Rattle.fzn_builtin_rules.specs.Form.{Form, form_of, weighted, each_with}
+use Rattle.fzn_builtin_rules.specs.Form.{Form, form_of, place_with, each_with}
 use Rattle.fzn_propagator.specs.declared.event.Event.TheVariants.{Any}
 use Rattle.fzn_propagator.specs.declared.subscriptions.Subscription.{Subscription}
 use Rattle.fzn_propagator.specs.Subscriptions.{terms_in, terms_of, waits_some, AreHeard}
@@ -53,7 +53,7 @@ module _ (found : List Subscription) (form : Form) (heard : AreHeard found (form
   form_heard (BoolNot left right) is = own_heard _ is
   form_heard (BoolToInt boolean integer) is = own_heard _ is
   form_heard (Linear sum comparison bound switch) is = own_heard _ is
-  form_heard (BoolLinEq sum total) is = subst (AreHeard found) (terms-with_total sum (weighted (negsuc 0) total)) (own_heard _ is)
+  form_heard (BoolLinEq sum total) is = subst (AreHeard found) (terms-with_total sum (place_with (negsuc 0) total)) (own_heard _ is)
   form_heard (Arithmetic Plus left right result) is = own_heard _ is
   form_heard (Gated gate inputs result) is = subst (λ (ts : List Term). AreHeard found (ts ++ result ∷ [])) (terms-each_with (negsuc 0) inputs) (own_heard _ is)
   form_heard (BoolClause positive negative) is = all_heard-swap found negative positive (subst (AreHeard found) (terms-clause positive negative) (own_heard _ is))

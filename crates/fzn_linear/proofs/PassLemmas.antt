@@ -7,8 +7,7 @@ use Rattle.fzn_meaning.specs.declared.term.Place.{Place}
 use Rattle.fzn_builtin_rules.specs.Form.{Form}
 use Rattle.fzn_meaning.specs.declared.constraint.Constraint.{Constraint}
 use Rattle.fzn_trail.specs.Levels.{Levels}
-use Rattle.fzn_propagator.specs.declared.propagator.Inference.{Inference}
-use Rattle.fzn_propagator.specs.Inference.{IsNumberedInference, AreInferencesOf}
+use Rattle.fzn_propagator.specs.Inference.{Inference, IsNumberedInference, AreInferencesOf}
 use Rattle.fzn_builtin_rules.specs.declared.ends.Ends.{Ends}
 use Rattle.fzn_linear.specs.declared.form.SumForm.{SumForm}
 use Rattle.fzn_linear.specs.declared.pass.Pass.{Pass}

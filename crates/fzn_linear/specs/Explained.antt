@@ -4,12 +4,11 @@ use Rattle.std.specs.List.{All, HoldsAt}
 use Rattle.fzn_domain.specs.declared.literal.Lit.{Lit}
 use Rattle.fzn_domain.specs.Literal.{is_true_at}
 use Rattle.fzn_domain.specs.IntSet.{is_possible}
-use Rattle.fzn_domain.specs.Narrow.{set_of}
+use Rattle.fzn_domain.specs.Narrow.{can_fail, set_of}
 use Rattle.fzn_meaning.specs.declared.term.Term.TheVariants.{Variable}
 use Rattle.fzn_meaning.specs.declared.term.Place.{Place}
 use Rattle.fzn_builtin_rules.specs.Linear.{low_product}
 use Rattle.fzn_trail.specs.Levels.{Levels}
-use Rattle.fzn_trail.specs.Unit.{IsOpen}
 use Rattle.fzn_meaning.specs.Term.{total_by}
 use Rattle.fzn_linear.specs.declared.at_most.Forced.{Forced}
 use Rattle.fzn_linear.specs.declared.at_most.PlaceFloor.{PlaceFloor}
@@ -32,7 +31,7 @@ pub record IsForcedBySlack (trail : Levels) (place : Place) (slack : ℕ) (lit :
   pub of_place : place.term ≡ Variable lit.var
   pub writable : IsWritable lit
   pub possible : is_possible (set_of trail.sets lit.var) lit ≡ true
-  pub not_yet_true : IsOpen (set_of trail.sets lit.var) lit
+  pub not_yet_true : can_fail trail.sets lit ≡ true
   pub exceeds : (value : ℤ) → is_true_at lit value ≡ false → (low_product trail.sets place +ℤ pos slack) <ℤ (place.coefficient *ℤ value)
 
 -- a clause that is false on the trail and explains the places before an index, one place left out

@@ -3,8 +3,7 @@ use Rattle.std.specs.Prelude.{◌≡◌, ◌++◌, [], ℕ, List}
 use Rattle.fzn_domain.specs.declared.literal.Lit.{Lit}
 use Rattle.fzn_meaning.specs.declared.constraint.Constraint.{Constraint}
 use Rattle.fzn_trail.specs.Levels.{Levels}
-use Rattle.fzn_propagator.specs.declared.propagator.Inference.{Inference}
-use Rattle.fzn_propagator.specs.Inference.{AreFoundOf}
+use Rattle.fzn_propagator.specs.Inference.{Inference, AreFoundOf}
 use Rattle.fzn_linear.specs.declared.form.SumForm.{SumForm}
 use Rattle.fzn_linear.specs.declared.inequality.Inequality.{Inequality}
 use Rattle.fzn_linear.specs.declared.pass.Pass.{Pass}

@@ -1,26 +1,26 @@
 // One type for all kinds of propagators of this crate, and which constraint gets which.
 ghost use Rattle.std.specs.Prelude.{◌≡◌, ℕ, ◌-◌, ◌≤◌, List, length, IfOk, IfSome, IfNone, None, slice_index_or};
-ghost use Rattle.std.specs.Option.{option_copied};
 ghost use Rattle.fzn_meaning.specs.declared.constraint.Constraint.{Constraint};
 ghost use Rattle.fzn_domain.specs.IntSet.{IntSet};
 ghost use Rattle.fzn_meaning.specs.Solutions.{declared_sets};
-ghost use Rattle.fzn_meaning.specs.Meaning.{IsWellFormed as IsFormed};
+ghost use Rattle.fzn_meaning.specs.Meaning.{IsWellFormedConstraint};
 ghost use Rattle.fzn_meaning.specs.WellFormed.{IsWellFormed};
 ghost use Rattle.fzn_builtin_rules.specs.Form.{form_of};
 ghost use Rattle.fzn_propagator.specs.Subscriptions.{terms_of, AreHeard};
 ghost use Rattle.fzn_linear.specs.Kinds.{form_of_sum, IsFormOf, IsSumReady};
 ghost use Rattle.fzn_linear.specs.Costs.{kind_cost};
-ghost use Rattle.fzn_linear.specs.AnyKind.{kind_number, KindIsFor, KindFits, sum_in, form_alone};
+ghost use Rattle.fzn_linear.specs.AnyKind.{kind_number, KindIsFor, KindFits, KindCounts, sum_in};
 ghost use Rattle.fzn_linear.specs.Wakes.{wake_of, sum_subscriptions};
 
 use crate::equality::EqualityPropagator;
 use crate::form::{SumForm, form_of};
 use crate::opposite::opposite_of;
+use crate::room::Room;
 use crate::sum::SumPropagator;
 use crate::wake::wake_of;
 use fzn_domain::Memory;
 use fzn_meaning::{Constraint, Model};
-use fzn_propagator::{Cost, Findings, Propagator, Subscriptions};
+use fzn_propagator::{Bounds, Cost, Counting, Findings, Propagator, Shift, Subscriptions, Tally};
 use fzn_trail::Trail;
 use std::alloc::Global;
 
@@ -33,18 +33,6 @@ pub enum ArithPropagator {
     Equality(EqualityPropagator),
 }
 
-impl ArithPropagator {
-    /// The form of its constraint, where nothing but the ends of that sum is reasoned of: `None` of two terms that are compared.
-    pub fn form(&self) -> Option<&SumForm>
-        ensures { option_copied result ≡ form_alone self.now }
-    {
-        match self {
-            ArithPropagator::Sum(propagator) => Some(&propagator.form),
-            ArithPropagator::Equality(_) => None,
-        }
-    }
-}
-
 impl Propagator for ArithPropagator {
     ghost number = { kind_number };
 
@@ -53,6 +41,8 @@ impl Propagator for ArithPropagator {
     ghost fits = { KindFits };
 
     ghost costs = { kind_cost };
+
+    ghost counts = { KindCounts };
 
     fn subscriptions(&self, alloc: Global) -> Result<Subscriptions, Memory>
         requires fits { (declared : List IntSet) × KindFits self.now declared }
@@ -71,6 +61,29 @@ impl Propagator for ArithPropagator {
         match self {
             ArithPropagator::Sum(propagator) => propagator.cost(),
             ArithPropagator::Equality(propagator) => propagator.cost(),
+        }
+    }
+
+    fn counting(&self, alloc: Global) -> Result<Option<Counting>, Memory>
+        ensures counts { IfOk result (λ found. IfSome found (KindCounts self.now)) }
+    {
+        match self {
+            ArithPropagator::Sum(propagator) => propagator.counting(alloc),
+            ArithPropagator::Equality(_) => Ok(None),
+        }
+    }
+
+    fn count(&self, tally: Tally, weight: i64, shift: Shift) -> Tally {
+        match self {
+            ArithPropagator::Sum(propagator) => propagator.count(tally, weight, shift),
+            ArithPropagator::Equality(_) => tally,
+        }
+    }
+
+    fn is_idle(&self, tally: Tally, bounds: &[Option<Bounds>]) -> bool {
+        match self {
+            ArithPropagator::Sum(propagator) => propagator.is_idle(tally, bounds),
+            ArithPropagator::Equality(_) => false,
         }
     }
 
@@ -101,21 +114,23 @@ pub fn propagator_of(
     let Some(form) = form_of(alloc, constraint)? else {
         return Ok(None);
     };
-    Ok(Some(with_form(alloc, c as u64, constraint, form)?))
+    let room = Room::new(&form, &model.vars);
+    Ok(Some(with_form(alloc, c as u64, constraint, form, room)?))
 }
 
-/// The propagator of the constraint of this number and form.
+/// The propagator of the constraint of this number and form, whose places may give so much.
 fn with_form(
     alloc: Global,
     number: u64,
     constraint: &Constraint,
     form: SumForm,
+    room: Option<Room>,
 ) -> Result<ArithPropagator, Memory>
-    requires formed { (count : ℕ) × IsFormed count constraint.now }
+    requires formed { (count : ℕ) × IsWellFormedConstraint count constraint.now }
     requires form { IsFormOf constraint.now form }
     ensures number { IfOk result (λ propagator. kind_number propagator ≡ number) }
     ensures is_for { IfOk result (λ propagator. KindIsFor propagator constraint.now) }
-    ensures fits { IfOk result (λ propagator. (declared : List IntSet) → IsFormed (length declared) constraint.now → KindFits propagator declared) }
+    ensures fits { IfOk result (λ propagator. (declared : List IntSet) → IsWellFormedConstraint (length declared) constraint.now → KindFits propagator declared) }
     ensures wake { IfOk result (λ propagator. (sum_in propagator).wake ≡ wake_of constraint.now (form_of_sum (sum_in propagator).form)) }
 {
     let opposite = opposite_of(alloc, &form)?;
@@ -125,17 +140,18 @@ fn with_form(
         form,
         opposite,
         wake,
+        room,
     };
     Ok(kind_of(constraint, sum))
 }
 
 /// The propagator of the constraint, from that of its sum.
-#[tactic(auto, unfolding(fzn_meaning::specs::Meaning::IsWellFormed))]
+#[tactic(auto, unfolding(fzn_meaning::specs::Meaning::IsWellFormedConstraint))]
 fn kind_of(constraint: &Constraint, sum: SumPropagator) -> ArithPropagator
     ensures number { kind_number result ≡ sum.number }
     ensures sum { sum_in result ≡ sum }
     ensures is_for { IsFormOf constraint.now sum.form → KindIsFor result constraint.now }
-    ensures fits { (declared : List IntSet) → IsFormed (length declared) constraint.now → IsSumReady (length declared) sum.form sum.opposite → KindFits result declared }
+    ensures fits { (declared : List IntSet) → IsWellFormedConstraint (length declared) constraint.now → IsSumReady (length declared) sum.form sum.opposite → KindFits result declared }
 {
     let Constraint::Compare {
         relation,

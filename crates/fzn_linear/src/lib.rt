@@ -5,13 +5,13 @@
 //! `specs/Kinds.antt`: the constraint that a propagator is for, by its form. Of the sums themselves, their least values and the clauses
 //! that refute how they compare with a bound, against `specs/Refuted.antt`: whatever values the clause leaves, no sum compares so with the
 //! bound; and where none is found, the ends leave one. One pass (`pass.rt`) asks what has to hold by the value of the switch (`side.rt`),
-//! and of that each bound of the sum, at most or at least (`inequality.rt`): `specs/Passes.antt`.
+//! and of that each bound of the sum, at most or at least (`inequality.rt`): `specs/Passes.antt`. Between two calls the ends of a sum are
+//! counted, so that it is not asked where it has room (`room.rt`): by what its variables count says `specs/Counted.antt`.
 #![tactic(auto)]
 
-pub use at_most::{Forced, PlaceFloor, floors_of, next_forced, refute_place};
+pub use at_most::{floors_of, next_forced, refute_place};
 pub use ends::ends_of;
-pub use form::SumForm;
-pub use fzn_propagator::{Inference, Propagator};
+pub use fzn_propagator::Propagator;
 pub use inequality::{conflict_at_most, refute_at_most, refute_equal, slack_within};
 pub use kinds::{ArithPropagator, propagator_of};
 pub use not_equal::{conflict_not_equal, refute_not_equal};
@@ -25,6 +25,8 @@ mod kinds;
 mod not_equal;
 mod opposite;
 mod pass;
+mod room;
 mod side;
 mod sum;
 mod wake;
+mod weights;

@@ -1,25 +1,31 @@
 // The propagator of a sum.
-ghost use Rattle.std.specs.Prelude.{◌≡◌, List, [], length, IfOk, OnOk};
+ghost use Rattle.std.specs.Prelude.{◌≡◌, List, [], length, IfOk, IfSome, OnOk};
 ghost use Rattle.fzn_domain.specs.IntSet.{IntSet};
 ghost use Rattle.fzn_domain.specs.Narrow.{NoneEmpty};
 ghost use Rattle.fzn_meaning.specs.declared.constraint.Constraint.{Constraint};
 ghost use Rattle.fzn_propagator.specs.Inference.{AreExhausted};
 ghost use Rattle.fzn_propagator.specs.Subscriptions.{terms_of, AreHeard};
 ghost use Rattle.fzn_linear.specs.Costs.{cost_of};
+ghost use Rattle.fzn_linear.specs.Counted.{CountsForm};
 ghost use Rattle.fzn_linear.specs.Kinds.{IsFormOf, IsSumReady};
 ghost use Rattle.fzn_linear.specs.Passes.{AddsInferences};
 ghost use Rattle.fzn_linear.specs.Wakes.{sum_subscriptions};
 
 use crate::form::SumForm;
 use crate::pass::Pass;
+use crate::room::{Room, moved};
 use crate::wake::{Wake, subscriptions_of};
+use crate::weights::weights_of;
 use fzn_domain::Memory;
-use fzn_propagator::{Cost, Findings, Propagator, Subscriptions};
+use fzn_propagator::{Bounds, Cost, Counting, Findings, Propagator, Shift, Subscriptions, Tally};
 use fzn_trail::Trail;
 use std::alloc::Global;
 
 /// A sum of more places is wide.
 const WIDE: usize = 64;
+
+/// A sum of fewer places is not counted: it costs no more to ask it.
+const FEWEST: usize = 3;
 
 /// The sum of a constraint's form compares so with its bound, and the opposite form does not.
 #[derive(Debug, Drop)]
@@ -32,6 +38,8 @@ pub struct SumPropagator {
     pub opposite: SumForm,
     /// Which changes of its terms the propagator waits for.
     pub wake: Wake,
+    /// What its places may give, where it may be counted.
+    pub room: Option<Room>,
 }
 
 impl SumPropagator {
@@ -62,6 +70,8 @@ impl Propagator for SumPropagator {
 
     ghost costs = { λ propagator. cost_of (length propagator.form.places) };
 
+    ghost counts = { λ propagator counting. CountsForm propagator.form counting };
+
     fn subscriptions(&self, alloc: Global) -> Result<Subscriptions, Memory>
         requires fits { (declared : List IntSet) × IsSumReady (length declared) self.now.form self.now.opposite }
         ensures value { IfOk result (λ subscriptions. subscriptions ≡ sum_subscriptions self.now) }
@@ -78,6 +88,34 @@ impl Propagator for SumPropagator {
             Cost::Great
         } else {
             Cost::Small
+        }
+    }
+
+    /// The ends of the sum.
+    fn counting(&self, alloc: Global) -> Result<Option<Counting>, Memory>
+        ensures counts { IfOk result (λ found. IfSome found (CountsForm self.now.form)) }
+    {
+        if self.form.places.len() < FEWEST {
+            return Ok(None);
+        }
+        let Some(room) = self.room else {
+            return Ok(None);
+        };
+        let weights = weights_of(alloc, &self.form)?;
+        Ok(Some(Counting {
+            tally: room.ends(),
+            weights,
+        }))
+    }
+
+    fn count(&self, tally: Tally, weight: i64, shift: Shift) -> Tally {
+        moved(tally, weight, shift)
+    }
+
+    fn is_idle(&self, tally: Tally, bounds: &[Option<Bounds>]) -> bool {
+        match &self.room {
+            Some(room) => room.is_left(&self.form, tally, bounds),
+            None => false,
         }
     }
 

@@ -67,28 +67,28 @@ abbrev pub IsSwitch : ℕ → Option Term → Type 0
 IsSwitch count switch = IfSome switch (IsTerm count)
 
 -- terms, lists and numbers are within their limits, and lists have the lengths that the constraint asks for
-unfoldable pub IsWellFormed : ℕ → Constraint → Type 0
-IsWellFormed count (Compare relation left right switch) = IsTerm count left × IsTerm count right × IsSwitch count switch
-IsWellFormed count (BoolNot left right) = IsTerm count left × IsTerm count right
-IsWellFormed count (BoolToInt boolean integer) = IsTerm count boolean × IsTerm count integer
-IsWellFormed count (Linear sum comparison bound switch) = IsSum count sum × IsSmall bound × IsSwitch count switch
-IsWellFormed count (BoolLinEq sum total) = IsSum count sum × IsTerm count total
-IsWellFormed count (Arithmetic operation left right result) = IsTerm count left × IsTerm count right × IsTerm count result
-IsWellFormed count (IntAbs of result) = IsTerm count of × IsTerm count result
-IsWellFormed count (Extremum extreme entries result) = AreTerms count entries × IsTerm count result × (0 < length entries)
-IsWellFormed count (Element index entries value) = IsTerm count index × AreTerms count entries × IsTerm count value
-IsWellFormed count (SetIn term set switch) = IsTerm count term × IsLimited set × IsSwitch count switch
-IsWellFormed count (Gated gate inputs result) = AreTerms count inputs × IsTerm count result
-IsWellFormed count (BoolXor left right result) = IsTerm count left × IsTerm count right × IsTerm count result
-IsWellFormed count (ArrayBoolXor inputs) = AreTerms count inputs
-IsWellFormed count (BoolClause positive negative) = AreTerms count positive × AreTerms count negative
-IsWellFormed count (AllDifferent places) = AreTerms count places
-IsWellFormed count (Table places rows) = AreTerms count places × (0 < length places) × All IsInLimits rows × (length rows ≤ longest) × (length rows % length places ≡ 0)
-IsWellFormed count (Cumulative starts durations uses capacity) = AreTerms count starts × AreTerms count durations × AreTerms count uses × IsTerm count capacity
+unfoldable pub IsWellFormedConstraint : ℕ → Constraint → Type 0
+IsWellFormedConstraint count (Compare relation left right switch) = IsTerm count left × IsTerm count right × IsSwitch count switch
+IsWellFormedConstraint count (BoolNot left right) = IsTerm count left × IsTerm count right
+IsWellFormedConstraint count (BoolToInt boolean integer) = IsTerm count boolean × IsTerm count integer
+IsWellFormedConstraint count (Linear sum comparison bound switch) = IsSum count sum × IsSmall bound × IsSwitch count switch
+IsWellFormedConstraint count (BoolLinEq sum total) = IsSum count sum × IsTerm count total
+IsWellFormedConstraint count (Arithmetic operation left right result) = IsTerm count left × IsTerm count right × IsTerm count result
+IsWellFormedConstraint count (IntAbs of result) = IsTerm count of × IsTerm count result
+IsWellFormedConstraint count (Extremum extreme entries result) = AreTerms count entries × IsTerm count result × (0 < length entries)
+IsWellFormedConstraint count (Element index entries value) = IsTerm count index × AreTerms count entries × IsTerm count value
+IsWellFormedConstraint count (SetIn term set switch) = IsTerm count term × IsLimited set × IsSwitch count switch
+IsWellFormedConstraint count (Gated gate inputs result) = AreTerms count inputs × IsTerm count result
+IsWellFormedConstraint count (BoolXor left right result) = IsTerm count left × IsTerm count right × IsTerm count result
+IsWellFormedConstraint count (ArrayBoolXor inputs) = AreTerms count inputs
+IsWellFormedConstraint count (BoolClause positive negative) = AreTerms count positive × AreTerms count negative
+IsWellFormedConstraint count (AllDifferent places) = AreTerms count places
+IsWellFormedConstraint count (Table places rows) = AreTerms count places × (0 < length places) × All IsInLimits rows × (length rows ≤ longest) × (length rows % length places ≡ 0)
+IsWellFormedConstraint count (Cumulative starts durations uses capacity) = AreTerms count starts × AreTerms count durations × AreTerms count uses × IsTerm count capacity
     × (length durations ≡ length starts) × (length uses ≡ length starts)
-IsWellFormed count (Circuit successors) = AreTerms count successors
-IsWellFormed count (Inverse forward backward) = AreTerms count forward × AreTerms count backward × (length backward ≡ length forward)
-IsWellFormed count (Row row) = IsSeparableRow count row
+IsWellFormedConstraint count (Circuit successors) = AreTerms count successors
+IsWellFormedConstraint count (Inverse forward backward) = AreTerms count forward × AreTerms count backward × (length backward ≡ length forward)
+IsWellFormedConstraint count (Row row) = IsSeparableRow count row
 
 -- the terms that are Boolean wherever the constraint stands in a file: they have to be 0 or 1 for it to say what its name says
 unfoldable pub booleans_of : Constraint → List Term

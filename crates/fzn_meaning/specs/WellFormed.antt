@@ -10,7 +10,7 @@ use Rattle.fzn_meaning.specs.declared.model.OutputItem.{OutputItem}
 use Rattle.fzn_meaning.specs.declared.model.OutputItem.TheVariants.{Single, Array}
 use Rattle.fzn_meaning.specs.declared.model.Model.{Model}
 use Rattle.fzn_meaning.specs.Term.{IsTerm}
-use Rattle.fzn_meaning.specs.Meaning.{HasBooleanSets, longest, IsWellFormed as IsWellFormedConstraint}
+use Rattle.fzn_meaning.specs.Meaning.{HasBooleanSets, longest, IsWellFormedConstraint}
 use Rattle.fzn_meaning.specs.Solutions.{declared_sets}
 
 abbrev pub IsGoal : ℕ → Goal → Type 0

@@ -1,8 +1,8 @@
 // Whether values meet a constraint, family by family.
-#![tactic(auto, unfolding(crate::specs::Meaning::Meets, crate::specs::Meaning::IsWellFormed))]
+#![tactic(auto, unfolding(crate::specs::Meaning::Meets, crate::specs::Meaning::IsWellFormedConstraint))]
 
 ghost use Rattle.std.specs.Prelude.{◌≡◌, ◌↔◌, IsTrue, length};
-ghost use Rattle.fzn_meaning.specs.Meaning.{Meets, IsWellFormed};
+ghost use Rattle.fzn_meaning.specs.Meaning.{Meets, IsWellFormedConstraint};
 ghost use Rattle.fzn_meaning.specs.Families.{family_of, compared, computed, boolean, global};
 
 use crate::all_different::is_all_different;
@@ -25,7 +25,7 @@ use crate::table::is_table;
 
 /// Whether the values, one for each variable in order, meet the constraint.
 pub fn holds(constraint: &Constraint, values: &[i64]) -> bool
-    requires { IsWellFormed (length values.now) constraint.now }
+    requires { IsWellFormedConstraint (length values.now) constraint.now }
     ensures { IsTrue result ↔ Meets constraint.now values.now }
 {
     match constraint {
@@ -53,7 +53,7 @@ pub fn holds(constraint: &Constraint, values: &[i64]) -> bool
 }
 
 fn holds_compared(constraint: &Constraint, values: &[i64]) -> bool
-    requires well_formed { IsWellFormed (length values.now) constraint.now }
+    requires well_formed { IsWellFormedConstraint (length values.now) constraint.now }
     requires family { family_of constraint.now ≡ compared }
     ensures { IsTrue result ↔ Meets constraint.now values.now }
 {
@@ -95,7 +95,7 @@ fn holds_compared(constraint: &Constraint, values: &[i64]) -> bool
 }
 
 fn holds_computed(constraint: &Constraint, values: &[i64]) -> bool
-    requires well_formed { IsWellFormed (length values.now) constraint.now }
+    requires well_formed { IsWellFormedConstraint (length values.now) constraint.now }
     requires family { family_of constraint.now ≡ computed }
     ensures { IsTrue result ↔ Meets constraint.now values.now }
 {
@@ -135,7 +135,7 @@ fn holds_computed(constraint: &Constraint, values: &[i64]) -> bool
 }
 
 fn holds_boolean(constraint: &Constraint, values: &[i64]) -> bool
-    requires well_formed { IsWellFormed (length values.now) constraint.now }
+    requires well_formed { IsWellFormedConstraint (length values.now) constraint.now }
     requires family { family_of constraint.now ≡ boolean }
     ensures { IsTrue result ↔ Meets constraint.now values.now }
 {
@@ -167,7 +167,7 @@ fn holds_boolean(constraint: &Constraint, values: &[i64]) -> bool
 }
 
 fn holds_global(constraint: &Constraint, values: &[i64]) -> bool
-    requires well_formed { IsWellFormed (length values.now) constraint.now }
+    requires well_formed { IsWellFormedConstraint (length values.now) constraint.now }
     requires family { family_of constraint.now ≡ global }
     ensures { IsTrue result ↔ Meets constraint.now values.now }
 {

@@ -2,7 +2,7 @@
 ghost use Rattle.std.specs.Prelude.{◌≡◌, ◌↔◌, IsTrue, length, List};
 ghost use Rattle.std.specs.List.{All};
 ghost use Rattle.fzn_domain.specs.Narrow.{IsWithin};
-ghost use Rattle.fzn_meaning.specs.Meaning.{Meets, IsWellFormed as IsWellFormedConstraint};
+ghost use Rattle.fzn_meaning.specs.Meaning.{Meets, IsWellFormedConstraint};
 ghost use Rattle.fzn_meaning.specs.Solutions.{IsSolution, IsBetter, declared_sets};
 ghost use Rattle.fzn_meaning.specs.WellFormed.{IsGoal};
 

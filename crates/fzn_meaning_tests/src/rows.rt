@@ -49,7 +49,7 @@ fn moved(constraint: u64, variable: usize) -> RowItem {
 }
 
 /// What comes of the items, with so many weights at most, on the sets of another file.
-#[tactic(auto, unfolding(fzn_meaning::specs::Meaning::IsWellFormed))]
+#[tactic(auto, unfolding(fzn_meaning::specs::Meaning::IsWellFormedConstraint))]
 pub fn told(
     alloc: Global,
     file: &str,

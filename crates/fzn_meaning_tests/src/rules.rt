@@ -2,7 +2,7 @@
 // where none do, `enum` says so of a builtin, and some rule says so of a global at least once.
 ghost use Rattle.std.specs.Prelude.{◌≡◌, false, length};
 ghost use Rattle.fzn_domain.specs.Narrow.{is_some_empty};
-ghost use Rattle.fzn_meaning.specs.Meaning.{IsWellFormed as IsWellFormedConstraint};
+ghost use Rattle.fzn_meaning.specs.Meaning.{IsWellFormedConstraint};
 ghost use Rattle.fzn_meaning.specs.WellFormed.{IsWellFormed};
 
 use crate::kinds::{ROWS, advance, all_hold, first_values, model_of};

@@ -2,7 +2,7 @@
 use Rattle.std.specs.Prelude.{true, ℕ, List, [], ◌∷◌, Some, codes}
 use Rattle.clap.specs.Simple.{new_shape}
 use Rattle.clap.specs.Words.{App, Rule, Text, new_rule}
-use Rattle.clap.specs.declared.builder.action.ArgAction.TheVariants.{SetTrue, Help, Version}
+use Rattle.clap.specs.declared.builder.action.ArgAction.TheVariants.{Append, SetTrue, Help, Version}
 
 -- a flag with one letter
 abbrev pub letter_flag : Text → ℕ → Rule
@@ -19,6 +19,10 @@ letter_option id letter = record (new_rule id) { short = Some letter; value_name
 -- an option with a name, and a value
 abbrev pub named_option : Text → Rule
 named_option id = record (new_rule id) { long = Some id; value_names = 1 }
+
+-- an option with a name, and a value, that may be given several times
+abbrev pub repeated_option : Text → Rule
+repeated_option id = record (new_rule id) { long = Some id; value_names = 1; action = Some Append }
 
 -- a path, which stands by itself and may not be left out
 abbrev pub path : Text → Rule
@@ -46,11 +50,11 @@ command_line name rules =
       subs = [];
     }
 
--- -a, -n K, -f, --derive, -r SEED, --nodes N, --learn CLAUSE, --cert FILE, --hints FILE, --progress, MODEL, --help, --version
+-- -a, -n K, -f, --derive, -r SEED, --nodes N, --learn CLAUSE, --cert FILE, --hints FILE, --tune NAME=NUMBER, --progress, MODEL, --help, --version
 unfoldable pub solve_line : App
 solve_line =
     command_line (codes "fznsolve") (all_rule ∷ letter_option (codes "limit") 110 ∷ letter_flag (codes "free") 102 ∷ named_flag (codes "derive") ∷ letter_option (codes "seed") 114
-    ∷ named_option (codes "nodes") ∷ named_option (codes "learn") ∷ named_option (codes "cert") ∷ named_option (codes "hints") ∷ named_flag (codes "progress") ∷ path (codes "model") ∷ help_rule ∷ version_rule ∷ [])
+    ∷ named_option (codes "nodes") ∷ named_option (codes "learn") ∷ named_option (codes "cert") ∷ named_option (codes "hints") ∷ repeated_option (codes "tune") ∷ named_flag (codes "progress") ∷ path (codes "model") ∷ help_rule ∷ version_rule ∷ [])
 
 -- -a, --to2, --trim NEW, --core, --bound, --items, and two paths, --help, --version
 unfoldable pub check_line : App

@@ -7,6 +7,8 @@ use Rattle.fzn_options.specs.declared.check.CheckOptions.{CheckOptions}
 use Rattle.fzn_options.specs.declared.check.CheckOptions.TheVariants.{Check, ToVersion2, Trim, Core, Bound, Items}
 use Rattle.fzn_strategy.specs.declared.learn.Learn.{Learn}
 use Rattle.fzn_strategy.specs.declared.learn.Learn.TheVariants.{First}
+use Rattle.fzn_strategy.specs.declared.parameters.Parameters.{Parameters}
+use Rattle.fzn_strategy.specs.Standard.{standard}
 use Rattle.fzn_options.specs.declared.solve.Options.{Options}
 use Rattle.fzn_options.specs.Words.{number_between, learning_of}
 
@@ -29,6 +31,11 @@ abbrev pub SaysLearning : Option Text → Learn → Type 0
 SaysLearning None learning = learning ≡ First
 SaysLearning (Some word) learning = learning_of word ≡ Some learning
 
+-- the standard ones where none was given
+abbrev pub AreUntuned : Option Text → Parameters → Type 0
+AreUntuned None parameters = parameters ≡ standard
+AreUntuned (Some word) parameters = Unit {0}
+
 -- Each option is what the command line says of it, or its default.
 pub record AreSaid (rows : List Row) (options : Options) : Type 0 where
   pub all : options.all ≡ is_flag_set (first_of (codes "all") rows)
@@ -40,6 +47,7 @@ pub record AreSaid (rows : List Row) (options : Options) : Type 0 where
   pub learn : SaysLearning (first_of (codes "learn") rows) options.learn
   pub restart_after : options.restart_after ≡ 100
   pub keep : options.keep ≡ 2000
+  pub parameters : AreUntuned (first_of (codes "tune") rows) options.parameters
   pub progress : options.progress ≡ is_flag_set (first_of (codes "progress") rows)
   pub model : first_of (codes "model") rows ≡ Some (string_bytes options.model)
   pub cert : first_of (codes "cert") rows ≡ option_map string_bytes options.cert

@@ -16,3 +16,4 @@ mod number;
 mod parts;
 mod said;
 mod solve;
+mod tuning;

@@ -1,7 +1,7 @@
 // What both command lines have.
 ghost use Rattle.std.specs.Prelude.{◌≡◌, [], ◌∷◌, IfOk, false};
 ghost use Rattle.clap.specs.Words.{app_of, rule_of, with_rule};
-ghost use Rattle.fzn_options.specs.CommandLines.{all_rule, letter_flag, letter_option, named_flag, named_option, path, optional_path, command_line, help_rule, version_rule};
+ghost use Rattle.fzn_options.specs.CommandLines.{all_rule, letter_flag, letter_option, named_flag, named_option, repeated_option, path, optional_path, command_line, help_rule, version_rule};
 
 use clap::{Arg, ArgAction, Command};
 use std::alloc::{AllocError, Global};
@@ -72,6 +72,18 @@ pub fn named_option<'a>(alloc: Global, id: &'a str, value: &'a str, help: &'a st
     ensures own { result.global ≡ false }
 {
     Arg::new(alloc, id).long(id).value_name(value).help(help)
+}
+
+/// An option with a name, and a value, that may be given several times.
+pub fn repeated_option<'a>(alloc: Global, id: &'a str, value: &'a str, help: &'a str) -> Arg<'a>
+    ensures rule { rule_of result ≡ repeated_option id.entry.now }
+    ensures own { result.global ≡ false }
+{
+    Arg::new(alloc, id)
+        .long(id)
+        .action(ArgAction::Append)
+        .value_name(value)
+        .help(help)
 }
 
 /// A path that stands by itself.

@@ -1,5 +1,5 @@
 // What the words say of each option.
-ghost use Rattle.std.specs.Prelude.{◌≡◌, IfOk, option_map, string_bytes, Some};
+ghost use Rattle.std.specs.Prelude.{◌≡◌, ◌≤◌, IfOk, IfSome, option_map, string_bytes, Some};
 ghost use Rattle.clap.specs.Words.{first_of, found_of, rows_of};
 ghost use Rattle.fzn_options.specs.Said.{is_flag_set, SaysNumber};
 
@@ -32,7 +32,8 @@ pub fn number(
     least: u64,
     most: u64,
 ) -> Result<Option<u64>, OptionsFault>
-    ensures { IfOk result (SaysNumber least most (first_of id.now (rows_of (found_of matches.now)))) }
+    ensures said { IfOk result (SaysNumber least most (first_of id.now (rows_of (found_of matches.now)))) }
+    ensures between { IfOk result (λ found. IfSome found (λ number. (least ≤ number) × (number ≤ most))) }
 {
     let Some(word) = said(matches, id) else {
         return Ok(None);

@@ -1,18 +1,20 @@
 // The words of `fznsolve`.
-ghost use Rattle.std.specs.Prelude.{◌≡◌, ◌≢◌, IfOk, IfSome, IsFalse, map, option_map, string_bytes, codes};
+ghost use Rattle.std.specs.Prelude.{◌≡◌, ◌≢◌, ◌≤◌, ◌^◌, IfOk, IfSome, IsFalse, map, option_map, string_bytes, codes};
 ghost use Rattle.clap.specs.Words.{app_of, first_of, found_of, matches_of, rows_of};
 ghost use Rattle.fzn_options.specs.CommandLines.{solve_line};
-ghost use Rattle.fzn_options.specs.Said.{AreFit, AreSaid, SaysLearning};
+ghost use Rattle.fzn_options.specs.Said.{AreFit, AreSaid, SaysLearning, SaysNumberOr};
 
 use crate::fault::{OptionsFault, fault_of};
 use crate::learning::learning_of;
 use crate::parts;
 use crate::parts::{
-    all, bare, help, letter_flag, letter_option, named_flag, named_option, version, with,
+    all, bare, help, letter_flag, letter_option, named_flag, named_option, repeated_option,
+    version, with,
 };
 use crate::said::{is_set, number, optional_path, path, said};
+use crate::tuning::tuned;
 use clap::{ArgMatches, Command};
-use fzn_strategy::Learn;
+use fzn_strategy::{Learn, Parameters};
 use std::alloc::{AllocError, Global};
 use std::convert::AsStr;
 
@@ -48,6 +50,9 @@ const CERT: &str = "Write the certificate to FILE (without: nowhere)";
 const HINTS: &str =
     "Try the solutions in FILE, s lines as certificates have them, and at each restart those added since";
 
+const TUNE: &str =
+    "Search by another number of this name, for a measurement: nothing but how a run goes rests on it. May be given several times";
+
 const PROGRESS: &str =
     "Tell on standard error, twice a second at most, how far the search has come (without: nothing)";
 
@@ -81,13 +86,15 @@ pub struct Options {
     pub nodes: u64,
     /// Which clause is learned from a conflict.
     pub learn: Learn,
-    /// After how many conflicts the search first restarts where it learns the clause of the first unique implication point, 1 to 10^9. No
-    /// word says it.
+    /// After how many conflicts the search first restarts where it learns the clause of the first unique implication point, 1 to 10^9; the
+    /// parameters may name a share of it. No word says it.
     pub restart_after: u64,
-    /// How many learned clauses a restart keeps, at most 10^9: the newest. Cuts, clauses of one literal and those that entries rest on are
-    /// kept besides. Below this number too learned clauses are forgotten, those whose literals stand on the most levels, once there are
-    /// more than 800. With `Plain` none is forgotten. No word says it.
+    /// How many learned clauses a restart keeps, at most 10^9: the newest; the parameters may name a share of it. Cuts, clauses of one literal
+    /// and those that entries rest on are kept besides. Below this number too learned clauses are forgotten, those whose literals stand on
+    /// the most levels, once there are more than the parameters say. With `Plain` none is forgotten. No word says it.
     pub keep: u64,
+    /// The numbers that the search goes by, on which nothing but how it goes rests.
+    pub parameters: Parameters,
     /// Whether standard error tells how far the search has come.
     pub progress: bool,
     /// The path of the file.
@@ -99,8 +106,8 @@ pub struct Options {
 }
 
 /// The options that the words after the program's name give, with what stands for those that are not given. It answers `CommandLine` where
-/// the words are not as the help says, a number is out of its range or the certificate's path is that of the file or of the hints, `Help` where they ask
-/// for help or the version, and `Memory` where memory runs out.
+/// the words are not as the help says, a number is out of its range, no parameter has a name that is given or the certificate's path is that of
+/// the file or of the hints, `Help` where they ask for help or the version, and `Memory` where memory runs out.
 pub fn options_of<S: AsStr>(alloc: Global, words: &[S]) -> Result<Options, OptionsFault>
     ensures said { IfOk result (AreSaid (matches_of solve_line (map S.text words.now))) }
     ensures fit { IfOk result AreFit }
@@ -125,6 +132,7 @@ fn command<'a>(alloc: Global) -> Result<Command<'a>, AllocError>
     let command = with(command, named_option(alloc, "learn", "CLAUSE", LEARN))?;
     let command = with(command, named_option(alloc, "cert", "FILE", CERT))?;
     let command = with(command, named_option(alloc, "hints", "FILE", HINTS))?;
+    let command = with(command, repeated_option(alloc, "tune", "NAME=NUMBER", TUNE))?;
     let command = with(command, named_flag(alloc, "progress", PROGRESS))?;
     let command = with(command, parts::path(alloc, "model", "MODEL", MODEL))?;
     let command = with(command, help(alloc))?;
@@ -144,15 +152,24 @@ fn options_in(alloc: Global, matches: &ArgMatches<'_>) -> Result<Options, Option
         free: is_set(matches, "free"),
         derive: is_set(matches, "derive"),
         seed: number(matches, "seed", 0, u64::MAX)?,
-        nodes: number(matches, "nodes", 0, MAX_NODES)?.unwrap_or(DEFAULT_NODES),
+        nodes: nodes(matches)?,
         learn: learning(matches)?,
         restart_after: RESTART_AFTER,
         keep: KEEP,
+        parameters: tuned(matches)?,
         progress: is_set(matches, "progress"),
         cert: certificate(alloc, matches, model.as_str(), &hints)?,
         model,
         hints,
     })
+}
+
+/// How many decisions may be made.
+fn nodes(matches: &ArgMatches<'_>) -> Result<u64, OptionsFault>
+    ensures said { IfOk result (SaysNumberOr (10 ^ 7) 0 (10 ^ 12) (first_of (codes "nodes") (rows_of (found_of matches.now)))) }
+    ensures fit { IfOk result (λ nodes. nodes ≤ 10 ^ 12) }
+{
+    Ok(number(matches, "nodes", 0, MAX_NODES)?.unwrap_or(DEFAULT_NODES))
 }
 
 /// Which clause is learned.

@@ -5,7 +5,7 @@ use Rattle.fzn_domain.specs.declared.literal.Lit.{Lit}
 use Rattle.fzn_meaning.specs.declared.constraint.Constraint.{Constraint}
 use Rattle.fzn_rules.specs.declared.rule.Rule.{Rule}
 use Rattle.fzn_trail.specs.Levels.{Levels}
-use Rattle.fzn_propagator.specs.declared.propagator.Inference.{Inference}
+use Rattle.fzn_cert.specs.declared.step.Inference.{Inference}
 use Rattle.fzn_propagator.specs.Clause.{IsJustified}
 use Rattle.fzn_propagator.specs.Inference.{HasWritableHints, IsNumberedInference, IsInferenceOf, AreFoundOf}
 

@@ -10,14 +10,14 @@ use Rattle.fzn_cert.specs.Spelling.{IsSpelled}
 use Rattle.fzn_domain.specs.Narrow.{AllFixed, IsClauseOver, IsWithin}
 use Rattle.fzn_trail.specs.Levels.{Levels}
 use Rattle.fzn_trail.specs.Unit.{IsFalseOrUnit}
-use Rattle.fzn_propagator.specs.declared.propagator.Inference.{Inference}
+use Rattle.fzn_cert.specs.declared.step.Inference.{Inference}
 
 -- the clause is justified by the rule
 pub record IsInferenceJustified (model : Model) (inference : Inference) : Type 0 where
   pub over : IsClauseOver (length model.vars) inference.clause
   pub numbered : IsConstraintNumber model inference.constraint
   pub justified : IsInferredBy model inference.constraint inference.rule inference.clause
-  pub spelled : IsSpelled One (Infer inference.constraint inference.rule inference.clause)
+  pub spelled : IsSpelled One (Infer inference)
 
 -- and is false or forces one literal on the trail
 pub record IsInference (model : Model) (trail : Levels) (inference : Inference) : Type 0 where

@@ -15,7 +15,7 @@ use Rattle.fzn_meaning.specs.declared.relation.Comparison.TheVariants.{AtMost}
 use Rattle.fzn_builtin_rules.specs.Linear.{least_sum, low_product, high_product}
 use Rattle.fzn_builtin_rules.specs.Form.{Form, form_of}
 use Rattle.fzn_trail.specs.Levels.{Levels}
-use Rattle.fzn_propagator.specs.declared.propagator.Inference.{Inference}
+pub use Rattle.fzn_cert.specs.declared.step.Inference.{Inference}
 use Rattle.fzn_propagator.specs.Barred.{LeavesNoBarred, IsToDiffer}
 use Rattle.fzn_propagator.specs.Clause.{IsJustified}
 

@@ -5,7 +5,7 @@ ghost use Rattle.fzn_meaning.specs.Solutions.{declared_sets};
 ghost use Rattle.fzn_trail.specs.Levels.{NoneEmpty};
 ghost use Rattle.fzn_propagator.specs.Constraints.{IsInference, IsQuiet};
 
-use crate::propagator::Inference;
+use fzn_cert::Inference;
 use fzn_domain::Memory;
 use fzn_meaning::Model;
 use fzn_trail::Trail;

@@ -5,7 +5,7 @@ ghost use Rattle.fzn_trail.specs.Levels.{Levels};
 ghost use Rattle.fzn_propagator.specs.Clause.{IsJustified};
 ghost use Rattle.fzn_propagator.specs.Inference.{HasWritableHints, AreFoundOf};
 
-use crate::propagator::Inference;
+use fzn_cert::Inference;
 use fzn_domain::{Lit, Memory};
 use fzn_list::Items;
 use fzn_rules::Rule;
@@ -21,7 +21,7 @@ pub struct Findings {
 
 impl Model for Findings {
     ghost use Rattle.std.specs.Prelude.{List};
-    ghost use Rattle.fzn_propagator.specs.declared.propagator.Inference.{Inference};
+    ghost use Rattle.fzn_cert.specs.declared.step.Inference.{Inference};
 
     ghost Value = { List Inference };
 

@@ -1,31 +1,21 @@
 // What every propagator promises.
-ghost use Rattle.std.specs.Prelude.{◌≡◌, ℕ, List, [], IfOk, OnOk};
+ghost use Rattle.std.specs.Prelude.{◌≡◌, ℕ, List, [], IfOk, IfSome, OnOk};
 ghost use Rattle.fzn_domain.specs.IntSet.{IntSet};
 ghost use Rattle.fzn_domain.specs.Narrow.{NoneEmpty};
 ghost use Rattle.fzn_meaning.specs.declared.constraint.Constraint.{Constraint};
 ghost use Rattle.fzn_propagator.specs.declared.cost.Cost.{Cost};
+ghost use Rattle.fzn_propagator.specs.declared.counting.Counting.{Counting};
 ghost use Rattle.fzn_propagator.specs.Inference.{AreInferencesOf, AreExhausted};
 ghost use Rattle.fzn_propagator.specs.Subscriptions.{terms_of, AreHeard};
 
+use crate::bounds::{Bounds, Shift};
 use crate::cost::Cost;
+use crate::counting::{Counting, Tally};
 use crate::findings::Findings;
 use crate::subscriptions::Subscriptions;
-use fzn_domain::{Lit, Memory};
-use fzn_list::Items;
-use fzn_rules::Rule;
+use fzn_domain::Memory;
 use fzn_trail::Trail;
 use std::alloc::Global;
-
-/// What a propagator found: a clause that the rule justifies from the constraint of this number.
-#[derive(Debug, Drop)]
-pub struct Inference {
-    /// From 1 up.
-    pub constraint: u64,
-    /// The test that it meets, with its hints.
-    pub rule: Rule,
-    /// False on the trail, but for at most one literal, which it forces.
-    pub clause: Items<Lit>,
-}
 
 /// What reasons for one constraint.
 pub trait Propagator {
@@ -41,6 +31,9 @@ pub trait Propagator {
     /// What it costs to ask it.
     ghost costs: { Self → Cost };
 
+    /// What it may begin to count with: one that says nothing of it counts nothing.
+    ghost counts: { Self → Counting → Type 0 } = { λ _ _. ⊥ };
+
     /// The changes of variables that can give it something new. It waits for some change of each variable of its constraint, so that
     /// no constraint is forgotten. `Err` where memory runs out.
     fn subscriptions(&self, alloc: Global) -> Result<Subscriptions, Memory>
@@ -51,8 +44,27 @@ pub trait Propagator {
     fn cost(&self) -> Cost
         ensures { result ≡ costs self.now };
 
-    /// Appends what one pass infers to `found`. Each inference is one of the trail as it stands, so that one may force what another has
-    /// forced. It answers `Err` where memory runs out; what was found up to then are inferences all the same.
+    /// What it counts between two calls, so that it need not be asked at each change that it waits for: it begins with this. `None` where it
+    /// counts nothing, and is asked at each. `Err` where memory runs out.
+    fn counting(&self, _alloc: Global) -> Result<Option<Counting>, Memory>
+        ensures counts { IfOk result (λ found. IfSome found (counts self.now)) }
+    {
+        Ok(None)
+    }
+
+    /// What it counts where it has counted this, and the bounds of a variable that counts by this weight have moved so.
+    fn count(&self, tally: Tally, _weight: i64, _shift: Shift) -> Tally {
+        tally
+    }
+
+    /// Whether a pass would find nothing, by what it counts and the bounds of the variables that are known, by their numbers less one. Then it
+    /// is not asked. It only chooses: where each variable has one value, all propagators are asked.
+    fn is_idle(&self, _tally: Tally, _bounds: &[Option<Bounds>]) -> bool {
+        false
+    }
+
+    /// Appends what one pass infers to `found`. The clause of each inference is false on the trail as it stands, but for at most one literal,
+    /// which it forces, so that one may force what another has forced. It answers `Err` where memory runs out; what was found up to then are inferences all the same.
     fn propagate(&self, alloc: Global, trail: &Trail, found: &mut Findings) -> Result<(), Memory>
         requires fits { fits self.now trail.now.declared }
         requires filled { NoneEmpty trail.now.sets }

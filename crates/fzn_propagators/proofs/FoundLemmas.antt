@@ -15,7 +15,7 @@ use Rattle.fzn_rules.specs.declared.rule.Rule.{Rule}
 use Rattle.fzn_rules.specs.Rules.{IsAcceptedBy}
 use Rattle.fzn_cert.specs.Accepted.{IsInferredBy}
 use Rattle.fzn_trail.specs.Levels.{Levels, IsNarrower}
-use Rattle.fzn_propagator.specs.declared.propagator.Inference.{Inference}
+use Rattle.fzn_cert.specs.declared.step.Inference.{Inference}
 use Rattle.fzn_propagator.specs.Inference.{IsInferenceOf, AreInferencesOf, AreExhausted, IsNumberedInference as IsFound}
 use Rattle.fzn_propagator.specs.Constraints.{IsInference, IsInferenceJustified, IsQuiet}
 use Rattle.fzn_propagators.specs.Propagators.{IsPropagatorOf, AreFor}

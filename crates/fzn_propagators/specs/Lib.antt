@@ -1,3 +1,2 @@
 pub mod Either
 pub mod Propagators
-pub mod Sums

@@ -1,6 +1,6 @@
 // A propagator of one kind or of another, which reasons for what that one does.
 use fzn_domain::Memory;
-use fzn_propagator::{Cost, Findings, Propagator, Subscriptions};
+use fzn_propagator::{Bounds, Cost, Counting, Findings, Propagator, Shift, Subscriptions, Tally};
 use fzn_trail::Trail;
 use std::alloc::Global;
 
@@ -24,6 +24,8 @@ impl<A: Propagator, B: Propagator> Propagator for Either<A, B> {
 
     ghost costs = { told_of_either A.costs B.costs };
 
+    ghost counts = { HoldsOfEither A.counts B.counts };
+
     fn subscriptions(&self, alloc: Global) -> Result<Subscriptions, Memory> {
         match self {
             Either::This(propagator) => propagator.subscriptions(alloc),
@@ -35,6 +37,27 @@ impl<A: Propagator, B: Propagator> Propagator for Either<A, B> {
         match self {
             Either::This(propagator) => propagator.cost(),
             Either::Other(propagator) => propagator.cost(),
+        }
+    }
+
+    fn counting(&self, alloc: Global) -> Result<Option<Counting>, Memory> {
+        match self {
+            Either::This(propagator) => propagator.counting(alloc),
+            Either::Other(propagator) => propagator.counting(alloc),
+        }
+    }
+
+    fn count(&self, tally: Tally, weight: i64, shift: Shift) -> Tally {
+        match self {
+            Either::This(propagator) => propagator.count(tally, weight, shift),
+            Either::Other(propagator) => propagator.count(tally, weight, shift),
+        }
+    }
+
+    fn is_idle(&self, tally: Tally, bounds: &[Option<Bounds>]) -> bool {
+        match self {
+            Either::This(propagator) => propagator.is_idle(tally, bounds),
+            Either::Other(propagator) => propagator.is_idle(tally, bounds),
         }
     }
 

@@ -4,8 +4,9 @@ ghost use Rattle.std.specs.List.{All};
 ghost use Rattle.fzn_propagator.specs.Constraints.{IsInference, IsInferenceJustified};
 ghost use Rattle.fzn_meaning.specs.Solutions.{declared_sets};
 
+use fzn_cert::Inference;
 use fzn_meaning::Model;
-use fzn_propagator::{Findings, Inference, is_forcing};
+use fzn_propagator::{Findings, is_forcing};
 use fzn_trail::Trail;
 
 /// Whether it is an inference of the trail as it stands.

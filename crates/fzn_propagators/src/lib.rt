@@ -4,8 +4,7 @@
 //! trail as it stands then; or none. A constraint has the propagator of the crate that reasons for it (`kinds.rt`); all else here is
 //! written for propagators of any type. The agenda of `fzn_agenda` says which propagator is asked next. It only chooses: where each
 //! variable has one value, all are asked. Proved against `specs/Propagators.antt`: `AreFor` says which propagators stand for a model, and
-//! the search's trait `Constraints` what they owe; `specs/Either.antt` says what holds of a propagator of one kind or of another, and
-//! `specs/Sums.antt` what is counted of it between two calls.
+//! the search's trait `Constraints` what they owe; `specs/Either.antt` says what holds of a propagator of one kind or of another.
 #![tactic(auto)]
 
 pub use either::Either;
@@ -16,4 +15,3 @@ mod either;
 mod forcing;
 mod kinds;
 mod propagators;
-mod sums;

@@ -11,11 +11,12 @@ ghost use Rattle.fzn_propagators.specs.Propagators.{AreFor, StandFor};
 
 use crate::forcing::take_forcing;
 use crate::kinds::AnyPropagator;
-use fzn_agenda::{Agenda, Counted};
+use fzn_agenda::Agenda;
+use fzn_cert::Inference;
 use fzn_domain::Memory;
 use fzn_list::Items;
 use fzn_meaning::Model;
-use fzn_propagator::{Constraints, Findings, Inference, Propagator};
+use fzn_propagator::{Constraints, Findings, Propagator};
 use fzn_trail::Trail;
 use std::alloc::Global;
 
@@ -39,7 +40,7 @@ pub struct Propagators<P = AnyPropagator> {
     agenda: Agenda,
 }
 
-impl<P: Complete + Counted + Drop> Propagators<P> {
+impl<P: Complete + Drop> Propagators<P> {
     /// Made once, before the search. It answers `Err` where memory runs out.
     pub fn new(alloc: Global, model: &Model) -> Result<Propagators<P>, Memory>
         requires model { IsWellFormed model.now }
@@ -112,7 +113,7 @@ impl<P: Propagator> Constraints for Propagators<P> {
             return Ok(Some(next));
         }
         let variables = model.vars.len();
-        self.agenda.look(trail, variables)?;
+        self.agenda.look(self.items.as_slice(), trail, variables)?;
         if let Some(found) = self.ask_queued(alloc, model, trail)? {
             return Ok(Some(found));
         }
@@ -128,7 +129,7 @@ impl<P: Propagator> Constraints for Propagators<P> {
     }
 
     fn rewind(&mut self, _model: &Model, entries: usize) {
-        if self.agenda.rewind(entries) {
+        if self.agenda.rewind(self.items.as_slice(), entries) {
             self.found.clear();
         }
     }

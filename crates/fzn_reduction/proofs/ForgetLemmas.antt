@@ -6,7 +6,8 @@ use Rattle.std.proofs.lemmas.List.{length-set, get_or-set_other}
 use Rattle.std.proofs.lemmas.List.Elements.{All-weaker}
 use Rattle.fzn_trail.specs.declared.trail.ClauseId.{ClauseId}
 use Rattle.fzn_trail.specs.declared.trail.Entry.{Entry}
-use Rattle.fzn_trail.specs.declared.trail.Reason.TheVariants.{Clause}
+use Rattle.fzn_trail.specs.declared.trail.Antecedent.TheVariants.{Clause}
+use Rattle.fzn_trail.specs.declared.trail.Reason.TheVariants.{Implied}
 use Rattle.fzn_trail.specs.Levels.{Levels}
 use Rattle.fzn_clauses.specs.declared.clauses.Clauses.{Clauses}
 use Rattle.fzn_clauses.specs.Held.{Held, IsHeld, at_number}
@@ -68,7 +69,7 @@ module _ {trail : Levels} {cuts : List Bool} where
   -- a clause without a flag is no reason
   pub unflagged-idle : (flags : List Bool) (id : ClauseId) → (id.0 < length flags) × (get_or flags id.0 false ≡ false) → AreFlagged flags trail → is_cut cuts id ≡ false → IsIdle trail cuts id
   unflagged-idle flags id (within, clear) flagged no_cut = record {
-    no_reason = All-weaker (λ (entry : Entry). IsFlagged flags entry.reason) (λ (entry : Entry). entry.reason ≢ Clause id)
+    no_reason = All-weaker (λ (entry : Entry). IsFlagged flags entry.reason) (λ (entry : Entry). entry.reason ≢ Implied (Clause id))
         (λ entry has same. false≢true (sym clear ∙ (subst (IsFlagged flags) same has) within)) trail.entries flagged;
     no_cut = no_cut;
   }

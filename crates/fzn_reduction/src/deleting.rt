@@ -1,11 +1,5 @@
 // When steps are deleted.
-use fzn_strategy::Learn;
-
-/// How many steps beyond those in use are written before some are deleted: as many as these, and so many more, but no more of the
-/// first than the last of the numbers.
-const IDLE: usize = 10_000;
-
-const MOST_IDLE: usize = 100_000;
+use fzn_strategy::{Learn, Parameters};
 
 /// When steps of the certificate are deleted: once many are written since, and after restarts that forget clauses.
 #[derive(Debug, Drop)]
@@ -16,14 +10,20 @@ pub struct Deleting {
     has_forgotten: bool,
     /// With how many steps that are not deleted some are.
     next: usize,
+    /// How many steps beyond those in use are written before some are deleted: as many as these, but no more than the second number, and so
+    /// many more as the first.
+    idle: usize,
+    idle_in_use: usize,
 }
 
 impl Deleting {
-    pub(crate) fn new(learn: Learn) -> Deleting {
+    pub(crate) fn new(learn: Learn, parameters: &Parameters) -> Deleting {
         Deleting {
             learn,
             has_forgotten: false,
-            next: IDLE,
+            next: parameters.idle_steps as usize,
+            idle: parameters.idle_steps as usize,
+            idle_in_use: parameters.idle_steps_in_use as usize,
         }
     }
 
@@ -45,7 +45,7 @@ impl Deleting {
     pub(crate) fn expect(&mut self, used: usize) {
         self.has_forgotten = false;
         self.next = used
-            .saturating_add(used.min(MOST_IDLE))
-            .saturating_add(IDLE);
+            .saturating_add(used.min(self.idle_in_use))
+            .saturating_add(self.idle);
     }
 }

@@ -13,9 +13,6 @@ use fzn_domain::Memory;
 use fzn_trail::{ClauseId, Trail};
 use std::alloc::Global;
 
-/// A clause of fewer literals may stand for an entry of level 0.
-const LONG: usize = 2;
-
 /// Forgets held clauses that are of little use, where there are many: none on which an entry of the trail rests, no cut, and none of one
 /// literal. What is left of them in the lists of watchers, of so many variables, goes too where it may be much.
 pub fn forget(
@@ -34,7 +31,8 @@ pub fn forget(
     let flags = reasons_on(alloc, trail, clauses.len())?;
     let are_reasons = flags.as_slice();
     let worst = notes.take_worst(alloc, are_reasons)?;
-    drop_idle(worst.as_slice(), LONG, are_reasons, cuts, clauses);
+    let least = notes.least_forgotten();
+    drop_idle(worst.as_slice(), least, are_reasons, cuts, clauses);
     if notes.stock.is_sweep_due(variables) {
         clauses.sweep();
     }

@@ -6,7 +6,7 @@ use crate::settling::Settling;
 use crate::stock::Stock;
 use fzn_conflict::Marks;
 use fzn_domain::Memory;
-use fzn_strategy::Learn;
+use fzn_strategy::{Learn, Parameters};
 use fzn_trail::ClauseId;
 use std::alloc::Global;
 
@@ -25,6 +25,8 @@ pub struct Notes {
     pub cited: Cited,
     /// What became of hints.
     pub hints: Hints,
+    /// The numbers that the search goes by.
+    pub parameters: Parameters,
     /// How many inferences are stacked when it is next looked which of them entries rest on.
     pub next_cut: usize,
     /// How many conflicts there were, at most 2^64 - 1.
@@ -34,16 +36,18 @@ pub struct Notes {
 }
 
 impl Notes {
-    /// Nothing is noted yet. A restart keeps so many learned clauses, the newest; between restarts those of the greatest literal block
-    /// distance are forgotten too, from 800 on. With `Plain` no learned clause is ever forgotten, and no step deleted.
-    pub fn new(alloc: Global, keep: u64, learn: Learn) -> Notes {
+    /// Nothing is noted yet. A restart keeps so many learned clauses, the newest, or the share of them that the parameters name; between
+    /// restarts those of the greatest literal block distance are forgotten too, from a number of the parameters on. With `Plain` no learned
+    /// clause is ever forgotten, and no step deleted.
+    pub fn new(alloc: Global, keep: u64, learn: Learn, parameters: Parameters) -> Notes {
         Notes {
             marks: Marks::new(alloc),
-            stock: Stock::new(alloc, keep, learn),
-            deleting: Deleting::new(learn),
-            settling: Settling::new(alloc),
+            stock: Stock::new(alloc, keep, learn, &parameters),
+            deleting: Deleting::new(learn, &parameters),
+            settling: Settling::new(alloc, &parameters),
             cited: Cited::new(alloc),
             hints: Hints::new(),
+            parameters,
             next_cut: 0,
             conflicts: 0,
             is_bound_due: false,
@@ -59,6 +63,12 @@ impl Notes {
     /// How many conflicts there were.
     pub fn conflicts(&self) -> u64 {
         self.conflicts
+    }
+
+    /// How many literals a clause has at least that is forgotten where there are many: one of a single literal may stand for an entry of
+    /// level 0.
+    pub(crate) fn least_forgotten(&self) -> usize {
+        self.parameters.forgotten_length.max(2) as usize
     }
 
     /// The search restarts.

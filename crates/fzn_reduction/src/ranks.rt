@@ -1,10 +1,8 @@
 // Which clauses are forgotten first. Nothing is promised of it: whoever forgets a clause asks whether it may be forgotten.
 use fzn_domain::Memory;
+use fzn_strategy::{Parameters, hundredths};
 use fzn_trail::ClauseId;
 use std::alloc::Global;
-
-/// So many are kept at most.
-const MOST: usize = 30_000;
 
 /// Clauses that may be forgotten, each with a rank and how far its number is from the end: the least of these pairs are kept longest.
 /// The newest clause stands last.
@@ -13,14 +11,20 @@ pub struct Ranks {
     ranks: Vec<(usize, u64)>,
     /// With how many of them some are forgotten.
     most: usize,
+    /// How many more are kept each time, in hundredths.
+    growth: u64,
+    /// How many are kept at most, however often some were forgotten.
+    last_most: usize,
 }
 
 impl Ranks {
     /// No clause; some are forgotten with more than so many.
-    pub fn new(alloc: Global, most: usize) -> Ranks {
+    pub fn new(alloc: Global, most: usize, parameters: &Parameters) -> Ranks {
         Ranks {
             ranks: Vec::new(alloc),
             most,
+            growth: parameters.learned_growth,
+            last_most: parameters.learned_last as usize,
         }
     }
 
@@ -35,8 +39,8 @@ impl Ranks {
         self.ranks.len() > self.most
     }
 
-    /// Adds the worse half of the clauses to the others, without reasons and the newest clause, where there are many. A tenth more are
-    /// kept from now on, up to a limit. It answers `Err` where memory runs out, and nothing is said then of the clauses that are kept.
+    /// Adds the worse half of the clauses to the others, without reasons and the newest clause, where there are many. Some more are kept
+    /// from now on, up to a limit. It answers `Err` where memory runs out, and nothing is said then of the clauses that are kept.
     pub fn take_worst(
         &mut self,
         alloc: Global,
@@ -46,7 +50,8 @@ impl Ranks {
         if !self.has_many() {
             return Ok(());
         }
-        self.most = self.most.saturating_add(self.most / 10).min(MOST);
+        let more = hundredths(self.most as u64, self.growth) as usize;
+        self.most = self.most.saturating_add(more).min(self.last_most);
         let newest = self.ranks.pop();
         self.ranks.sort_unstable();
         let half = self.ranks.len() / 2;

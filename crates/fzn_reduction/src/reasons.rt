@@ -3,7 +3,7 @@ ghost use Rattle.std.specs.Prelude.{IfOk};
 ghost use Rattle.fzn_reduction.specs.Forgetting.{IsFlagged, AreFlagged};
 
 use fzn_domain::Memory;
-use fzn_trail::{Reason, Trail};
+use fzn_trail::{Antecedent, Reason, Trail};
 use std::alloc::Global;
 
 /// For each of so many held clauses, by their numbers, whether an entry rests on it. It goes over the trail. It answers `Err` where memory
@@ -22,7 +22,7 @@ fn flag(flags: &mut Vec<bool>, reason: Reason)
     ensures flagged { IsFlagged flags.new.items reason }
     ensures kept { (other : Reason) → IsFlagged flags.old.items other → IsFlagged flags.new.items other }
 {
-    if let Reason::Clause(id) = reason {
+    if let Reason::Implied(Antecedent::Clause(id)) = reason {
         let k = id.0 as usize;
         if k < flags.len() {
             flags[k] = true;

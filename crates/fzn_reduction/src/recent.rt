@@ -1,12 +1,8 @@
 // Which clauses of inferences are forgotten first. Nothing is promised of it: whoever forgets a clause asks whether it may be forgotten.
 use fzn_domain::Memory;
+use fzn_strategy::{Parameters, hundredths};
 use fzn_trail::ClauseId;
 use std::alloc::Global;
-
-/// With how many clauses some are forgotten, at first and at last.
-const FIRST_MOST: usize = 3_000;
-
-const LAST_MOST: usize = 6_000;
 
 /// Clauses that may be forgotten, by their numbers, in the order in which they were held.
 #[derive(Drop)]
@@ -14,14 +10,20 @@ pub struct Recent {
     ids: Vec<ClauseId>,
     /// With more than so many some are forgotten.
     most: usize,
+    /// How many more are kept each time, in hundredths.
+    growth: u64,
+    /// How many are kept at most, however often some were forgotten.
+    last_most: usize,
 }
 
 impl Recent {
     /// No clause.
-    pub fn new(alloc: Global) -> Recent {
+    pub fn new(alloc: Global, parameters: &Parameters) -> Recent {
         Recent {
             ids: Vec::new(alloc),
-            most: FIRST_MOST,
+            most: parameters.inferred_first as usize,
+            growth: parameters.inferred_growth,
+            last_most: parameters.inferred_last as usize,
         }
     }
 
@@ -46,7 +48,8 @@ impl Recent {
         if !self.has_many() {
             return Ok(());
         }
-        self.most = self.most.saturating_add(self.most / 10).min(LAST_MOST);
+        let more = hundredths(self.most as u64, self.growth) as usize;
+        self.most = self.most.saturating_add(more).min(self.last_most);
         let half = self.ids.len() / 2;
         let mut kept = Vec::new(alloc);
         for i in 0..self.ids.len() {

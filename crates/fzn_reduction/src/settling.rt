@@ -1,13 +1,9 @@
 // When the entries of level 0 are settled, and which clauses stand for them.
 use fzn_conflict::Marks;
 use fzn_domain::Memory;
+use fzn_strategy::Parameters;
 use fzn_trail::ClauseId;
 use std::alloc::Global;
-
-/// How many entries of level 0 stand at least when they are settled: so many, and so many for each variable.
-const ENTRIES: usize = 16_384;
-
-const ENTRIES_EACH: usize = 8;
 
 /// When the entries of level 0 are settled, which makes the trail anew with one entry for each bound that is left.
 #[derive(Debug, Drop)]
@@ -18,22 +14,27 @@ pub struct Settling {
     next: usize,
     /// Whether they were since it was asked.
     is_settled: bool,
+    /// How many entries of level 0 stand at least when they are settled: so many, and so many for each variable.
+    entries: usize,
+    entries_each: usize,
 }
 
 impl Settling {
-    pub(crate) fn new(alloc: Global) -> Settling {
+    pub(crate) fn new(alloc: Global, parameters: &Parameters) -> Settling {
         Settling {
             units: Vec::new(alloc),
             next: 0,
             is_settled: false,
+            entries: parameters.settled_entries as usize,
+            entries_each: parameters.settled_entries_each as usize,
         }
     }
 
     /// Whether so many entries of level 0 are many beside so many variables, and beside those that the last settling left.
     pub fn has_many_entries(&self, entries: usize, variables: usize) -> bool {
         let most = variables
-            .saturating_mul(ENTRIES_EACH)
-            .saturating_add(ENTRIES);
+            .saturating_mul(self.entries_each)
+            .saturating_add(self.entries);
         entries >= most.max(self.next)
     }
 

@@ -8,12 +8,9 @@ use crate::ranks::Ranks;
 use crate::recent::Recent;
 use fzn_clauses::Clauses;
 use fzn_domain::Memory;
-use fzn_strategy::Learn;
+use fzn_strategy::{Learn, Parameters, hundredths};
 use fzn_trail::ClauseId;
 use std::alloc::Global;
-
-/// With more learned clauses than these some are forgotten, at first.
-const LEARNED: usize = 800;
 
 /// The clauses that may be forgotten, and how many are held and were. Each call that answers `Err` does so where memory runs out.
 #[derive(Drop)]
@@ -35,19 +32,20 @@ pub struct Stock {
 }
 
 impl Stock {
-    /// No clause. A restart keeps so many learned ones, the newest; with `Plain` none is ever forgotten.
-    pub(crate) fn new(alloc: Global, keep: u64, learn: Learn) -> Stock {
+    /// No clause. A restart keeps so many learned ones, the newest, or the share of them that the parameters name; with `Plain` none is ever
+    /// forgotten.
+    pub(crate) fn new(alloc: Global, keep: u64, learn: Learn, parameters: &Parameters) -> Stock {
         let most = match learn {
             Learn::Plain => usize::MAX,
-            Learn::First => LEARNED,
+            Learn::First => parameters.learned_first as usize,
         };
         Stock {
-            learned: Ranks::new(alloc, most),
-            inferred: Recent::new(alloc),
+            learned: Ranks::new(alloc, most, parameters),
+            inferred: Recent::new(alloc, parameters),
             free: Vec::new(alloc),
             held: 0,
             forgotten: 0,
-            keep: keep as usize,
+            keep: hundredths(keep, parameters.kept_at_restart) as usize,
             has_restarted: false,
         }
     }

@@ -7,7 +7,7 @@ use Rattle.fzn_list.specs.Limits.{longest}
 use Rattle.fzn_domain.specs.IntSet.{IntSet}
 use Rattle.fzn_domain.specs.Narrow.{IsWithin}
 use Rattle.fzn_meaning.specs.declared.constraint.Constraint.{Constraint}
-use Rattle.fzn_meaning.specs.Meaning.{Meets, IsWellFormed, HasBooleanSets}
+use Rattle.fzn_meaning.specs.Meaning.{Meets, IsWellFormedConstraint, HasBooleanSets}
 use Rattle.fzn_cited.specs.declared.fault.DeriveFault.{DeriveFault}
 use Rattle.fzn_cited.specs.declared.fault.DeriveFault.TheVariants.{NotDerived}
 use Rattle.fzn_cited.specs.Cited.{constraint_at}
@@ -32,7 +32,7 @@ all_back P xs ys all k d inside = subst P (get_or-append-add xs ys k d) (all (le
 empty-holds : (most : ℕ) (values : List ℤ) → RowHolds (row_of (empty most)) values
 empty-holds most values = exceeds-holds values (empty most) (pos 0) (record { unbarred = λ k d inside. absurd (omega arith); is = let e = total-nil values in omega (arith, ints) }) (omega (arith, ints))
 
-module _ (given : List Constraint) (declared : List IntSet) (values : List ℤ) (well : All (IsWellFormed (length declared)) given) (booleans : All (HasBooleanSets declared) given) (within : IsWithin declared values) where
+module _ (given : List Constraint) (declared : List IntSet) (values : List ℤ) (well : All (IsWellFormedConstraint (length declared)) given) (booleans : All (HasBooleanSets declared) given) (within : IsWithin declared values) where
   abbrev Kept : RowItem → Type 0
   Kept item = (before next : Draft) → RowHolds (row_of before) values → item_added given declared before item ≡ Ok next → RowHolds (row_of next) values
 

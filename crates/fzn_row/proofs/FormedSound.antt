@@ -17,7 +17,7 @@ use Rattle.fzn_meaning.specs.declared.constraint.Constraint.{Constraint}
 use Rattle.fzn_meaning.specs.declared.constraint.Constraint.TheVariants.{Element}
 use Rattle.fzn_meaning.specs.declared.row.Row.{Row}
 use Rattle.fzn_meaning.specs.Term.{IsTerm, IsPlace, number_in, numbers_in}
-use Rattle.fzn_meaning.specs.Meaning.{IsWellFormed, AreTerms}
+use Rattle.fzn_meaning.specs.Meaning.{IsWellFormedConstraint, AreTerms}
 use Rattle.fzn_meaning.specs.Separable.{IsSeparableRow}
 use Rattle.fzn_builtin_rules.specs.Form.{Form, Fits, form_of}
 use Rattle.fzn_builtin_rules.proofs.CallerLemmas.{form_fits}
@@ -64,7 +64,7 @@ module _ (count : ℕ) where
   maybe_form-formed multiplier None draft after fits formed is = absurd (no_error NotDerived after is)
   maybe_form-formed multiplier (Some found) draft after fits formed is = tested_form-formed multiplier found draft after (is_usable multiplier found) fits formed is
 
-  maybe_multiple-formed : (multiplier : ℤ) (o : Option Constraint) (draft after : Draft) → IfSome o (IsWellFormed count) → IsFormed count draft
+  maybe_multiple-formed : (multiplier : ℤ) (o : Option Constraint) (draft after : Draft) → IfSome o (IsWellFormedConstraint count) → IsFormed count draft
       → option_map_or (λ (c : Constraint). option_map_or (λ (found : Form). cond (is_usable multiplier found) (form_added multiplier draft found) (Err NotDerived)) (form_of c) (Err NotDerived)) o (Err NoSuchConstraint) ≡ Ok after
       → IsFormed count after
   maybe_multiple-formed multiplier None draft after well formed is = absurd (no_error NoSuchConstraint after is)
@@ -106,7 +106,7 @@ module _ (declared : List IntSet) (low : ℤ) (prices : List ℤ) where
   places-formed_with count c (Some places) draft after true test_is fit formed is = priced-formed count low prices (both_true (are_prices low prices) (has_each_price declared low prices c) test_is).0 places draft after fit.0 formed is
   places-formed_with count c (Some places) draft after false test_is fit formed is = absurd (no_error NotDerived after is)
 
-  maybe_prices-formed : (count : ℕ) (o : Option Constraint) (draft after : Draft) → IfSome o (IsWellFormed count) → IsFormed count draft
+  maybe_prices-formed : (count : ℕ) (o : Option Constraint) (draft after : Draft) → IfSome o (IsWellFormedConstraint count) → IsFormed count draft
       → option_map_or (λ (c : Constraint). option_map_or (λ (places : List Term). cond (are_prices low prices && has_each_price declared low prices c) (and_then (in_turn (price_added low prices) draft places) (λ next. with_bound (next.bound +ℤ most_cost (length places) prices) next)) (Err NotDerived)) (priced_places c) (Err NotDerived)) o (Err NoSuchConstraint) ≡ Ok after
       → IsFormed count after
   maybe_prices-formed count None draft after well formed is = absurd (no_error NoSuchConstraint after is)
@@ -126,12 +126,12 @@ module _ (count : ℕ) where
       list-formed count (without_part value draft) after (blank-put-formed count draft draft formed value value_fits) index (pos 1) (moved_from (pos 1) targets old part) index_fits (low_of (pos 1) (omega arith)) few is
   entries-formed var index value entries draft after false test index_fits value_fits formed is = absurd (no_error NotDerived after is)
 
-  element-formed : (var : VarId) (c : Constraint) (draft after : Draft) → IsWellFormed count c → IsFormed count draft → element_moved var draft c ≡ Ok after → IsFormed count after
-  unfolding IsWellFormed
+  element-formed : (var : VarId) (c : Constraint) (draft after : Draft) → IsWellFormedConstraint count c → IsFormed count draft → element_moved var draft c ≡ Ok after → IsFormed count after
+  unfolding IsWellFormedConstraint
   element-formed var (Element (Variable index) entries (Variable value)) draft after well formed is = entries-formed var index value entries draft after (nat_eq value.0 var.0 && are_targets entries) refl well.0 well.2 formed is
   element-formed var _ draft after well formed is = absurd (no_error NotDerived after is)
 
-  maybe_move-formed : (var : VarId) (o : Option Constraint) (draft after : Draft) → IfSome o (IsWellFormed count) → IsFormed count draft → option_map_or (element_moved var draft) o (Err NoSuchConstraint) ≡ Ok after → IsFormed count after
+  maybe_move-formed : (var : VarId) (o : Option Constraint) (draft after : Draft) → IfSome o (IsWellFormedConstraint count) → IsFormed count draft → option_map_or (element_moved var draft) o (Err NoSuchConstraint) ≡ Ok after → IsFormed count after
   maybe_move-formed var None draft after well formed is = absurd (no_error NoSuchConstraint after is)
   maybe_move-formed var (Some c) draft after well formed is = element-formed var c draft after well formed is
 
@@ -141,9 +141,9 @@ stated : (test : Bool) (made row : Row) → cond test (Ok made) (Err NotDerived)
 stated true made row is = (refl, cc)
 stated false made row is = absurd (cc)
 
-module _ (given : List Constraint) (declared : List IntSet) (well : All (IsWellFormed (length declared)) given) where
-  well_at : (id : ℕ) → IfSome (constraint_at given id) (IsWellFormed (length declared))
-  well_at id = each_at (IsWellFormed (length declared)) given id well
+module _ (given : List Constraint) (declared : List IntSet) (well : All (IsWellFormedConstraint (length declared)) given) where
+  well_at : (id : ℕ) → IfSome (constraint_at given id) (IsWellFormedConstraint (length declared))
+  well_at id = each_at (IsWellFormedConstraint (length declared)) given id well
 
   multiple-formed : (multiple : Multiple) (before next : Draft) → IsFormed (length declared) before → multiple_added given before multiple ≡ Ok next → IsFormed (length declared) next
   multiple-formed multiple before next formed is = maybe_multiple-formed (length declared) multiple.multiplier (constraint_at given multiple.constraint) before next (well_at multiple.constraint) formed is

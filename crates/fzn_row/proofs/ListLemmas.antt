@@ -12,7 +12,7 @@ use Rattle.fzn_meaning.specs.declared.row.Part.{Part}
 use Rattle.fzn_meaning.specs.Separable.{IsWithinLimit, IsPart}
 use Rattle.fzn_row.specs.Draft.{Draft, part_for, with_part, is_row_number}
 use Rattle.fzn_row.specs.Prices.{is_entry_within, with_list}
-use Rattle.fzn_row.specs.Room.{IsPlaceOf}
+use Rattle.fzn_row.specs.Room.{IsPlaceOfPart}
 use Rattle.fzn_row.proofs.PartLemmas.{var-part_for}
 use Rattle.fzn_row.proofs.PriceLemmas.{both_true}
 
@@ -26,7 +26,7 @@ le_false : (m n : ℕ) → n < m → nat_le m n ≡ false
 le_false m n h = grind (arith, nat_tests)
 
 pub with_list-is : (var : VarId) (draft : Draft) (low : ℤ) (entries : List (Option ℤ)) (after : List Part) (place : ℕ) (new : Part) (bound : ℤ) (left : ℕ)
-    → IsPlaceOf var draft.parts after place → length entries ≤ draft.left → list_all is_entry_within entries ≡ true → new ≡ listed_with (part_for var draft.parts) low entries → bound ≡ draft.bound → left ≡ draft.left - length entries
+    → IsPlaceOfPart var draft.parts after place → length entries ≤ draft.left → list_all is_entry_within entries ≡ true → new ≡ listed_with (part_for var draft.parts) low entries → bound ≡ draft.bound → left ≡ draft.left - length entries
     → with_list var draft low entries ≡ Ok (record { parts = set after place new; bound = bound; left = left })
 with_list-is var draft low entries after place new bound left there room within is bounds lefts =
     let parts : with_part (listed_with (part_for var draft.parts) low entries) draft.parts ≡ set after place new =

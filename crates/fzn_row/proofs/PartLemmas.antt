@@ -11,7 +11,7 @@ use Rattle.fzn_meaning.specs.declared.row.Part.{Part}
 use Rattle.fzn_meaning.specs.Separable.{IsCoefficient, IsWeightList, IsPart}
 use Rattle.fzn_cited.specs.declared.fault.DeriveFault.{DeriveFault}
 use Rattle.fzn_row.specs.Draft.{Draft, blank_part, part_for, with_part, is_coefficient, with_coefficient}
-use Rattle.fzn_row.specs.Room.{AreFound, IsAbsent, IsPlaceOf}
+use Rattle.fzn_row.specs.Room.{AreFound, IsAbsent, IsPlaceOfPart}
 
 -- the first part of the variable stands at this place
 pub record IsFirst (var : VarId) (parts : List Part) (place : ℕ) : Type 0 where
@@ -74,7 +74,7 @@ slot-absent var slots parts slot found is none k d inside same =
     let at : slot ≡ k = is ∙ sym (ap (λ (n : ℕ). get_or slots (n - 1) 0) same) ∙ there in
     none (omega arith) d (ap (λ (n : ℕ). (get_or parts n d).var.0) at ∙ same)
 
-pub place-found : (var : VarId) (parts : List Part) (place : ℕ) → IsFirst var parts place → IsPlaceOf var parts parts place
+pub place-found : (var : VarId) (parts : List Part) (place : ℕ) → IsFirst var parts place → IsPlaceOfPart var parts parts place
 place-found var parts place first = record {
   inside = first.inside;
   same =
@@ -86,7 +86,7 @@ place-found var parts place first = record {
   replaced = λ part of. sym (first-with_part part parts place (first_of_same part var parts place of first));
 }
 
-pub place-new : (var : VarId) (parts : List Part) → IsAbsent var parts → IsPlaceOf var parts (parts ++ blank_part var ∷ []) (length parts)
+pub place-new : (var : VarId) (parts : List Part) → IsAbsent var parts → IsPlaceOfPart var parts (parts ++ blank_part var ∷ []) (length parts)
 place-new var parts absent =
     let is = absent-part_for var parts absent in record {
       inside = rw (length_push parts (blank_part var)) (omega arith);
@@ -118,7 +118,7 @@ found-set slots parts place new inside same found = λ k part below is.
 
 -- what is written at the place of the variable's part is the draft with that part
 pub with_coefficient-is : (var : VarId) (draft : Draft) (after : List Part) (place : ℕ) (new : Part) (sum bound : ℤ) (left : ℕ)
-    → IsPlaceOf var draft.parts after place → is_coefficient sum ≡ true → new ≡ record (part_for var draft.parts) { coefficient = sum } → bound ≡ draft.bound → left ≡ draft.left
+    → IsPlaceOfPart var draft.parts after place → is_coefficient sum ≡ true → new ≡ record (part_for var draft.parts) { coefficient = sum } → bound ≡ draft.bound → left ≡ draft.left
     → with_coefficient var sum draft ≡ Ok (record { parts = set after place new; bound = bound; left = left })
 with_coefficient-is var draft after place new sum bound left there within is bounds lefts =
     let parts : with_part (record (part_for var draft.parts) { coefficient = sum }) draft.parts ≡ set after place new =

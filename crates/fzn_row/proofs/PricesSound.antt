@@ -19,7 +19,7 @@ use Rattle.fzn_meaning.specs.Term.{IsTerm, term_value, values_of}
 use Rattle.fzn_meaning.specs.AllDifferent.{IsAllDifferent}
 use Rattle.fzn_meaning.specs.Entries.{IsIndex, entry_at}
 use Rattle.fzn_meaning.specs.Inverse.{IsInverse}
-use Rattle.fzn_meaning.specs.Meaning.{Meets, IsWellFormed, AreTerms}
+use Rattle.fzn_meaning.specs.Meaning.{Meets, IsWellFormedConstraint, AreTerms}
 use Rattle.fzn_meaning.proofs.CallerLemmas.{circuit-different, length-values_of}
 use Rattle.fzn_domain.proofs.SetLemmas.{size_above_zero, least_le, le_greatest}
 use Rattle.fzn_cited.specs.declared.fault.DeriveFault.{DeriveFault}
@@ -37,8 +37,8 @@ use Rattle.fzn_row.proofs.ListLemmas.{listed_with}
 use Rattle.fzn_row.proofs.DraftSound.{some_of, part-weight, put-weight, Exceeds, exceeds-same, exceeds-holds, holds-exceeds, bound-exceeds, kept, no_error, then-both}
 use Rattle.fzn_row.proofs.CostLemmas.{HasPrice, cost_of, cost-most}
 
-pub places-formed : (count : ℕ) (c : Constraint) → IsWellFormed count c → IfSome (priced_places c) (AreTerms count)
-unfolding IsWellFormed
+pub places-formed : (count : ℕ) (c : Constraint) → IsWellFormedConstraint count c → IfSome (priced_places c) (AreTerms count)
+unfolding IsWellFormedConstraint
 places-formed count (AllDifferent places) well = well
 places-formed count (Circuit successors) well = well
 places-formed count (Inverse forward backward) well = well.0
@@ -222,9 +222,9 @@ indices-priced low count n xs test indices =
     let parts = both_true (int_eq low (pos 1)) (nat_eq count n) test in
     λ k d inside. index-priced low count n ((Decides-int_eq low (pos 1)).0 parts.0) (eqb-true count n parts.1) (get_or xs k d) (indices k d inside)
 
-places-spread : (declared : List IntSet) (values : List ℤ) (low : ℤ) (prices : List ℤ) (c : Constraint) → IsWithin declared values → IsWellFormed (length declared) c → Meets c values → has_each_price declared low prices c ≡ true
+places-spread : (declared : List IntSet) (values : List ℤ) (low : ℤ) (prices : List ℤ) (c : Constraint) → IsWithin declared values → IsWellFormedConstraint (length declared) c → Meets c values → has_each_price declared low prices c ≡ true
     → IfSome (priced_places c) (λ (places : List Term). AreSpread low (length prices) (values_of values places))
-unfolding Meets IsWellFormed
+unfolding Meets IsWellFormedConstraint
 places-spread declared values low prices (AllDifferent places) within well met test = (met, terms-priced declared values within low (length prices) places well.0 test)
 places-spread declared values low prices (Circuit successors) within well met test =
     let places = subst (λ (n : ℕ). All (IsIndex n) (values_of values successors)) (length-values_of values successors) met.places in
@@ -245,12 +245,12 @@ module _ (declared : List IntSet) (values : List ℤ) (within : IsWithin declare
       priced-sound values low prices places draft after there.0 there.1 before is
   places-sound c (Some places) draft after false test_is spread before is = absurd (no_error NotDerived after is)
 
-  constraint-sound : (o : Option Constraint) (draft after : Draft) → IfSome o (IsWellFormed (length declared)) → IfSome o (λ (c : Constraint). Meets c values) → RowHolds (row_of draft) values
+  constraint-sound : (o : Option Constraint) (draft after : Draft) → IfSome o (IsWellFormedConstraint (length declared)) → IfSome o (λ (c : Constraint). Meets c values) → RowHolds (row_of draft) values
       → option_map_or (λ (c : Constraint). option_map_or (λ (places : List Term). cond (are_prices low prices && has_each_price declared low prices c) (and_then (in_turn (price_added low prices) draft places) (λ next. with_bound (next.bound +ℤ most_cost (length places) prices) next)) (Err NotDerived)) (priced_places c) (Err NotDerived)) o (Err NoSuchConstraint) ≡ Ok after
       → RowHolds (row_of after) values
   constraint-sound None draft after well met before is = absurd (no_error NoSuchConstraint after is)
   constraint-sound (Some c) draft after well met before is =
       places-sound c (priced_places c) draft after _ refl (λ test. places-spread declared values low prices c within well met test) before is
 
-  pub prices-sound : (given : List Constraint) (id : ℕ) (draft after : Draft) → All (IsWellFormed (length declared)) given → IfSome (constraint_at given id) (λ (c : Constraint). Meets c values) → RowHolds (row_of draft) values → prices_added given declared draft id low prices ≡ Ok after → RowHolds (row_of after) values
-  prices-sound given id draft after well met before is = constraint-sound (constraint_at given id) draft after (each_at (IsWellFormed (length declared)) given id well) met before is
+  pub prices-sound : (given : List Constraint) (id : ℕ) (draft after : Draft) → All (IsWellFormedConstraint (length declared)) given → IfSome (constraint_at given id) (λ (c : Constraint). Meets c values) → RowHolds (row_of draft) values → prices_added given declared draft id low prices ≡ Ok after → RowHolds (row_of after) values
+  prices-sound given id draft after well met before is = constraint-sound (constraint_at given id) draft after (each_at (IsWellFormedConstraint (length declared)) given id well) met before is

@@ -28,7 +28,7 @@ pub record IsRoom (room : RowDeriver) : Type 0 where
   pub bound : IsWithinLimit room.bound
 
 -- at this place stands the part that the variable had, or a blank one where it had none; whatever replaces it replaces the variable's
-pub record IsPlaceOf (var : VarId) (before after : List Part) (place : ℕ) : Type 0 where
+pub record IsPlaceOfPart (var : VarId) (before after : List Part) (place : ℕ) : Type 0 where
   pub inside : place < length after
   pub same : after ≡ with_part (part_for var before) before
   pub here : (d : Part) → slice_index_or after place d ≡ part_for var before

@@ -1,7 +1,7 @@
 // Rows derived from constraints.
 ghost use Rattle.std.specs.Prelude.{◌≡◌, ◌⊎◌, length, IfOk, IfErr, OnOk, Ok, Err};
 ghost use Rattle.std.specs.List.{All};
-ghost use Rattle.fzn_meaning.specs.Meaning.{IsWellFormed};
+ghost use Rattle.fzn_meaning.specs.Meaning.{IsWellFormedConstraint};
 ghost use Rattle.fzn_meaning.specs.Solutions.{declared_sets};
 ghost use Rattle.fzn_cited.specs.declared.fault.DeriveFault.TheVariants.{Memory};
 ghost use Rattle.fzn_meaning.specs.Separable.{IsSeparableRow};
@@ -30,7 +30,7 @@ impl RowDeriver {
         most: usize,
     ) -> Result<Row, DeriveFault>
         requires room { room_size self.old ≡ length vars.now }
-        requires given { All (IsWellFormed (length vars.now)) given.now }
+        requires given { All (IsWellFormedConstraint (length vars.now)) given.now }
         ensures room { room_size self.new ≡ length vars.now }
         ensures derived { IfOk result (IsDerivedRow given.now (declared_sets vars.now) most items.now) }
         ensures formed { IfOk result (IsSeparableRow (length vars.now)) }
@@ -62,7 +62,7 @@ impl RowDeriver {
     ) -> Result<(), DeriveFault>
         requires room { IsRoom self.old }
         requires vars { length vars.now ≡ room_size self.old }
-        requires given { All (IsWellFormed (room_size self.old)) given.now }
+        requires given { All (IsWellFormedConstraint (room_size self.old)) given.now }
         ensures variables { room_size self.new ≡ room_size self.old }
         ensures room { IsRoom self.new }
         ensures ok { OnOk result (in_turn (item_added given.now (declared_sets vars.now)) (draft_of self.old) items.now ≡ Ok (draft_of self.new)) }
@@ -83,7 +83,7 @@ impl RowDeriver {
     ) -> Result<(), DeriveFault>
         requires room { IsRoom self.old }
         requires vars { length vars.now ≡ room_size self.old }
-        requires given { All (IsWellFormed (room_size self.old)) given.now }
+        requires given { All (IsWellFormedConstraint (room_size self.old)) given.now }
         ensures variables { room_size self.new ≡ room_size self.old }
         ensures room { IsRoom self.new }
         ensures ok { OnOk result (item_added given.now (declared_sets vars.now) (draft_of self.old) item.now ≡ Ok (draft_of self.new)) }

@@ -4,7 +4,7 @@ ghost use Rattle.std.specs.List.{All};
 ghost use Rattle.fzn_domain.specs.IntSet.{IntSet};
 ghost use Rattle.fzn_domain.specs.Narrow.{IsWithin};
 ghost use Rattle.fzn_meaning.specs.declared.constraint.Constraint.{Constraint};
-ghost use Rattle.fzn_meaning.specs.Meaning.{IsWellFormed, HasBooleanSets};
+ghost use Rattle.fzn_meaning.specs.Meaning.{IsWellFormedConstraint, HasBooleanSets};
 ghost use Rattle.fzn_cited.specs.declared.fault.DeriveFault.{DeriveFault};
 ghost use Rattle.fzn_cited.specs.Cited.{AreMet};
 ghost use Rattle.fzn_meaning.specs.declared.row.Row.{Row};
@@ -15,7 +15,7 @@ ghost use Rattle.fzn_row.specs.Derived.{all_cited, IsDerivedRow, IsRowFault};
 /// Values within the declared sets that meet the constraints that the items cite meet the row that they make.
 pub fn derived_row_holds()
     ensures { (given : List Constraint) (declared : List IntSet) (most : ℕ) (items : List RowItem) (row : Row) (values : List ℤ)
-        → All (IsWellFormed (length declared)) given → All (HasBooleanSets declared) given
+        → All (IsWellFormedConstraint (length declared)) given → All (HasBooleanSets declared) given
         → IsDerivedRow given declared most items row → IsWithin declared values
         → AreMet given (all_cited items) values
         → RowHolds row values }
@@ -24,7 +24,7 @@ pub fn derived_row_holds()
 /// The row that items make is one that a model may have.
 pub fn derived_row_is_formed()
     ensures { (given : List Constraint) (declared : List IntSet) (most : ℕ) (items : List RowItem) (row : Row)
-        → All (IsWellFormed (length declared)) given
+        → All (IsWellFormedConstraint (length declared)) given
         → IsDerivedRow given declared most items row
         → IsSeparableRow (length declared) row }
 {}

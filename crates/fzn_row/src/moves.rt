@@ -3,7 +3,7 @@ ghost use Rattle.std.specs.Prelude.{◌≡◌, ◌⊎◌, ℕ, ◌≤◌, true, 
 ghost use Rattle.std.specs.List.{All, list_all};
 ghost use Rattle.fzn_domain.specs.Narrow.{IsVariable};
 ghost use Rattle.fzn_meaning.specs.Term.{IsTerm, numbers_in};
-ghost use Rattle.fzn_meaning.specs.Meaning.{IsWellFormed};
+ghost use Rattle.fzn_meaning.specs.Meaning.{IsWellFormedConstraint};
 ghost use Rattle.fzn_cited.specs.declared.fault.DeriveFault.TheVariants.{Memory, NotDerived};
 ghost use Rattle.fzn_meaning.specs.Separable.{weight_at, IsWeightList, IsCoefficient};
 ghost use Rattle.fzn_row.specs.Draft.{blank_part, part_for, with_part};
@@ -32,7 +32,7 @@ impl RowDeriver {
         var: VarId,
     ) -> Result<(), DeriveFault>
         requires room { IsRoom self.old }
-        requires given { All (IsWellFormed (room_size self.old)) given.now }
+        requires given { All (IsWellFormedConstraint (room_size self.old)) given.now }
         ensures variables { room_size self.new ≡ room_size self.old }
         ensures room { IsRoom self.new }
         ensures ok { OnOk result (move_added given.now (draft_of self.old) id var ≡ Ok (draft_of self.new)) }
@@ -44,7 +44,7 @@ impl RowDeriver {
         self.move_by(alloc, var, constraint)
     }
 
-    #[tactic(auto, unfolding(fzn_meaning::specs::Meaning::IsWellFormed))]
+    #[tactic(auto, unfolding(fzn_meaning::specs::Meaning::IsWellFormedConstraint))]
     fn move_by(
         &mut self,
         alloc: Global,
@@ -52,7 +52,7 @@ impl RowDeriver {
         constraint: &Constraint,
     ) -> Result<(), DeriveFault>
         requires room { IsRoom self.old }
-        requires constraint { IsWellFormed (room_size self.old) constraint.now }
+        requires constraint { IsWellFormedConstraint (room_size self.old) constraint.now }
         ensures variables { room_size self.new ≡ room_size self.old }
         ensures room { IsRoom self.new }
         ensures ok { OnOk result (element_moved var (draft_of self.old) constraint.now ≡ Ok (draft_of self.new)) }

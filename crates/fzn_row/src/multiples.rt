@@ -4,7 +4,7 @@ ghost use Rattle.std.specs.List.{All};
 ghost use Rattle.fzn_list.specs.Limits.{longest};
 ghost use Rattle.fzn_domain.specs.Limits.{IsSmall};
 ghost use Rattle.fzn_meaning.specs.Term.{IsPlace};
-ghost use Rattle.fzn_meaning.specs.Meaning.{IsWellFormed};
+ghost use Rattle.fzn_meaning.specs.Meaning.{IsWellFormedConstraint};
 ghost use Rattle.fzn_builtin_rules.specs.Borrowed.{places_in, form_in};
 ghost use Rattle.fzn_builtin_rules.specs.Form.{Fits};
 ghost use Rattle.fzn_cited.specs.declared.fault.DeriveFault.TheVariants.{Memory};
@@ -28,7 +28,7 @@ impl RowDeriver {
         multiples: &[Multiple],
     ) -> Result<(), DeriveFault>
         requires room { IsRoom self.old }
-        requires given { All (IsWellFormed (room_size self.old)) given.now }
+        requires given { All (IsWellFormedConstraint (room_size self.old)) given.now }
         ensures variables { room_size self.new ≡ room_size self.old }
         ensures room { IsRoom self.new }
         ensures ok { OnOk result (in_turn (multiple_added given.now) (draft_of self.old) multiples.now ≡ Ok (draft_of self.new)) }
@@ -43,7 +43,7 @@ impl RowDeriver {
     /// Adds one of them.
     fn add_multiple(&mut self, given: &[Constraint], multiple: Multiple) -> Result<(), DeriveFault>
         requires room { IsRoom self.old }
-        requires given { All (IsWellFormed (room_size self.old)) given.now }
+        requires given { All (IsWellFormedConstraint (room_size self.old)) given.now }
         ensures variables { room_size self.new ≡ room_size self.old }
         ensures room { IsRoom self.new }
         ensures ok { OnOk result (multiple_added given.now (draft_of self.old) multiple ≡ Ok (draft_of self.new)) }

@@ -6,7 +6,7 @@ ghost use Rattle.fzn_list.specs.Limits.{longest};
 ghost use Rattle.fzn_domain.specs.Limits.{IsInLimits};
 ghost use Rattle.fzn_domain.specs.Narrow.{IsVariable};
 ghost use Rattle.fzn_meaning.specs.Term.{IsTerm};
-ghost use Rattle.fzn_meaning.specs.Meaning.{IsWellFormed};
+ghost use Rattle.fzn_meaning.specs.Meaning.{IsWellFormedConstraint};
 ghost use Rattle.fzn_meaning.specs.Solutions.{declared_sets};
 ghost use Rattle.fzn_cited.specs.declared.fault.DeriveFault.TheVariants.{Memory};
 ghost use Rattle.fzn_meaning.specs.Separable.{IsWeightList, IsWithinLimit};
@@ -43,7 +43,7 @@ impl RowDeriver {
     ) -> Result<(), DeriveFault>
         requires room { IsRoom self.old }
         requires vars { length vars.now ≡ room_size self.old }
-        requires given { All (IsWellFormed (room_size self.old)) given.now }
+        requires given { All (IsWellFormedConstraint (room_size self.old)) given.now }
         ensures variables { room_size self.new ≡ room_size self.old }
         ensures room { IsRoom self.new }
         ensures ok { OnOk result (prices_added given.now (declared_sets vars.now) (draft_of self.old) id low.now prices.now ≡ Ok (draft_of self.new)) }
@@ -276,9 +276,9 @@ fn priced_places(constraint: &Constraint) -> Option<&[Term]>
 }
 
 /// Whether each value that a place may have where the constraint is met has a price.
-#[tactic(auto, unfolding(fzn_meaning::specs::Meaning::IsWellFormed))]
+#[tactic(auto, unfolding(fzn_meaning::specs::Meaning::IsWellFormedConstraint))]
 fn has_each_price(vars: &[Var], low: &i64, prices: &[i64], constraint: &Constraint) -> bool
-    requires constraint { IsWellFormed (length vars.now) constraint.now }
+    requires constraint { IsWellFormedConstraint (length vars.now) constraint.now }
     requires prices { are_prices low.now prices.now ≡ true }
     ensures { result ≡ has_each_price (declared_sets vars.now) low.now prices.now constraint.now }
 {

@@ -3,7 +3,7 @@ ghost use Rattle.std.specs.Prelude.{◌≡◌, true, false, ◌⊎◌, ◌≤◌
 ghost use Rattle.fzn_domain.specs.Narrow.{IsVariable};
 ghost use Rattle.fzn_cited.specs.declared.fault.DeriveFault.TheVariants.{Memory, NotDerived};
 ghost use Rattle.fzn_row.specs.Draft.{is_number_within, part_for, with_bound, with_coefficient};
-ghost use Rattle.fzn_row.specs.Room.{draft_of, room_size, IsRoom, IsPlaceOf, IsAbsent};
+ghost use Rattle.fzn_row.specs.Room.{draft_of, room_size, IsRoom, IsPlaceOfPart, IsAbsent};
 
 use fzn_cited::DeriveFault;
 use fzn_domain::VarId;
@@ -52,7 +52,7 @@ impl RowDeriver {
         requires room { IsRoom self.old }
         ensures room { IsRoom self.new }
         ensures variables { room_size self.new ≡ room_size self.old }
-        ensures place { IfOk result (IsPlaceOf var self.old.parts.items self.new.parts.items) }
+        ensures place { IfOk result (IsPlaceOfPart var self.old.parts.items self.new.parts.items) }
         ensures bound { self.new.bound ≡ self.old.bound }
         ensures left { self.new.left ≡ self.old.left }
     {
@@ -70,7 +70,7 @@ impl RowDeriver {
         requires none { IsAbsent var self.old.parts.items }
         ensures room { IsRoom self.new }
         ensures variables { room_size self.new ≡ room_size self.old }
-        ensures place { IfOk result (IsPlaceOf var self.old.parts.items self.new.parts.items) }
+        ensures place { IfOk result (IsPlaceOfPart var self.old.parts.items self.new.parts.items) }
         ensures bound { self.new.bound ≡ self.old.bound }
         ensures left { self.new.left ≡ self.old.left }
     {

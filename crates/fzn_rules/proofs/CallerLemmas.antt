@@ -11,21 +11,21 @@ use Rattle.fzn_domain.specs.Narrow.{IsVariable, IsClauseOver, IsWithin, set_of, 
 use Rattle.fzn_domain.proofs.SetLemmas.{size-kept_le}
 use Rattle.fzn_domain.proofs.NarrowLemmas.{IsWithin-denied, none_empty, length-narrowed, length-denied, other_set-narrowed}
 use Rattle.fzn_meaning.specs.declared.constraint.Constraint.{Constraint}
-use Rattle.fzn_meaning.specs.Meaning.{Meets, IsWellFormed, HasBooleanValues}
+use Rattle.fzn_meaning.specs.Meaning.{Meets, IsWellFormedConstraint, HasBooleanValues}
 use Rattle.fzn_rules.specs.declared.rule.Rule.{Rule}
 use Rattle.fzn_rules.specs.Rules.{IsAcceptedBy}
 use Rattle.fzn_rules.proofs.RuleSound.{rule_sound}
 use Rattle.fzn_sets.proofs.CallerLemmas.{nonempty_at}
 
 -- A clause that is accepted from a constraint is true at each assignment within the declared sets that meets the constraint.
-pub accepted_by_sound : (constraint : Constraint) (rule : Rule) (declared : List IntSet) (clause : List Lit) → IsWellFormed (length declared) constraint → IsClauseOver (length declared) clause → IsAcceptedBy constraint rule declared clause → (assignment : List ℤ) → IsWithin declared assignment → HasBooleanValues assignment constraint → Meets constraint assignment → is_clause_true assignment clause ≡ true
+pub accepted_by_sound : (constraint : Constraint) (rule : Rule) (declared : List IntSet) (clause : List Lit) → IsWellFormedConstraint (length declared) constraint → IsClauseOver (length declared) clause → IsAcceptedBy constraint rule declared clause → (assignment : List ℤ) → IsWithin declared assignment → HasBooleanValues assignment constraint → Meets constraint assignment → is_clause_true assignment clause ≡ true
 accepted_by_sound constraint rule declared clause formed over accepted assignment within bits met = elim (cases_Bool (is_clause_true assignment clause)) [
   | inl holds ↦ holds
   | inr fails ↦
       let inside = IsWithin-denied assignment clause declared over within fails in
       elim accepted [
         | inl empty ↦ absurd (true≢false (sym empty ∙ none_empty (denied declared clause) assignment inside))
-        | inr refuted ↦ absurd (rule_sound constraint (denied declared clause) rule assignment (subst (λ (n : ℕ). IsWellFormed n constraint) (sym (length-denied clause declared)) formed) refuted inside bits met)
+        | inr refuted ↦ absurd (rule_sound constraint (denied declared clause) rule assignment (subst (λ (n : ℕ). IsWellFormedConstraint n constraint) (sym (length-denied clause declared)) formed) refuted inside bits met)
       ]
 ]
 

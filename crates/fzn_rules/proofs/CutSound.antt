@@ -10,7 +10,7 @@ use Rattle.fzn_meaning.specs.declared.constraint.Constraint.TheVariants.{Circuit
 use Rattle.fzn_meaning.specs.Circuit.{IsCircuit}
 use Rattle.fzn_meaning.specs.Entries.{IsIndex, entry_at}
 use Rattle.fzn_meaning.specs.Term.{values_of, IsTerm}
-use Rattle.fzn_meaning.specs.Meaning.{Meets, IsWellFormed}
+use Rattle.fzn_meaning.specs.Meaning.{Meets, IsWellFormedConstraint}
 use Rattle.fzn_meaning.proofs.CallerLemmas.{circuit-no_cut}
 use Rattle.fzn_sets.specs.Terms.{term_at}
 use Rattle.fzn_rules.specs.Cut.{LeadsInto, IsClosed, IsCutMet}
@@ -36,7 +36,7 @@ closed_sound sets values successors places terms met within circuit =
     (λ x at. circuit-no_cut (Contains places) (values_of values successors) circuit (stays sets values successors places terms met within) (get_or places 0 (pos 0)) (same (get_or places 0 (pos 0)) index) there x (same x at)) in
     omega (arith, met.not_all)
 
-pub cut_sound : (constraint : Constraint) (sets : List IntSet) (places values : List ℤ) → IsWellFormed (length sets) constraint → IsCutMet constraint sets places → IsWithin sets values → Meets constraint values → ⊥
-unfolding IsCutMet IsWellFormed Meets
+pub cut_sound : (constraint : Constraint) (sets : List IntSet) (places values : List ℤ) → IsWellFormedConstraint (length sets) constraint → IsCutMet constraint sets places → IsWithin sets values → Meets constraint values → ⊥
+unfolding IsCutMet IsWellFormedConstraint Meets
 cut_sound (Circuit successors) sets places values formed met within meets = closed_sound sets values successors places formed.0 met within meets
 cut_sound _ sets places values formed met within meets = met

@@ -14,7 +14,7 @@ use Rattle.fzn_meaning.specs.Entries.{IsIndex}
 use Rattle.fzn_meaning.specs.Table.{IsTable}
 use Rattle.fzn_meaning.specs.Cumulative.{NoneNegative}
 use Rattle.fzn_meaning.specs.Term.{term_value, values_of, IsTerm}
-use Rattle.fzn_meaning.specs.Meaning.{Meets, IsWellFormed}
+use Rattle.fzn_meaning.specs.Meaning.{Meets, IsWellFormedConstraint}
 use Rattle.fzn_rules.specs.GlobalRows.{AreRowsOut, HasNoIndex, IsBelowZero, IsGlobalRowsMet}
 use Rattle.fzn_sets.proofs.CallerLemmas.{MayBe-term_value, length-values_of, term_between}
 
@@ -53,8 +53,8 @@ some_below_zero_sound sets values terms (k, term, below, is, negative) within no
     let value : get_or (values_of values terms) k (pos 0) ≡ term_value values term = value_at values terms k ∙ ap (term_value values) here in
     below_zero_sound sets values term negative within (subst (λ x. pos 0 ≤ℤ x) value (none k (pos 0) (omega arith)))
 
-pub global_rows_sound : (constraint : Constraint) (sets : List IntSet) (values : List ℤ) → IsWellFormed (length sets) constraint → IsGlobalRowsMet constraint sets → IsWithin sets values → Meets constraint values → ⊥
-unfolding IsGlobalRowsMet IsWellFormed Meets
+pub global_rows_sound : (constraint : Constraint) (sets : List IntSet) (values : List ℤ) → IsWellFormedConstraint (length sets) constraint → IsGlobalRowsMet constraint sets → IsWithin sets values → Meets constraint values → ⊥
+unfolding IsGlobalRowsMet IsWellFormedConstraint Meets
 global_rows_sound (Table places rows) sets values formed met within meets = table_sound sets values places rows formed.0.0 met within meets
 global_rows_sound (Circuit successors) sets values formed met within meets = no_index_sound sets values successors formed.0 met within meets.places
 global_rows_sound (Inverse forward backward) sets values formed met within meets = elim met [

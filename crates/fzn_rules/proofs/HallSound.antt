@@ -10,7 +10,7 @@ use Rattle.fzn_meaning.specs.declared.constraint.Constraint.{Constraint}
 use Rattle.fzn_meaning.specs.declared.constraint.Constraint.TheVariants.{AllDifferent, Circuit, Inverse}
 use Rattle.fzn_meaning.specs.Term.{term_value, values_of}
 use Rattle.fzn_meaning.specs.AllDifferent.{IsAllDifferent}
-use Rattle.fzn_meaning.specs.Meaning.{Meets, IsWellFormed}
+use Rattle.fzn_meaning.specs.Meaning.{Meets, IsWellFormedConstraint}
 use Rattle.fzn_meaning.proofs.CallerLemmas.{circuit-different}
 use Rattle.fzn_sets.specs.Terms.{least_value, greatest_value}
 use Rattle.fzn_rules.specs.Hall.{lies_within, HasExcess, IsHallMet}
@@ -41,8 +41,8 @@ excess_sound sets values low high places met within different =
     let most = different-from_to low high (values_of values places) different met.in_order in
     omega (arith, ints, met.excess)
 
-pub hall_sound : (constraint : Constraint) (sets : List IntSet) (low high : ℤ) (values : List ℤ) → IsWellFormed (length sets) constraint → IsHallMet constraint sets low high → IsWithin sets values → Meets constraint values → ⊥
-unfolding IsHallMet IsWellFormed Meets
+pub hall_sound : (constraint : Constraint) (sets : List IntSet) (low high : ℤ) (values : List ℤ) → IsWellFormedConstraint (length sets) constraint → IsHallMet constraint sets low high → IsWithin sets values → Meets constraint values → ⊥
+unfolding IsHallMet IsWellFormedConstraint Meets
 hall_sound (AllDifferent places) sets low high values formed met within meets = excess_sound sets values low high places met within meets
 hall_sound (Circuit successors) sets low high values formed met within meets = excess_sound sets values low high successors met within (circuit-different (values_of values successors) meets)
 hall_sound (Inverse forward backward) sets low high values formed met within meets =

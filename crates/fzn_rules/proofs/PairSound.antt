@@ -9,7 +9,7 @@ use Rattle.fzn_meaning.specs.declared.constraint.Constraint.TheVariants.{Inverse
 use Rattle.fzn_meaning.specs.Entries.{IsIndex, entry_at}
 use Rattle.fzn_meaning.specs.Inverse.{IsInverse}
 use Rattle.fzn_meaning.specs.Term.{values_of, IsTerm}
-use Rattle.fzn_meaning.specs.Meaning.{Meets, IsWellFormed}
+use Rattle.fzn_meaning.specs.Meaning.{Meets, IsWellFormedConstraint}
 use Rattle.fzn_sets.specs.Terms.{MayBe, term_at}
 use Rattle.fzn_rules.specs.Pair.{IsBroken, IsPairMet}
 use Rattle.fzn_rules.proofs.PlacesLemmas.{inverse-flip}
@@ -25,8 +25,8 @@ broken_sound sets values i j there back terms at_i at_j broken within inverse =
     let returns : entry_at (values_of values back) j ≡ i = (inverse.inverse i j (same_index values there i at_i) (same_index values back j at_j)).0 goes in
     broken.1 (subst (MayBe sets (term_at back j)) returns (MayBe-entry_at sets values back j within terms at_j))
 
-pub pair_sound : (constraint : Constraint) (sets : List IntSet) (i j : ℤ) (values : List ℤ) → IsWellFormed (length sets) constraint → IsPairMet constraint sets i j → IsWithin sets values → Meets constraint values → ⊥
-unfolding IsPairMet IsWellFormed Meets
+pub pair_sound : (constraint : Constraint) (sets : List IntSet) (i j : ℤ) (values : List ℤ) → IsWellFormedConstraint (length sets) constraint → IsPairMet constraint sets i j → IsWithin sets values → Meets constraint values → ⊥
+unfolding IsPairMet IsWellFormedConstraint Meets
 pair_sound (Inverse forward backward) sets i j values formed met within meets = elim met.broken [
   | inl broken ↦ broken_sound sets values i j forward backward formed.1.0 met.first met.second broken within meets
   | inr broken ↦ broken_sound sets values j i backward forward formed.0.0 met.second met.first broken within (inverse-flip (values_of values forward) (values_of values backward) meets)

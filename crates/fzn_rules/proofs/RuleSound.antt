@@ -3,7 +3,7 @@ use Rattle.std.proofs.Common.{List, ℤ, length, inl, inr}
 use Rattle.fzn_domain.specs.IntSet.{IntSet}
 use Rattle.fzn_domain.specs.Narrow.{IsWithin}
 use Rattle.fzn_meaning.specs.declared.constraint.Constraint.{Constraint}
-use Rattle.fzn_meaning.specs.Meaning.{Meets, IsWellFormed, HasBooleanValues}
+use Rattle.fzn_meaning.specs.Meaning.{Meets, IsWellFormedConstraint, HasBooleanValues}
 use Rattle.fzn_rules.specs.declared.rule.Rule.{Rule}
 use Rattle.fzn_rules.specs.declared.rule.Rule.TheVariants.{Lin, Rows, Box, Fixed, Enum, Hall, Load, Energy, Cut, Pair, Row}
 use Rattle.fzn_rules.specs.Rules.{IsMet}
@@ -16,7 +16,7 @@ use Rattle.fzn_rules.proofs.LoadSound.{load_sound}
 use Rattle.fzn_rules.proofs.PairSound.{pair_sound}
 use Rattle.fzn_rules.proofs.SeparableSound.{row_sound}
 
-pub rule_sound : (constraint : Constraint) (sets : List IntSet) (rule : Rule) (values : List ℤ) → IsWellFormed (length sets) constraint → IsMet constraint sets rule → IsWithin sets values → HasBooleanValues values constraint → Meets constraint values → ⊥
+pub rule_sound : (constraint : Constraint) (sets : List IntSet) (rule : Rule) (values : List ℤ) → IsWellFormedConstraint (length sets) constraint → IsMet constraint sets rule → IsWithin sets values → HasBooleanValues values constraint → Meets constraint values → ⊥
 unfolding IsMet
 rule_sound constraint sets Lin values formed rule within bits met = lin_sound constraint sets values rule within bits met
 rule_sound constraint sets Rows values formed rule within bits met = elim rule [

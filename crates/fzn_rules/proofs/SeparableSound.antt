@@ -9,7 +9,7 @@ use Rattle.fzn_meaning.specs.declared.row.Part.{Part}
 use Rattle.fzn_meaning.specs.declared.row.Row.{Row}
 use Rattle.fzn_meaning.specs.declared.constraint.Constraint.{Constraint}
 use Rattle.fzn_meaning.specs.declared.constraint.Constraint.TheVariants as kind
-use Rattle.fzn_meaning.specs.Meaning.{Meets, IsWellFormed}
+use Rattle.fzn_meaning.specs.Meaning.{Meets, IsWellFormedConstraint}
 use Rattle.fzn_meaning.specs.Separable.{weight_of, total_weight, IsPart, RowHolds}
 use Rattle.fzn_rules.specs.Separable.{IsLeastOf, IsLeastWeight, IsLeastTotal, IsSeparableMet, IsRowMet}
 
@@ -84,8 +84,8 @@ module _ (sets : List IntSet) (values : List ℤ) (within : IsWithin sets values
         omega (arith, ints, least, above.2, holds.most)
   ]
 
-pub row_sound : (constraint : Constraint) (sets : List IntSet) (values : List ℤ) → IsWellFormed (length sets) constraint → IsRowMet constraint sets → IsWithin sets values → Meets constraint values → ⊥
-unfolding IsWellFormed Meets
+pub row_sound : (constraint : Constraint) (sets : List IntSet) (values : List ℤ) → IsWellFormedConstraint (length sets) constraint → IsRowMet constraint sets → IsWithin sets values → Meets constraint values → ⊥
+unfolding IsWellFormedConstraint Meets
 row_sound (kind.Row row) sets values formed met within holds = separable_sound sets values within row formed.parts met holds
 row_sound _ sets values formed met within holds = met
 

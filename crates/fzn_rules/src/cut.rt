@@ -5,7 +5,7 @@ ghost use Rattle.fzn_domain.specs.Ascending.{IsAscending};
 ghost use Rattle.fzn_domain.specs.Limits.{IsInLimits};
 ghost use Rattle.fzn_meaning.specs.Entries.{IsIndex};
 ghost use Rattle.fzn_meaning.specs.Term.{IsTerm};
-ghost use Rattle.fzn_meaning.specs.Meaning.{IsWellFormed};
+ghost use Rattle.fzn_meaning.specs.Meaning.{IsWellFormedConstraint};
 ghost use Rattle.fzn_rules.specs.Cut.{LeadsInto, IsClosed, IsCutMet};
 ghost use Rattle.fzn_rules.specs.Runs.{HasAll, HasRun};
 ghost use Rattle.fzn_sets.specs.Terms.{term_at};
@@ -16,9 +16,9 @@ use fzn_sets::{Sets, is_index, term_at};
 
 /// Whether the places, in rising order, are some of a circuit's places, counted from 1, but not all, and lead only to one another. It looks
 /// for each run of values of their successors once. `false` for any other constraint.
-#[tactic(auto, unfolding(crate::specs::Cut::IsCutMet, fzn_meaning::specs::Meaning::IsWellFormed))]
+#[tactic(auto, unfolding(crate::specs::Cut::IsCutMet, fzn_meaning::specs::Meaning::IsWellFormedConstraint))]
 pub fn is_cut_met(constraint: &Constraint, sets: &Sets, places: &[i64]) -> bool
-    requires { IsWellFormed (length sets.now.present) constraint.now }
+    requires { IsWellFormedConstraint (length sets.now.present) constraint.now }
     ensures { IsTrue result ↔ IsCutMet constraint.now sets.now.present places.now }
 {
     match constraint {

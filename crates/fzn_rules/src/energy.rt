@@ -5,7 +5,7 @@ ghost use Rattle.fzn_domain.specs.Limits.{IsInLimits, IsSmall};
 ghost use Rattle.fzn_domain.specs.Narrow.{is_some_empty};
 ghost use Rattle.fzn_list.specs.Limits.{longest};
 ghost use Rattle.fzn_meaning.specs.Term.{IsTerm};
-ghost use Rattle.fzn_meaning.specs.Meaning.{IsWellFormed};
+ghost use Rattle.fzn_meaning.specs.Meaning.{IsWellFormedConstraint};
 ghost use Rattle.fzn_sets.specs.Terms.{greatest_value};
 ghost use Rattle.fzn_rules.specs.Tasks.{task_terms, sum_over, IsTask};
 ghost use Rattle.fzn_rules.specs.Energy.{overlap, least_overlap, least_energy, HasOverload, IsEnergyMet};
@@ -16,9 +16,9 @@ use fzn_sets::{Sets, greatest_value, least_value};
 
 /// Whether the first time is before the second, and the tasks of a cumulative, wherever they start, use more between the two than the
 /// capacity gives. It looks at each task once. No set may be empty. `false` for any other constraint.
-#[tactic(auto, unfolding(crate::specs::Energy::IsEnergyMet, fzn_meaning::specs::Meaning::IsWellFormed))]
+#[tactic(auto, unfolding(crate::specs::Energy::IsEnergyMet, fzn_meaning::specs::Meaning::IsWellFormedConstraint))]
 pub fn is_energy_met(constraint: &Constraint, sets: &Sets, from: &i64, until: &i64) -> bool
-    requires constraint { IsWellFormed (length sets.now.present) constraint.now }
+    requires constraint { IsWellFormedConstraint (length sets.now.present) constraint.now }
     requires nonempty { is_some_empty sets.now.present ≡ false }
     ensures { IsTrue result ↔ IsEnergyMet constraint.now sets.now.present from.now until.now }
 {

@@ -3,7 +3,7 @@ ghost use Rattle.std.specs.Prelude.{◌≡◌, ◌↔◌, ◌+◌, ◌*◌, ◌<
 ghost use Rattle.std.specs.List.{All, Any};
 ghost use Rattle.fzn_domain.specs.Narrow.{is_some_empty};
 ghost use Rattle.fzn_meaning.specs.Term.{IsTerm, numbers_in};
-ghost use Rattle.fzn_meaning.specs.Meaning.{IsWellFormed};
+ghost use Rattle.fzn_meaning.specs.Meaning.{IsWellFormedConstraint};
 ghost use Rattle.fzn_rules.specs.GlobalRows.{IsRowOut, AreRowsOut, HasNoIndex, IsBelowZero, HasAmountBelowZero, IsGlobalRowsMet};
 
 use fzn_meaning::{Constraint, Term};
@@ -11,9 +11,9 @@ use fzn_sets::{Sets, greatest_value, is_index, may_be};
 
 /// Whether the sets leave no row of a table, no index for an entry of a circuit or of inverse lists, or only amounts below 0. It looks
 /// at each number of a table once, and at each term of the others. No set may be empty. `false` for any other constraint.
-#[tactic(auto, unfolding(crate::specs::GlobalRows::IsGlobalRowsMet, fzn_meaning::specs::Meaning::IsWellFormed))]
+#[tactic(auto, unfolding(crate::specs::GlobalRows::IsGlobalRowsMet, fzn_meaning::specs::Meaning::IsWellFormedConstraint))]
 pub fn is_global_rows_met(constraint: &Constraint, sets: &Sets) -> bool
-    requires constraint { IsWellFormed (length sets.now.present) constraint.now }
+    requires constraint { IsWellFormedConstraint (length sets.now.present) constraint.now }
     requires nonempty { is_some_empty sets.now.present ≡ false }
     ensures { IsTrue result ↔ IsGlobalRowsMet constraint.now sets.now.present }
 {

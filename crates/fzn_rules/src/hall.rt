@@ -3,7 +3,7 @@ ghost use Rattle.std.specs.Prelude.{◌≡◌, ◌↔◌, IsTrue, false, length}
 ghost use Rattle.std.specs.List.{All, count_by};
 ghost use Rattle.fzn_domain.specs.Narrow.{is_some_empty};
 ghost use Rattle.fzn_meaning.specs.Term.{IsTerm};
-ghost use Rattle.fzn_meaning.specs.Meaning.{IsWellFormed};
+ghost use Rattle.fzn_meaning.specs.Meaning.{IsWellFormedConstraint};
 ghost use Rattle.fzn_rules.specs.Hall.{lies_within, HasExcess, IsHallMet};
 
 use fzn_meaning::{Constraint, Term};
@@ -11,9 +11,9 @@ use fzn_sets::{Sets, greatest_value, least_value};
 
 /// Whether more places than there are numbers from low to high have their sets within them: places of an all different, of a circuit, or of
 /// one list of an inverse. It looks at each place once. No set may be empty. `false` for any other constraint.
-#[tactic(auto, unfolding(crate::specs::Hall::IsHallMet, fzn_meaning::specs::Meaning::IsWellFormed))]
+#[tactic(auto, unfolding(crate::specs::Hall::IsHallMet, fzn_meaning::specs::Meaning::IsWellFormedConstraint))]
 pub fn is_hall_met(constraint: &Constraint, sets: &Sets, low: &i64, high: &i64) -> bool
-    requires constraint { IsWellFormed (length sets.now.present) constraint.now }
+    requires constraint { IsWellFormedConstraint (length sets.now.present) constraint.now }
     requires nonempty { is_some_empty sets.now.present ≡ false }
     ensures { IsTrue result ↔ IsHallMet constraint.now sets.now.present low.now high.now }
 {

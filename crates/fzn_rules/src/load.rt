@@ -5,7 +5,7 @@ ghost use Rattle.fzn_domain.specs.Narrow.{is_some_empty};
 ghost use Rattle.fzn_list.specs.Limits.{longest};
 ghost use Rattle.fzn_domain.specs.declared.domain.TheConstants.{GREATEST_VALUE};
 ghost use Rattle.fzn_meaning.specs.Term.{IsTerm};
-ghost use Rattle.fzn_meaning.specs.Meaning.{IsWellFormed};
+ghost use Rattle.fzn_meaning.specs.Meaning.{IsWellFormedConstraint};
 ghost use Rattle.fzn_sets.specs.Terms.{least_value};
 ghost use Rattle.fzn_rules.specs.Tasks.{task_terms, sum_over, IsTask};
 ghost use Rattle.fzn_rules.specs.Load.{surely_runs, least_use_at, IsLoadMet};
@@ -16,9 +16,9 @@ use fzn_sets::{Sets, greatest_value, least_value};
 
 /// Whether the tasks of a cumulative that run at the time, wherever they start, use more than the capacity. It looks at each task once. No
 /// set may be empty. `false` for any other constraint.
-#[tactic(auto, unfolding(crate::specs::Load::IsLoadMet, fzn_meaning::specs::Meaning::IsWellFormed))]
+#[tactic(auto, unfolding(crate::specs::Load::IsLoadMet, fzn_meaning::specs::Meaning::IsWellFormedConstraint))]
 pub fn is_load_met(constraint: &Constraint, sets: &Sets, time: &i64) -> bool
-    requires constraint { IsWellFormed (length sets.now.present) constraint.now }
+    requires constraint { IsWellFormedConstraint (length sets.now.present) constraint.now }
     requires nonempty { is_some_empty sets.now.present ≡ false }
     ensures { IsTrue result ↔ IsLoadMet constraint.now sets.now.present time.now }
 {

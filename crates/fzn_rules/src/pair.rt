@@ -4,7 +4,7 @@ ghost use Rattle.std.specs.List.{All};
 ghost use Rattle.fzn_domain.specs.Narrow.{is_some_empty};
 ghost use Rattle.fzn_meaning.specs.Entries.{IsIndex};
 ghost use Rattle.fzn_meaning.specs.Term.{IsTerm};
-ghost use Rattle.fzn_meaning.specs.Meaning.{IsWellFormed};
+ghost use Rattle.fzn_meaning.specs.Meaning.{IsWellFormedConstraint};
 ghost use Rattle.fzn_rules.specs.Pair.{HasBrokenPair, IsBroken, IsPairMet};
 
 use fzn_meaning::{Constraint, Term};
@@ -12,9 +12,9 @@ use fzn_sets::{Sets, is_fixed_to, is_index, may_be, term_at};
 
 /// Whether one list of an inverse has the second number at the first, both counted from 1, and the other cannot have the first at the
 /// second, or the other way round. No set may be empty. `false` for any other constraint.
-#[tactic(auto, unfolding(crate::specs::Pair::IsPairMet, fzn_meaning::specs::Meaning::IsWellFormed))]
+#[tactic(auto, unfolding(crate::specs::Pair::IsPairMet, fzn_meaning::specs::Meaning::IsWellFormedConstraint))]
 pub fn is_pair_met(constraint: &Constraint, sets: &Sets, first: &i64, second: &i64) -> bool
-    requires constraint { IsWellFormed (length sets.now.present) constraint.now }
+    requires constraint { IsWellFormedConstraint (length sets.now.present) constraint.now }
     requires nonempty { is_some_empty sets.now.present ≡ false }
     ensures { IsTrue result ↔ IsPairMet constraint.now sets.now.present first.now second.now }
 {

@@ -1,7 +1,7 @@
 // Whether a rule is met.
 ghost use Rattle.std.specs.Prelude.{◌≡◌, ◌↔◌, IsTrue, false, length, List, ℤ};
 ghost use Rattle.fzn_domain.specs.Narrow.{is_some_empty, IsWithin};
-ghost use Rattle.fzn_meaning.specs.Meaning.{IsWellFormed, HasBooleanValues, Meets};
+ghost use Rattle.fzn_meaning.specs.Meaning.{IsWellFormedConstraint, HasBooleanValues, Meets};
 ghost use Rattle.fzn_rules.specs.Rules.{IsMet};
 
 use crate::cut::is_cut_met;
@@ -19,7 +19,7 @@ use fzn_sets::Sets;
 /// Whether the rule is met for the constraint on the present sets. A yes means that no choice of one value from each set meets the
 /// constraint. No set may be empty. `false` for a constraint that the rule is not for.
 pub fn refutes(constraint: &Constraint, sets: &Sets, rule: &Rule) -> bool
-    requires constraint { IsWellFormed (length sets.now.present) constraint.now }
+    requires constraint { IsWellFormedConstraint (length sets.now.present) constraint.now }
     requires nonempty { is_some_empty sets.now.present ≡ false }
     ensures met { IsTrue result ↔ IsMet constraint.now sets.now.present rule.now }
     ensures sound { IsTrue result → (values : List ℤ) → IsWithin sets.now.present values → HasBooleanValues values constraint.now → Meets constraint.now values → ⊥ }
@@ -29,7 +29,7 @@ pub fn refutes(constraint: &Constraint, sets: &Sets, rule: &Rule) -> bool
 
 #[tactic(auto, unfolding(crate::specs::Rules::IsMet))]
 fn is_met(constraint: &Constraint, sets: &Sets, rule: &Rule) -> bool
-    requires constraint { IsWellFormed (length sets.now.present) constraint.now }
+    requires constraint { IsWellFormedConstraint (length sets.now.present) constraint.now }
     requires nonempty { is_some_empty sets.now.present ≡ false }
     ensures { IsTrue result ↔ IsMet constraint.now sets.now.present rule.now }
 {

@@ -2,7 +2,7 @@
 ghost use Rattle.std.specs.Prelude.{◌≡◌, ◌↔◌, ◌*◌, ◌+◌, ◌^◌, ◌<◌, ◌≤◌, IsTrue, Some, false, length, unsigned_abs, IfSome};
 ghost use Rattle.fzn_domain.specs.IntSet.{size};
 ghost use Rattle.fzn_domain.specs.Narrow.{is_some_empty};
-ghost use Rattle.fzn_meaning.specs.Meaning.{IsWellFormed};
+ghost use Rattle.fzn_meaning.specs.Meaning.{IsWellFormedConstraint};
 ghost use Rattle.fzn_meaning.specs.Separable.{IsWithinLimit, IsCoefficient, IsWeightList, IsSeparableRow};
 ghost use Rattle.fzn_rules.specs.Separable.{IsLeastOf, IsWeightIn, IsSeparableMet, IsRowMet};
 ghost use Rattle.fzn_rules.specs.Least.{lesser, IsListedWeightIn, IsProductIn};
@@ -13,9 +13,9 @@ use fzn_sets::Sets;
 
 /// Whether some part of the row has no value that is present and not barred, or else what the parts weigh at least at such values is above
 /// the bound together. `false` for a constraint that is no row. It looks at each weight once. No set may be empty.
-#[tactic(auto, unfolding(fzn_meaning::specs::Meaning::IsWellFormed))]
+#[tactic(auto, unfolding(fzn_meaning::specs::Meaning::IsWellFormedConstraint))]
 pub fn is_row_met(constraint: &Constraint, sets: &Sets) -> bool
-    requires constraint { IsWellFormed (length sets.now.present) constraint.now }
+    requires constraint { IsWellFormedConstraint (length sets.now.present) constraint.now }
     requires nonempty { is_some_empty sets.now.present ≡ false }
     ensures { IsTrue result ↔ IsRowMet constraint.now sets.now.present }
 {

@@ -1,7 +1,7 @@
 // The options of a run, and the call.
 use fzn_options::Options;
 use fzn_solver::{Observer, Report, RunFault, run};
-use fzn_strategy::Learn;
+use fzn_strategy::{Learn, Parameters};
 use std::alloc::Global;
 use std::io::{Read, Write};
 
@@ -17,6 +17,7 @@ pub fn options_of(alloc: Global, all: bool, nodes: u64) -> Options {
         learn: Learn::First,
         restart_after: 100,
         keep: 2_000,
+        parameters: Parameters::default(),
         progress: false,
         model: String::new(alloc),
         cert: None,

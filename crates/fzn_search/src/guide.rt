@@ -10,13 +10,9 @@ use fzn_activity::{Comparisons, Heap, Ties, greatest_value, least_value, open_do
 use fzn_costs::{Costs, costs_of};
 use fzn_domain::{Domain, GREATEST_VALUE, LEAST_VALUE, Lit, Memory, Op, VarId};
 use fzn_meaning::{Goal, Model, Var};
-use fzn_strategy::Annotation;
+use fzn_strategy::{Annotation, Parameters};
 use fzn_trail::Trail;
 use std::alloc::Global;
-
-/// Where activity decides every variable: until a solution is found, one in so many periods between restarts is the annotations', the first
-/// of all included.
-const TURNS: u64 = 3;
 
 /// The order of the annotations, and beside it what conflicts told of the variables that stand in none.
 #[derive(Drop)]
@@ -46,6 +42,8 @@ pub struct Guide {
     costs: Costs,
     /// The variable that is maximised, if one is, counted from 0: of its values the greatest are tried first, of all others the least.
     maximised: Option<usize>,
+    /// The numbers that the search goes by.
+    parameters: Parameters,
 }
 
 impl Guide {
@@ -59,6 +57,7 @@ impl Guide {
         let mut ties = Ties::new(choice.seed);
         let order = Order::new(alloc, vars.len(), annotations, &mut ties)?;
         let activity = by_rank(alloc, vars.len(), &order, &mut ties)?;
+        let parameters = choice.parameters;
         Ok(Guide {
             order,
             bounds: bounds_of(alloc, vars)?,
@@ -67,17 +66,25 @@ impl Guide {
             comparisons: Comparisons::new(alloc, vars.len())?,
             activity,
             ties,
-            restarts: choice.restart_after.map(|first| Restarts::new(first)),
-            probes: Probes::new(model.goal),
+            restarts: choice
+                .restart_after
+                .map(|first| Restarts::new(first, &parameters)),
+            probes: Probes::new(model, &parameters),
             free: choice.free,
             has_solution: false,
             restarted: 0,
             costs: if choice.free {
-                costs_of(alloc, model)?
+                costs_of(
+                    alloc,
+                    model,
+                    parameters.cost_terms as usize,
+                    parameters.cost_passes as usize,
+                )?
             } else {
                 Costs::none(alloc)
             },
             maximised: maximised_by(model.goal),
+            parameters,
         })
     }
 
@@ -114,11 +121,12 @@ impl Guide {
         }
     }
 
-    /// What the annotations want, where it is for them to decide; of a variable that is known to cost something the cheapest value.
+    /// What the annotations want, where it is for them to decide; of a variable that is known to cost something the cheapest value. Where
+    /// activity decides every variable, that is until a solution is found, and in some periods between restarts, the first of all included.
     fn annotated(&mut self, trail: &Trail, vars: usize) -> Option<Lit>
         requires { vars ≡ length trail.now.declared }
     {
-        if self.free && (self.has_solution || self.restarted % TURNS != 0) {
+        if self.free && (self.has_solution || !self.is_turn(self.parameters.annotation_turns)) {
             return None;
         }
         let lit = self.order.next(trail, vars)?;
@@ -170,11 +178,16 @@ impl Guide {
         }
     }
 
-    /// The value that the variable of this number, counted from 0, had last, or in every second period between restarts that of the last
-    /// solution, if one was found.
+    /// Whether this period between restarts is one in so many, of which the first is the first of all.
+    fn is_turn(&self, turns: u64) -> bool {
+        self.restarted % turns.max(1) == 0
+    }
+
+    /// The value that the variable of this number, counted from 0, had last, or in some periods between restarts that of the last solution,
+    /// if one was found.
     fn suggested(&self, number: usize) -> Option<i64> {
         let found = self.found_values.get(number).copied().flatten();
-        if found.is_some() && self.restarted % 2 == 0 {
+        if found.is_some() && self.is_turn(self.parameters.solution_turns) {
             found
         } else {
             self.last_values.get(number).copied().flatten()
@@ -210,6 +223,7 @@ impl Guide {
         requires { vars ≡ length trail.now.declared }
     {
         self.has_solution = true;
+        self.probes.found();
         if !self.free {
             return;
         }
@@ -244,8 +258,8 @@ impl Guide {
 
     /// The present conflict is over. Answers whether a restart is due.
     pub fn conflict(&mut self) -> bool {
-        self.comparisons.decay();
-        self.activity.decay();
+        self.comparisons.decay(self.parameters.decay);
+        self.activity.decay(self.parameters.decay);
         let is_over = self.probes.count_conflict();
         let Some(restarts) = &mut self.restarts else {
             return false;

@@ -1,17 +1,14 @@
 // A search from below: at some restarts the first decision is that the objective lies in the best part of what is open. Where that is
-// refuted the search learns a bound, which stands on the certificate as a clause of one literal.
-ghost use Rattle.std.specs.Prelude.{◌≡◌, length};
+// refuted the search learns a bound, which stands on the certificate as a clause of one literal. Where a row bounds the objective the part is
+// a share of what is open, and nothing is counted; else it is some values next to the best one, for a share of the conflicts.
+ghost use Rattle.std.specs.Prelude.{◌≡◌, ◌<◌, length};
+ghost use Rattle.fzn_domain.specs.IntSet.{size};
 
 use fzn_activity::open_domain;
 use fzn_domain::{Domain, Lit, Op, VarId};
-use fzn_meaning::Goal;
+use fzn_meaning::{Constraint, Goal, Model};
+use fzn_strategy::Parameters;
 use fzn_trail::Trail;
-
-/// One in so many conflicts is for probes.
-const SHARE: u64 = 10;
-
-/// How many conflicts a probe may take at least: none begins where fewer are left for probes.
-const LEAST: u64 = 32;
 
 /// The variable that is minimised or maximised.
 #[derive(Clone, Copy, Debug)]
@@ -28,10 +25,28 @@ struct Probe {
     left: u64,
 }
 
+/// The share of what is open of the objective that is assumed first, at every second restart behind a solution.
+#[derive(Clone, Copy, Debug)]
+struct Part {
+    /// In thousandths: at first, and now.
+    first: u64,
+    share: u64,
+    /// Whether the restart before this one began with no part, and whether there is a solution.
+    is_next: bool,
+    has_solution: bool,
+    /// What was assumed since the last restart.
+    bound: Option<Lit>,
+}
+
+/// The greatest share that is assumed, in thousandths.
+const WIDEST_PART: u64 = 970;
+
 /// Which bounds of the objective are tried.
 #[derive(Clone, Copy, Debug)]
 pub struct Probes {
     objective: Option<Objective>,
+    /// Where a row bounds the objective.
+    part: Option<Part>,
     /// Whether a probe may begin with the next decision at level 0.
     is_due: bool,
     probe: Option<Probe>,
@@ -42,25 +57,52 @@ pub struct Probes {
     /// How many conflicts there were, and how many of them in probes.
     conflicts: u64,
     spent: u64,
+    /// One in so many conflicts is for probes, which is 1 at least.
+    share: u64,
+    /// How many conflicts a probe may take at least: none begins where fewer are left for probes.
+    least: u64,
 }
 
 impl Probes {
     /// Nothing was tried.
-    pub fn new(goal: Goal) -> Probes {
+    pub fn new(model: &Model, parameters: &Parameters) -> Probes {
+        let share = parameters.probe_part;
         Probes {
-            objective: objective_of(goal),
+            objective: objective_of(model.goal),
+            part: if has_row(model) {
+                Some(Part {
+                    first: share,
+                    share,
+                    is_next: false,
+                    has_solution: false,
+                    bound: None,
+                })
+            } else {
+                None
+            },
             is_due: false,
             probe: None,
             is_assumed: false,
             width: 1,
             conflicts: 0,
             spent: 0,
+            share: parameters.probe_share,
+            least: parameters.probe_conflicts,
         }
     }
 
     /// The search restarts: a probe may begin.
     pub fn restart(&mut self) {
         self.is_due = true;
+    }
+
+    /// A solution was found.
+    pub fn found(&mut self) {
+        if let Some(part) = &mut self.part {
+            part.has_solution = true;
+            part.share = part.first;
+            part.bound = None;
+        }
     }
 
     /// Whether a bound is being tried.
@@ -75,7 +117,7 @@ impl Probes {
 
     /// How many conflicts are left for probes.
     fn left(&self) -> u64 {
-        (self.conflicts / SHARE).saturating_sub(self.spent)
+        (self.conflicts / self.share.max(1)).saturating_sub(self.spent)
     }
 
     /// Counts a conflict, and answers whether a probe has had its share: the search then restarts without one.
@@ -102,7 +144,7 @@ impl Probes {
             return None;
         }
         let bound = self.at_level_0(trail, vars);
-        self.is_assumed = bound.is_some();
+        self.is_assumed = bound.is_some() && self.part.is_none();
         bound
     }
 
@@ -110,6 +152,12 @@ impl Probes {
         requires { vars ≡ length trail.now.declared }
     {
         let objective = self.objective?;
+        if let Some(part) = &mut self.part {
+            let domain = open_domain(trail, vars, objective.number)?;
+            let bound = part.next(objective, domain, self.is_due);
+            self.is_due = false;
+            return bound;
+        }
         let last = self.probe.take();
         if last.is_none() && !self.is_due {
             return None;
@@ -129,7 +177,7 @@ impl Probes {
         }
         self.is_due = false;
         let left = self.left();
-        if left < LEAST {
+        if left < self.least {
             return None;
         }
         let bound = self.bound(objective, domain)?;
@@ -156,6 +204,60 @@ impl Probes {
             value,
         })
     }
+}
+
+impl Part {
+    /// The bound to assume at level 0, if one is to be: that of the present period between restarts while it is open, and in every second
+    /// period a new one. One that has decided nothing in its period makes the next one wider.
+    fn next(&mut self, objective: Objective, domain: &Domain, is_due: bool) -> Option<Lit> {
+        let is_undecided = match self.bound {
+            Some(bound) => is_open(domain, bound),
+            None => false,
+        };
+        if !is_due {
+            return if is_undecided { self.bound } else { None };
+        }
+        self.bound = None;
+        if is_undecided {
+            self.share = self.share.saturating_add(1_000) / 2;
+        }
+        self.is_next = !self.is_next;
+        if !self.is_next || !self.has_solution || domain.is_empty() {
+            return None;
+        }
+        self.bound = Some(bound_at(objective, domain, self.share.min(WIDEST_PART)));
+        self.bound
+    }
+}
+
+/// The bound that leaves the objective so many thousandths of what is open, and not all of it.
+fn bound_at(objective: Objective, domain: &Domain, share: u64) -> Lit
+    requires { 0 < size domain.now }
+{
+    let (least, greatest) = (domain.min(), domain.max());
+    let span = greatest.saturating_sub(least);
+    let more = i64::try_from(span.unsigned_abs().saturating_mul(share) / 1_000).unwrap_or(0);
+    let more = more.min(span.saturating_sub(1)).max(0);
+    let (op, value) = if objective.is_maximised {
+        (Op::AtLeast, greatest.saturating_sub(more))
+    } else {
+        (Op::AtMost, least.saturating_add(more))
+    };
+    Lit {
+        var: VarId(objective.number.saturating_add(1)),
+        op,
+        value,
+    }
+}
+
+/// Whether a row was derived.
+fn has_row(model: &Model) -> bool {
+    for constraint in model.constraints.as_slice() {
+        if let Constraint::Row(_) = constraint {
+            return true;
+        }
+    }
+    false
 }
 
 /// Whether some values make the bound true, and others false.

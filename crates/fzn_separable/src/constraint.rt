@@ -3,7 +3,7 @@ ghost use Rattle.std.specs.Prelude.{◌≡◌, ℕ, ◌-◌, ◌≤◌, length, 
 ghost use Rattle.fzn_meaning.specs.declared.constraint.Constraint.{Constraint};
 ghost use Rattle.fzn_meaning.specs.declared.constraint.Constraint.TheVariants as constraint;
 ghost use Rattle.fzn_meaning.specs.declared.row.Row.{Row};
-ghost use Rattle.fzn_meaning.specs.Meaning.{IsWellFormed as IsWellFormedConstraint};
+ghost use Rattle.fzn_meaning.specs.Meaning.{IsWellFormedConstraint};
 ghost use Rattle.fzn_meaning.specs.Solutions.{declared_sets};
 ghost use Rattle.fzn_meaning.specs.WellFormed.{IsWellFormed};
 ghost use Rattle.fzn_separable.specs.Propagator.{row_number, RowIsFor, RowFits};

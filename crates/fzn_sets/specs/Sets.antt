@@ -15,11 +15,11 @@ pub record Narrowed : Type 0 where
   pub lits : List Lit
 
 -- what the literals leave of the sets
-abbrev pub replayed : List IntSet → List Lit → List IntSet
-replayed declared lits = fold narrowed declared lits
+abbrev pub narrowed_along : List IntSet → List Lit → List IntSet
+narrowed_along declared lits = fold narrowed declared lits
 
 abbrev pub after : List IntSet → List Lit → Narrowed
-after declared lits = record { declared = declared; present = replayed declared lits; lits = lits }
+after declared lits = record { declared = declared; present = narrowed_along declared lits; lits = lits }
 
 abbrev pub start : List IntSet → Narrowed
 start declared = after declared []
@@ -33,7 +33,7 @@ undone sets = after sets.declared (take (length sets.lits - 1) sets.lits)
 
 -- the set of the variable when there were so many literals
 abbrev pub stood_before : Narrowed → ℕ → VarId → IntSet
-stood_before sets i var = set_of (replayed sets.declared (take i sets.lits)) var
+stood_before sets i var = set_of (narrowed_along sets.declared (take i sets.lits)) var
 
 -- these are the possible literals
 abbrev pub IsPossibleIn : List Lit → Possible → Type 0

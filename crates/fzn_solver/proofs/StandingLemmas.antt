@@ -78,7 +78,7 @@ pub found-infer : (model : Model) (steps : List Step) (step : Step) → ((values
 found-infer model steps step other = ap (λ (p : StepsPast). p.solutions) (past_after-push model steps step) ∙ same step other
   where
     same : (s : Step) → ((values : List ℤ) → s ≢ Solution values) → (after_step model (past_after model steps) s).solutions ≡ (past_after model steps).solutions
-    same (Infer c rule clause) h = refl
+    same (Infer it) h = refl
     same (Resolve clause ids) h = refl
     same (Solution values) h = absurd (h values refl)
     same (Delete ids) h = refl

@@ -11,6 +11,7 @@ pub fn choice_for(options: &Options) -> Choice
     ensures free { result.free ≡ options.now.free }
     ensures seed { result.seed ≡ options.now.seed }
     ensures keep { result.keep ≡ options.now.keep }
+    ensures parameters { result.parameters ≡ options.now.parameters }
     ensures first { options.now.learn ≡ First → result.restart_after ≡ Some options.now.restart_after }
     ensures plain { options.now.learn ≡ Plain → result.restart_after ≡ None }
 {
@@ -22,5 +23,6 @@ pub fn choice_for(options: &Options) -> Choice
             Learn::First => Some(options.restart_after),
         },
         keep: options.keep,
+        parameters: options.parameters,
     }
 }

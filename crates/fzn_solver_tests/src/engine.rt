@@ -14,7 +14,7 @@ use fzn_printer::Ending;
 use fzn_propagators::Propagators;
 use fzn_search::Choice;
 use fzn_state::{Fault, Sink};
-use fzn_strategy::Learn;
+use fzn_strategy::{Learn, Parameters};
 use std::alloc::Global;
 use std::test::*;
 
@@ -96,6 +96,7 @@ fn report_of(
         seed: None,
         restart_after,
         keep: 0,
+        parameters: Parameters::default(),
     };
     solve(
         alloc,

@@ -3,6 +3,7 @@ use crate::models::model_of;
 use fzn_domain::Memory;
 use fzn_meaning::Model;
 use fzn_search::{Choice, Search, next_interval};
+use fzn_strategy::Parameters;
 use std::alloc::Global;
 use std::test::*;
 
@@ -13,6 +14,7 @@ fn search_of(alloc: Global, model: &Model, first: u64) -> Result<Search, Memory>
         seed: None,
         restart_after: Some(first),
         keep: 0,
+        parameters: Parameters::default(),
     };
     Search::new(alloc, model, &[], choice)
 }
@@ -65,6 +67,6 @@ fn intervals_stay_below_a_limit(rt: HostRuntime) {
         (18_446_744_073_709_551_615, 1_000_000_000_000),
     ];
     for (interval, wanted) in cases {
-        assert_eq!(rt; next_interval(interval), wanted, "after {interval}");
+        assert_eq!(rt; next_interval(interval, 50), wanted, "after {interval}");
     }
 }

@@ -9,7 +9,7 @@ use fzn_domain::{Lit, Memory, Op, VarId};
 use fzn_list::Items;
 use fzn_meaning::Model;
 use fzn_search::{Choice, Search, values_of};
-use fzn_strategy::{Annotation, ValueChoice, VarChoice};
+use fzn_strategy::{Annotation, Parameters, ValueChoice, VarChoice};
 use fzn_trail::Trail;
 use fzn_trail_tests::{is_filled, keep, lit};
 use std::alloc::Global;
@@ -29,6 +29,7 @@ fn search_of(
         seed: None,
         restart_after: Some(2),
         keep: 0,
+        parameters: Parameters::default(),
     };
     Search::new(alloc, model, annotations, choice)
 }
@@ -219,6 +220,7 @@ fn is_followed_after_restarts(alloc: Global, model: &Model) -> Result<bool, Memo
         seed: None,
         restart_after: Some(1),
         keep: 0,
+        parameters: Parameters::default(),
     };
     let annotations = slice::from_ref(&annotation);
     let mut search = Search::new(alloc, model, annotations, choice)?;

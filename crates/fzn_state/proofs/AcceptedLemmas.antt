@@ -23,7 +23,7 @@ AllAccepted-push model steps step h k = AllAcceptedAfter-push model no_past step
 
 pub resolved-append : (xs ys : List Step) → resolved (xs ++ ys) ≡ resolved xs ++ resolved ys
 resolved-append [] ys = refl
-resolved-append (Infer c rule clause ∷ xs) ys = resolved-append xs ys
+resolved-append (Infer it ∷ xs) ys = resolved-append xs ys
 resolved-append (Resolve clause ids ∷ xs) ys = ap (λ (cs : List (List Lit)). clause ∷ cs) (resolved-append xs ys)
 resolved-append (Solution values ∷ xs) ys = resolved-append xs ys
 resolved-append (Delete ids ∷ xs) ys = resolved-append xs ys
@@ -34,7 +34,7 @@ length-without clauses [] = refl
 length-without clauses (id ∷ ids) = length-without (set clauses (id - 1) None) ids ∙ length-set clauses (id - 1) None
 
 length-after : (model : Model) (past : StepsPast) (step : Step) → length (after_step model past step).clauses ≡ length past.clauses + 1
-length-after model past (Infer c rule clause) = length_push past.clauses (Some clause)
+length-after model past (Infer it) = length_push past.clauses (Some it.clause)
 length-after model past (Resolve clause ids) = length_push past.clauses (Some clause)
 length-after model past (Solution values) = length_push past.clauses (Some (cut_of model values))
 length-after model past (Delete ids) = length_push (without past.clauses ids) None ∙ ap (λ (n : ℕ). n + 1) (length-without past.clauses ids)

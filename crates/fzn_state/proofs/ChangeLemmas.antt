@@ -16,8 +16,10 @@ use Rattle.fzn_cert.specs.Accepted.{IsAccepted, AllAccepted, past_after}
 use Rattle.fzn_propagator.specs.declared.inferences.Inferred.{Inferred}
 use Rattle.fzn_trail.specs.declared.trail.ClauseId.{ClauseId}
 use Rattle.fzn_trail.specs.declared.trail.Entry.{Entry}
+use Rattle.fzn_trail.specs.declared.trail.Antecedent.{Antecedent}
+use Rattle.fzn_trail.specs.declared.trail.Antecedent.TheVariants.{Clause}
 use Rattle.fzn_trail.specs.declared.trail.Reason.{Reason}
-use Rattle.fzn_trail.specs.declared.trail.Reason.TheVariants.{Decision, Clause}
+use Rattle.fzn_trail.specs.declared.trail.Reason.TheVariants.{Decision, Implied}
 use Rattle.fzn_trail.specs.Levels.{Levels, level_of, pushed, asserted, returned}
 use Rattle.fzn_trail.proofs.CallerLemmas.{declared-returned, level_of-returned}
 use Rattle.fzn_clauses.proofs.HeldLemmas.{at_number-newest}
@@ -76,7 +78,7 @@ module _ {model : Model} {stock : Stock} {steps : List Step} {trail : Levels} {n
       Core-step h (Resolve clause ids) clause number stock.cuts newest accepted refl (cuts-grown h.stocked clause) (subst O (sym sizes) accepted.0) new declared reasoned
       (subst N (sym (learned_is steps clause ids)) (subst M (sym one) (omega arith)))
 
-  pub work-learned : (limit level : ℕ) → level < level_of trail → (lit : Lit) (id : ClauseId) → work limit nodes (asserted lit (Clause id) (returned level trail)) < work limit nodes trail
+  pub work-learned : (limit level : ℕ) → level < level_of trail → (lit : Lit) (id : ClauseId) → work limit nodes (asserted lit (Implied (Clause id)) (returned level trail)) < work limit nodes trail
   work-learned limit level below lit id =
       let there = returned level trail in
       let levels : length there.saved ≡ level = level_of-returned level trail (omega arith) in
@@ -123,9 +125,9 @@ module _ {model : Model} {learn : Learn} {stock : Stock} {steps : List Step} {tr
       }
 
   -- the literal that a known clause forces
-  pub State-asserted : (lit : Lit) (reason : Reason) → reason ≢ Decision → IsReasoned (known_in stock) (asserted lit reason trail) → StateOf model learn stock steps (asserted lit reason trail) nodes
-  State-asserted lit reason apart reasoned =
-      State-narrowed (asserted lit reason trail) refl (opens-forced trail lit reason apart) (Within-narrowed trail.sets lit) (slack-narrowed_le trail.sets lit) (volume-narrowed_le trail.sets lit) reasoned
+  pub State-asserted : (lit : Lit) (antecedent : Antecedent) → IsReasoned (known_in stock) (asserted lit (Implied antecedent) trail) → StateOf model learn stock steps (asserted lit (Implied antecedent) trail) nodes
+  State-asserted lit antecedent reasoned =
+      State-narrowed (asserted lit (Implied antecedent) trail) refl (opens-forced trail lit antecedent) (Within-narrowed trail.sets lit) (slack-narrowed_le trail.sets lit) (volume-narrowed_le trail.sets lit) reasoned
 
   -- ---- a decision
 
@@ -167,13 +169,13 @@ module _ {model : Model} {learn : Learn} {stock : Stock} {steps : List Step} {tr
   -- ---- a learned clause
 
   -- one level back, where the clause says that one of the decisions is wrong
-  pub Plain-back : learn ≡ Plain → (clause : List Lit) (ids : List ℕ) (level : ℕ) → level_of trail ≡ level + 1 → clause ≡ negations (opens trail.declared trail.entries) → (lit : Lit) (id : ClauseId) → possible_in (returned level trail).sets clause ≡ lit ∷ [] → PlainOf (asserted lit (Clause id) (returned level trail)).declared (asserted lit (Clause id) (returned level trail)).sets (opens (asserted lit (Clause id) (returned level trail)).declared (asserted lit (Clause id) (returned level trail)).entries) (resolved (steps ++ Resolve clause ids ∷ [])) nodes
+  pub Plain-back : learn ≡ Plain → (clause : List Lit) (ids : List ℕ) (level : ℕ) → level_of trail ≡ level + 1 → clause ≡ negations (opens trail.declared trail.entries) → (lit : Lit) (id : ClauseId) → possible_in (returned level trail).sets clause ≡ lit ∷ [] → PlainOf (asserted lit (Implied (Clause id)) (returned level trail)).declared (asserted lit (Implied (Clause id)) (returned level trail)).sets (opens (asserted lit (Implied (Clause id)) (returned level trail)).declared (asserted lit (Implied (Clause id)) (returned level trail)).entries) (resolved (steps ++ Resolve clause ids ∷ [])) nodes
   Plain-back in_plain clause ids level levels clause_is lit id forced =
       let known = known_in stock in
       let last = last_level known trail level h.core.reasoned levels in
       let before = opens trail.declared last.stood.entries in
       let at : Open = record { sets = last.stood.sets; decision = last.lit } in
-      let new = asserted lit (Clause id) (returned level trail) in
+      let new = asserted lit (Implied (Clause id)) (returned level trail) in
       let count : length last.stood.sets ≡ length trail.declared = Leads-length known trail.declared last.stood.entries last.stood.sets last.leads in
       let Var : ℕ → Type 0 = λ n. IsVariable n last.lit.var in
       let certain = Leads-certain known (length trail.declared) trail.declared last.stood.entries last.stood.sets refl last.leads in
@@ -185,7 +187,7 @@ module _ {model : Model} {learn : Learn} {stock : Stock} {steps : List Step} {tr
       let e : new.declared ≡ trail.declared = last.declared_is in
       let sets_is : new.sets ≡ narrowed last.stood.sets (negated last.lit) = ap (λ (s : List IntSet). narrowed s lit) last.sets_is ∙ ap (narrowed last.stood.sets) lit_is in
       let taken_is : opens new.declared new.entries ≡ before =
-      opens-forced (returned level trail) lit (Clause id) (λ e. cc)
+      opens-forced (returned level trail) lit (Clause id)
       ∙ ap (λ (d : List IntSet). opens d (returned level trail).entries) last.declared_is ∙ ap (opens trail.declared) last.entries_is in
       let learned : resolved (steps ++ Resolve clause ids ∷ []) ≡ resolved steps ++ negations (opens trail.declared trail.entries) ∷ [] = learned_is steps clause ids ∙ ap (λ (c : List Lit). resolved steps ++ c ∷ []) clause_is in
       let plain = Plain-learned (h.plain in_plain) before at last.taken_is (State-fresh in_plain) count (subst Var count last.var) in

@@ -86,24 +86,18 @@ module _ {model : Model} {stock : Stock} {steps : List Step} {trail : Levels} {n
       left : (i : ℕ) → i < length stock.stack → IsInferredJustified model past (inference_at stock.stack i) → IsInferredJustified model now (inference_at stock.stack i)
       left i below j =
           let it = inference_at stock.stack i in
-          record {
-            over = j.over;
-            numbered = j.numbered;
-            justified = j.justified;
-            spelled = j.spelled;
-            written = still it.number refl j.written;
-          }
+          record { stands = j.stands; written = still it.number refl j.written }
         where
-          still : (o : Option ℕ) → (inference_at stock.stack i).number ≡ o → IfSome o (λ n. clause_held past n ≡ Some (inference_at stock.stack i).clause) → IfSome o (λ n. clause_held now n ≡ Some (inference_at stock.stack i).clause)
+          still : (o : Option ℕ) → (inference_at stock.stack i).number ≡ o → IfSome o (λ n. clause_held past n ≡ Some (inference_at stock.stack i).inference.clause) → IfSome o (λ n. clause_held now n ≡ Some (inference_at stock.stack i).inference.clause)
           still None e w = tt
-          still (Some n) e w = clause_held-left past ids ones n (inference_at stock.stack i).clause (apart n (inr (i, below, e))) w
+          still (Some n) e w = clause_held-left past ids ones n (inference_at stock.stack i).inference.clause (apart n (inr (i, below, e))) w
 
   used_left : (n : ℕ) → IsInUse stock.held stock.numbers stock.stack n → IsGiven now n
   used_left n (inl h) = subst (IsGiven now) h.2 (ap is_some (numbered_left.gives h.0 h.1))
   used_left n (inr h) =
       let it = inference_at stock.stack h.0 in
       let j = All-get_or (IsInferredJustified model now) stock.stack h.0 _ h.1 justified_left in
-      let W : Option ℕ → Type 0 = λ o. IfSome o (λ k. clause_held now k ≡ Some it.clause) in
+      let W : Option ℕ → Type 0 = λ o. IfSome o (λ k. clause_held now k ≡ Some it.inference.clause) in
       ap is_some (subst W h.2 j.written)
 
   pub delete-accepted : IsAccepted model (past_after model steps) (Delete ids)

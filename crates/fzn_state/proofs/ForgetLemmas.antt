@@ -16,7 +16,8 @@ use Rattle.fzn_cert.specs.Accepted.{past_after}
 use Rattle.fzn_trail.specs.declared.trail.ClauseId.{ClauseId}
 use Rattle.fzn_trail.specs.declared.trail.Entry.{Entry}
 use Rattle.fzn_trail.specs.declared.trail.Reason.{Reason}
-use Rattle.fzn_trail.specs.declared.trail.Reason.TheVariants.{Decision, Clause, Inference}
+use Rattle.fzn_trail.specs.declared.trail.Antecedent.TheVariants.{Clause, Inference}
+use Rattle.fzn_trail.specs.declared.trail.Reason.TheVariants.{Decision, Implied}
 use Rattle.fzn_clauses.specs.declared.clauses.Clauses.{Clauses}
 use Rattle.fzn_clauses.specs.Held.{Held, IsHeld, at_number, clause_of}
 use Rattle.fzn_clauses.specs.Kept.{KeepsWatching}
@@ -89,18 +90,18 @@ module _ {model : Model} {old : Solver} {steps : List Step} (h : IsAfter model o
       | inr not ↦ absurd (not_gone (λ is. false≢true (sym not ∙ is)))
     ]
 
-    still-one : (reason : Reason) → ((id : ClauseId) → IsHeld held id → (IsHeld left id → ⊥) → reason ≢ Clause id) → IsStill held left reason
+    still-one : (reason : Reason) → ((id : ClauseId) → IsHeld held id → (IsHeld left id → ⊥) → reason ≢ Implied (Clause id)) → IsStill held left reason
     still-one Decision apart = tt
-    still-one (Clause id) apart = λ was. at_left id (λ gone. apart id was gone refl)
-    still-one (Inference place) apart = tt
+    still-one (Implied (Clause id)) apart = λ was. at_left id (λ gone. apart id was gone refl)
+    still-one (Implied (Inference place)) apart = tt
 
     -- each reason among them
-    still-each : (entries : List Entry) → ((id : ClauseId) → IsHeld held id → (IsHeld left id → ⊥) → All (λ (entry : Entry). entry.reason ≢ Clause id) entries) → All (λ (entry : Entry). IsStill held left entry.reason) entries
+    still-each : (entries : List Entry) → ((id : ClauseId) → IsHeld held id → (IsHeld left id → ⊥) → All (λ (entry : Entry). entry.reason ≢ Implied (Clause id)) entries) → All (λ (entry : Entry). IsStill held left entry.reason) entries
     still-each [] apart = All-nil (λ (entry : Entry). IsStill held left entry.reason)
     still-each (entry ∷ later) apart =
         All-cons (λ (e : Entry). IsStill held left e.reason) entry later
-        (still-one entry.reason (λ id was gone. All-head (λ (e : Entry). e.reason ≢ Clause id) entry later (apart id was gone)))
-        (still-each later (λ id was gone. All-tail (λ (e : Entry). e.reason ≢ Clause id) entry later (apart id was gone)))
+        (still-one entry.reason (λ id was gone. All-head (λ (e : Entry). e.reason ≢ Implied (Clause id)) entry later (apart id was gone)))
+        (still-each later (λ id was gone. All-tail (λ (e : Entry). e.reason ≢ Implied (Clause id)) entry later (apart id was gone)))
 
     pub forgotten-reduced : (notes : Notes) → IsReduced model old (record old { clauses = clauses; notes = notes }) steps
     forgotten-reduced notes =

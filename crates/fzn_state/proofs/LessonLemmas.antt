@@ -11,12 +11,12 @@ use Rattle.fzn_cert.specs.Accepted.{IsAccepted, AllAccepted, past_after}
 use Rattle.fzn_cert.specs.Spelling.{IsSpelled}
 use Rattle.fzn_sets.specs.Sets.{Narrowed}
 use Rattle.fzn_search.specs.Fixed.{Searching}
-use Rattle.fzn_trail.specs.declared.trail.Reason.{Reason}
+use Rattle.fzn_trail.specs.declared.trail.Antecedent.{Antecedent}
 use Rattle.fzn_trail.specs.Levels.{Levels}
 use Rattle.fzn_strategy.specs.declared.learn.Learn.TheVariants.{Plain}
 use Rattle.fzn_learned.specs.declared.learned.Learned.{Learned}
 use Rattle.fzn_learned.specs.Learned.{IsDerived, IsLearned, IsPlain}
-use Rattle.fzn_learned.specs.Reasoned.{Known, reason_clause}
+use Rattle.fzn_learned.specs.Reasoned.{Known, antecedent_clause}
 use Rattle.fzn_reduction.specs.declared.notes.Notes.{Notes}
 use Rattle.fzn_state.specs.declared.solver.Solver.{Solver}
 use Rattle.fzn_state.specs.Certified.{count, IsRunCertified, HasEmptyClause}
@@ -41,7 +41,7 @@ derives {model = model} {old = old} {new = new} {steps = steps} {learned = learn
     let G : Known → Type 0 = λ k. GiveAntecedents (past_after model steps) k numbers learned.antecedents in
     record { state = written.state; derived = subst K (sym written.known) (subst T (sym written.trail) is); give = subst G (sym written.known) give }
 
-pub learns : {model : Model} {first : List Step} {old new : Solver} {steps : List Step} {learned : Learned} → AreInferencesWritten model first old new steps → IsLearned (known_in (stock_of old)) old.trail learned → (conflict : Reason) → (old.learn ≡ Plain → IsPlain old.trail conflict learned) → (numbers : List ℕ) → GiveAntecedents (past_after model steps) (known_in (stock_of old)) numbers learned.antecedents → Learns model new steps conflict learned numbers
+pub learns : {model : Model} {first : List Step} {old new : Solver} {steps : List Step} {learned : Learned} → AreInferencesWritten model first old new steps → IsLearned (known_in (stock_of old)) old.trail learned → (conflict : Antecedent) → (old.learn ≡ Plain → IsPlain old.trail conflict learned) → (numbers : List ℕ) → GiveAntecedents (past_after model steps) (known_in (stock_of old)) numbers learned.antecedents → Learns model new steps conflict learned numbers
 learns {old = old} {new = new} {learned = learned} written is conflict plain numbers give =
     let T : Levels → Type 0 = λ t. IsLearned (known_in (stock_of old)) t learned in
     let K : Known → Type 0 = λ k. IsLearned k new.trail learned in
@@ -63,7 +63,7 @@ module _ {model : Model} {mid : Solver} {before : List Step} {learned : Learned}
       let sizes : length mid.trail.declared ≡ length model.vars = ap length h.state.state.core.declared ∙ length-map model.vars (λ var. var.domain) in
       let each = length-past_of model before in
       let room = h.state.few_steps in
-      resolve-spelled (length mid.trail.declared) (past_after model before) learned.clause numbers (map (reason_clause (known_in (stock_of mid))) learned.antecedents) (omega arith) (few_by (length (past_after model before).clauses) (length before) each room) h.derived.over h.derived.in_limits h.give
+      resolve-spelled (length mid.trail.declared) (past_after model before) learned.clause numbers (map (antecedent_clause (known_in (stock_of mid))) learned.antecedents) (omega arith) (few_by (length (past_after model before).clauses) (length before) each room) h.derived.over h.derived.in_limits h.give
     where
       few_by : (a b : ℕ) → a ≡ b → b < 10 ^ 18 → a < 10 ^ 18
       few_by a b e k = omega arith
@@ -78,7 +78,7 @@ module _ {model : Model} {mid : Solver} {before : List Step} {learned : Learned}
     pub derives-now : {now : List Step} → now ≡ before ++ step ∷ [] → now ≡ before ++ Resolve learned.clause numbers ∷ []
     derives-now now_is = now_is ∙ ap (λ (s : Step). before ++ s ∷ []) is
 
-module _ {model : Model} {mid : Solver} {before : List Step} {conflict : Reason} {learned : Learned} {numbers : List ℕ} (h : Learns model mid before conflict learned numbers) {now : List Step} (now_is : now ≡ before ++ Resolve learned.clause numbers ∷ []) where
+module _ {model : Model} {mid : Solver} {before : List Step} {conflict : Antecedent} {learned : Learned} {numbers : List ℕ} (h : Learns model mid before conflict learned numbers) {now : List Step} (now_is : now ≡ before ++ Resolve learned.clause numbers ∷ []) where
   pub learn-closed : learned.clause ≡ [] → (new : Solver) → Holds learned.clause mid new → LeavesNothing model mid new now
   learn-closed none new holds =
       let end = learned-closed h.state.state learned conflict h.is h.plain numbers h.give none in

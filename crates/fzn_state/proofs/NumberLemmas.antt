@@ -109,17 +109,11 @@ AreNumbered-push past numbers held n clause h one = record {
 
 -- an inference stays justified
 pub IsJustified-grown : (model : Model) (old new : StepsPast) (entry : Option (List Lit)) (it : Inferred) → Grows old new entry → IsInferredJustified model old it → IsInferredJustified model new it
-IsJustified-grown model old new entry it grows h = record {
-  over = h.over;
-  numbered = h.numbered;
-  justified = h.justified;
-  spelled = h.spelled;
-  written = still it.number h.written;
-}
+IsJustified-grown model old new entry it grows h = record { stands = h.stands; written = still it.number h.written }
   where
-    still : (number : Option ℕ) → IfSome number (λ n. clause_held old n ≡ Some it.clause) → IfSome number (λ n. clause_held new n ≡ Some it.clause)
+    still : (number : Option ℕ) → IfSome number (λ n. clause_held old n ≡ Some it.inference.clause) → IfSome number (λ n. clause_held new n ≡ Some it.inference.clause)
     still None w = tt
-    still (Some n) w = clause_held-grown old new entry n it.clause grows w
+    still (Some n) w = clause_held-grown old new entry n it.inference.clause grows w
 
 -- the clauses of written inferences stay given
 pub AreGivenBy-grown : (model : Model) (old new : StepsPast) (entry : Option (List Lit)) (written : List Given) → Grows old new entry → All (IsGivenBy model old) written → All (IsGivenBy model new) written

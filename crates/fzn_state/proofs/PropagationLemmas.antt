@@ -3,9 +3,9 @@ use Rattle.std.proofs.Common.{◌≡◌, ℕ, ◌≤◌, List, length, refl, ari
 use Rattle.fzn_domain.specs.Narrow.{IsVariable}
 use Rattle.fzn_meaning.specs.declared.model.Model.{Model}
 use Rattle.fzn_cert.specs.declared.step.Step.{Step}
-use Rattle.fzn_trail.specs.declared.trail.Reason.TheVariants.{Clause}
+use Rattle.fzn_trail.specs.declared.trail.Antecedent.TheVariants.{Clause}
 use Rattle.fzn_trail.specs.Levels.{Levels}
-use Rattle.fzn_clauses.specs.Propagation.{Forced, IsForcing, IsPropagated}
+use Rattle.fzn_clauses.specs.Propagation.{Forced, IsForcedByClause, IsPropagated}
 use Rattle.fzn_clauses.proofs.CallerLemmas.{after, variable-forcing, Propagates-keeps}
 use Rattle.fzn_strategy.specs.declared.learn.Learn.{Learn}
 use Rattle.fzn_learned.proofs.CallerLemmas.{IsReasoned-marked, IsReasoned-forced}
@@ -22,10 +22,10 @@ module _ (model : Model) (learn : Learn) (stock : Stock) (steps : List Step) (no
     plain = h.plain;
   }
 
-  State-forced : (trail : Levels) (forced : Forced) → IsForcing stock.held trail.sets forced → StateOf model learn stock steps trail nodes → StateOf model learn stock steps (after forced trail) nodes
+  State-forced : (trail : Levels) (forced : Forced) → IsForcedByClause stock.held trail.sets forced → StateOf model learn stock steps trail nodes → StateOf model learn stock steps (after forced trail) nodes
   State-forced trail forced forcing h =
       let sizes : IsVariable (length trail.declared) forced.lit.var = variable-forcing stock.held trail.sets (length trail.declared) forced h.core.held_over forcing in
-      State-asserted h forced.lit (Clause forced.id) (λ e. cc)
+      State-asserted h forced.lit (Clause forced.id)
       (IsReasoned-forced (known_in stock) trail forced.lit (Clause forced.id) h.core.reasoned sizes (forcing.is_held, (forcing.unit.only, forcing.unit.not_yet_true)))
 
   -- what holds of the search is kept, no more work is left, and the levels are the same

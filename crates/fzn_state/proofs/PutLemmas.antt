@@ -15,7 +15,8 @@ use Rattle.fzn_cert.specs.Accepted.{past_after}
 use Rattle.fzn_trail.specs.declared.trail.ClauseId.{ClauseId}
 use Rattle.fzn_trail.specs.declared.trail.Entry.{Entry}
 use Rattle.fzn_trail.specs.declared.trail.Reason.{Reason}
-use Rattle.fzn_trail.specs.declared.trail.Reason.TheVariants.{Decision, Clause, Inference}
+use Rattle.fzn_trail.specs.declared.trail.Antecedent.TheVariants.{Clause, Inference}
+use Rattle.fzn_trail.specs.declared.trail.Reason.TheVariants.{Decision, Implied}
 use Rattle.fzn_trail.specs.Levels.{Levels}
 use Rattle.fzn_clauses.specs.declared.clauses.Clauses.{Clauses}
 use Rattle.fzn_clauses.specs.Held.{Held, IsHeld, AllHeld, at_number, clause_of}
@@ -77,8 +78,8 @@ module _ (held : Held) (id : ClauseId) (clause : List Lit) (free : IsHeld held i
 
   still-put : (reason : Reason) → IsStill held now reason
   still-put Decision = tt
-  still-put (Clause other) = λ is. at_other other (other_id other is)
-  still-put (Inference place) = tt
+  still-put (Implied (Clause other)) = λ is. at_other other (other_id other is)
+  still-put (Implied (Inference place)) = tt
 
   still-each : (entries : List Entry) → All (λ (entry : Entry). IsStill held now entry.reason) entries
   still-each [] = All-nil (λ (entry : Entry). IsStill held now entry.reason)

@@ -13,7 +13,7 @@ use Rattle.fzn_cert.specs.Past.{StepsPast, clause_held}
 use Rattle.fzn_cert.specs.Accepted.{IsAccepted, after_step, past_after}
 use Rattle.fzn_trail.specs.declared.trail.ClauseId.{ClauseId}
 use Rattle.fzn_trail.specs.declared.trail.Entry.{Entry}
-use Rattle.fzn_trail.specs.declared.trail.Reason.TheVariants.{Clause}
+use Rattle.fzn_trail.specs.declared.trail.Antecedent.TheVariants.{Clause}
 use Rattle.fzn_trail.specs.Levels.{Levels, level_of, fresh}
 use Rattle.fzn_clauses.specs.declared.clauses.Clauses.{Clauses}
 use Rattle.fzn_clauses.specs.Held.{Held, IsHeld}

@@ -74,11 +74,11 @@ holds-reasoned {clause = clause} {old = old} {new = new} h holds =
 pub known-over : {model : Model} {solver : Solver} {steps : List Step} → IsAfter model solver steps → AreOver (length solver.trail.declared) (known_in (stock_of solver))
 known-over {model = model} {solver = solver} {steps = steps} h =
     let sizes : length solver.trail.declared ≡ length model.vars = ap length h.state.core.declared ∙ length-map model.vars (λ var. var.domain) in
-    let O : ℕ → Type 0 = λ n. All (IsClauseOver n) (map (λ (it : Inferred). it.clause) solver.inferences) in
+    let O : ℕ → Type 0 = λ n. All (IsClauseOver n) (map (λ (it : Inferred). it.inference.clause) solver.inferences) in
     record {
       held = h.state.core.held_over;
-      stacked = subst O (sym sizes) (All-map (IsClauseOver (length model.vars)) (λ (it : Inferred). it.clause) solver.inferences
-          (All-weaker (IsInferredJustified model (past_after model steps)) (λ (it : Inferred). IsClauseOver (length model.vars) it.clause) (λ it j. j.over) solver.inferences h.state.core.justified));
+      stacked = subst O (sym sizes) (All-map (IsClauseOver (length model.vars)) (λ (it : Inferred). it.inference.clause) solver.inferences
+          (All-weaker (IsInferredJustified model (past_after model steps)) (λ (it : Inferred). IsClauseOver (length model.vars) it.inference.clause) (λ it j. j.over) solver.inferences h.state.core.justified));
     }
 
 -- ---- propagation

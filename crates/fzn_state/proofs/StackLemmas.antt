@@ -13,7 +13,8 @@ use Rattle.fzn_domain.specs.Narrow.{narrowed}
 use Rattle.fzn_propagator.specs.declared.inferences.Inferred.{Inferred}
 use Rattle.fzn_trail.specs.declared.trail.Entry.{Entry}
 use Rattle.fzn_trail.specs.declared.trail.Reason.{Reason}
-use Rattle.fzn_trail.specs.declared.trail.Reason.TheVariants.{Decision, Clause, Inference}
+use Rattle.fzn_trail.specs.declared.trail.Antecedent.TheVariants.{Clause, Inference}
+use Rattle.fzn_trail.specs.declared.trail.Reason.TheVariants.{Decision, Implied}
 use Rattle.fzn_trail.specs.Levels.{Levels, level_of, returned}
 use Rattle.fzn_learned.specs.Reasoned.{Known, IsBelow, IsReason, Leads, IsReasoned}
 use Rattle.fzn_learned.proofs.CallerLemmas.{IsReasoned-returned}
@@ -25,8 +26,8 @@ AllBelow n entries = All (λ (entry : Entry). IsBelow n entry.reason) entries
 
 IsBelow-more : (n m : ℕ) (reason : Reason) → n ≤ m → IsBelow n reason → IsBelow m reason
 IsBelow-more n m Decision h low = tt
-IsBelow-more n m (Clause id) h low = tt
-IsBelow-more n m (Inference place) h low = omega (arith, low)
+IsBelow-more n m (Implied (Clause id)) h low = tt
+IsBelow-more n m (Implied (Inference place)) h low = omega (arith, low)
 
 AllBelow-more : (n m : ℕ) (entries : List Entry) → n ≤ m → AllBelow n entries → AllBelow m entries
 AllBelow-more n m entries h low =
@@ -55,8 +56,8 @@ AllBelow-all len i entries past low = let L : List Entry → Type 0 = λ es. All
 -- a reason is one of the inferences that stand
 IsBelow-stacked : (known : Known) (sets : List IntSet) (lit : Lit) (reason : Reason) → IsReason known sets lit reason → IsBelow (length known.stacked) reason
 IsBelow-stacked known sets lit Decision h = tt
-IsBelow-stacked known sets lit (Clause id) h = tt
-IsBelow-stacked known sets lit (Inference place) h = h.0
+IsBelow-stacked known sets lit (Implied (Clause id)) h = tt
+IsBelow-stacked known sets lit (Implied (Inference place)) h = h.0
 
 Leads-stacked : (known : Known) (entries : List Entry) (from to : List IntSet) → Leads known from entries to → AllBelow (length known.stacked) entries
 Leads-stacked known [] from to h = All-nil (λ (entry : Entry). IsBelow (length known.stacked) entry.reason)
@@ -66,11 +67,11 @@ Leads-stacked known (entry ∷ later) from to h =
 pub AllBelow-reasoned : (stock : Stock) (trail : Levels) (count : ℕ) → IsReasoned (known_in stock) trail → count ≡ length stock.stack → AllBelow count trail.entries
 AllBelow-reasoned stock trail count reasoned is =
     let N : ℕ → Type 0 = λ n. AllBelow n trail.entries in
-    subst N (length-map stock.stack (λ (it : Inferred). it.clause) ∙ sym is) (Leads-stacked (known_in stock) trail.entries trail.declared trail.sets reasoned.leads)
+    subst N (length-map stock.stack (λ (it : Inferred). it.inference.clause) ∙ sym is) (Leads-stacked (known_in stock) trail.entries trail.declared trail.sets reasoned.leads)
 
 -- so it is on the way back
 pub AllBelow-returned : (stock : Stock) (trail : Levels) (level count : ℕ) → IsReasoned (known_in stock) trail → level ≤ level_of trail → count ≡ length stock.stack → AllBelow count (returned level trail).entries
 AllBelow-returned stock trail level count reasoned below is =
     let there = returned level trail in
     let N : ℕ → Type 0 = λ n. AllBelow n there.entries in
-    subst N (length-map stock.stack (λ (it : Inferred). it.clause) ∙ sym is) (Leads-stacked (known_in stock) there.entries there.declared there.sets (IsReasoned-returned (known_in stock) trail level reasoned below).leads)
+    subst N (length-map stock.stack (λ (it : Inferred). it.inference.clause) ∙ sym is) (Leads-stacked (known_in stock) there.entries there.declared there.sets (IsReasoned-returned (known_in stock) trail level reasoned below).leads)

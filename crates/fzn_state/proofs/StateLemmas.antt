@@ -103,14 +103,14 @@ module _ {model : Model} {stock : Stock} {steps : List Step} {trail : Levels} {n
   Core-stacked it justified =
       let K : List (List Lit) → Type 0 = λ cs. IsReasoned (record { held = stock.held; stacked = cs }) trail in
       Core-restocked (with_inference it stock) (Stocked-over h.stocked (stock.stack ++ it ∷ []) (All-push (IsInferredJustified model (past_after model steps)) stock.stack it h.justified justified))
-      (subst K (sym (map-append (λ (i : Inferred). i.clause) stock.stack (it ∷ []))) (IsReasoned-stacked (known_in stock) (it.clause ∷ []) trail h.reasoned))
+      (subst K (sym (map-append (λ (i : Inferred). i.inference.clause) stock.stack (it ∷ []))) (IsReasoned-stacked (known_in stock) (it.inference.clause ∷ []) trail h.reasoned))
 
   -- fewer inferences, where no entry rests on the others
   pub Core-cut : (count : ℕ) → All (λ (entry : Entry). IsBelow count entry.reason) trail.entries → CoreOf model (with_stack count stock) steps trail nodes
   Core-cut count enough =
       let K : List (List Lit) → Type 0 = λ cs. IsReasoned (record { held = stock.held; stacked = cs }) trail in
       Core-restocked (with_stack count stock) (Stocked-over h.stocked (take count stock.stack) (All-take (IsInferredJustified model (past_after model steps)) count stock.stack h.justified))
-      (subst K (take-map (λ (i : Inferred). i.clause) count stock.stack) (IsReasoned-cut (known_in stock) count trail enough h.reasoned))
+      (subst K (take-map (λ (i : Inferred). i.inference.clause) count stock.stack) (IsReasoned-cut (known_in stock) count trail enough h.reasoned))
 
 -- ---- plain learning
 

@@ -10,10 +10,10 @@ use Rattle.fzn_domain.specs.Narrow.{IsVariable, IsOpen, NoneEmpty, set_of, narro
 use Rattle.fzn_domain.proofs.NarrowLemmas.{length-narrowed}
 use Rattle.fzn_trail.specs.declared.trail.Entry.{Entry}
 use Rattle.fzn_trail.specs.declared.trail.Reason.{Reason}
-use Rattle.fzn_trail.specs.declared.trail.Reason.TheVariants.{Decision, Clause, Inference}
+use Rattle.fzn_trail.specs.declared.trail.Reason.TheVariants.{Decision, Implied}
 use Rattle.fzn_trail.specs.Levels.{Levels, Standing, standing, restored, returned}
 use Rattle.fzn_trail.proofs.CallerLemmas.{NoneEmpty-narrowed, returned-below}
-use Rattle.fzn_learned.specs.Reasoned.{Known, reason_clause, IsReason, Leads, Open, open_at, opens, IsReasoned}
+use Rattle.fzn_learned.specs.Reasoned.{Known, antecedent_clause, IsReason, Leads, Open, open_at, opens, IsReasoned}
 use Rattle.fzn_state.specs.Volume.{slack}
 use Rattle.fzn_state.specs.Learned.{IsTrueAtEach, AllCertain, negations}
 use Rattle.fzn_state.proofs.VolumeLemmas.{slack-narrowed_le}
@@ -28,8 +28,7 @@ forced-possible sets clause lit e =
 
 reason-possible : (known : Known) (sets : List IntSet) (lit : Lit) (reason : Reason) → IsReason known sets lit reason → is_possible (set_of sets lit.var) lit ≡ true
 reason-possible known sets lit Decision h = h.0
-reason-possible known sets lit (Clause id) h = forced-possible sets (reason_clause known (Clause id)) lit h.1.0
-reason-possible known sets lit (Inference place) h = forced-possible sets (reason_clause known (Inference place)) lit h.1.0
+reason-possible known sets lit (Implied antecedent) h = forced-possible sets (antecedent_clause known antecedent) lit h.1.0
 
 module _ (known : Known) where
   pub Leads-within : (from : List IntSet) (entries : List Entry) (to : List IntSet) → Leads known from entries to → Within to from
@@ -55,8 +54,7 @@ module _ (known : Known) where
 
   certain_at : (count : ℕ) (from to : List IntSet) (lit : Lit) (reason : Reason) (later : List Open) → IsVariable count lit.var → IsTrueAtEach to lit → AllCertain count to later → AllCertain count to (open_at from lit reason later)
   certain_at count from to lit Decision later var certain rest = (var, certain, rest)
-  certain_at count from to lit (Clause id) later var certain rest = rest
-  certain_at count from to lit (Inference place) later var certain rest = rest
+  certain_at count from to lit (Implied antecedent) later var certain rest = rest
 
   -- each decision is true on the last sets
   pub Leads-certain : (count : ℕ) (from : List IntSet) (entries : List Entry) (to : List IntSet) → length from ≡ count → Leads known from entries to → AllCertain count to (opens from entries)
@@ -79,8 +77,7 @@ module _ (known : Known) where
 
 open_at-append : (from : List IntSet) (lit : Lit) (reason : Reason) (xs ys : List Open) → open_at from lit reason (xs ++ ys) ≡ open_at from lit reason xs ++ ys
 open_at-append from lit Decision xs ys = refl
-open_at-append from lit (Clause id) xs ys = refl
-open_at-append from lit (Inference place) xs ys = refl
+open_at-append from lit (Implied antecedent) xs ys = refl
 
 -- a decision among the entries
 pub opens-parts : (known : Known) (from : List IntSet) (before : List Entry) (here : List IntSet) (lit : Lit) (level : ℕ) (later : List Entry) → Leads known from before here → opens from (before ++ record { lit = lit; reason = Decision; level = level } ∷ later) ≡ opens from before ++ record { sets = here; decision = lit } ∷ opens (narrowed here lit) later

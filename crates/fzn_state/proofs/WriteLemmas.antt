@@ -25,7 +25,7 @@ module _ {model : Model} {stock : Stock} {steps : List Step} {trail : Levels} {n
   it = inference_at stock.stack place
 
   abbrev pub step : Step
-  step = Infer it.constraint it.rule it.clause
+  step = Infer it.inference
 
   is_justified : IsInferredJustified model (past_after model steps) it
   is_justified = All-get_or (IsInferredJustified model (past_after model steps)) stock.stack place _ stacked core.justified
@@ -39,26 +39,26 @@ module _ {model : Model} {stock : Stock} {steps : List Step} {trail : Levels} {n
   pub known-written : (number : ℕ) → known_in (with_step place number stock) ≡ known_in stock
   known-written number =
       ap (λ (cs : List (List Lit)). record { held = stock.held; stacked = cs })
-      (map-set_same (λ (i : Inferred). i.clause) stock.stack place (with_number number it) _ refl)
+      (map-set_same (λ (i : Inferred). i.inference.clause) stock.stack place (with_number number it) _ refl)
 
   -- the step after these gives its clause
-  gives-now : (number : ℕ) → number ≡ length steps + 1 → clause_held (after_step model (past_after model steps) step) number ≡ Some it.clause
+  gives-now : (number : ℕ) → number ≡ length steps + 1 → clause_held (after_step model (past_after model steps) step) number ≡ Some it.inference.clause
   gives-now number e =
       ap (clause_held (after_step model (past_after model steps) step)) (e ∙ ap (λ (n : ℕ). n + 1) (sym (length-past_of model steps)))
-      ∙ clause_held-newest (past_after model steps) (after_step model (past_after model steps) step) it.clause refl
+      ∙ clause_held-newest (past_after model steps) (after_step model (past_after model steps) step) it.inference.clause refl
 
-  pub written-there : (number : ℕ) → number ≡ length steps + 1 → clause_held (past_after model (steps ++ step ∷ [])) number ≡ Some it.clause
+  pub written-there : (number : ℕ) → number ≡ length steps + 1 → clause_held (past_after model (steps ++ step ∷ [])) number ≡ Some it.inference.clause
   written-there number e = ap (λ (p : StepsPast). clause_held p number) (past_after-push model steps step) ∙ gives-now number e
 
   -- and those before it still give theirs
   pub still-gives : (n : ℕ) (clause : List Lit) → clause_held (past_after model steps) n ≡ Some clause → clause_held (past_after model (steps ++ step ∷ [])) n ≡ Some clause
   still-gives n clause gives =
-      ap (λ (p : StepsPast). clause_held p n) (past_after-push model steps step) ∙ clause_held-grown (past_after model steps) (after_step model (past_after model steps) step) (Some it.clause) n clause refl gives
+      ap (λ (p : StepsPast). clause_held p n) (past_after-push model steps step) ∙ clause_held-grown (past_after model steps) (after_step model (past_after model steps) step) (Some it.inference.clause) n clause refl gives
 
   newest : (number : ℕ) → number ≡ length steps + 1 → IsInferredJustified model (after_step model (past_after model steps) step) (with_number number it)
   newest number e =
-      let later = IsJustified-grown model (past_after model steps) (after_step model (past_after model steps) step) (Some it.clause) it refl is_justified in
-      record { over = later.over; numbered = later.numbered; justified = later.justified; spelled = later.spelled; written = gives-now number e }
+      let later = IsJustified-grown model (past_after model steps) (after_step model (past_after model steps) step) (Some it.inference.clause) it refl is_justified in
+      record { stands = later.stands; written = gives-now number e }
 
   pub Core-written : (number : ℕ) → number ≡ length steps + 1 → CoreOf model (with_step place number stock) (steps ++ step ∷ []) trail nodes
   Core-written number e =
@@ -68,23 +68,23 @@ module _ {model : Model} {stock : Stock} {steps : List Step} {trail : Levels} {n
       let R : Known → Type 0 = λ k. IsReasoned k trail in
       Core-more core step infer-accepted (with_step place number stock)
       (record {
-        numbered = AreNumbered-grown (past_after model steps) now (Some it.clause) stock.numbers stock.held refl core.numbered;
+        numbered = AreNumbered-grown (past_after model steps) now (Some it.inference.clause) stock.numbers stock.held refl core.numbered;
         justified = All-set J stock.stack place (with_number number it) (newest number e)
-            (All-weaker (IsInferredJustified model (past_after model steps)) J (λ i j. IsJustified-grown model (past_after model steps) now (Some it.clause) i refl j) stock.stack core.justified);
-        written = All-push (IsGivenBy model now) stock.written (record { clause = it.clause; number = number })
-            (AreGivenBy-grown model (past_after model steps) now (Some it.clause) stock.written refl core.written) (is_justified.over, gives-now number e);
-        alive = AreGiven-push (past_after model steps) now stock.alive number it.clause refl core.alive (gives-now number e);
+            (All-weaker (IsInferredJustified model (past_after model steps)) J (λ i j. IsJustified-grown model (past_after model steps) now (Some it.inference.clause) i refl j) stock.stack core.justified);
+        written = All-push (IsGivenBy model now) stock.written (record { clause = it.inference.clause; number = number })
+            (AreGivenBy-grown model (past_after model steps) now (Some it.inference.clause) stock.written refl core.written) (is_justified.over, gives-now number e);
+        alive = AreGiven-push (past_after model steps) now stock.alive number it.inference.clause refl core.alive (gives-now number e);
         cuts_held = core.cuts_held;
         held_over = core.held_over;
       })
       trail refl (subst R (sym (known-written number)) core.reasoned) (subst N (sym same_resolved) core.nodes_by_conflicts)
 
   -- a step that was written before gives its clause
-  pub Core-given : (number : ℕ) → clause_held (past_after model steps) number ≡ Some it.clause → CoreOf model (with_given place number stock) steps trail nodes
+  pub Core-given : (number : ℕ) → clause_held (past_after model steps) number ≡ Some it.inference.clause → CoreOf model (with_given place number stock) steps trail nodes
   Core-given number gives =
       let J : Inferred → Type 0 = IsInferredJustified model (past_after model steps) in
       let R : Known → Type 0 = λ k. IsReasoned k trail in
-      let one : J (with_number number it) = record { over = is_justified.over; numbered = is_justified.numbered; justified = is_justified.justified; spelled = is_justified.spelled; written = gives } in
+      let one : J (with_number number it) = record { stands = is_justified.stands; written = gives } in
       Core-restocked core (with_given place number stock)
       (Stocked-over core.stocked (set stock.stack place (with_number number it)) (All-set J stock.stack place (with_number number it) one core.justified))
       (subst R (sym (known-written number)) core.reasoned)

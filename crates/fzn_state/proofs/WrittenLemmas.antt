@@ -9,8 +9,8 @@ use Rattle.fzn_cert.specs.Past.{clause_held}
 use Rattle.fzn_cert.specs.Accepted.{AllAccepted, past_after}
 use Rattle.fzn_propagator.specs.declared.inferences.Inferred.{Inferred}
 use Rattle.fzn_propagator.specs.Inferences.{inference_at, with_number}
-use Rattle.fzn_trail.specs.declared.trail.Reason.{Reason}
-use Rattle.fzn_learned.specs.Reasoned.{Known, reason_clause, opens}
+use Rattle.fzn_trail.specs.declared.trail.Antecedent.{Antecedent}
+use Rattle.fzn_learned.specs.Reasoned.{Known, antecedent_clause, opens}
 use Rattle.fzn_reduction.specs.declared.notes.Notes.{Notes}
 use Rattle.fzn_state.specs.declared.solver.Solver.{Solver}
 use Rattle.fzn_state.specs.State.{Give, with_step, PlainOf, StateOf}
@@ -20,10 +20,6 @@ use Rattle.fzn_state.proofs.AcceptedLemmas.{logged-accepted}
 use Rattle.fzn_state.proofs.NumberLemmas.{Give-push}
 use Rattle.fzn_state.proofs.SolverLemmas.{order-step}
 use Rattle.fzn_state.proofs.WriteLemmas.{infer-accepted, known-written, written-there, still-gives, Core-given, Core-written, same_resolved}
-
--- a copy makes the same step
-pub infer_same : (copy it : Inferred) → copy ≡ it → Infer copy.constraint copy.rule copy.clause ≡ Infer it.constraint it.rule it.clause
-infer_same copy it e = ap (λ (i : Inferred). Infer i.constraint i.rule i.clause) e
 
 pub written-through : {model : Model} {old mid new : Solver} {first before now : List Step} → AreInferencesWritten model first old mid before → AreInferencesWritten model before mid new now → AreInferencesWritten model first old new now
 written-through a b = record { state = b.state; kept = λ n clause gives. b.kept n clause (a.kept n clause gives); known = b.known ∙ a.known; trail = b.trail ∙ a.trail; tally = b.tally ∙ a.tally }
@@ -39,27 +35,27 @@ Give-still model before now (n ∷ numbers) (clause ∷ clauses) still h =
     ap₂ (λ (o : Option (List Lit)) (os : List (Option (List Lit))). o ∷ os) (still n clause one) (Give-still model before now numbers clauses still rest)
 
 -- one more antecedent has its number
-pub GiveAntecedents-next : (model : Model) (before now : List Step) (known mid : Known) (numbers : List ℕ) (antecedents : List Reason) (i : ℕ) (d : Reason) (number : ℕ) → StillGive model before now → mid ≡ known → GiveAntecedents (past_after model before) known numbers (take i antecedents) → i < length antecedents → clause_held (past_after model now) number ≡ Some (reason_clause mid (get_or antecedents i d)) → GiveAntecedents (past_after model now) known (numbers ++ number ∷ []) (take (i + 1) antecedents)
+pub GiveAntecedents-next : (model : Model) (before now : List Step) (known mid : Known) (numbers : List ℕ) (antecedents : List Antecedent) (i : ℕ) (d : Antecedent) (number : ℕ) → StillGive model before now → mid ≡ known → GiveAntecedents (past_after model before) known numbers (take i antecedents) → i < length antecedents → clause_held (past_after model now) number ≡ Some (antecedent_clause mid (get_or antecedents i d)) → GiveAntecedents (past_after model now) known (numbers ++ number ∷ []) (take (i + 1) antecedents)
 GiveAntecedents-next model before now known mid numbers antecedents i d number still same give within gives =
     let C : List (List Lit) → Type 0 = λ cs. Give (past_after model now) (numbers ++ number ∷ []) cs in
     let antecedent = get_or antecedents i d in
-    let clauses : map (reason_clause known) (take (i + 1) antecedents) ≡ map (reason_clause known) (take i antecedents) ++ reason_clause known antecedent ∷ [] =
-    ap (map (reason_clause known)) (take_more antecedents i d within) ∙ map-append (reason_clause known) (take i antecedents) (antecedent ∷ []) in
-    let one : clause_held (past_after model now) number ≡ Some (reason_clause known antecedent) = gives ∙ ap (λ (k : Known). Some (reason_clause k antecedent)) same in
-    subst C (sym clauses) (Give-push (past_after model now) numbers (map (reason_clause known) (take i antecedents)) number (reason_clause known antecedent) (Give-still model before now numbers (map (reason_clause known) (take i antecedents)) still give) one)
+    let clauses : map (antecedent_clause known) (take (i + 1) antecedents) ≡ map (antecedent_clause known) (take i antecedents) ++ antecedent_clause known antecedent ∷ [] =
+    ap (map (antecedent_clause known)) (take_more antecedents i d within) ∙ map-append (antecedent_clause known) (take i antecedents) (antecedent ∷ []) in
+    let one : clause_held (past_after model now) number ≡ Some (antecedent_clause known antecedent) = gives ∙ ap (λ (k : Known). Some (antecedent_clause k antecedent)) same in
+    subst C (sym clauses) (Give-push (past_after model now) numbers (map (antecedent_clause known) (take i antecedents)) number (antecedent_clause known antecedent) (Give-still model before now numbers (map (antecedent_clause known) (take i antecedents)) still give) one)
 
 module _ {model : Model} {old : Solver} {before : List Step} (h : IsAfter model old before) (place : ℕ) (stacked : place < length old.inferences) where
   abbrev pub it : Inferred
   it = inference_at old.inferences place
 
   abbrev pub step : Step
-  step = Infer it.constraint it.rule it.clause
+  step = Infer it.inference
 
   pub infer-logged : (now : List Step) → (now ≡ before) ⊎ (now ≡ before ++ step ∷ []) → AllAccepted model now
   infer-logged now log = logged-accepted model before now step h.state.core.accepted (infer-accepted h.state.core place stacked) log
 
   -- a step that was written before gives it
-  pub infer-given : (number : ℕ) → clause_held (past_after model before) number ≡ Some it.clause → (notes : Notes) → AreInferencesWritten model before old (record old { inferences = set old.inferences place (with_number number it); notes = notes }) before
+  pub infer-given : (number : ℕ) → clause_held (past_after model before) number ≡ Some it.inference.clause → (notes : Notes) → AreInferencesWritten model before old (record old { inferences = set old.inferences place (with_number number it); notes = notes }) before
   infer-given number gives notes = record {
     state = record {
       state = record { core = Core-given h.state.core place stacked number gives; plain = h.state.plain };
@@ -73,12 +69,12 @@ module _ {model : Model} {old : Solver} {before : List Step} (h : IsAfter model 
   }
 
   module _ {now : List Step} (now_is : now ≡ before ++ step ∷ []) (few : length now < 10 ^ 18) where
-    pub infer-number : (number : ℕ) → number ≡ old.steps + 1 → clause_held (past_after model now) number ≡ Some it.clause
+    pub infer-number : (number : ℕ) → number ≡ old.steps + 1 → clause_held (past_after model now) number ≡ Some it.inference.clause
     infer-number number e =
-        let C : List Step → Type 0 = λ s. clause_held (past_after model s) number ≡ Some it.clause in
+        let C : List Step → Type 0 = λ s. clause_held (past_after model s) number ≡ Some it.inference.clause in
         subst C (sym now_is) (written-there h.state.core place stacked number (e ∙ ap (λ (n : ℕ). n + 1) h.steps_are))
 
-    pub infer-written : (number : ℕ) → number ≡ old.steps + 1 → (notes : Notes) (new : Solver) → new ≡ record old { inferences = set old.inferences place (with_number number it); written = old.written ++ record { clause = it.clause; number = number } ∷ []; alive = old.alive ++ number ∷ []; notes = notes; steps = number } → AreInferencesWritten model before old new now
+    pub infer-written : (number : ℕ) → number ≡ old.steps + 1 → (notes : Notes) (new : Solver) → new ≡ record old { inferences = set old.inferences place (with_number number it); written = old.written ++ record { clause = it.inference.clause; number = number } ∷ []; alive = old.alive ++ number ∷ []; notes = notes; steps = number } → AreInferencesWritten model before old new now
     infer-written number e notes new new_is =
         let P : Solver → Type 0 = λ s. AreInferencesWritten model before old s now in
         let core = Core-written h.state.core place stacked number (e ∙ ap (λ (n : ℕ). n + 1) h.steps_are) in

@@ -6,17 +6,17 @@ use Rattle.fzn_cert.specs.declared.step.Step.{Step}
 use Rattle.fzn_cert.specs.Accepted.{past_after}
 use Rattle.fzn_cert.specs.Past.{StepsPast, clause_held}
 use Rattle.fzn_strategy.specs.declared.learn.Learn.TheVariants.{Plain}
-use Rattle.fzn_trail.specs.declared.trail.Reason.{Reason}
+use Rattle.fzn_trail.specs.declared.trail.Antecedent.{Antecedent}
 use Rattle.fzn_learned.specs.declared.learned.Learned.{Learned}
 use Rattle.fzn_learned.specs.Learned.{IsDerived, IsLearned, IsPlain}
-use Rattle.fzn_learned.specs.Reasoned.{Known, reason_clause}
+use Rattle.fzn_learned.specs.Reasoned.{Known, antecedent_clause}
 use Rattle.fzn_state.specs.State.{known_in, Give}
 use Rattle.fzn_state.specs.declared.solver.Solver.{Solver}
 use Rattle.fzn_state.specs.Search.{stock_of, IsAfter, tally_of}
 
 -- the steps of these numbers give the clauses of these antecedents
-abbrev pub GiveAntecedents : StepsPast → Known → List ℕ → List Reason → Type 0
-GiveAntecedents past known numbers antecedents = Give past numbers (map (reason_clause known) antecedents)
+abbrev pub GiveAntecedents : StepsPast → Known → List ℕ → List Antecedent → Type 0
+GiveAntecedents past known numbers antecedents = Give past numbers (map (antecedent_clause known) antecedents)
 
 -- each number that gave a clause after the first steps gives it after the others
 abbrev pub StillGive : Model → List Step → List Step → Type 0
@@ -38,7 +38,7 @@ pub record Derives (model : Model) (solver : Solver) (steps : List Step) (learne
   pub give : GiveAntecedents (past_after model steps) (known_in (stock_of solver)) numbers learned.antecedents
 
 -- and is learned from a conflict
-pub record Learns (model : Model) (solver : Solver) (steps : List Step) (conflict : Reason) (learned : Learned) (numbers : List ℕ) : Type 0 where
+pub record Learns (model : Model) (solver : Solver) (steps : List Step) (conflict : Antecedent) (learned : Learned) (numbers : List ℕ) : Type 0 where
   pub derives : Derives model solver steps learned numbers
   pub open derives use *
   pub is : IsLearned (known_in (stock_of solver)) solver.trail learned

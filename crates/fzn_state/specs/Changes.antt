@@ -5,7 +5,7 @@ use Rattle.fzn_meaning.specs.declared.model.Model.{Model}
 use Rattle.fzn_cert.specs.declared.step.Step.{Step}
 use Rattle.fzn_cert.specs.declared.step.Step.TheVariants.{Resolve}
 use Rattle.fzn_cert.specs.Accepted.{IsAccepted, past_after}
-use Rattle.fzn_trail.specs.declared.trail.Reason.{Reason}
+use Rattle.fzn_trail.specs.declared.trail.Antecedent.{Antecedent}
 use Rattle.fzn_clauses.specs.Watching.{held_by}
 use Rattle.fzn_strategy.specs.declared.learn.Learn.TheVariants.{First}
 use Rattle.fzn_learned.specs.declared.learned.Learned.{Learned}
@@ -49,7 +49,7 @@ pub record LeavesNothing (model : Model) (old new : Solver) (steps : List Step) 
   pub found_is : new.found ≡ count model steps
 
 -- a clause was learned from a conflict and written: it is empty and nothing is left, or it is held, and nothing else was changed
-pub record HasLearned (model : Model) (first : List Step) (old new : Solver) (steps : List Step) (conflict : Reason) (lesson : Lesson) : Type 0 where
+pub record HasLearned (model : Model) (first : List Step) (old new : Solver) (steps : List Step) (conflict : Antecedent) (lesson : Lesson) : Type 0 where
   pub mid : Solver
   pub before : List Step
   pub learned : Learned
@@ -63,7 +63,7 @@ pub record HasLearned (model : Model) (first : List Step) (old new : Solver) (st
   pub newest : lesson.id.0 ≡ length (held_by mid.clauses)
   pub level : lesson.level ≡ learned.level
 
-abbrev pub Teaches : Model → List Step → Solver → Solver → List Step → Reason → Option Lesson → Type 0
+abbrev pub Teaches : Model → List Step → Solver → Solver → List Step → Antecedent → Option Lesson → Type 0
 Teaches model first old new steps conflict None = LeavesNothing model old new steps
 Teaches model first old new steps conflict (Some lesson) = HasLearned model first old new steps conflict lesson
 

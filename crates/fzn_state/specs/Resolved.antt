@@ -10,7 +10,7 @@ use Rattle.fzn_cert.specs.declared.step.Step.TheVariants.{Infer, Resolve, Soluti
 -- the clauses of the `r` steps, in order
 abbrev pub resolved : List Step → List (List Lit)
 resolved [] = []
-resolved (Infer c rule clause ∷ later) = resolved later
+resolved (Infer it ∷ later) = resolved later
 resolved (Resolve clause ids ∷ later) = clause ∷ resolved later
 resolved (Solution values ∷ later) = resolved later
 resolved (Delete ids ∷ later) = resolved later

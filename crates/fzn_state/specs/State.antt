@@ -7,13 +7,11 @@ use Rattle.fzn_domain.specs.Narrow.{IsClauseOver, NoneEmpty}
 use Rattle.fzn_meaning.specs.declared.model.Model.{Model}
 use Rattle.fzn_meaning.specs.Solutions.{declared_sets, cut_of}
 use Rattle.fzn_cert.specs.declared.step.Step.{Step}
-use Rattle.fzn_cert.specs.declared.step.Step.TheVariants.{Infer}
-use Rattle.fzn_cert.specs.declared.step.Version.TheVariants.{One}
-use Rattle.fzn_cert.specs.Accepted.{IsConstraintNumber, IsInferredBy, AllAccepted, past_after}
+use Rattle.fzn_cert.specs.Accepted.{AllAccepted, past_after}
 use Rattle.fzn_cert.specs.Past.{StepsPast, clause_held, IsClauseHeld as IsGiven}
-use Rattle.fzn_cert.specs.Spelling.{IsSpelled}
 use Rattle.fzn_propagator.specs.declared.inferences.Inferred.{Inferred}
-use Rattle.fzn_propagator.specs.Inferences.{inference_at, with_number}
+use Rattle.fzn_propagator.specs.Constraints.{IsInferenceJustified}
+use Rattle.fzn_propagator.specs.Inferences.{inference_at, inferred_clause, with_number}
 use Rattle.fzn_trail.specs.declared.trail.ClauseId.{ClauseId}
 use Rattle.fzn_trail.specs.Levels.{Levels}
 use Rattle.fzn_clauses.specs.Held.{Held, IsHeld, AllHeld, at_number, clause_of}
@@ -61,7 +59,7 @@ with_given place number stock = record stock { stack = slice_set stock.stack pla
 -- and was written as this step
 abbrev pub with_step : ℕ → ℕ → Stock → Stock
 with_step place number stock = record (with_given place number stock) {
-  written = stock.written ++ record { clause = (inference_at stock.stack place).clause; number = number } ∷ [];
+  written = stock.written ++ record { clause = inferred_clause stock.stack place; number = number } ∷ [];
   alive = stock.alive ++ number ∷ [];
 }
 
@@ -82,11 +80,9 @@ pub record AreNumbered (past : StepsPast) (numbers : List ℕ) (held : Held) : T
 
 -- the inference's step would be accepted whatever steps stand before it, and where it was written its step gives its clause
 pub record IsInferredJustified (model : Model) (past : StepsPast) (it : Inferred) : Type 0 where
-  pub over : IsClauseOver (length model.vars) it.clause
-  pub numbered : IsConstraintNumber model it.constraint
-  pub justified : IsInferredBy model it.constraint it.rule it.clause
-  pub spelled : IsSpelled One (Infer it.constraint it.rule it.clause)
-  pub written : IfSome it.number (λ n. clause_held past n ≡ Some it.clause)
+  pub stands : IsInferenceJustified model it.inference
+  pub open stands use *
+  pub written : IfSome it.number (λ n. clause_held past n ≡ Some it.inference.clause)
 
 -- the step of its number gives the clause of a written inference
 abbrev pub IsGivenBy : Model → StepsPast → Given → Type 0

@@ -6,12 +6,7 @@ ghost use Rattle.fzn_state.specs.Changes.{HasDropped};
 
 use crate::solver::Solver;
 use fzn_reduction::Notes;
-use fzn_trail::{Reason, Trail};
-
-/// How many inferences without an entry may stand beside those on which entries may rest: so many, and one for each so many entries.
-const SPARE: usize = 64;
-
-const SHARE: usize = 16;
+use fzn_trail::{Antecedent, Reason, Trail};
 
 impl Solver {
     /// Drops inferences on which no entry rests.
@@ -35,8 +30,8 @@ fn kept_len(trail: &Trail, count: usize, notes: &mut Notes) -> usize
     }
     let len = stack_len(trail, count);
     notes.next_cut = len
-        .saturating_add(trail.len() / SHARE)
-        .saturating_add(SPARE);
+        .saturating_add(trail.len() / notes.parameters.spare_share.max(1) as usize)
+        .saturating_add(notes.parameters.spare_inferences as usize);
     len
 }
 
@@ -59,7 +54,7 @@ fn place_after(reason: Reason, count: usize) -> usize
 {
     match reason {
         Reason::Decision => 0,
-        Reason::Clause(_) => 0,
-        Reason::Inference(place) => place + 1,
+        Reason::Implied(Antecedent::Clause(_)) => 0,
+        Reason::Implied(Antecedent::Inference(place)) => place + 1,
     }
 }

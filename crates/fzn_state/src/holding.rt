@@ -13,9 +13,6 @@ use fzn_domain::{Lit, Memory};
 use fzn_meaning::Model;
 use fzn_trail::ClauseId;
 
-/// How many literals the clause of an inference has at most that is held.
-const SHORT: usize = 4;
-
 impl Solver {
     /// Holds the clause of the next step, and tells the search which literals its conflict rests on. One with a literal block distance may
     /// be forgotten.
@@ -62,7 +59,7 @@ impl Solver {
         let given = self.written.get(place);
         let clause = given.clause.as_slice();
         let number = given.number;
-        if clause.len() < 2 || SHORT < clause.len() {
+        if clause.len() < 2 || self.notes.parameters.held_length < clause.len() as u64 {
             return Ok(());
         }
         let Some(free) = self.notes.stock.next_free(&self.clauses, &self.numbers) else {

@@ -18,7 +18,7 @@ use fzn_domain::{Clause, Memory};
 use fzn_learned::Learned;
 use fzn_list::Items;
 use fzn_meaning::Model;
-use fzn_trail::{ClauseId, Reason};
+use fzn_trail::{Antecedent, ClauseId};
 use std::alloc::Global;
 
 /// A clause that was learned from a conflict.
@@ -37,7 +37,7 @@ impl Solver {
         alloc: Global,
         model: &Model,
         sink: &mut S,
-        conflict: Reason,
+        conflict: Antecedent,
     ) -> Result<(Learned, Items<u64>), Fault>
         requires ready { IsSearchReady model.now self.old (S.written sink.old) (S.keeps model.now sink.old) }
         requires conflict { IsConflicting (known_in (stock_of self.old)) self.old.trail.sets conflict }
@@ -65,7 +65,7 @@ impl Solver {
         alloc: Global,
         model: &Model,
         sink: &mut S,
-        conflict: Reason,
+        conflict: Antecedent,
     ) -> Result<Option<Lesson>, Fault>
         requires ready { IsSearchReady model.now self.old (S.written sink.old) (S.keeps model.now sink.old) }
         requires conflict { IsConflicting (known_in (stock_of self.old)) self.old.trail.sets conflict }

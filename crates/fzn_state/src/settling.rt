@@ -22,7 +22,7 @@ use fzn_domain::{Memory, Op, VarId};
 use fzn_meaning::{Model, Var};
 use fzn_reduction::forget_units;
 use fzn_strategy::Learn;
-use fzn_trail::{ClauseId, Reason, Trail};
+use fzn_trail::{Antecedent, ClauseId, Reason, Trail};
 use std::alloc::Global;
 
 impl Solver {
@@ -129,7 +129,7 @@ fn unit_at(trail: &Trail, clauses: &Clauses, marks: &Marks, place: usize) -> Opt
     if place >= trail.len() {
         return None;
     }
-    if let Reason::Clause(id) = trail.entry(place).reason
+    if let Reason::Implied(Antecedent::Clause(id)) = trail.entry(place).reason
         && is_unit(clauses, id)
     {
         return Some(id);

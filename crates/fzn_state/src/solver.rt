@@ -79,7 +79,7 @@ impl Solver {
             search,
             scratch,
             learn,
-            notes: Notes::new(alloc, choice.keep, learn),
+            notes: Notes::new(alloc, choice.keep, learn, choice.parameters),
             found: 0,
             steps: 0,
         })

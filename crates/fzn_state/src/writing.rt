@@ -6,7 +6,7 @@ ghost use Rattle.fzn_cert.specs.declared.step.Step.{Step};
 ghost use Rattle.fzn_cert.specs.Accepted.{past_after};
 ghost use Rattle.fzn_cert.specs.Past.{clause_held};
 ghost use Rattle.fzn_propagator.specs.Inferences.{IsStacked, inferred_clause};
-ghost use Rattle.fzn_learned.specs.Reasoned.{IsKnown, reason_clause};
+ghost use Rattle.fzn_learned.specs.Reasoned.{IsKnown, antecedent_clause};
 ghost use Rattle.fzn_state.specs.State.{known_in};
 ghost use Rattle.fzn_reduction.specs.Written.{IsGivenAt};
 ghost use Rattle.fzn_state.specs.Search.{stock_of, IsAfter, IsSearchReady, IsLeftBySearch};
@@ -20,8 +20,7 @@ use fzn_domain::Memory;
 use fzn_learned::clause_of;
 use fzn_list::Items;
 use fzn_meaning::Model;
-use fzn_propagator::Inferred;
-use fzn_trail::Reason;
+use fzn_trail::Antecedent;
 use std::alloc::Global;
 
 impl Solver {
@@ -31,7 +30,7 @@ impl Solver {
         alloc: Global,
         model: &Model,
         sink: &mut S,
-        antecedents: &[Reason],
+        antecedents: &[Antecedent],
     ) -> Result<Items<u64>, Fault>
         requires ready { IsSearchReady model.now self.old (S.written sink.old) (S.keeps model.now sink.old) }
         requires known { All (IsKnown (known_in (stock_of self.old))) antecedents.now }
@@ -53,18 +52,17 @@ impl Solver {
         alloc: Global,
         model: &Model,
         sink: &mut S,
-        antecedent: Reason,
+        antecedent: Antecedent,
     ) -> Result<u64, Fault>
         requires ready { IsSearchReady model.now self.old (S.written sink.old) (S.keeps model.now sink.old) }
         requires known { IsKnown (known_in (stock_of self.old)) antecedent }
         ensures written { IfOk result (λ _. AreInferencesWritten model.now (S.written sink.old) self.old self.new (S.written sink.new)) }
-        ensures number { IfOk result (λ number. clause_held (past_after model.now (S.written sink.new)) number ≡ Some (reason_clause (known_in (stock_of self.old)) antecedent)) }
+        ensures number { IfOk result (λ number. clause_held (past_after model.now (S.written sink.new)) number ≡ Some (antecedent_clause (known_in (stock_of self.old)) antecedent)) }
         ensures left { IsLeftBySearch model.now (S.written sink.new) (S.keeps model.now sink.new) (S.origin sink.new ≡ S.origin sink.old) }
     {
         match antecedent {
-            Reason::Decision => unreachable!(), // It has no clause.
-            Reason::Clause(id) => Ok(self.numbers.as_slice()[id.0 as usize]),
-            Reason::Inference(place) => match self.inferences.get(place).number {
+            Antecedent::Clause(id) => Ok(self.numbers.as_slice()[id.0 as usize]),
+            Antecedent::Inference(place) => match self.inferences.get(place).number {
                 Some(number) => Ok(number),
                 None => self.give_inference(alloc, model, sink, place),
             },
@@ -87,7 +85,7 @@ impl Solver {
     {
         match self
             .written
-            .find(self.inferences.get(place).clause.as_slice())
+            .find(self.inferences.get(place).inference.clause.as_slice())
         {
             Some(known) => Ok(self.give_again(place, known)?),
             None => self.write_inference(alloc, model, sink, place),
@@ -121,23 +119,13 @@ impl Solver {
         ensures number { IfOk result (λ number. clause_held (past_after model.now (S.written sink.new)) number ≡ Some (inferred_clause self.old.inferences place)) }
         ensures left { IsLeftBySearch model.now (S.written sink.new) (S.keeps model.now sink.new) (S.origin sink.new ≡ S.origin sink.old) }
     {
-        let Inferred {
-            constraint,
-            rule,
-            clause,
-            number: _,
-        } = self.inferences.copy(place)?;
+        let inference = self.inferences.copy(place)?;
         let number = self.steps + 1;
-        let copy = Items::from_slice(alloc, clause.as_slice())?;
-        let known = self.written.push(copy, number)?;
+        let clause = Items::from_slice(alloc, inference.clause.as_slice())?;
+        let known = self.written.push(clause, number)?;
         self.notes.cited.cite(known)?;
         self.alive.push(number)?;
-        let step = Step::Infer {
-            constraint,
-            rule,
-            clause,
-        };
-        sink.step(alloc, model, &step)?;
+        sink.step(alloc, model, &Step::Infer(inference))?;
         self.inferences.set_number(place, number);
         self.steps = number;
         Ok(number)

@@ -9,9 +9,8 @@ use Rattle.fzn_meaning.specs.Term.{numbers_in}
 use Rattle.fzn_sets.specs.Terms.{MayBe}
 use Rattle.fzn_rules.specs.GlobalRows.{IsRowOut}
 use Rattle.fzn_rules.specs.declared.rule.Rule.TheVariants.{Rows}
-use Rattle.fzn_propagator.specs.declared.propagator.Inference.{Inference}
 use Rattle.fzn_propagator.specs.Clause.{IsJustified}
-use Rattle.fzn_propagator.specs.Inference.{AreFoundOf}
+use Rattle.fzn_propagator.specs.Inference.{Inference, AreFoundOf}
 use Rattle.fzn_terms.specs.Values.{place_at}
 use Rattle.fzn_table.specs.declared.pass.Pass.{Pass}
 use Rattle.fzn_table.specs.Supports.{number_at, IsWhole, IsOpenUpTo, AreMarkedRowsOpen, IsSupported, HasSupportThat}

@@ -3,7 +3,7 @@ use Rattle.std.specs.Prelude.{◌≡◌, ℕ, List, length}
 use Rattle.fzn_domain.specs.IntSet.{IntSet}
 use Rattle.fzn_meaning.specs.declared.constraint.Constraint.{Constraint}
 use Rattle.fzn_meaning.specs.declared.constraint.Constraint.TheVariants.{Table}
-use Rattle.fzn_meaning.specs.Meaning.{IsWellFormed}
+use Rattle.fzn_meaning.specs.Meaning.{IsWellFormedConstraint}
 use Rattle.fzn_table.specs.declared.propagator.TablePropagator.{TablePropagator}
 
 abbrev pub table_number : TablePropagator → ℕ
@@ -13,4 +13,4 @@ abbrev pub TableIsFor : TablePropagator → Constraint → Type 0
 TableIsFor propagator constraint = Table propagator.places propagator.rows ≡ constraint
 
 abbrev pub TableFits : TablePropagator → List IntSet → Type 0
-TableFits propagator declared = IsWellFormed (length declared) (Table propagator.places propagator.rows)
+TableFits propagator declared = IsWellFormedConstraint (length declared) (Table propagator.places propagator.rows)

@@ -88,7 +88,7 @@ impl Propagator for TablePropagator {
     /// values are all in their places' sets, and so does each value of a place that is declared over at most 4,096 numbers, counted from the
     /// least to the greatest. Of a wider place each does where it has at most 64, or where its greatest value less its least is at most four
     /// times the number of rows and at most 4,095.
-    #[tactic(auto, unfolding(fzn_meaning::specs::Meaning::IsWellFormed))]
+    #[tactic(auto, unfolding(fzn_meaning::specs::Meaning::IsWellFormedConstraint))]
     fn propagate(&self, alloc: Global, trail: &Trail, found: &mut Findings) -> Result<(), Memory>
         requires fits { TableFits self.now trail.now.declared }
         requires filled { NoneEmpty trail.now.sets }

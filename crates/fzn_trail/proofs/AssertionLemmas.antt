@@ -16,7 +16,7 @@ use Rattle.fzn_sets.proofs.SetsLemmas as lemmas
 use Rattle.fzn_trail.specs.declared.trail.Entry.{Entry}
 use Rattle.fzn_trail.specs.declared.assertions.Assertion.{Assertion}
 use Rattle.fzn_trail.specs.Replay.{replayed, set_before, variable_at, IsLastOn, NoneOn}
-use Rattle.fzn_trail.specs.Inside.{lits_of, entries_of, IsPlaceOf, IsAssertion, AllAssertions, AreLast, AreAssertions}
+use Rattle.fzn_trail.specs.Inside.{lits_of, entries_of, IsLastPlace, IsAssertion, AllAssertions, AreLast, AreAssertions}
 
 -- ---- the sets
 
@@ -28,7 +28,7 @@ length-replayed declared [] = refl
 length-replayed declared (e ∷ entries) = length-replayed (narrowed declared e.lit) entries ∙ length-narrowed declared e.lit
 
 -- the literals of the entries leave the same
-pub replayed-lits : (declared : List IntSet) (entries : List Entry) → sets.replayed declared (lits_of entries) ≡ replayed declared entries
+pub replayed-lits : (declared : List IntSet) (entries : List Entry) → sets.narrowed_along declared (lits_of entries) ≡ replayed declared entries
 replayed-lits declared entries = fold-map narrowed (λ (entry : Entry). entry.lit) declared entries
 
 -- ---- the variables of the entries
@@ -48,22 +48,22 @@ module _ (entries : List Entry) (e : Entry) where
       ap (λ (xs : List ℕ). get_or xs k 0) (map-append (λ (entry : Entry). entry.lit.var.0) entries (e ∷ []))
       ∙ get_or_append_left (map (λ (entry : Entry). entry.lit.var.0) entries) (e.lit.var.0 ∷ []) 0 k (omega arith)
 
-  IsPlaceOf-here : IsLastOn (entries ++ e ∷ []) e.lit.var.0 (length entries)
-  IsPlaceOf-here = record {
+  IsLastPlace-here : IsLastOn (entries ++ e ∷ []) e.lit.var.0 (length entries)
+  IsLastPlace-here = record {
     in_list = omega (arith, length-append entries (e ∷ []));
     there = variable_at-push;
     last = λ k above below. absurd (omega (arith, length-append entries (e ∷ [])));
   }
 
   -- an entry on another variable changes nothing
-  IsPlaceOf-other : (n : ℕ) (place : Option ℕ) → n ≢ e.lit.var.0 → IsPlaceOf entries n place → IsPlaceOf (entries ++ e ∷ []) n place
-  IsPlaceOf-other n None apart none = λ k below is. elim (cases_lt k (length entries)) [
+  IsLastPlace-other : (n : ℕ) (place : Option ℕ) → n ≢ e.lit.var.0 → IsLastPlace entries n place → IsLastPlace (entries ++ e ∷ []) n place
+  IsLastPlace-other n None apart none = λ k below is. elim (cases_lt k (length entries)) [
     | inl lt ↦ none k lt (sym (variable_at-before k lt) ∙ is)
     | inr ge ↦
         let same : length entries ≡ k = omega (arith, length-append entries (e ∷ [])) in
         apart (sym is ∙ ap (λ (j : ℕ). variable_at (entries ++ e ∷ []) j) (sym same) ∙ variable_at-push)
   ]
-  IsPlaceOf-other n (Some place) apart found = record {
+  IsLastPlace-other n (Some place) apart found = record {
     in_list = omega (arith, found.in_list, length-append entries (e ∷ []));
     there = variable_at-before place found.in_list ∙ found.there;
     last = λ k above below is. elim (cases_lt k (length entries)) [
@@ -74,9 +74,9 @@ module _ (entries : List Entry) (e : Entry) where
     ];
   }
 
-  IsPlaceOf-back : (n : ℕ) (place : Option ℕ) → n ≢ e.lit.var.0 → IsPlaceOf (entries ++ e ∷ []) n place → IsPlaceOf entries n place
-  IsPlaceOf-back n None apart none = λ k below is. none k (omega (arith, length-append entries (e ∷ []))) (variable_at-before k below ∙ is)
-  IsPlaceOf-back n (Some place) apart found =
+  IsLastPlace-back : (n : ℕ) (place : Option ℕ) → n ≢ e.lit.var.0 → IsLastPlace (entries ++ e ∷ []) n place → IsLastPlace entries n place
+  IsLastPlace-back n None apart none = λ k below is. none k (omega (arith, length-append entries (e ∷ []))) (variable_at-before k below ∙ is)
+  IsLastPlace-back n (Some place) apart found =
       let inside : place < length entries = elim (cases_lt place (length entries)) [
         | inl lt ↦ lt
         | inr ge ↦
@@ -95,24 +95,24 @@ module _ (entries : List Entry) (e : Entry) where
         let number : e.lit.var.0 ≡ k + 1 = omega arith in
         let at : get_or (set last (e.lit.var.0 - 1) (Some (length entries))) k None ≡ Some (length entries) =
         ap (λ (j : ℕ). get_or (set last (e.lit.var.0 - 1) (Some (length entries))) j None) same ∙ get_or-set_same last (e.lit.var.0 - 1) (Some (length entries)) None (omega arith) in
-        subst (λ (place : Option ℕ). IsPlaceOf (entries ++ e ∷ []) (k + 1) place) (sym at)
-        (subst (λ (n : ℕ). IsLastOn (entries ++ e ∷ []) n (length entries)) number IsPlaceOf-here)
+        subst (λ (place : Option ℕ). IsLastPlace (entries ++ e ∷ []) (k + 1) place) (sym at)
+        (subst (λ (n : ℕ). IsLastOn (entries ++ e ∷ []) n (length entries)) number IsLastPlace-here)
     | inr apart ↦
-        subst (λ (place : Option ℕ). IsPlaceOf (entries ++ e ∷ []) (k + 1) place) (sym (get_or-set_other last (e.lit.var.0 - 1) k (Some (length entries)) None apart))
-        (IsPlaceOf-other (k + 1) (get_or last k None) (λ is. apart (omega arith)) (each k h))
+        subst (λ (place : Option ℕ). IsLastPlace (entries ++ e ∷ []) (k + 1) place) (sym (get_or-set_other last (e.lit.var.0 - 1) k (Some (length entries)) None apart))
+        (IsLastPlace-other (k + 1) (get_or last k None) (λ is. apart (omega arith)) (each k h))
   ]
 
-  pub AreLast-back : (count : ℕ) (last : List (Option ℕ)) (before : Option ℕ) → IsVariable count e.lit.var → length last ≡ count → IsPlaceOf entries e.lit.var.0 before → AreLast count (entries ++ e ∷ []) last → AreLast count entries (set last (e.lit.var.0 - 1) before)
+  pub AreLast-back : (count : ℕ) (last : List (Option ℕ)) (before : Option ℕ) → IsVariable count e.lit.var → length last ≡ count → IsLastPlace entries e.lit.var.0 before → AreLast count (entries ++ e ∷ []) last → AreLast count entries (set last (e.lit.var.0 - 1) before)
   AreLast-back count last before var len place each = λ k h. elim (cases_eq k (e.lit.var.0 - 1)) [
     | inl same ↦
         let number : e.lit.var.0 ≡ k + 1 = omega arith in
         let at : get_or (set last (e.lit.var.0 - 1) before) k None ≡ before =
         ap (λ (j : ℕ). get_or (set last (e.lit.var.0 - 1) before) j None) same ∙ get_or-set_same last (e.lit.var.0 - 1) before None (omega arith) in
-        subst (λ (p : Option ℕ). IsPlaceOf entries (k + 1) p) (sym at)
-        (subst (λ (n : ℕ). IsPlaceOf entries n before) number place)
+        subst (λ (p : Option ℕ). IsLastPlace entries (k + 1) p) (sym at)
+        (subst (λ (n : ℕ). IsLastPlace entries n before) number place)
     | inr apart ↦
-        subst (λ (p : Option ℕ). IsPlaceOf entries (k + 1) p) (sym (get_or-set_other last (e.lit.var.0 - 1) k before None apart))
-        (IsPlaceOf-back (k + 1) (get_or last k None) (λ is. apart (omega arith)) (each k h))
+        subst (λ (p : Option ℕ). IsLastPlace entries (k + 1) p) (sym (get_or-set_other last (e.lit.var.0 - 1) k before None apart))
+        (IsLastPlace-back (k + 1) (get_or last k None) (λ is. apart (omega arith)) (each k h))
   ]
 
 -- ---- the assertions
@@ -192,7 +192,7 @@ AreAssertions-new declared last narrowed assertions start none count each =
       narrowed = refl;
       variables = λ i d h. absurd (omega arith);
       one_each = count;
-      last_places = λ k h. subst (λ (p : Option ℕ). IsPlaceOf [] (k + 1) p) (sym (each k h)) (λ j below. absurd (omega arith));
+      last_places = λ k h. subst (λ (p : Option ℕ). IsLastPlace [] (k + 1) p) (sym (each k h)) (λ j below. absurd (omega arith));
       all_assertions = λ i d h. absurd (omega arith);
     }))
 
@@ -237,11 +237,11 @@ module _ (narrowed : Narrowed) (last : List (Option ℕ)) (assertions : List Ass
       let number : entry.lit.var.0 - 1 + 1 ≡ entry.lit.var.0 = omega arith in
       let at : get_or last (entry.lit.var.0 - 1) None ≡ before = sym (before_is ∙ get_or_default last (entry.lit.var.0 - 1) before None (omega (arith, it.one_each))) in
       let assertion : IsAssertion (entries_of assertions) s =
-      subst (λ (p : Option ℕ). IsPlaceOf (entries_of assertions) entry.lit.var.0 p) at
-      (subst (λ (n : ℕ). IsPlaceOf (entries_of assertions) n (get_or last (entry.lit.var.0 - 1) None)) number (it.last_places (entry.lit.var.0 - 1) k)) in
+      subst (λ (p : Option ℕ). IsLastPlace (entries_of assertions) entry.lit.var.0 p) at
+      (subst (λ (n : ℕ). IsLastPlace (entries_of assertions) n (get_or last (entry.lit.var.0 - 1) None)) number (it.last_places (entry.lit.var.0 - 1) k)) in
       let sets_is : new ≡ after narrowed.declared (lits_of (entries_of (assertions ++ s ∷ []))) =
       new_is ∙ ap (narrowed_by entry.lit) it.narrowed
-      ∙ ap (λ (p : List IntSet). record { declared = narrowed.declared; present = p; lits = lits_of (entries_of assertions) ++ entry.lit ∷ [] }) (sym (lemmas.replayed-push narrowed.declared (lits_of (entries_of assertions)) entry.lit))
+      ∙ ap (λ (p : List IntSet). record { declared = narrowed.declared; present = p; lits = lits_of (entries_of assertions) ++ entry.lit ∷ [] }) (sym (lemmas.narrowed_along-push narrowed.declared (lits_of (entries_of assertions)) entry.lit))
       ∙ ap (λ (ls : List Lit). after narrowed.declared ls) (sym (lits-push assertions s)) in
       subst (λ (xs : List Assertion). AreAssertions new (set last (entry.lit.var.0 - 1) (Some place)) xs) (sym more_is)
       (subst (λ (n : Narrowed). AreAssertions n (set last (entry.lit.var.0 - 1) (Some place)) (assertions ++ s ∷ [])) (sym sets_is)
@@ -264,9 +264,9 @@ module _ (assertions : List Assertion) (all : AllAssertions assertions) (i : ℕ
   number_here : variable_at (entries_of assertions) i ≡ assertion.entry.lit.var.0
   number_here = variable_at-assertion assertions i assertion in_steps ∙ ap (λ (s : Assertion). s.entry.lit.var.0) (sym is)
 
-  pub place_at : IsPlaceOf (take i (entries_of assertions)) (variable_at (entries_of assertions) i) assertion.before
+  pub place_at : IsLastPlace (take i (entries_of assertions)) (variable_at (entries_of assertions) i) assertion.before
   place_at =
-      subst (λ (n : ℕ). IsPlaceOf (take i (entries_of assertions)) n assertion.before) (sym number_here)
+      subst (λ (n : ℕ). IsLastPlace (take i (entries_of assertions)) n assertion.before) (sym number_here)
       (subst (λ (s : Assertion). IsAssertion (take i (entries_of assertions)) s) (sym is) (all i assertion in_steps))
 
 -- the set before an entry
@@ -278,17 +278,17 @@ set_at narrowed last assertions it i inside set told =
       | inl (entry, within, got, here) ↦
           let found : slice_get narrowed.lits i ≡ Some entry.lit = ap (λ (ls : List Lit). slice_get ls i) lits ∙ slice_get-map (λ (e : Entry). e.lit) entries i ∙ ap (option_map (λ (e : Entry). e.lit)) got in
           told entry.lit found
-          ∙ ap (λ (ls : List Lit). set_of (sets.replayed narrowed.declared (take i ls)) entry.lit.var) lits
-          ∙ ap (λ (ls : List Lit). set_of (sets.replayed narrowed.declared ls) entry.lit.var) (take-map (λ (e : Entry). e.lit) i entries)
+          ∙ ap (λ (ls : List Lit). set_of (sets.narrowed_along narrowed.declared (take i ls)) entry.lit.var) lits
+          ∙ ap (λ (ls : List Lit). set_of (sets.narrowed_along narrowed.declared ls) entry.lit.var) (take-map (λ (e : Entry). e.lit) i entries)
           ∙ ap (λ (xs : List IntSet). set_of xs entry.lit.var) (replayed-lits narrowed.declared (take i entries))
           ∙ ap (λ (n : ℕ). get_or (replayed narrowed.declared (take i entries)) (n - 1) no_values) (sym (get_or_from_slice_get (map (λ (e : Entry). e.lit.var.0) entries) i entry.lit.var.0 0 (slice_get-map (λ (e : Entry). e.lit.var.0) entries i ∙ ap (option_map (λ (e : Entry). e.lit.var.0)) got)))
       | inr past ↦ absurd (omega (arith, past.0, inside))
     ]
 
-pub found_place : (entries : List Entry) (n : ℕ) (place : Option ℕ) → IsPlaceOf entries n place → IfSome place (IsLastOn entries n)
+pub found_place : (entries : List Entry) (n : ℕ) (place : Option ℕ) → IsLastPlace entries n place → IfSome place (IsLastOn entries n)
 found_place entries n None h = search rules
 found_place entries n (Some place) h = search rules
 
-pub no_place : (entries : List Entry) (n : ℕ) (place : Option ℕ) → IsPlaceOf entries n place → IfNone place (NoneOn entries n)
+pub no_place : (entries : List Entry) (n : ℕ) (place : Option ℕ) → IsLastPlace entries n place → IfNone place (NoneOn entries n)
 no_place entries n None h = search rules
 no_place entries n (Some place) h = search rules

@@ -4,7 +4,7 @@ ghost use Rattle.std.specs.Prelude.{◌≡◌, length};
 use crate::by_hand::lit;
 use crate::two_variables::trail_of;
 use fzn_domain::{Memory, Op, VarId};
-use fzn_trail::{ClauseId, Entry, Reason, Trail};
+use fzn_trail::{Antecedent, ClauseId, Entry, Reason, Trail};
 use std::alloc::Global;
 use std::test::*;
 
@@ -25,7 +25,10 @@ fn push_levels(trail: &mut Trail) -> Result<(), Memory>
     requires { length trail.old.declared ≡ 2 }
     ensures two { length trail.new.declared ≡ 2 }
 {
-    trail.assert(lit(1, Op::AtMost, 7), Reason::Clause(ClauseId(4)))?;
+    trail.assert(
+        lit(1, Op::AtMost, 7),
+        Reason::Implied(Antecedent::Clause(ClauseId(4))),
+    )?;
     trail.push_level()?;
     trail.assert(lit(2, Op::AtLeast, 5), Reason::Decision)?;
     trail.push_level()?;

@@ -5,15 +5,14 @@ use Rattle.std.specs.List.{All, filter_map, fold}
 use Rattle.std.specs.List.Sorted.{IsStrictlyIncreasing}
 use Rattle.std.proofs.lemmas.List.Elements.{All-nil, All-cons, All-head, All-tail, All-contains, Contains-get_or}
 use Rattle.std.proofs.lemmas.Option.{slice_get_cases, slice_get-get_or}
-use Rattle.fzn_domain.specs.declared.literal.Lit.{Lit}
 use Rattle.fzn_meaning.specs.declared.constraint.Constraint.{Constraint}
 use Rattle.fzn_meaning.specs.declared.model.Model.{Model}
-use Rattle.fzn_meaning.specs.Meaning.{Meets, HasBooleanSets, IsWellFormed as IsWellFormedConstraint}
+use Rattle.fzn_meaning.specs.Meaning.{Meets, HasBooleanSets, IsWellFormedConstraint}
 use Rattle.fzn_meaning.specs.Solutions.{declared_sets, IsExhausted}
 use Rattle.fzn_meaning.specs.WellFormed.{IsWellFormed}
 use Rattle.fzn_derive.specs.declared.derivation.Derivation.{Derivation}
-use Rattle.fzn_rules.specs.declared.rule.Rule.{Rule}
 use Rattle.fzn_rules.specs.Rules.{IsAcceptedBy}
+use Rattle.fzn_cert.specs.declared.step.Inference.{Inference}
 use Rattle.fzn_cert.specs.declared.step.Step.{Step}
 use Rattle.fzn_cert.specs.declared.step.Step.TheVariants.{Infer, Resolve, Solution, Delete}
 use Rattle.fzn_cert.specs.Past.{StepsPast, no_past}
@@ -32,8 +31,8 @@ use Rattle.fzn_trim.proofs.NeededLemmas.{needed-same, needed-exhausted}
 -- accepted steps infer from constraints of the model
 cited-within : (model : Model) (past : StepsPast) (steps : List Step) → AllAcceptedAfter model past steps → All (IsConstraintNumber model) (filter_map inferred_from steps)
 cited-within model past [] accepted = All-nil (IsConstraintNumber model)
-cited-within model past (Infer c rule clause ∷ steps) accepted =
-    All-cons (IsConstraintNumber model) c (filter_map inferred_from steps) accepted.0.1 (cited-within model (after_step model past (Infer c rule clause)) steps accepted.1)
+cited-within model past (Infer it ∷ steps) accepted =
+    All-cons (IsConstraintNumber model) it.constraint (filter_map inferred_from steps) accepted.0.1 (cited-within model (after_step model past (Infer it)) steps accepted.1)
 cited-within model past (Resolve clause ids ∷ steps) accepted = cited-within model (after_step model past (Resolve clause ids)) steps accepted.1
 cited-within model past (Solution values ∷ steps) accepted = cited-within model (after_step model past (Solution values)) steps accepted.1
 cited-within model past (Delete ids ∷ steps) accepted = cited-within model (after_step model past (Delete ids)) steps accepted.1
@@ -55,12 +54,12 @@ module _ (model : Model) (numbers : List ℕ) (wf : IsWellFormed model) (rising 
   }
 
   -- what is inferred from one of them is so too where it has another number
-  infer-alone : (past : StepsPast) (c : ℕ) (rule : Rule) (clause : List Lit) → IsAccepted model past (Infer c rule clause) → Contains numbers c → (k : ℕ) × IsAccepted (only model numbers) past (Infer k rule clause)
-  infer-alone past c rule clause accepted listed =
-      elim (slice_get_cases model.constraints (c - 1)).1 [
+  infer-alone : (past : StepsPast) (it : Inference) → IsAccepted model past (Infer it) → Contains numbers it.constraint → (k : ℕ) × IsAccepted (only model numbers) past (Infer (record it { constraint = k }))
+  infer-alone past it accepted listed =
+      elim (slice_get_cases model.constraints (it.constraint - 1)).1 [
         | inl (constraint, inside, is, at) ↦
-            let Accepts : Option Constraint → Type 0 = λ o. IfSome o (λ k. IsAcceptedBy k rule (declared_sets model.vars) clause) in
-            let held = picked-contains model.constraints numbers c constraint accepted.1.0 listed is in
+            let Accepts : Option Constraint → Type 0 = λ o. IfSome o (λ k. IsAcceptedBy k it.rule (declared_sets model.vars) it.clause) in
+            let held = picked-contains model.constraints numbers it.constraint constraint accepted.1.0 listed is in
             let alone = (only model numbers).constraints in
             let here : slice_get alone held.0 ≡ Some constraint = slice_get-get_or alone held.0 constraint held.1 ∙ ap (λ (k : Constraint). Some k) held.2 in
             let place : held.0 + 1 - 1 ≡ held.0 = omega arith in
@@ -71,9 +70,9 @@ module _ (model : Model) (numbers : List ℕ) (wf : IsWellFormed model) (rising 
   -- ---- accepted steps are sound for it
 
   sound-step : (past : StepsPast) (step : Step) → IsSound (only model numbers) past → IsAccepted model past step → All (Contains numbers) (filter_map inferred_from (step ∷ [])) → IsSound (only model numbers) (after_step model past step)
-  sound-step past (Infer c rule clause) sound accepted listed =
-      let alone = infer-alone past c rule clause accepted (listed 0 c (omega arith)) in
-      sound-after (only model numbers) past (Infer alone.0 rule clause) formed sound alone.1
+  sound-step past (Infer it) sound accepted listed =
+      let alone = infer-alone past it accepted (listed 0 it.constraint (omega arith)) in
+      sound-after (only model numbers) past (Infer (record it { constraint = alone.0 })) formed sound alone.1
   sound-step past (Resolve clause ids) sound accepted listed = sound-after (only model numbers) past (Resolve clause ids) formed sound accepted
   sound-step past (Solution values) sound accepted listed =
       sound-after (only model numbers) past (Solution values) formed sound ((accepted.0.0, picked-all model.constraints (λ k. Meets k values) numbers accepted.0.1), accepted.1)
@@ -81,8 +80,8 @@ module _ (model : Model) (numbers : List ℕ) (wf : IsWellFormed model) (rising 
 
   -- the first step's number, and those of the others
   first-listed : (step : Step) (steps : List Step) → All (Contains numbers) (filter_map inferred_from (step ∷ steps)) → All (Contains numbers) (filter_map inferred_from (step ∷ [])) × All (Contains numbers) (filter_map inferred_from steps)
-  first-listed (Infer c rule clause) steps h =
-      (All-cons (Contains numbers) c [] (All-head (Contains numbers) c (filter_map inferred_from steps) h) (All-nil (Contains numbers)), All-tail (Contains numbers) c (filter_map inferred_from steps) h)
+  first-listed (Infer it) steps h =
+      (All-cons (Contains numbers) it.constraint [] (All-head (Contains numbers) it.constraint (filter_map inferred_from steps) h) (All-nil (Contains numbers)), All-tail (Contains numbers) it.constraint (filter_map inferred_from steps) h)
   first-listed (Resolve clause ids) steps h = (All-nil (Contains numbers), h)
   first-listed (Solution values) steps h = (All-nil (Contains numbers), h)
   first-listed (Delete ids) steps h = (All-nil (Contains numbers), h)

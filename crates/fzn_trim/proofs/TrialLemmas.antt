@@ -29,7 +29,7 @@ deletion-spelled ids may =
     (refl, some, recursion_from_All IsNumber ids may.0, IdsRise-from_test ids parts.1)
 
 pub renumbered-spelled : (numbers : List ℕ) (step : Step) → IsSpelled Two step → CitesNumbers (renumbered numbers step) → IsSpelled Two (renumbered numbers step)
-renumbered-spelled numbers (Infer constraint rule clause) spelled may = spelled
+renumbered-spelled numbers (Infer it) spelled may = spelled
 renumbered-spelled numbers (Resolve clause ids) spelled may = (spelled.0, recursion_from_All IsNumber _ may)
 renumbered-spelled numbers (Solution values) spelled may = spelled
 renumbered-spelled numbers (Delete ids) spelled may = spelled
@@ -42,7 +42,7 @@ begins-so (lit ∷ clause) ids = refl
 
 -- and each step of another line stays as it is
 pub stays : (numbers : List ℕ) (step : Step) (text : List ℕ) → text ≡ step_text step → (slice_index text 0 == 114) ≡ false → text ≡ step_text (renumbered numbers step)
-stays numbers (Infer constraint rule clause) text is test = is
+stays numbers (Infer it) text is test = is
 stays numbers (Resolve clause ids) text is test =
     let first : slice_index text 0 ≡ 114 = ap (λ (t : List ℕ). slice_index t 0) is ∙ begins-so clause ids in
     let same : (114 == 114) ≡ false = subst (λ (n : ℕ). (n == 114) ≡ false) first test in

@@ -17,7 +17,7 @@ only model numbers = record model { constraints = flat_map (λ number. slice_ran
 
 -- the constraint that a step infers from
 abbrev pub inferred_from : Step → Option ℕ
-inferred_from (Infer constraint rule clause) = Some constraint
+inferred_from (Infer it) = Some it.constraint
 inferred_from _ = None
 
 -- The constraint with this number is needed for those with these numbers: it is one of them, or a derivation cites it that gives one which is

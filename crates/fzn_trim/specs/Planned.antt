@@ -15,7 +15,7 @@ new_number numbers id = slice_index numbers (id - 1)
 
 -- the step with the new numbers of the clauses that it cites
 abbrev pub renumbered : List ℕ → Step → Step
-renumbered numbers (Infer constraint rule clause) = Infer constraint rule clause
+renumbered numbers (Infer it) = Infer it
 renumbered numbers (Resolve clause ids) = Resolve clause (map (new_number numbers) ids)
 renumbered numbers (Solution values) = Solution values
 renumbered numbers (Delete ids) = Delete ids
@@ -31,7 +31,7 @@ planned plan held = map (planned_step plan held) plan.lines.items
 
 -- the clauses that a step cites have numbers, and those of a deletion are some and rise
 abbrev pub CitesNumbers : Step → Type 0
-CitesNumbers (Infer constraint rule clause) = Unit {0}
+CitesNumbers (Infer it) = Unit {0}
 CitesNumbers (Resolve clause ids) = All IsNumber ids
 CitesNumbers (Solution values) = Unit {0}
 CitesNumbers (Delete ids) = All IsNumber ids × (is_deletion ids ≡ true)

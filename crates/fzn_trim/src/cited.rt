@@ -71,8 +71,8 @@ fn push_number(step: &Step, numbers: &mut Vec<u64>) -> Result<(), Memory>
     ensures { OnOk result (numbers.new.items ≡ numbers.old.items ++ filter_map inferred_from (step.now ∷ [])) }
 {
     match step {
-        Step::Infer { constraint, .. } => {
-            numbers.push(*constraint)?;
+        Step::Infer(inference) => {
+            numbers.push(inference.constraint)?;
             Ok(())
         }
         _ => Ok(()),

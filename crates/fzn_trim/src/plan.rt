@@ -249,7 +249,7 @@ fn is_solution(step: &Step) -> bool {
 /// Whether the step gives the empty clause.
 fn gives_empty(model: &Model, step: &Step) -> bool {
     match step {
-        Step::Infer { clause, .. } => clause.len() == 0,
+        Step::Infer(inference) => inference.clause.len() == 0,
         Step::Resolve { clause, .. } => clause.len() == 0,
         Step::Solution(_) => has_empty_cuts(model),
         Step::Delete { .. } => false,

@@ -19,7 +19,7 @@ use Rattle.fzn_meaning.specs.declared.relation.Comparison.TheVariants as c
 use Rattle.fzn_meaning.specs.declared.relation.Relation.{Relation}
 use Rattle.fzn_meaning.specs.declared.relation.Relation.TheVariants as r
 use Rattle.fzn_meaning.specs.declared.term.Term.{Term}
-use Rattle.fzn_meaning.specs.Meaning.{IsBoolean, HasBooleanSets, booleans_of, AreTerms, IsSum, IsWellFormed}
+use Rattle.fzn_meaning.specs.Meaning.{IsBoolean, HasBooleanSets, booleans_of, AreTerms, IsSum, IsWellFormedConstraint}
 use Rattle.fzn_meaning.specs.Term.{IsTerm}
 use Rattle.fzn_names.specs.Values.{NameList}
 use Rattle.fzn_names.proofs.MeaningLemmas.{AreMeanings}
@@ -36,7 +36,7 @@ use Rattle.fzn_typing.proofs.ArgumentLemmas.{amount, number-within, numbers-with
 
 module _ (sets : List IntSet) (names : NameList) (known : AreMeanings sets names) (given : List Arg) (within : All IsArgWithin given) where
   abbrev pub Made : Constraint → Type 0
-  Made made = IsWellFormed (length sets) made × HasBooleanSets sets made
+  Made made = IsWellFormedConstraint (length sets) made × HasBooleanSets sets made
 
   t : (i : ℕ) → IsTerm (length sets) (term names given i)
   t i = term-within sets names known (slice_get given i) (given-within given i within)
@@ -87,94 +87,94 @@ module _ (sets : List IntSet) (names : NameList) (known : AreMeanings sets names
   -- ---- each kind of constraint
 
   pub compared : (relation : Relation) → Made (Compare relation (term names given 0) (term names given 1) None)
-  unfolding IsWellFormed booleans_of
+  unfolding IsWellFormedConstraint booleans_of
   compared relation = ((t 0, t 1, tt), none)
 
   compared_by : (relation : Relation) → IsBoolean sets (term names given 2) → Made (Compare relation (term names given 0) (term names given 1) (by names given 2))
-  unfolding IsWellFormed booleans_of
+  unfolding IsWellFormedConstraint booleans_of
   compared_by relation h = ((t 0, t 1, t 2), one (term names given 2) h)
 
   summed : (comparison : Comparison) → Made (Linear (sum names given) comparison (number_given names given 2) None)
-  unfolding IsWellFormed booleans_of
+  unfolding IsWellFormedConstraint booleans_of
   summed comparison = ((products, number 2, tt), none)
 
   summed_by : (comparison : Comparison) → IsBoolean sets (term names given 3) → Made (Linear (sum names given) comparison (number_given names given 2) (by names given 3))
-  unfolding IsWellFormed booleans_of
+  unfolding IsWellFormedConstraint booleans_of
   summed_by comparison h = ((products, number 2, t 3), one (term names given 3) h)
 
   total : Made (BoolLinEq (sum names given) (term names given 2))
-  unfolding IsWellFormed booleans_of
+  unfolding IsWellFormedConstraint booleans_of
   total = ((products, t 2), none)
 
   computed : (operation : Operation) → Made (Arithmetic operation (term names given 0) (term names given 1) (term names given 2))
-  unfolding IsWellFormed booleans_of
+  unfolding IsWellFormedConstraint booleans_of
   computed operation = ((t 0, t 1, t 2), none)
 
   absolute : Made (IntAbs (term names given 0) (term names given 1))
-  unfolding IsWellFormed booleans_of
+  unfolding IsWellFormedConstraint booleans_of
   absolute = ((t 0, t 1), none)
 
   extreme_of_two : (extreme : Extreme) → Made (Extremum extreme (term names given 0 ∷ term names given 1 ∷ []) (term names given 2))
-  unfolding IsWellFormed booleans_of
+  unfolding IsWellFormedConstraint booleans_of
   extreme_of_two extreme = ((pair, t 2, omega arith), none)
 
   extreme_of : (extreme : Extreme) → nat_lt 0 (length_at names given 1) ≡ true → Made (Extremum extreme (list names given 1) (term names given 0))
-  unfolding IsWellFormed booleans_of
+  unfolding IsWellFormedConstraint booleans_of
   extreme_of extreme h = ((ts 1, t 0, grind (arith, h)), none)
 
   indexed : Made (Element (term names given 0) (list names given 1) (term names given 2))
-  unfolding IsWellFormed booleans_of
+  unfolding IsWellFormedConstraint booleans_of
   indexed = ((t 0, ts 1, t 2), none)
 
   member : Made (SetIn (term names given 0) (set_at names given 1) None)
-  unfolding IsWellFormed booleans_of
+  unfolding IsWellFormedConstraint booleans_of
   member = ((t 0, s 1, tt), none)
 
   member_by : IsBoolean sets (term names given 2) → Made (SetIn (term names given 0) (set_at names given 1) (by names given 2))
-  unfolding IsWellFormed booleans_of
+  unfolding IsWellFormedConstraint booleans_of
   member_by h = ((t 0, s 1, t 2), one (term names given 2) h)
 
   opposite : IsBoolean sets (term names given 0) → IsBoolean sets (term names given 1) → Made (BoolNot (term names given 0) (term names given 1))
-  unfolding IsWellFormed booleans_of
+  unfolding IsWellFormedConstraint booleans_of
   opposite h k = ((t 0, t 1), two (term names given 0) (term names given 1) h k)
 
   as_number : IsBoolean sets (term names given 0) → Made (BoolToInt (term names given 0) (term names given 1))
-  unfolding IsWellFormed booleans_of
+  unfolding IsWellFormedConstraint booleans_of
   as_number h = ((t 0, t 1), one (term names given 0) h)
 
   gate_of_two : (gate : Gate) → IsBoolean sets (term names given 0) → IsBoolean sets (term names given 1) → IsBoolean sets (term names given 2) → Made (Gated gate (term names given 0 ∷ term names given 1 ∷ []) (term names given 2))
-  unfolding IsWellFormed booleans_of
+  unfolding IsWellFormedConstraint booleans_of
   gate_of_two gate h k l =
       ((pair, t 2), All-cons (IsBoolean sets) (term names given 2) (term names given 0 ∷ term names given 1 ∷ []) l (two (term names given 0) (term names given 1) h k))
 
   gate_of : (gate : Gate) → All (IsBoolean sets) (list names given 0) → IsBoolean sets (term names given 1) → Made (Gated gate (list names given 0) (term names given 1))
-  unfolding IsWellFormed booleans_of
+  unfolding IsWellFormedConstraint booleans_of
   gate_of gate h k = ((ts 0, t 1), All-cons (IsBoolean sets) (term names given 1) (list names given 0) k h)
 
   exclusive : IsBoolean sets (term names given 0) → IsBoolean sets (term names given 1) → IsBoolean sets (term names given 2) → Made (BoolXor (term names given 0) (term names given 1) (term names given 2))
-  unfolding IsWellFormed booleans_of
+  unfolding IsWellFormedConstraint booleans_of
   exclusive h k l = ((t 0, t 1, t 2), All-cons (IsBoolean sets) (term names given 0) (term names given 1 ∷ term names given 2 ∷ []) h (two (term names given 1) (term names given 2) k l))
 
   odd : All (IsBoolean sets) (list names given 0) → Made (ArrayBoolXor (list names given 0))
-  unfolding IsWellFormed booleans_of
+  unfolding IsWellFormedConstraint booleans_of
   odd h = (ts 0, h)
 
   clause : All (IsBoolean sets) (list names given 0) → All (IsBoolean sets) (list names given 1) → Made (BoolClause (list names given 0) (list names given 1))
-  unfolding IsWellFormed booleans_of
+  unfolding IsWellFormedConstraint booleans_of
   clause h k = ((ts 0, ts 1), All-append (IsBoolean sets) (list names given 0) (list names given 1) h k)
 
   different : Made (AllDifferent (list names given 0))
-  unfolding IsWellFormed booleans_of
+  unfolding IsWellFormedConstraint booleans_of
   different = (ts 0, none)
 
   tabled : has_lengths names (lengths_of n.FznTableInt) given ≡ true → Made (Table (list names given 0) (numbers_at names given 1))
-  unfolding IsWellFormed booleans_of lengths_of
+  unfolding IsWellFormedConstraint booleans_of lengths_of
   tabled h =
       let parts = and_parts (nat_lt 0 (length_at names given 0)) (nat_eq (length_at names given 1 % length_at names given 0) 0) h in
       ((ts 0, grind (arith, parts.0), numbers-within (length sets) (list names given 1) (ts 1).0, rw length-map (ts 1).1, rw length-map (grind (arith, parts.1))), none)
 
   scheduled : has_lengths names (lengths_of n.FznCumulative) given ≡ true → Made (Cumulative (list names given 0) (list names given 1) (list names given 2) (term names given 3))
-  unfolding IsWellFormed booleans_of lengths_of
+  unfolding IsWellFormedConstraint booleans_of lengths_of
   scheduled h =
       let parts = and_parts (nat_eq (length_at names given 0) (length_at names given 1)) (nat_eq (length_at names given 1) (length_at names given 2)) h in
       let as_many : length (list names given 1) ≡ length (list names given 0) = grind (arith, parts.0) in
@@ -184,11 +184,11 @@ module _ (sets : List IntSet) (names : NameList) (known : AreMeanings sets names
       )
 
   circuit : Made (Circuit (list names given 0))
-  unfolding IsWellFormed booleans_of
+  unfolding IsWellFormedConstraint booleans_of
   circuit = (ts 0, none)
 
   inverse : nat_eq (length_at names given 0) (length_at names given 1) ≡ true → Made (Inverse (list names given 0) (list names given 1))
-  unfolding IsWellFormed booleans_of
+  unfolding IsWellFormedConstraint booleans_of
   inverse h = ((ts 0, ts 1, grind (arith, h)), none)
 
   -- ---- the table

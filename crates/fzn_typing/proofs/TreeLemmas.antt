@@ -9,7 +9,7 @@ use Rattle.fzn_lexer.specs.declared.halt.Halt.{Halt}
 use Rattle.fzn_meaning.specs.declared.model.Model.{Model}
 use Rattle.fzn_meaning.specs.declared.model.OutputItem.{OutputItem}
 use Rattle.fzn_meaning.specs.declared.constraint.Constraint.{Constraint}
-use Rattle.fzn_meaning.specs.Meaning.{longest, HasBooleanSets, IsWellFormed as IsWellFormedConstraint}
+use Rattle.fzn_meaning.specs.Meaning.{longest, HasBooleanSets, IsWellFormedConstraint}
 use Rattle.fzn_meaning.specs.Solutions.{declared_sets}
 use Rattle.fzn_meaning.specs.WellFormed.{IsGoal, IsOutputItem, IsWellFormed}
 use Rattle.fzn_names.specs.Declarations.{vars_faults, names_of, declaration_faults}

@@ -14,7 +14,7 @@ use Rattle.fzn_meaning.specs.declared.model.Goal.TheVariants.{Satisfy, Minimize,
 use Rattle.fzn_meaning.specs.declared.model.Kind.{Kind}
 use Rattle.fzn_meaning.specs.declared.model.Kind.TheVariants as kinds
 use Rattle.fzn_meaning.specs.declared.relation.Relation.TheVariants as r
-use Rattle.fzn_meaning.specs.Meaning.{HasBooleanSets, IsBoolean, booleans_of, longest, IsWellFormed as IsWellFormedConstraint}
+use Rattle.fzn_meaning.specs.Meaning.{HasBooleanSets, IsBoolean, booleans_of, longest, IsWellFormedConstraint}
 use Rattle.fzn_meaning.specs.WellFormed.{IsGoal}
 use Rattle.fzn_names.specs.Declarations.{added_by_value, added_by_entries, added_by, var_faults, declared_var, number_after, vars_faults}
 use Rattle.fzn_names.specs.Limits.{IsBasicWithin, IsValueWithin, IsBaseWithin, IsVarWithin}

@@ -5,7 +5,7 @@ use Rattle.fzn_domain.specs.declared.literal.Op.TheVariants.{AtLeast}
 use Rattle.fzn_meaning.specs.declared.term.Term.TheVariants.{Constant}
 use Rattle.fzn_terms.specs.declared.claim.Claim.{Claim}
 use Rattle.fzn_terms.specs.Denied.{that, IsDenied}
-use Rattle.fzn_propagator.specs.declared.propagator.Inference.{Inference}
+use Rattle.fzn_propagator.specs.Inference.{Inference}
 use Rattle.fzn_circuit.specs.declared.pass.Pass.{Pass}
 use Rattle.fzn_circuit.specs.Passes.{AreFoundOfCircuit}
 use Rattle.fzn_circuit.specs.Circuits.{IsSuccessorInside}

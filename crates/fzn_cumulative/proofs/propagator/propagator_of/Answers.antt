@@ -2,16 +2,16 @@ use Rattle.std.proofs.Common.{◌≡◌, ◌-◌, ℕ, List, length, get_or, sym
 use Rattle.std.proofs.lemmas.List.{length-map}
 use Rattle.fzn_domain.specs.IntSet.{IntSet}
 use Rattle.fzn_meaning.specs.declared.constraint.Constraint.{Constraint}
-use Rattle.fzn_meaning.specs.Meaning.{IsWellFormed}
+use Rattle.fzn_meaning.specs.Meaning.{IsWellFormedConstraint}
 use Rattle.fzn_meaning.specs.Solutions.{declared_sets}
 use Rattle.fzn_cumulative.specs.declared.propagator.CumulativePropagator.{CumulativePropagator}
 use Rattle.fzn_cumulative.specs.Propagator.{CumulativeIsFor, CumulativeFits}
 use Rattle.fzn_cumulative.proofs.propagator.propagator_of.Goals as goal
 
-fits_of : {E : Type 0} (result : Result (Option CumulativePropagator) E) (C : Constraint) (declared : List IntSet) → IsWellFormed (length declared) C → IfOk result (λ found. IfSome found (λ p. CumulativeIsFor p C)) → IfOk result (λ found. IfSome found (λ p. CumulativeFits p declared))
-unfolding IsWellFormed
+fits_of : {E : Type 0} (result : Result (Option CumulativePropagator) E) (C : Constraint) (declared : List IntSet) → IsWellFormedConstraint (length declared) C → IfOk result (λ found. IfSome found (λ p. CumulativeIsFor p C)) → IfOk result (λ found. IfSome found (λ p. CumulativeFits p declared))
+unfolding IsWellFormedConstraint
 fits_of (Ok (Some q)) C declared formed h =
-    let own = subst (IsWellFormed (length declared)) (sym h) formed in
+    let own = subst (IsWellFormedConstraint (length declared)) (sym h) formed in
     record { starts = own.0; durations = own.1; uses = own.2; capacity = own.3; as_many_durations = own.4; as_many_uses = own.5 }
 fits_of (Ok None) C declared formed h = tt
 fits_of (Err e) C declared formed h = tt
@@ -23,6 +23,6 @@ returns-clause-fits c =
     let low = c.requires.number.0 in
     let high = c.requires.number.1 in
     let here : C ≡ get_or c.args.model.now.constraints (c.args.c - 1) c.index-as_slice-c.result = c.index-as_slice-c.is ∙ ap (λ (xs : List Constraint). get_or xs (c.args.c - 1) c.index-as_slice-c.result) c.as_slice.ensures in
-    let formed = subst (IsWellFormed (length model.vars)) (sym here) (c.requires.model.constraints (c.args.c - 1) C (omega arith)) in
+    let formed = subst (IsWellFormedConstraint (length model.vars)) (sym here) (c.requires.model.constraints (c.args.c - 1) C (omega arith)) in
     let count : length model.vars ≡ length (declared_sets c.args.model.now.vars) = sym (length-map model.vars (λ var. var.domain)) in
-    fits_of c.propagator_for.result C (declared_sets model.vars) (subst (λ (n : ℕ). IsWellFormed n c.index-as_slice-c.result) count formed) c.propagator_for.ensures.is_for
+    fits_of c.propagator_for.result C (declared_sets model.vars) (subst (λ (n : ℕ). IsWellFormedConstraint n c.index-as_slice-c.result) count formed) c.propagator_for.ensures.is_for

@@ -2,7 +2,7 @@
 use Rattle.std.proofs.Common.{Bool, false, true, List, ap, subst}
 use Rattle.std.proofs.lemmas.Result.{IfOk-weaker}
 use Rattle.fzn_propagator.specs.declared.inferences.Inferred.{Inferred}
-use Rattle.fzn_trail.specs.declared.trail.Reason.TheVariants.{Inference}
+use Rattle.fzn_trail.specs.declared.trail.Antecedent.TheVariants.{Inference}
 use Rattle.fzn_engine.specs.Moves.{IsForcedBy}
 use Rattle.fzn_state.specs.Search.{tally_of}
 use Rattle.fzn_state.specs.declared.solver.Solver.{Solver}

@@ -1,10 +1,10 @@
 -- A decision was open on limited sets, so its number is within the limits.
 use Rattle.std.proofs.Common.{arith}
 use Rattle.std.proofs.lemmas.Int.{ints}
-use Rattle.fzn_learned.proofs.PlainLemmas.{decision_in_limits, negated_decisions-decision, negated_decisions-clause, negated_decisions-inference}
+use Rattle.fzn_learned.proofs.PlainLemmas.{decision_in_limits, negated_decisions-decision, negated_decisions-implied}
 use Rattle.fzn_learned.specs.Reasoned.{known_of}
 use Rattle.fzn_learned.proofs.plain.plain_clause.Goals as goal
-use Rattle.fzn_learned.proofs.plain.plain_clause.Goals.{in-Decision+in_ok-push-in-Decision, in-Clause, in-Inference}
+use Rattle.fzn_learned.proofs.plain.plain_clause.Goals.{in-Decision+in_ok-push-in-Decision, in-Implied}
 
 pub negated-requires-clause-above_least : goal.negated-requires-clause-above_least
 negated-requires-clause-above_least c =
@@ -24,10 +24,7 @@ loop-i-preserved c =
       | in-Decision+in_ok-push-in-Decision w ↦
           let more = negated_decisions-decision trail.declared trail.entries c.loop-i.i entry c.entry-entry.ensures w.in-Decision.is in
           cc (more, w.clause-is, w.in_ok-push-in-Decision.ensures.ok, w.negated.ensures.value, c.loop-i.invariant)
-      | in-Clause w ↦
-          let more = negated_decisions-clause trail.declared trail.entries c.loop-i.i entry c.entry-entry.ensures w.in-Clause.field-0 w.in-Clause.is in
-          cc (more, w.clause-is, c.loop-i.invariant)
-      | in-Inference w ↦
-          let more = negated_decisions-inference trail.declared trail.entries c.loop-i.i entry c.entry-entry.ensures w.in-Inference.field-0 w.in-Inference.is in
+      | in-Implied w ↦
+          let more = negated_decisions-implied trail.declared trail.entries c.loop-i.i entry c.entry-entry.ensures w.in-Implied.field-0 w.in-Implied.is in
           cc (more, w.clause-is, c.loop-i.invariant)
     ]

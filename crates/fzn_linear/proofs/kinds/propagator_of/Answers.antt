@@ -3,7 +3,7 @@ use Rattle.std.proofs.lemmas.List.{length-map}
 use Rattle.std.proofs.lemmas.Option.{IfSome_then}
 use Rattle.fzn_meaning.specs.declared.constraint.Constraint.{Constraint}
 use Rattle.fzn_meaning.specs.declared.model.Var.{Var}
-use Rattle.fzn_meaning.specs.Meaning.{IsWellFormed}
+use Rattle.fzn_meaning.specs.Meaning.{IsWellFormedConstraint}
 use Rattle.fzn_meaning.specs.Solutions.{declared_sets}
 use Rattle.fzn_builtin_rules.specs.Form.{form_of}
 use Rattle.fzn_builtin_rules.proofs.CallerLemmas.{form_fits}
@@ -12,9 +12,9 @@ use Rattle.fzn_linear.specs.Kinds.{IsFormOf}
 use Rattle.fzn_linear.proofs.kinds.propagator_of.Goals as goal
 
 -- the constraint that a call is for
-formed_at : (count i : ℕ) (constraints named : List Constraint) (x : Constraint) → named ≡ constraints → x ≡ get_or named i x → i < length constraints → All (IsWellFormed count) constraints → IsWellFormed count x
+formed_at : (count i : ℕ) (constraints named : List Constraint) (x : Constraint) → named ≡ constraints → x ≡ get_or named i x → i < length constraints → All (IsWellFormedConstraint count) constraints → IsWellFormedConstraint count x
 formed_at count i constraints named x same is below well =
-    subst (λ (y : Constraint). IsWellFormed count y) (sym (is ∙ ap (λ (xs : List Constraint). get_or xs i x) same)) (well i x below)
+    subst (λ (y : Constraint). IsWellFormedConstraint count y) (sym (is ∙ ap (λ (xs : List Constraint). get_or xs i x) same)) (well i x below)
 
 pub form_of-requires : goal.form_of-requires
 form_of-requires c =
@@ -38,4 +38,4 @@ returns-clause-fits c =
     let count = length c.args.model.now.vars in
     let well = formed_at count (c.args.c - 1) c.args.model.now.constraints _ c.index-as_slice-c.result c.as_slice.ensures c.index-as_slice-c.is (omega arith) c.requires.model.constraints in
     let one_each = sym (length-map c.args.model.now.vars (λ (var : Var). var.domain)) in
-    c.in_ok-with_form.ensures.fits (declared_sets c.args.model.now.vars) (subst (λ (n : ℕ). IsWellFormed n c.index-as_slice-c.result) one_each well)
+    c.in_ok-with_form.ensures.fits (declared_sets c.args.model.now.vars) (subst (λ (n : ℕ). IsWellFormedConstraint n c.index-as_slice-c.result) one_each well)

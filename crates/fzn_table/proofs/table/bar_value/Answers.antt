@@ -1,6 +1,6 @@
 use Rattle.std.proofs.Common.{◌≡◌, ◌≢◌, Bool, true, false, List, [], refl, subst, arith, Result, Ok, Err, IsTrue, IfOk, OnOk}
 use Rattle.std.proofs.lemmas.Int.{ints}
-use Rattle.fzn_propagator.specs.declared.propagator.Inference.{Inference}
+use Rattle.fzn_propagator.specs.Inference.{Inference}
 use Rattle.fzn_terms.proofs.OrderLemmas.{equal_of}
 use Rattle.fzn_table.specs.Passes.{HasSupport}
 use Rattle.fzn_table.proofs.TableLemmas.{equal_test}

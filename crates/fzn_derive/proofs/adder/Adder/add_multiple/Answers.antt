@@ -1,6 +1,6 @@
 use Rattle.std.proofs.Common.{subst, Option, IfSome, FitsSigned, w64, to_z-of_z, rules}
 use mir.Syntax.{w128}
-use Rattle.fzn_meaning.specs.Meaning.{IsWellFormed}
+use Rattle.fzn_meaning.specs.Meaning.{IsWellFormedConstraint}
 use Rattle.fzn_builtin_rules.specs.Form.{Form, Fits}
 use Rattle.fzn_cited.specs.Cited.{constraint_at}
 use Rattle.fzn_derive.specs.Room.{variables_in}
@@ -15,7 +15,7 @@ add_form-requires-clause-form c =
     let given = c.args.given.now in
     let number = c.args.multiple.constraint in
     subst (λ (o : Option Form). IfSome o (Fits count)) c.in_ok-form.ensures.found.form_is
-    (fits-given count (constraint_at given number) (each_at (IsWellFormed count) given number c.requires.given))
+    (fits-given count (constraint_at given number) (each_at (IsWellFormedConstraint count) given number c.requires.given))
 
 pub returns-clause-fault : goal.returns-clause-fault
 returns-clause-fault c =

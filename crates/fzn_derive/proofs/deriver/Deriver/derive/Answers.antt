@@ -1,7 +1,7 @@
 use Rattle.std.proofs.Common.{◌≡◌, ◌⊎◌, ◌∙◌, length, sym, subst, ℕ, List, All, IfOk, IfErr}
 use Rattle.std.proofs.lemmas.List.{length-map}
 use Rattle.fzn_meaning.specs.declared.model.Var.{Var}
-use Rattle.fzn_meaning.specs.Meaning.{IsWellFormed}
+use Rattle.fzn_meaning.specs.Meaning.{IsWellFormedConstraint}
 use Rattle.fzn_meaning.specs.Solutions.{declared_sets}
 use Rattle.fzn_cited.specs.declared.fault.DeriveFault.{DeriveFault}
 use Rattle.fzn_cited.specs.declared.fault.DeriveFault.TheVariants.{Memory}
@@ -22,7 +22,7 @@ derive_sum-requires-clause-clear c =
 
 pub derive_sum-requires-clause-given : goal.derive_sum-requires-clause-given
 derive_sum-requires-clause-given c =
-    subst (λ (n : ℕ). All (IsWellFormed n) c.args.given.now) (sym (clear-variables (length c.args.vars.now) c.args.self.now.sums c.requires.clear.sums)) c.requires.given
+    subst (λ (n : ℕ). All (IsWellFormedConstraint n) c.args.given.now) (sym (clear-variables (length c.args.vars.now) c.args.self.now.sums c.requires.clear.sums)) c.requires.given
 
 pub returns-in-Sum-clause-clear : goal.returns-in-Sum-clause-clear
 returns-in-Sum-clause-clear c = record {

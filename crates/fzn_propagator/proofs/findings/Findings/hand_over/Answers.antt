@@ -2,7 +2,7 @@ use Rattle.std.proofs.Common.{List, Option, IfSome, sym, subst}
 use Rattle.fzn_domain.specs.declared.literal.Lit.{Lit}
 use Rattle.fzn_propagator.specs.Clause.{IsJustified}
 use Rattle.fzn_propagator.specs.Inference.{AreFoundOf}
-use Rattle.fzn_propagator.specs.declared.propagator.Inference.{Inference}
+use Rattle.fzn_cert.specs.declared.step.Inference.{Inference}
 use Rattle.fzn_propagator.proofs.FoundLemmas.{found_push}
 use Rattle.fzn_propagator.proofs.findings.Findings.hand_over.Goals as goal
 

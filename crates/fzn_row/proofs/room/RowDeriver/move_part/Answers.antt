@@ -8,7 +8,7 @@ use Rattle.fzn_meaning.specs.Separable.{IsPart}
 use Rattle.fzn_row.specs.Draft.{part_for, blank_part, with_part}
 use Rattle.fzn_row.specs.Prices.{is_entry_within}
 use Rattle.fzn_row.specs.Moves.{moved_from, without_part}
-use Rattle.fzn_row.specs.Room.{room_size, draft_of, IsPlaceOf}
+use Rattle.fzn_row.specs.Room.{room_size, draft_of, IsPlaceOfPart}
 use Rattle.fzn_row.proofs.PartLemmas.{found-set}
 use Rattle.fzn_row.proofs.ListLemmas.{with_list-is, with_list-short, part-listed, listed-is}
 use Rattle.fzn_row.proofs.MoveLemmas.{length-moved, targets-small}
@@ -64,4 +64,4 @@ returns-clause-ok c =
     c.in_ok-weights.ensures.ok ∙ ap (λ (p : Part). moved_from (pos 1) targets p.listed c.in_ok-part.part) (sym before) ∙ ap (moved_from (pos 1) targets (part_for var (without_part source draft).parts).listed) c.in_ok-part.ensures.part in
     let within : list_all is_entry_within entries ≡ true = subst (λ (es : List (Option ℤ)). list_all is_entry_within es ≡ true) weights c.in_ok-weights.ensures.within in
     let count : length entries ≡ length c.args.targets.now = length-moved (pos 1) targets (part_for var (without_part source draft).parts).listed part ∙ length-map c.args.targets.now number_in in
-    with_list-is var (without_part source draft) (pos 1) entries parts place _ room.bound _ (subst (λ (ps : List Part). IsPlaceOf var ps parts place) middle at) (rw count c.if-self-targets.false) within (listed-is old (part_for var (without_part source draft).parts) (pos 1) (pos 1) entries c.in_ok-weights.weights before_too refl weights) (c.place_of.ensures.bound ∙ c.take_part.ensures.bound) (rw (count, c.place_of.ensures.left, c.take_part.ensures.left) refl)
+    with_list-is var (without_part source draft) (pos 1) entries parts place _ room.bound _ (subst (λ (ps : List Part). IsPlaceOfPart var ps parts place) middle at) (rw count c.if-self-targets.false) within (listed-is old (part_for var (without_part source draft).parts) (pos 1) (pos 1) entries c.in_ok-weights.weights before_too refl weights) (c.place_of.ensures.bound ∙ c.take_part.ensures.bound) (rw (count, c.place_of.ensures.left, c.take_part.ensures.left) refl)

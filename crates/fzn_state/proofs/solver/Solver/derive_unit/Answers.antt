@@ -1,7 +1,7 @@
 -- The clause follows in the search as it is once the antecedents are written.
 use Rattle.std.proofs.Common.{◌≡◌, List, Option, IfSome, subst, rules}
 use Rattle.fzn_cert.specs.Accepted.{past_after}
-use Rattle.fzn_trail.specs.declared.trail.Reason.{Reason}
+use Rattle.fzn_trail.specs.declared.trail.Antecedent.{Antecedent}
 use Rattle.fzn_learned.specs.declared.learned.Learned.{Learned}
 use Rattle.fzn_learned.specs.Learned.{IsDerived}
 use Rattle.fzn_state.specs.State.{known_in}
@@ -22,5 +22,5 @@ returns-clause-derives g c =
     let D : Option Learned → Type 0 = λ found. IfSome found (IsDerived (known_in (stock_of c.args.self.now)) c.args.self.now.trail.declared) in
     let is : IsDerived (known_in (stock_of c.args.self.now)) c.args.self.now.trail.declared c.in-Some.unit = subst D c.in-Some.is c.in_ok-found.ensures.derived in
     let antecedents : c.as_slice.result.now ≡ c.in-Some.unit.antecedents = search rules in
-    let G : List Reason → Type 0 = λ s. GiveAntecedents (past_after c.args.model.now (g.S.Sink.written c.write_antecedents.new.sink)) (known_in (stock_of c.args.self.now)) c.in_ok-ids.ids s in
+    let G : List Antecedent → Type 0 = λ s. GiveAntecedents (past_after c.args.model.now (g.S.Sink.written c.write_antecedents.new.sink)) (known_in (stock_of c.args.self.now)) c.in_ok-ids.ids s in
     derives c.in_ok-ids.ensures.written is c.in_ok-ids.ids (subst G antecedents c.in_ok-ids.ensures.numbers)

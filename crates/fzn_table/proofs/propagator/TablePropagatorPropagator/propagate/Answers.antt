@@ -1,5 +1,5 @@
 use Rattle.std.proofs.lemmas.Result.{on_ok_weaker}
-use Rattle.fzn_meaning.specs.Meaning.{IsWellFormed}
+use Rattle.fzn_meaning.specs.Meaning.{IsWellFormedConstraint}
 use Rattle.fzn_table.proofs.PropagatorLemmas.{table_exhausted}
 use Rattle.fzn_table.proofs.propagator.TablePropagatorPropagator.propagate.Goals as goal
 
@@ -10,7 +10,7 @@ pub returns-clause-found : goal.returns-clause-found
 returns-clause-found c = (rw (c.as_slice-places.ensures, c.constants-rows.ensures) at c.bar_unsupported.ensures.found).all
 
 pub returns-clause-none : goal.returns-clause-none
-unfolding IsWellFormed
+unfolding IsWellFormedConstraint
 returns-clause-none c =
     let trail = c.args.trail.now in
     let it = c.args.self.now in
@@ -24,5 +24,5 @@ pub invariant_of-pass-clause-chained : goal.invariant_of-pass-clause-chained
 invariant_of-pass-clause-chained c = rw (c.as_slice-places.ensures, c.constants-rows.ensures) c.args.self.now.chained
 
 pub invariant_of-pass-clause-numbers : goal.invariant_of-pass-clause-numbers
-unfolding IsWellFormed
+unfolding IsWellFormedConstraint
 invariant_of-pass-clause-numbers c = rw c.constants-rows.ensures c.requires.fits.2

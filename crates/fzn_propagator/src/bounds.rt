@@ -2,8 +2,8 @@
 ghost use Rattle.std.specs.Prelude.{◌≡◌, ◌<◌};
 ghost use Rattle.fzn_domain.specs.IntSet.{size, least, greatest};
 
+use crate::event::Change;
 use fzn_domain::Domain;
-use fzn_propagator::Change;
 
 /// The least and the greatest value of a variable.
 #[derive(Clone, Copy, Debug)]
