@@ -149,5 +149,14 @@ fn push_moves(
             })?;
         }
     }
+    let exchanging = ascent.lagrangian.exchanging.iter();
+    for (one, is_moving) in problem.moves.exchanges.all.iter().zip(exchanging) {
+        if *is_moving {
+            items.push(RowItem::Move {
+                constraint: one.constraint,
+                variable: VarId(one.variable.saturating_add(1)),
+            })?;
+        }
+    }
     Ok(())
 }

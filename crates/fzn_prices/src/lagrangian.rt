@@ -1,5 +1,6 @@
 // The objective with a sum of rows, each times its multiplier, and with prices, where each variable is free within its declared set.
 use crate::apart::Apart;
+use crate::exchanges::Exchange;
 use crate::lists::List;
 use crate::moves::Move;
 use crate::multiplier::{Multiplier, narrowed};
@@ -22,8 +23,10 @@ pub struct Lagrangian {
     pub steepest: i64,
     /// By the places of the definitions: their multipliers.
     pub defining: Vec<i64>,
-    /// By the places of the moves: whether there was something that moved.
+    /// By the places of the moves by elements: whether there was something that moved.
     pub moving: Vec<bool>,
+    /// By the places of the moves by inverses: the same.
+    pub exchanging: Vec<bool>,
     /// By the numbers of the variables, less one: their values where the sum is least.
     values: Vec<i64>,
 }
@@ -39,6 +42,7 @@ impl Lagrangian {
             steepest: 0,
             defining: vec![in alloc; 0; problem.definitions.len()]?,
             moving: vec![in alloc; false; problem.moves.all.len()]?,
+            exchanging: vec![in alloc; false; problem.moves.exchanges.all.len()]?,
             values: vec![in alloc; 0; vars]?,
         })
     }
@@ -123,6 +127,7 @@ impl Lagrangian {
     pub fn end(&mut self, problem: &Problem, rows: &Rows) -> i128 {
         self.define(problem, rows);
         self.move_all(problem);
+        self.exchange_all(problem);
         self.minimise(problem)
     }
 
@@ -197,6 +202,58 @@ impl Lagrangian {
         true
     }
 
+    fn exchange_all(&mut self, problem: &Problem) {
+        for place in 0..problem.moves.exchanges.all.len() {
+            if let Some(one) = problem.moves.exchanges.all.get(place).copied() {
+                let is_moving = self.exchange(problem, one);
+                if let Some(moving) = self.exchanging.get_mut(place) {
+                    *moving = is_moving;
+                }
+            }
+        }
+    }
+
+    /// What the place of the second list weighs moves to the first list. Whether it weighs something.
+    fn exchange(&mut self, problem: &Problem, one: Exchange) -> bool {
+        let from = problem.lists.list_of(one.variable);
+        let slope = self.last_slope_of(one.variable);
+        if slope == 0 && !self.weighs(from) {
+            return false;
+        }
+        let mut number = 0i64;
+        for variable in problem.moves.exchanges.places_of(one) {
+            number = number.saturating_add(1);
+            let mut more = slope.saturating_mul(number);
+            if let Some(from) = from {
+                more = more.saturating_add(self.weight_at(from, number));
+            }
+            if let Some(list) = problem.lists.list_of(*variable)
+                && let Some(place) = list.place_of(one.number)
+                && let Some(weight) = self.weights.get_mut(place)
+            {
+                *weight = weight.saturating_add(more);
+            }
+        }
+        self.flatten(one.variable);
+        if let Some(from) = from {
+            self.clear(from);
+        }
+        true
+    }
+
+    /// Whether something is listed that is not 0.
+    fn weighs(&self, list: Option<List>) -> bool {
+        let Some(list) = list else {
+            return false;
+        };
+        for place in list.start..list.end {
+            if self.weights.get(place).copied().unwrap_or(0) != 0 {
+                return true;
+            }
+        }
+        false
+    }
+
     fn weight_at(&self, list: List, value: i64) -> i64 {
         match list.place_of(value) {
             Some(place) => self.weights.get(place).copied().unwrap_or(0),
@@ -260,8 +317,15 @@ impl Lagrangian {
 
     /// Finds the values there of the variables that were taken out.
     pub fn settle(&mut self, problem: &Problem, rows: &Rows) {
+        for one in problem.moves.exchanges.all.iter() {
+            let sum = self.exchanged(problem, *one, None);
+            self.set(one.variable, sum);
+        }
         for one in problem.moves.all.iter() {
-            if let Some(entry) = problem.moves.entry_at(*one, self.value_of(one.index)) {
+            if let Some(exchange) = problem.moves.exchanges.of(one.index) {
+                let sum = self.exchanged(problem, exchange, Some(*one));
+                self.set(one.value, sum);
+            } else if let Some(entry) = problem.moves.entry_at(*one, self.value_of(one.index)) {
                 self.set(one.value, entry);
             }
         }
@@ -270,6 +334,23 @@ impl Lagrangian {
             let lacking = self.excess(rows, definition.row).saturating_neg();
             self.set(definition.variable, lacking.saturating_mul(definition.sign));
         }
+    }
+
+    /// The numbers of all places of the first list that have the number of the place, added up, or the entries at them.
+    fn exchanged(&self, problem: &Problem, one: Exchange, by: Option<Move>) -> i64 {
+        let mut sum = 0i64;
+        let mut number = 0i64;
+        for variable in problem.moves.exchanges.places_of(one) {
+            number = number.saturating_add(1);
+            if self.value_of(*variable) == one.number {
+                let more = match by {
+                    None => number,
+                    Some(by) => problem.moves.entry_at(by, number).unwrap_or(0),
+                };
+                sum = sum.saturating_add(more);
+            }
+        }
+        sum
     }
 
     /// How far the sum of the row lies above its bound there.
@@ -290,16 +371,43 @@ impl Lagrangian {
             price.excess = -1;
         }
         for term in problem.aparts.terms_of(apart) {
-            let value = match *term {
-                Term::Constant(value) => value,
-                Term::Variable(var) => self.value_of(var.0.saturating_sub(1)),
-            };
-            if let Some(place) = apart.place_of(value)
-                && let Some(price) = prices.get_mut(place)
-            {
-                price.excess = price.excess.saturating_add(1);
+            match *term {
+                Term::Constant(value) => more(apart, value, prices),
+                Term::Variable(var) => {
+                    let variable = var.0.saturating_sub(1);
+                    match problem.moves.exchanges.of(variable) {
+                        None => more(apart, self.value_of(variable), prices),
+                        Some(one) => self.count_exchanged(problem, one, apart, prices),
+                    }
+                }
             }
         }
+    }
+
+    /// Counts each place of the first list that has the number of the place.
+    fn count_exchanged(
+        &self,
+        problem: &Problem,
+        one: Exchange,
+        apart: Apart,
+        prices: &mut [Multiplier],
+    ) {
+        let mut number = 0i64;
+        for variable in problem.moves.exchanges.places_of(one) {
+            number = number.saturating_add(1);
+            if self.value_of(*variable) == one.number {
+                more(apart, number, prices);
+            }
+        }
+    }
+}
+
+/// One more place has the value.
+fn more(apart: Apart, value: i64, prices: &mut [Multiplier]) {
+    if let Some(place) = apart.place_of(value)
+        && let Some(price) = prices.get_mut(place)
+    {
+        price.excess = price.excess.saturating_add(1);
     }
 }
 

@@ -2,8 +2,8 @@
 //! objective of a model or that nothing meets, looked for before a search.
 //!
 //! In: a model and its rows. Out: the items by which a separable row is derived, where one is found: multiples of the rows, the prices, and
-//! moves from the values of elements to their indices. Nothing is proved of them but that the calls are safe and end: whoever takes the
-//! items asks whether they give a row.
+//! moves from the values of elements to their indices, and from the second list of an inverse to the first. Nothing is proved of them but
+//! that the calls are safe and end: whoever takes the items asks whether they give a row.
 #![tactic(auto)]
 
 pub use finding::prices;
@@ -11,6 +11,7 @@ pub use finding::prices;
 mod apart;
 mod ascent;
 mod definitions;
+mod exchanges;
 mod finding;
 mod lagrangian;
 mod lists;

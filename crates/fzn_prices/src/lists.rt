@@ -1,5 +1,6 @@
 // The variables whose values are weighed one by one.
 use crate::apart::{Apart, Aparts, Kind};
+use crate::exchanges::Exchange;
 use crate::moves::{Move, Moves};
 use fzn_domain::Memory;
 use fzn_meaning::{Model, Term};
@@ -68,6 +69,9 @@ impl Lists {
         }
         for one in moves.all.iter() {
             lists.bar_without(model, moves, *one);
+        }
+        for one in moves.exchanges.all.iter() {
+            lists.bar_exchanged(model, moves, *one);
         }
         Ok(lists)
     }
@@ -173,6 +177,20 @@ impl Lists {
                 None => false,
             };
             if !can_be {
+                self.bar(place);
+            }
+        }
+    }
+
+    /// Bars the number of the place where the place can't be the number of the other.
+    fn bar_exchanged(&mut self, model: &Model, moves: &Moves, one: Exchange) {
+        let mut number = 0i64;
+        for variable in moves.exchanges.places_of(one) {
+            number = number.saturating_add(1);
+            if !self.can_be(model, one.variable, number)
+                && let Some(list) = self.list_of(*variable)
+                && let Some(place) = list.place_of(one.number)
+            {
                 self.bar(place);
             }
         }

@@ -1,4 +1,5 @@
-// The elements of constants, by which what a value weighs moves to the index.
+// What moves from one variable to others: by elements of constants and by inverses.
+use crate::exchanges::Exchanges;
 use crate::lists::MOST_VALUES;
 use fzn_domain::Memory;
 use fzn_meaning::{Constraint, Model, Term};
@@ -27,6 +28,8 @@ enum Role {
     Open,
     /// Others move to it.
     Kept,
+    /// It never moves.
+    Fixed,
     /// It moves to another.
     Moved,
 }
@@ -34,8 +37,10 @@ enum Role {
 /// The moves of a model.
 #[derive(Debug, Drop)]
 pub struct Moves {
-    /// In the order of the constraints. No variable moves twice, and none moves to one that moves.
+    /// Those by elements, in the order of the constraints. No variable moves twice, and none moves to one that moves.
     pub all: Vec<Move>,
+    /// Those by inverses, which come behind: what has moved to an index moves on.
+    pub exchanges: Exchanges,
     entries: Vec<i64>,
     /// By the numbers of the variables, less one.
     roles: Vec<Role>,
@@ -54,13 +59,14 @@ impl Moves {
     ) -> Result<Moves, Memory> {
         let mut moves = Moves {
             all: Vec::new(alloc),
+            exchanges: Exchanges::new(alloc, bounds.len())?,
             entries: Vec::new(alloc),
             roles: vec![in alloc; Role::Open; bounds.len()]?,
         };
         if let Some(objective) = objective
             && let Some(role) = moves.roles.get_mut(objective)
         {
-            *role = Role::Kept;
+            *role = Role::Fixed;
         }
         let mut number = 0u64;
         for constraint in model.constraints.as_slice() {
@@ -73,7 +79,105 @@ impl Moves {
                 *used = true;
             }
         }
+        moves.add_inverses(model, bounds, used, room)?;
         Ok(moves)
+    }
+
+    /// Lets what the second lists of inverses weigh move to the first, whose places are used then.
+    fn add_inverses(
+        &mut self,
+        model: &Model,
+        bounds: &[Bounds],
+        used: &mut Vec<bool>,
+        room: &mut Work,
+    ) -> Result<(), Memory> {
+        let mut number = 0u64;
+        for constraint in model.constraints.as_slice() {
+            number = number.saturating_add(1);
+            if let Constraint::Inverse { forward, backward } = constraint
+                && self.add_inverse(
+                    number,
+                    forward.as_slice(),
+                    backward.as_slice(),
+                    bounds,
+                    used,
+                    room,
+                )?
+            {
+                use_all(forward.as_slice(), used);
+            }
+        }
+        Ok(())
+    }
+
+    /// Lets what the second list weighs move to the first. Whether something moves.
+    fn add_inverse(
+        &mut self,
+        constraint: u64,
+        forward: &[Term],
+        backward: &[Term],
+        bounds: &[Bounds],
+        used: &[bool],
+        room: &mut Work,
+    ) -> Result<bool, Memory> {
+        if !room.take(forward.len())
+            || !has_used(backward, used)
+            || !self.keep_all(forward, bounds)
+        {
+            return Ok(false);
+        }
+        let start = self.exchanges.add_list(forward)?;
+        let mut number = 0i64;
+        let mut moves = false;
+        for term in backward {
+            number = number.saturating_add(1);
+            if let Term::Variable(var) = *term {
+                let variable = var.0.saturating_sub(1);
+                if used.get(variable).copied() == Some(true)
+                    && width_of(bounds, variable).is_some_and(|width| width <= MOST_VALUES)
+                    && room.take(forward.len().saturating_mul(forward.len()))
+                    && self.cast_away(variable)
+                {
+                    self.exchanges.add(constraint, variable, number, start)?;
+                    moves = true;
+                }
+            }
+        }
+        Ok(moves)
+    }
+
+    /// Whether all terms are variables to which others may move: they do not move then.
+    fn keep_all(&mut self, terms: &[Term], bounds: &[Bounds]) -> bool {
+        for term in terms {
+            let Term::Variable(var) = *term else {
+                return false;
+            };
+            let variable = var.0.saturating_sub(1);
+            if self.is_moved(variable)
+                || !width_of(bounds, variable).is_some_and(|width| width <= MOST_VALUES)
+            {
+                return false;
+            }
+        }
+        for term in terms {
+            if let Term::Variable(var) = *term
+                && let Some(role) = self.roles.get_mut(var.0.saturating_sub(1))
+            {
+                *role = Role::Fixed;
+            }
+        }
+        true
+    }
+
+    /// Lets the variable move on, where it can.
+    fn cast_away(&mut self, variable: usize) -> bool {
+        match self.roles.get_mut(variable) {
+            Some(role) if *role == Role::Open || *role == Role::Kept => {
+                *role = Role::Moved;
+                true
+            }
+            _ => false,
+        }
     }
 
     /// Adds the move, where it can be.
@@ -115,12 +219,17 @@ impl Moves {
     fn cast(&mut self, moved: usize, kept: usize) -> bool {
         let can_be = moved != kept
             && self.roles.get(moved).copied() == Some(Role::Open)
-            && matches!(self.roles.get(kept).copied(), Some(Role::Open | Role::Kept));
+            && matches!(
+                self.roles.get(kept).copied(),
+                Some(Role::Open | Role::Kept | Role::Fixed)
+            );
         if can_be {
             if let Some(role) = self.roles.get_mut(moved) {
                 *role = Role::Moved;
             }
-            if let Some(role) = self.roles.get_mut(kept) {
+            if let Some(role) = self.roles.get_mut(kept)
+                && *role == Role::Open
+            {
                 *role = Role::Kept;
             }
         }
@@ -161,6 +270,28 @@ fn element_in(constraint: &Constraint) -> Option<(usize, usize, &[Term])> {
             entries.as_slice(),
         )),
         _ => None,
+    }
+}
+
+/// Whether one of the terms is a variable that is used.
+fn has_used(terms: &[Term], used: &[bool]) -> bool {
+    for term in terms {
+        if let Term::Variable(var) = *term
+            && used.get(var.0.saturating_sub(1)).copied() == Some(true)
+        {
+            return true;
+        }
+    }
+    false
+}
+
+fn use_all(terms: &[Term], used: &mut Vec<bool>) {
+    for term in terms {
+        if let Term::Variable(var) = *term
+            && let Some(used) = used.get_mut(var.0.saturating_sub(1))
+        {
+            *used = true;
+        }
     }
 }
 

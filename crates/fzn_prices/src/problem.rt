@@ -31,7 +31,7 @@ pub struct Problem {
     pub definitions: Vec<Definition>,
     /// The constraints whose values have prices.
     pub aparts: Aparts,
-    /// What moves from the values of elements to their indices, once variables are taken out.
+    /// What moves to other variables, once variables are taken out.
     pub moves: Moves,
     /// The variables that have a weight for each value.
     pub lists: Lists,
@@ -81,6 +81,10 @@ impl Problem {
         cost = cost.saturating_add(self.lists.len().saturating_mul(2));
         for one in self.moves.all.iter() {
             cost = cost.saturating_add(self.moves.entries_of(*one).len());
+        }
+        for one in self.moves.exchanges.all.iter() {
+            let places = self.moves.exchanges.places_of(*one).len();
+            cost = cost.saturating_add(places.saturating_mul(4));
         }
         for apart in self.aparts.all.iter() {
             let places = self.aparts.terms_of(*apart).len().saturating_add(4);

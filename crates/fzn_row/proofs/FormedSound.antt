@@ -1,10 +1,12 @@
 -- The row that items make has parts within the limits, each of another variable.
-use Rattle.std.proofs.Common.{◌≡◌, ℕ, ◌≤◌, Bool, true, false, cond, ◌&&◌, nat_eq, nat_le, List, length, slice_index_or, refl, subst, arith, ℤ, pos, ◌+ℤ◌, ◌-ℤ◌, ◌*ℤ◌, unsigned_abs, Option, None, Some, IfSome, Ok, Err, All}
+use Rattle.std.proofs.Common.{◌≡◌, ℕ, ◌+◌, ◌≤◌, Bool, true, false, cond, ◌&&◌, nat_eq, nat_le, List, [], ◌∷◌, length, slice_index_or, refl, subst, arith, ℤ, pos, ◌+ℤ◌, ◌-ℤ◌, ◌*ℤ◌, unsigned_abs, Option, None, Some, IfSome, Result, Ok, Err, All}
 use Rattle.std.specs.List.{list_all}
 use Rattle.std.specs.Option.{option_map_or}
+use Rattle.std.specs.Ordering.{int_eq}
 use Rattle.std.proofs.lemmas.Int.{ints}
 use Rattle.std.proofs.lemmas.Bool.Decides.{nat_tests}
 use Rattle.std.proofs.lemmas.List.{length-map}
+use Rattle.std.proofs.lemmas.List.Elements.{All-head, All-tail}
 use Rattle.fzn_list.specs.Limits.{longest}
 use Rattle.fzn_domain.specs.IntSet.{IntSet}
 use Rattle.fzn_domain.specs.Limits.{IsInLimits}
@@ -14,13 +16,15 @@ use Rattle.fzn_meaning.specs.declared.term.Term.{Term}
 use Rattle.fzn_meaning.specs.declared.term.Term.TheVariants.{Constant, Variable}
 use Rattle.fzn_meaning.specs.declared.term.Place.{Place}
 use Rattle.fzn_meaning.specs.declared.constraint.Constraint.{Constraint}
-use Rattle.fzn_meaning.specs.declared.constraint.Constraint.TheVariants.{Element}
+use Rattle.fzn_meaning.specs.declared.constraint.Constraint.TheVariants.{Element, Inverse}
 use Rattle.fzn_meaning.specs.declared.row.Row.{Row}
 use Rattle.fzn_meaning.specs.Term.{IsTerm, IsPlace, number_in, numbers_in}
 use Rattle.fzn_meaning.specs.Meaning.{IsWellFormedConstraint, AreTerms}
-use Rattle.fzn_meaning.specs.Separable.{IsSeparableRow}
+use Rattle.fzn_meaning.specs.declared.row.Part.{Part}
+use Rattle.fzn_meaning.specs.Separable.{weight_at, IsSeparableRow}
 use Rattle.fzn_builtin_rules.specs.Form.{Form, Fits, form_of}
 use Rattle.fzn_builtin_rules.proofs.CallerLemmas.{form_fits}
+use Rattle.fzn_cited.specs.declared.fault.DeriveFault.{DeriveFault}
 use Rattle.fzn_cited.specs.declared.fault.DeriveFault.TheVariants.{NoSuchConstraint, NotDerived}
 use Rattle.fzn_cited.specs.declared.multiple.Multiple.{Multiple}
 use Rattle.fzn_cited.specs.Cited.{constraint_at}
@@ -30,10 +34,14 @@ use Rattle.fzn_row.specs.declared.item.RowItem.TheVariants as item
 use Rattle.fzn_row.specs.Draft.{Draft, empty, row_of, row_stated, part_for, with_bound, and_then, in_turn}
 use Rattle.fzn_row.specs.Multiples.{term_added, place_added, is_usable, form_added, multiple_added}
 use Rattle.fzn_row.specs.Prices.{entries_from, price_at, price_added, most_cost, priced_places, has_each_price, is_price, are_prices}
-use Rattle.fzn_row.specs.Moves.{moved_from, without_part, part_moved, is_constant, are_targets, element_moved}
+use Rattle.fzn_row.specs.Weights.{without_part}
+use Rattle.fzn_row.specs.Moves.{moved_from, part_moved, is_constant, are_targets, part_moved_by}
+use Rattle.fzn_row.specs.Inverses.{raised_from, place_raised, places_raised, moved_back, place_in, inverse_moved}
 use Rattle.fzn_row.specs.Derived.{item_added, drafted, IsDerivedRow}
 use Rattle.fzn_row.proofs.PriceLemmas.{both_true, length-entries}
 use Rattle.fzn_row.proofs.MoveLemmas.{length-moved}
+use Rattle.fzn_row.proofs.InverseLemmas.{length-raised}
+use Rattle.fzn_row.proofs.InversesSound.{place-variable}
 use Rattle.fzn_row.proofs.PricesSound.{places-formed}
 use Rattle.fzn_row.proofs.DraftSound.{no_error, then-both, turn-keeps}
 use Rattle.fzn_row.proofs.FormedLemmas.{IsFormed, pairs-once, bound-formed, coefficient-formed, list-formed, blank-put-formed}
@@ -114,6 +122,9 @@ module _ (declared : List IntSet) (low : ℤ) (prices : List ℤ) where
 
 -- ---- moves
 
+ok_is : (a b : Draft) → ◌≡◌ {A = Result Draft DeriveFault} (Ok a) (Ok b) → a ≡ b
+ok_is a b e = cc
+
 module _ (count : ℕ) where
   entries-formed : (var index value : VarId) (entries : List Term) (draft after : Draft) (test : Bool) → (nat_eq value.0 var.0 && are_targets entries) ≡ test → IsVariable count index → IsVariable count value → IsFormed count draft
       → cond test (part_moved value index (pos 1) (numbers_in entries) draft) (Err NotDerived) ≡ Ok after → IsFormed count after
@@ -126,14 +137,50 @@ module _ (count : ℕ) where
       list-formed count (without_part value draft) after (blank-put-formed count draft draft formed value value_fits) index (pos 1) (moved_from (pos 1) targets old part) index_fits (low_of (pos 1) (omega arith)) few is
   entries-formed var index value entries draft after false test index_fits value_fits formed is = absurd (no_error NotDerived after is)
 
-  element-formed : (var : VarId) (c : Constraint) (draft after : Draft) → IsWellFormedConstraint count c → IsFormed count draft → element_moved var draft c ≡ Ok after → IsFormed count after
-  unfolding IsWellFormedConstraint
-  element-formed var (Element (Variable index) entries (Variable value)) draft after well formed is = entries-formed var index value entries draft after (nat_eq value.0 var.0 && are_targets entries) refl well.0 well.2 formed is
-  element-formed var _ draft after well formed is = absurd (no_error NotDerived after is)
+  raised-formed : (length_of : ℕ) (value : ℤ) (more : Option ℤ) (place : Term) (draft after : Draft) → length_of ≤ 65536 → IsTerm count place → IsFormed count draft → place_raised length_of value more draft place ≡ Ok after → IsFormed count after
+  raised-formed length_of value more (Constant k) draft after few fits formed is = constant (int_eq k value) more is
+    where
+      constant : (test : Bool) (m : Option ℤ) → cond test (option_map_or (λ w. with_bound (draft.bound -ℤ w) draft) m (Err NotDerived)) (Ok draft) ≡ Ok after → IsFormed count after
+      constant true None made = absurd (no_error NotDerived after made)
+      constant true (Some w) made = bound-formed count draft after formed (draft.bound -ℤ w) made
+      constant false m made = subst (IsFormed count) (ok_is draft after made) formed
+  raised-formed length_of value more (Variable var) draft after few fits formed is =
+      let old = (part_for var draft.parts).listed in
+      list-formed count draft after formed var (pos 1) (raised_from (pos 1) length_of value more old) fits (low_of (pos 1) (omega arith)) (rw (length-raised value more old (pos 1) length_of) few) is
 
-  maybe_move-formed : (var : VarId) (o : Option Constraint) (draft after : Draft) → IfSome o (IsWellFormedConstraint count) → IsFormed count draft → option_map_or (element_moved var draft) o (Err NoSuchConstraint) ≡ Ok after → IsFormed count after
+  all_raised-formed : (part : Part) (length_of : ℕ) (value number : ℤ) (places : List Term) (draft after : Draft) → length_of ≤ 65536 → All (IsTerm count) places → IsFormed count draft → places_raised part length_of value number draft places ≡ Ok after → IsFormed count after
+  all_raised-formed part length_of value number [] draft after few fit formed is = subst (IsFormed count) (ok_is draft after is) formed
+  all_raised-formed part length_of value number (place ∷ places) draft after few fit formed is =
+      let parts = then-both (place_raised length_of value (weight_at part number) draft place) (λ next. places_raised part length_of value (number +ℤ pos 1) next places) after is in
+      all_raised-formed part length_of value (number +ℤ pos 1) places parts.0 after few (All-tail (IsTerm count) place places fit) (raised-formed length_of value (weight_at part number) place draft parts.0 few (All-head (IsTerm count) place places fit) formed parts.1) parts.2
+
+  back-formed : (var : VarId) (places : List Term) (place : ℕ) (draft after : Draft) → IsVariable count var → All (IsTerm count) places → IsFormed count draft → moved_back var draft places place ≡ Ok after → IsFormed count after
+  back-formed var places place draft after variable fit formed is = tested (nat_le (length places) 65536) refl is
+    where
+      tested : (test : Bool) → nat_le (length places) 65536 ≡ test → cond test (places_raised (part_for var draft.parts) (length places) (pos (place + 1)) (pos 1) (without_part var draft) places) (Err NotDerived) ≡ Ok after → IsFormed count after
+      tested true test made = all_raised-formed (part_for var draft.parts) (length places) (pos (place + 1)) (pos 1) places (without_part var draft) after (few_of (length places) 65536 test) fit (blank-put-formed count draft draft formed var variable) made
+      tested false test made = absurd (no_error NotDerived after made)
+
+  inverse-formed : (var : VarId) (forward backward : List Term) (draft after : Draft) → All (IsTerm count) forward → All (IsTerm count) backward → IsFormed count draft → inverse_moved var draft forward backward ≡ Ok after → IsFormed count after
+  inverse-formed var forward backward draft after forward_fits backward_fits formed is = in_backward (place_in var backward) refl is
+    where
+      in_forward : (found : Option ℕ) → place_in var forward ≡ found → option_map_or (moved_back var draft backward) found (Err NotDerived) ≡ Ok after → IsFormed count after
+      in_forward None found made = absurd (no_error NotDerived after made)
+      in_forward (Some place) found made = back-formed var backward place draft after (place-variable count var forward place forward_fits found) backward_fits formed made
+
+      in_backward : (found : Option ℕ) → place_in var backward ≡ found → option_map_or (moved_back var draft forward) found (option_map_or (moved_back var draft backward) (place_in var forward) (Err NotDerived)) ≡ Ok after → IsFormed count after
+      in_backward None found made = in_forward (place_in var forward) refl made
+      in_backward (Some place) found made = back-formed var forward place draft after (place-variable count var backward place backward_fits found) forward_fits formed made
+
+  moved_by-formed : (var : VarId) (c : Constraint) (draft after : Draft) → IsWellFormedConstraint count c → IsFormed count draft → part_moved_by var draft c ≡ Ok after → IsFormed count after
+  unfolding IsWellFormedConstraint
+  moved_by-formed var (Element (Variable index) entries (Variable value)) draft after well formed is = entries-formed var index value entries draft after (nat_eq value.0 var.0 && are_targets entries) refl well.0 well.2 formed is
+  moved_by-formed var (Inverse forward backward) draft after well formed is = inverse-formed var forward backward draft after well.0.0 well.1.0 formed is
+  moved_by-formed var _ draft after well formed is = absurd (no_error NotDerived after is)
+
+  maybe_move-formed : (var : VarId) (o : Option Constraint) (draft after : Draft) → IfSome o (IsWellFormedConstraint count) → IsFormed count draft → option_map_or (part_moved_by var draft) o (Err NoSuchConstraint) ≡ Ok after → IsFormed count after
   maybe_move-formed var None draft after well formed is = absurd (no_error NoSuchConstraint after is)
-  maybe_move-formed var (Some c) draft after well formed is = element-formed var c draft after well formed is
+  maybe_move-formed var (Some c) draft after well formed is = moved_by-formed var c draft after well formed is
 
 -- ---- all items
 

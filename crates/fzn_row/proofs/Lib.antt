@@ -4,6 +4,8 @@ mod DraftSound
 mod FormedLemmas
 pub mod FormedSound
 mod IntLemmas
+mod InverseLemmas
+mod InversesSound
 mod ListLemmas
 mod MoveLemmas
 mod MovesSound
@@ -12,3 +14,4 @@ mod PartLemmas
 mod PriceLemmas
 mod PricesSound
 mod TurnLemmas
+mod WeightsSound

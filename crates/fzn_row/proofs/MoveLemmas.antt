@@ -12,7 +12,8 @@ use Rattle.fzn_meaning.specs.declared.row.Listed.{Listed}
 use Rattle.fzn_meaning.specs.declared.row.Part.{Part}
 use Rattle.fzn_meaning.specs.Separable.{listed_at, weight_at}
 use Rattle.fzn_row.specs.Prices.{is_entry_within}
-use Rattle.fzn_row.specs.Moves.{both_weights, moved_from}
+use Rattle.fzn_row.specs.Weights.{both_weights}
+use Rattle.fzn_row.specs.Moves.{moved_from}
 
 one_on : (low : ℤ) (k : ℕ) → (low +ℤ pos 1) +ℤ pos k ≡ low +ℤ pos (suc k)
 one_on low k = omega (arith, ints)

@@ -1,28 +1,32 @@
 -- Moves: values that meet the constraint and the row before meet the row after.
-use Rattle.std.proofs.Common.{◌≡◌, ℕ, zero, suc, ◌-◌, ◌<◌, Bool, true, false, cond, ◌&&◌, nat_eq, nat_le, List, [], ◌∷◌, length, get_or, refl, sym, ap, ◌∙◌, subst, arith, ℤ, pos, negsuc, ◌+ℤ◌, ◌-ℤ◌, Option, Some, None, IfSome, Ok, Err}
+use Rattle.std.proofs.Common.{◌≡◌, ℕ, zero, suc, ◌-◌, ◌<◌, Bool, true, false, cond, ◌&&◌, nat_eq, nat_le, List, [], ◌∷◌, length, get_or, refl, sym, ap, ◌∙◌, subst, arith, ℤ, pos, negsuc, ◌+ℤ◌, ◌-ℤ◌, Option, Some, None, IfSome, Ok, Err, All}
 use Rattle.std.specs.List.{list_all}
-use Rattle.std.specs.Option.{option_map, option_map_or}
+use Rattle.std.specs.Option.{option_map_or}
 use Rattle.std.proofs.lemmas.Int.{ints}
 use Rattle.fzn_domain.specs.declared.literal.VarId.{VarId}
 use Rattle.fzn_domain.specs.Narrow.{value_of}
 use Rattle.fzn_meaning.specs.declared.term.Term.{Term}
 use Rattle.fzn_meaning.specs.declared.term.Term.TheVariants.{Constant, Variable}
 use Rattle.fzn_meaning.specs.declared.constraint.Constraint.{Constraint}
-use Rattle.fzn_meaning.specs.declared.constraint.Constraint.TheVariants.{Element}
+use Rattle.fzn_meaning.specs.declared.constraint.Constraint.TheVariants.{Element, Inverse}
 use Rattle.fzn_meaning.specs.Term.{values_of, numbers_in}
 use Rattle.fzn_meaning.specs.Elements.{IsElement}
-use Rattle.fzn_meaning.specs.Meaning.{Meets}
+use Rattle.fzn_meaning.specs.Meaning.{Meets, IsWellFormedConstraint}
 use Rattle.fzn_cited.specs.declared.fault.DeriveFault.TheVariants.{NoSuchConstraint, NotDerived}
 use Rattle.fzn_cited.specs.Cited.{constraint_at}
+use Rattle.fzn_cited.proofs.CitedLemmas.{each_at}
 use Rattle.fzn_meaning.specs.declared.row.Part.{Part}
-use Rattle.fzn_meaning.specs.Separable.{entry_in, listed_at, weighed, weight_at, weight_of, RowHolds}
-use Rattle.fzn_row.specs.Draft.{Draft, row_of, blank_part, part_for}
-use Rattle.fzn_row.specs.Moves.{both_weights, moved_from, without_part, part_moved, is_constant, are_targets, element_moved, move_added}
+use Rattle.fzn_meaning.specs.Separable.{entry_in, listed_at, weighed, weight_at, RowHolds}
+use Rattle.fzn_row.specs.Draft.{Draft, row_of, part_for}
+use Rattle.fzn_row.specs.Weights.{both_weights, without_part}
+use Rattle.fzn_row.specs.Moves.{moved_from, part_moved, is_constant, are_targets, part_moved_by, move_added}
 use Rattle.fzn_row.proofs.PartLemmas.{var-part_for}
 use Rattle.fzn_row.proofs.PriceLemmas.{both_true}
-use Rattle.fzn_row.proofs.DraftSound.{some_of, part-weight, put-weight, blank_part-weight, Exceeds, exceeds-same, exceeds-holds, holds-exceeds, no_error}
+use Rattle.fzn_row.proofs.DraftSound.{Exceeds, exceeds-same, exceeds-holds, holds-exceeds, no_error}
 use Rattle.fzn_row.proofs.PricesSound.{dearer, list-exceeds}
 use Rattle.fzn_row.proofs.MoveLemmas.{moved-at}
+use Rattle.fzn_row.proofs.WeightsSound.{both-some, taken-exceeds, whole}
+use Rattle.fzn_row.proofs.InversesSound.{inverse-sound}
 
 -- the value of the first variable has the value of the other for its target
 pub record HasTarget (low : ℤ) (targets : List ℤ) (value target : ℤ) : Type 0 where
@@ -30,10 +34,6 @@ pub record HasTarget (low : ℤ) (targets : List ℤ) (value target : ℤ) : Typ
   pub distance : value -ℤ low ≡ pos place
   pub inside : place < length targets
   pub target_is : get_or targets place (pos 0) ≡ target
-
-both-some : (first : Option ℤ) (more : ℤ) → both_weights first (Some more) ≡ option_map (λ w. w +ℤ more) first
-both-some None more = refl
-both-some (Some w) more = refl
 
 back : (v low : ℤ) (k : ℕ) → v -ℤ low ≡ pos k → low +ℤ pos k ≡ v
 back v low k e = omega (arith, ints)
@@ -52,19 +52,12 @@ module _ (values : List ℤ) where
   part-exceeds : (source var : VarId) (low : ℤ) (targets : List ℤ) (draft after : Draft) (excess : ℤ) → HasTarget low targets (value_of values var) (value_of values source) → Exceeds values draft excess → part_moved source var low targets draft ≡ Ok after → Exceeds values after excess
   part-exceeds source var low targets draft after excess has h is =
       let part = part_for source draft.parts in
-      let part_var = var-part_for source draft.parts in
-      let had = some_of (weight_of values part) (part-weight values source draft.parts h.unbarred) in
-      let more : weight_at part (value_of values source) ≡ Some had.0 = ap (λ (x : VarId). weight_at part (value_of values x)) (sym part_var) ∙ had.1 in
-      let put = put-weight values (blank_part source) draft.parts had.0 (pos 0) h.unbarred had.1 (blank_part-weight values source) in
-      let middle : Exceeds values (without_part source draft) (excess -ℤ had.0) = record { unbarred = put.unbarred; is = let e = h.is in let t = put.total in omega (arith, ints) } in
+      let taken = taken-exceeds values source draft excess h in
       let old = part_for var (without_part source draft).parts in
       let of = var-part_for var (without_part source draft).parts in
       let has_here : HasTarget low targets (value_of values old.var) (value_of values source) = subst (λ (x : VarId). HasTarget low targets (value_of values x) (value_of values source)) (sym of) has in
-      let last = list-exceeds values low var (moved_from low targets old.listed part) had.0 (without_part source draft) after (excess -ℤ had.0) middle (λ w weighs. moved-weight low targets old part (value_of values old.var) (value_of values source) w had.0 has_here weighs more) is in
-      exceeds-same values after _ _ (whole excess had.0) last
-    where
-      whole : (e w : ℤ) → (e -ℤ w) +ℤ w ≡ e
-      whole e w = omega (arith, ints)
+      let last = list-exceeds values low var (moved_from low targets old.listed part) taken.0 (without_part source draft) after (excess -ℤ taken.0) taken.2 (λ w weighs. moved-weight low targets old part (value_of values old.var) (value_of values source) w taken.0 has_here weighs taken.1) is in
+      exceeds-same values after _ _ (whole excess taken.0) last
 
   constants : (entries : List Term) → list_all is_constant entries ≡ true → values_of values entries ≡ numbers_in entries
   constants [] all = refl
@@ -93,14 +86,15 @@ module _ (values : List ℤ) where
       exceeds-holds values after had.0 (part-exceeds value index (pos 1) (numbers_in entries) draft after had.0 there had.2 is) had.1
   entries-sound var index value entries draft after false test met before is = absurd (no_error NotDerived after is)
 
-  element-sound : (var : VarId) (c : Constraint) (draft after : Draft) → Meets c values → RowHolds (row_of draft) values → element_moved var draft c ≡ Ok after → RowHolds (row_of after) values
-  unfolding Meets
-  element-sound var (Element (Variable index) entries (Variable value)) draft after met before is = entries-sound var index value entries draft after (nat_eq value.0 var.0 && are_targets entries) refl met before is
-  element-sound var _ draft after met before is = absurd (no_error NotDerived after is)
+  constraint-sound : (count : ℕ) (var : VarId) (c : Constraint) (draft after : Draft) → IsWellFormedConstraint count c → Meets c values → RowHolds (row_of draft) values → part_moved_by var draft c ≡ Ok after → RowHolds (row_of after) values
+  unfolding Meets IsWellFormedConstraint
+  constraint-sound count var (Element (Variable index) entries (Variable value)) draft after well met before is = entries-sound var index value entries draft after (nat_eq value.0 var.0 && are_targets entries) refl met before is
+  constraint-sound count var (Inverse forward backward) draft after well met before is = inverse-sound values var forward backward draft after well.2 met before is
+  constraint-sound count var _ draft after well met before is = absurd (no_error NotDerived after is)
 
-  maybe-sound : (var : VarId) (o : Option Constraint) (draft after : Draft) → IfSome o (λ (c : Constraint). Meets c values) → RowHolds (row_of draft) values → option_map_or (element_moved var draft) o (Err NoSuchConstraint) ≡ Ok after → RowHolds (row_of after) values
-  maybe-sound var None draft after met before is = absurd (no_error NoSuchConstraint after is)
-  maybe-sound var (Some c) draft after met before is = element-sound var c draft after met before is
+  maybe-sound : (count : ℕ) (var : VarId) (o : Option Constraint) (draft after : Draft) → IfSome o (IsWellFormedConstraint count) → IfSome o (λ (c : Constraint). Meets c values) → RowHolds (row_of draft) values → option_map_or (part_moved_by var draft) o (Err NoSuchConstraint) ≡ Ok after → RowHolds (row_of after) values
+  maybe-sound count var None draft after well met before is = absurd (no_error NoSuchConstraint after is)
+  maybe-sound count var (Some c) draft after well met before is = constraint-sound count var c draft after well met before is
 
-  pub moves-sound : (given : List Constraint) (id : ℕ) (var : VarId) (draft after : Draft) → IfSome (constraint_at given id) (λ (c : Constraint). Meets c values) → RowHolds (row_of draft) values → move_added given draft id var ≡ Ok after → RowHolds (row_of after) values
-  moves-sound given id var draft after met before is = maybe-sound var (constraint_at given id) draft after met before is
+  pub moves-sound : (count : ℕ) (given : List Constraint) (id : ℕ) (var : VarId) (draft after : Draft) → All (IsWellFormedConstraint count) given → IfSome (constraint_at given id) (λ (c : Constraint). Meets c values) → RowHolds (row_of draft) values → move_added given draft id var ≡ Ok after → RowHolds (row_of after) values
+  moves-sound count given id var draft after well met before is = maybe-sound count var (constraint_at given id) draft after (each_at (IsWellFormedConstraint count) given id well) met before is

@@ -196,7 +196,7 @@ module _ (declared : List IntSet) (values : List ℤ) (within : IsWithin declare
 
 -- ---- places of an inverse
 
-entry_at-get : (xs : List ℤ) (k : ℕ) (d : ℤ) → k < length xs → entry_at xs (pos (suc k)) ≡ get_or xs k d
+pub entry_at-get : (xs : List ℤ) (k : ℕ) (d : ℤ) → k < length xs → entry_at xs (pos (suc k)) ≡ get_or xs k d
 entry_at-get xs k d inside = let e : suc k - 1 ≡ k = omega arith in rw e (get_or_default xs k (pos 0) d inside)
 
 is_index : (n m k : ℕ) → k < n → n ≡ m → IsIndex m (pos (suc k))

@@ -19,11 +19,13 @@ pub enum RowItem {
         /// as places for a circuit and an inverse. Each value that a place of an all different is declared to have needs one.
         prices: Items<i64>,
     },
-    /// What a variable weighs moves to another one whose value decides its own.
+    /// What a variable weighs moves to others whose values decide its own.
     Move {
-        /// The number of the constraint, an element whose entries are at most 65,536 constants: its index decides its value.
+        /// The number of the constraint: an element whose entries are at most 65,536 constants, whose index decides its value; or an
+        /// inverse of at most 65,536 places, where the place of one list is i exactly where place i of the other is its number.
         constraint: u64,
-        /// The value of the element, which weighs 0 afterwards.
+        /// The value of the element, or a variable at a place of the inverse: of its places the first in the second list counts, and where
+        /// it has none there the first in the first. What it weighed is taken from it before anything is added.
         variable: VarId,
     },
 }

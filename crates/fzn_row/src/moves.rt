@@ -8,7 +8,8 @@ ghost use Rattle.fzn_cited.specs.declared.fault.DeriveFault.TheVariants.{Memory,
 ghost use Rattle.fzn_meaning.specs.Separable.{weight_at, IsWeightList, IsCoefficient};
 ghost use Rattle.fzn_row.specs.Draft.{blank_part, part_for, with_part};
 ghost use Rattle.fzn_row.specs.Prices.{is_entry_within};
-ghost use Rattle.fzn_row.specs.Moves.{both_weights, moved_from, part_moved, is_constant, are_targets, element_moved, move_added};
+ghost use Rattle.fzn_row.specs.Weights.{both_weights};
+ghost use Rattle.fzn_row.specs.Moves.{moved_from, part_moved, is_constant, are_targets, part_moved_by, move_added};
 ghost use Rattle.fzn_row.specs.Room.{draft_of, room_size, IsRoom};
 
 use crate::room::{LIMIT, RowDeriver, sum_within};
@@ -20,10 +21,11 @@ use std::alloc::{AllocError, Global};
 use std::mem;
 
 /// How many targets there are at the most.
-const MOST_TARGETS: usize = 65_536;
+pub(crate) const MOST_TARGETS: usize = 65_536;
 
 impl RowDeriver {
-    /// Moves what the variable, which is the value of an element of constants, weighs to the index.
+    /// Moves what the variable weighs by the constraint: as the value of an element of constants to the index, as a place of an inverse to
+    /// the places of the other list.
     pub(crate) fn add_move(
         &mut self,
         alloc: Global,
@@ -55,8 +57,8 @@ impl RowDeriver {
         requires constraint { IsWellFormedConstraint (room_size self.old) constraint.now }
         ensures variables { room_size self.new ≡ room_size self.old }
         ensures room { IsRoom self.new }
-        ensures ok { OnOk result (element_moved var (draft_of self.old) constraint.now ≡ Ok (draft_of self.new)) }
-        ensures err { IfErr result (λ fault. (fault ≡ Memory) ⊎ (element_moved var (draft_of self.old) constraint.now ≡ Err fault)) }
+        ensures ok { OnOk result (part_moved_by var (draft_of self.old) constraint.now ≡ Ok (draft_of self.new)) }
+        ensures err { IfErr result (λ fault. (fault ≡ Memory) ⊎ (part_moved_by var (draft_of self.old) constraint.now ≡ Err fault)) }
     {
         match constraint {
             Constraint::Element {
@@ -68,6 +70,9 @@ impl RowDeriver {
                     return Err(DeriveFault::NotDerived);
                 }
                 self.move_part(alloc, *value, *index, entries.as_slice())
+            }
+            Constraint::Inverse { forward, backward } => {
+                self.move_place(alloc, var, forward.as_slice(), backward.as_slice())
             }
             _ => Err(DeriveFault::NotDerived),
         }
@@ -103,7 +108,7 @@ impl RowDeriver {
     }
 
     /// Takes the part of a variable out. It weighs nothing any more.
-    fn take_part(&mut self, var: VarId) -> Result<Part, AllocError>
+    pub(crate) fn take_part(&mut self, var: VarId) -> Result<Part, AllocError>
         requires var { IsVariable (room_size self.old) var }
         requires room { IsRoom self.old }
         ensures room { IsRoom self.new }
@@ -156,10 +161,20 @@ fn plus_weight(entry: Option<i64>, part: &Part, target: &i64) -> Result<Option<i
     ensures within { IfOk result (λ both. is_entry_within both ≡ true) }
     ensures err { IfErr result (λ fault. (fault ≡ NotDerived) × (is_entry_within (both_weights entry (weight_at part.now target.now)) ≡ false)) }
 {
+    plus(entry, weight_at(part, target))
+}
+
+/// Both weights together, unless that leaves the limits; none where either is barred.
+pub(crate) fn plus(entry: Option<i64>, more: Option<i128>) -> Result<Option<i64>, DeriveFault>
+    requires more { IfSome more (λ weight. unsigned_abs weight ≤ 10000000000000000000000000000000) }
+    ensures ok { IfOk result (λ both. both ≡ both_weights entry more) }
+    ensures within { IfOk result (λ both. is_entry_within both ≡ true) }
+    ensures err { IfErr result (λ fault. (fault ≡ NotDerived) × (is_entry_within (both_weights entry more) ≡ false)) }
+{
     let Some(weight) = entry else {
         return Ok(None);
     };
-    let Some(more) = weight_at(part, target) else {
+    let Some(more) = more else {
         return Ok(None);
     };
     let both = sum_within(weight, more, LIMIT)?;

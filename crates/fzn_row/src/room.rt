@@ -103,7 +103,7 @@ impl RowDeriver {
     /// Adds to the bound.
     pub(crate) fn raise(&mut self, amount: i128) -> Result<(), DeriveFault>
         requires room { IsRoom self.old }
-        requires amount { unsigned_abs amount ≤ 1000000000000000000000000000000 }
+        requires amount { unsigned_abs amount ≤ 10000000000000000000000000000000 }
         ensures variables { room_size self.new ≡ room_size self.old }
         ensures room { IsRoom self.new }
         ensures ok { OnOk result (with_bound (self.old.bound +ℤ amount) (draft_of self.old) ≡ Ok (draft_of self.new)) }

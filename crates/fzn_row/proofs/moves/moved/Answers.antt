@@ -7,7 +7,8 @@ use Rattle.fzn_meaning.specs.declared.term.Term.TheVariants.{Constant}
 use Rattle.fzn_meaning.specs.Term.{number_in, numbers_in}
 use Rattle.fzn_meaning.specs.Separable.{listed_at, weight_at}
 use Rattle.fzn_row.specs.Prices.{is_entry_within}
-use Rattle.fzn_row.specs.Moves.{both_weights, moved_from}
+use Rattle.fzn_row.specs.Weights.{both_weights}
+use Rattle.fzn_row.specs.Moves.{moved_from}
 use Rattle.fzn_row.proofs.MoveLemmas.{moved-more, moved-at, length-moved, within-push, within-fails}
 use Rattle.fzn_row.proofs.moves.moved.Goals as goal
 

@@ -7,7 +7,8 @@ use Rattle.fzn_meaning.specs.declared.row.Part.{Part}
 use Rattle.fzn_meaning.specs.Separable.{IsPart}
 use Rattle.fzn_row.specs.Draft.{part_for, blank_part, with_part}
 use Rattle.fzn_row.specs.Prices.{is_entry_within}
-use Rattle.fzn_row.specs.Moves.{moved_from, without_part}
+use Rattle.fzn_row.specs.Weights.{without_part}
+use Rattle.fzn_row.specs.Moves.{moved_from}
 use Rattle.fzn_row.specs.Room.{room_size, draft_of, IsPlaceOfPart}
 use Rattle.fzn_row.proofs.PartLemmas.{found-set}
 use Rattle.fzn_row.proofs.ListLemmas.{with_list-is, with_list-short, part-listed, listed-is}
