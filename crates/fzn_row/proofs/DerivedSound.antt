@@ -39,7 +39,7 @@ module _ (given : List Constraint) (declared : List IntSet) (values : List ℤ) 
   item-sound : (item : RowItem) → AreMet given (cited_by item) values → Kept item
   item-sound (item.Multiples multiples) met before next holds is = multiples-sound given declared values within booleans multiples before next met holds is
   item-sound (item.Prices constraint low prices) met before next holds is = prices-sound declared values within low prices given constraint before next well (met 0 constraint (omega arith)) holds is
-  item-sound (item.Move constraint variable) met before next holds is = moves-sound values (length declared) given constraint variable before next well (met 0 constraint (omega arith)) holds is
+  item-sound (item.Move constraint variable) met before next holds is = moves-sound declared values within given constraint variable before next well booleans (met 0 constraint (omega arith)) holds is
 
   abbrev IsMetAt : ℕ → Type 0
   IsMetAt id = IfSome (constraint_at given id) (λ (c : Constraint). Meets c values)

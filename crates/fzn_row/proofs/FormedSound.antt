@@ -1,24 +1,23 @@
 -- The row that items make has parts within the limits, each of another variable.
-use Rattle.std.proofs.Common.{◌≡◌, ℕ, ◌+◌, ◌≤◌, Bool, true, false, cond, ◌&&◌, nat_eq, nat_le, List, [], ◌∷◌, length, slice_index_or, refl, subst, arith, ℤ, pos, ◌+ℤ◌, ◌-ℤ◌, ◌*ℤ◌, unsigned_abs, Option, None, Some, IfSome, Result, Ok, Err, All}
+use Rattle.std.proofs.Common.{◌≡◌, ℕ, ◌+◌, ◌≤◌, Bool, true, false, cond, ◌&&◌, nat_le, List, [], ◌∷◌, length, slice_index_or, refl, subst, arith, ℤ, pos, ◌+ℤ◌, ◌-ℤ◌, ◌*ℤ◌, unsigned_abs, Option, None, Some, IfSome, Result, Ok, Err, All}
 use Rattle.std.specs.List.{list_all}
 use Rattle.std.specs.Option.{option_map_or}
 use Rattle.std.specs.Ordering.{int_eq}
 use Rattle.std.proofs.lemmas.Int.{ints}
 use Rattle.std.proofs.lemmas.Bool.Decides.{nat_tests}
-use Rattle.std.proofs.lemmas.List.{length-map}
 use Rattle.std.proofs.lemmas.List.Elements.{All-head, All-tail}
 use Rattle.fzn_list.specs.Limits.{longest}
-use Rattle.fzn_domain.specs.IntSet.{IntSet}
+use Rattle.fzn_domain.specs.IntSet.{IntSet, size, least}
 use Rattle.fzn_domain.specs.Limits.{IsInLimits}
-use Rattle.fzn_domain.specs.Narrow.{IsVariable}
+use Rattle.fzn_domain.specs.Narrow.{IsVariable, set_of}
 use Rattle.fzn_domain.specs.declared.literal.VarId.{VarId}
 use Rattle.fzn_meaning.specs.declared.term.Term.{Term}
 use Rattle.fzn_meaning.specs.declared.term.Term.TheVariants.{Constant, Variable}
 use Rattle.fzn_meaning.specs.declared.term.Place.{Place}
 use Rattle.fzn_meaning.specs.declared.constraint.Constraint.{Constraint}
-use Rattle.fzn_meaning.specs.declared.constraint.Constraint.TheVariants.{Element, Inverse}
+use Rattle.fzn_meaning.specs.declared.constraint.Constraint.TheVariants.{Inverse}
 use Rattle.fzn_meaning.specs.declared.row.Row.{Row}
-use Rattle.fzn_meaning.specs.Term.{IsTerm, IsPlace, number_in, numbers_in}
+use Rattle.fzn_meaning.specs.Term.{IsTerm, IsPlace}
 use Rattle.fzn_meaning.specs.Meaning.{IsWellFormedConstraint, AreTerms}
 use Rattle.fzn_meaning.specs.declared.row.Part.{Part}
 use Rattle.fzn_meaning.specs.Separable.{weight_at, IsSeparableRow}
@@ -35,11 +34,13 @@ use Rattle.fzn_row.specs.Draft.{Draft, empty, row_of, row_stated, part_for, with
 use Rattle.fzn_row.specs.Multiples.{term_added, place_added, is_usable, form_added, multiple_added}
 use Rattle.fzn_row.specs.Prices.{entries_from, price_at, price_added, most_cost, priced_places, has_each_price, is_price, are_prices}
 use Rattle.fzn_row.specs.Weights.{without_part}
-use Rattle.fzn_row.specs.Moves.{moved_from, part_moved, is_constant, are_targets, part_moved_by}
+use Rattle.fzn_row.specs.Decided.{decider_in}
+use Rattle.fzn_row.specs.Moves.{decided_weight, moved_from, span, is_narrow, part_moved, decided_moved, part_moved_by}
 use Rattle.fzn_row.specs.Inverses.{raised_from, place_raised, places_raised, moved_back, place_in, inverse_moved}
 use Rattle.fzn_row.specs.Derived.{item_added, drafted, IsDerivedRow}
 use Rattle.fzn_row.proofs.PriceLemmas.{both_true, length-entries}
 use Rattle.fzn_row.proofs.MoveLemmas.{length-moved}
+use Rattle.fzn_row.proofs.DecidedSound.{decided-variables}
 use Rattle.fzn_row.proofs.InverseLemmas.{length-raised}
 use Rattle.fzn_row.proofs.InversesSound.{place-variable}
 use Rattle.fzn_row.proofs.PricesSound.{places-formed}
@@ -126,16 +127,17 @@ ok_is : (a b : Draft) → ◌≡◌ {A = Result Draft DeriveFault} (Ok a) (Ok b)
 ok_is a b e = cc
 
 module _ (count : ℕ) where
-  entries-formed : (var index value : VarId) (entries : List Term) (draft after : Draft) (test : Bool) → (nat_eq value.0 var.0 && are_targets entries) ≡ test → IsVariable count index → IsVariable count value → IsFormed count draft
-      → cond test (part_moved value index (pos 1) (numbers_in entries) draft) (Err NotDerived) ≡ Ok after → IsFormed count after
-  entries-formed var index value entries draft after true test index_fits value_fits formed is =
-      let some = both_true (nat_le (length entries) 65536) (list_all is_constant entries) (both_true (nat_eq value.0 var.0) (are_targets entries) test).1 in
-      let targets = numbers_in entries in
-      let old = (part_for index (without_part value draft).parts).listed in
-      let part = part_for value draft.parts in
-      let few : length (moved_from (pos 1) targets old part) ≤ 65536 = rw (length-moved (pos 1) targets old part, length-map entries number_in) (few_of (length entries) 65536 some.0) in
-      list-formed count (without_part value draft) after (blank-put-formed count draft draft formed value value_fits) index (pos 1) (moved_from (pos 1) targets old part) index_fits (low_of (pos 1) (omega arith)) few is
-  entries-formed var index value entries draft after false test index_fits value_fits formed is = absurd (no_error NotDerived after is)
+  narrow-formed : (declared : List IntSet) (c : Constraint) (source by : VarId) (draft after : Draft) (test : Bool) → is_narrow (set_of declared by) ≡ test → IsVariable count source → IsVariable count by → IsFormed count draft
+      → cond test (part_moved declared c source by draft) (Err NotDerived) ≡ Ok after → IsFormed count after
+  narrow-formed declared c source by draft after true test source_fits by_fits formed is =
+      let set = set_of declared by in
+      let tests = both_true (nat_le 1 (size set) && nat_le (unsigned_abs (least set)) 1000000000) (nat_le (span set) 65536) test in
+      let low = (both_true (nat_le 1 (size set)) (nat_le (unsigned_abs (least set)) 1000000000) tests.0).1 in
+      let more = decided_weight (set_of declared source) (part_for source draft.parts) by c in
+      let old = (part_for by (without_part source draft).parts).listed in
+      let few : length (moved_from more (least set) (span set) old) ≤ 65536 = rw (length-moved more old (least set) (span set)) (few_of (span set) 65536 tests.1) in
+      list-formed count (without_part source draft) after (blank-put-formed count draft draft formed source source_fits) by (least set) (moved_from more (least set) (span set) old) by_fits (low_of (least set) (few_of (unsigned_abs (least set)) 1000000000 low)) few is
+  narrow-formed declared c source by draft after false test source_fits by_fits formed is = absurd (no_error NotDerived after is)
 
   raised-formed : (length_of : ℕ) (value : ℤ) (more : Option ℤ) (place : Term) (draft after : Draft) → length_of ≤ 65536 → IsTerm count place → IsFormed count draft → place_raised length_of value more draft place ≡ Ok after → IsFormed count after
   raised-formed length_of value more (Constant k) draft after few fits formed is = constant (int_eq k value) more is
@@ -172,15 +174,23 @@ module _ (count : ℕ) where
       in_backward None found made = in_forward (place_in var forward) refl made
       in_backward (Some place) found made = back-formed var forward place draft after (place-variable count var backward place backward_fits found) forward_fits formed made
 
-  moved_by-formed : (var : VarId) (c : Constraint) (draft after : Draft) → IsWellFormedConstraint count c → IsFormed count draft → part_moved_by var draft c ≡ Ok after → IsFormed count after
-  unfolding IsWellFormedConstraint
-  moved_by-formed var (Element (Variable index) entries (Variable value)) draft after well formed is = entries-formed var index value entries draft after (nat_eq value.0 var.0 && are_targets entries) refl well.0 well.2 formed is
-  moved_by-formed var (Inverse forward backward) draft after well formed is = inverse-formed var forward backward draft after well.0.0 well.1.0 formed is
-  moved_by-formed var _ draft after well formed is = absurd (no_error NotDerived after is)
+  decided-formed : (declared : List IntSet) (source : VarId) (c : Constraint) (draft after : Draft) → IsWellFormedConstraint count c → IsFormed count draft → decided_moved declared source draft c ≡ Ok after → IsFormed count after
+  decided-formed declared source c draft after well formed is = found (decider_in source c) refl is
+    where
+      found : (o : Option VarId) → decider_in source c ≡ o → option_map_or (λ by. cond (is_narrow (set_of declared by)) (part_moved declared c source by draft) (Err NotDerived)) o (Err NotDerived) ≡ Ok after → IsFormed count after
+      found None decider made = absurd (no_error NotDerived after made)
+      found (Some by) decider made =
+          let fit = decided-variables count source by c well decider in
+          narrow-formed declared c source by draft after (is_narrow (set_of declared by)) refl fit.1 fit.0 formed made
 
-  maybe_move-formed : (var : VarId) (o : Option Constraint) (draft after : Draft) → IfSome o (IsWellFormedConstraint count) → IsFormed count draft → option_map_or (part_moved_by var draft) o (Err NoSuchConstraint) ≡ Ok after → IsFormed count after
-  maybe_move-formed var None draft after well formed is = absurd (no_error NoSuchConstraint after is)
-  maybe_move-formed var (Some c) draft after well formed is = moved_by-formed var c draft after well formed is
+  moved_by-formed : (declared : List IntSet) (var : VarId) (c : Constraint) (draft after : Draft) → IsWellFormedConstraint count c → IsFormed count draft → part_moved_by declared var draft c ≡ Ok after → IsFormed count after
+  unfolding IsWellFormedConstraint
+  moved_by-formed declared var (Inverse forward backward) draft after well formed is = inverse-formed var forward backward draft after well.0.0 well.1.0 formed is
+  moved_by-formed declared var c draft after well formed is = decided-formed declared var c draft after well formed is
+
+  maybe_move-formed : (declared : List IntSet) (var : VarId) (o : Option Constraint) (draft after : Draft) → IfSome o (IsWellFormedConstraint count) → IsFormed count draft → option_map_or (part_moved_by declared var draft) o (Err NoSuchConstraint) ≡ Ok after → IsFormed count after
+  maybe_move-formed declared var None draft after well formed is = absurd (no_error NoSuchConstraint after is)
+  maybe_move-formed declared var (Some c) draft after well formed is = moved_by-formed declared var c draft after well formed is
 
 -- ---- all items
 
@@ -199,7 +209,7 @@ module _ (given : List Constraint) (declared : List IntSet) (well : All (IsWellF
   item-formed (item.Multiples multiples) before next formed is =
       turn-keeps (multiple_added given) (IsFormed (length declared)) multiples before next (λ k d inside. multiple-formed (slice_index_or multiples k d)) formed is
   item-formed (item.Prices constraint low prices) before next formed is = maybe_prices-formed declared low prices (length declared) (constraint_at given constraint) before next (well_at constraint) formed is
-  item-formed (item.Move constraint variable) before next formed is = maybe_move-formed (length declared) variable (constraint_at given constraint) before next (well_at constraint) formed is
+  item-formed (item.Move constraint variable) before next formed is = maybe_move-formed (length declared) declared variable (constraint_at given constraint) before next (well_at constraint) formed is
 
   pub derived_row-formed : (most : ℕ) (items : List RowItem) (row : Row) → IsDerivedRow given declared most items row → IsSeparableRow (length declared) row
   derived_row-formed most items row derived =

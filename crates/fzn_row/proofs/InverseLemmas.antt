@@ -18,10 +18,10 @@ use Rattle.fzn_row.specs.Inverses.{raised_entry, raised_from, place_raised, plac
 
 -- ---- lists
 
-one_on : (low : ℤ) (k : ℕ) → (low +ℤ pos 1) +ℤ pos k ≡ low +ℤ pos (suc k)
+pub one_on : (low : ℤ) (k : ℕ) → (low +ℤ pos 1) +ℤ pos k ≡ low +ℤ pos (suc k)
 one_on low k = omega (arith, ints)
 
-none_on : (low : ℤ) → low +ℤ pos 0 ≡ low
+pub none_on : (low : ℤ) → low +ℤ pos 0 ≡ low
 none_on low = omega (arith, ints)
 
 module _ (value : ℤ) (more : Option ℤ) (old : Option Listed) where

@@ -1,4 +1,6 @@
 mod CostLemmas
+mod DecidedLemmas
+pub mod DecidedSound
 pub mod DerivedSound
 mod DraftSound
 mod FormedLemmas

@@ -1,5 +1,5 @@
 -- A list for a variable, written at the place of its part.
-use Rattle.std.proofs.Common.{◌≡◌, ℕ, ◌-◌, ◌<◌, ◌≤◌, true, false, nat_le, List, [], ◌∷◌, length, set, refl, sym, ap, ◌∙◌, subst, arith, ℤ, unsigned_abs, Option, Some, None, IfSome, Result, Ok, Err, All}
+use Rattle.std.proofs.Common.{◌≡◌, ℕ, ◌-◌, ◌<◌, ◌≤◌, ◌⊎◌, Bool, true, false, cond, ◌&&◌, nat_le, List, [], ◌∷◌, length, set, refl, sym, ap, ◌∙◌, subst, inl, inr, arith, ℤ, unsigned_abs, Option, Some, None, IfSome, Result, Ok, Err, All}
 use Rattle.std.specs.List.{list_all}
 use Rattle.std.proofs.lemmas.Int.{ints}
 use Rattle.std.proofs.lemmas.Bool.Decides.{nat_tests}
@@ -7,7 +7,7 @@ use Rattle.std.proofs.lemmas.List.Elements.{All-nil, All-cons}
 use Rattle.fzn_domain.specs.declared.literal.VarId.{VarId}
 use Rattle.fzn_domain.specs.Limits.{IsInLimits}
 use Rattle.fzn_cited.specs.declared.fault.DeriveFault.{DeriveFault}
-use Rattle.fzn_cited.specs.declared.fault.DeriveFault.TheVariants.{NotDerived}
+use Rattle.fzn_cited.specs.declared.fault.DeriveFault.TheVariants.{Memory, NotDerived}
 use Rattle.fzn_meaning.specs.declared.row.Part.{Part}
 use Rattle.fzn_meaning.specs.Separable.{IsWithinLimit, IsPart}
 use Rattle.fzn_row.specs.Draft.{Draft, part_for, with_part, is_row_number}
@@ -38,6 +38,14 @@ with_list-is var draft low entries after place new bound left there room within 
 
 pub with_list-short : (var : VarId) (draft : Draft) (low : ℤ) (entries : List (Option ℤ)) → draft.left < length entries → with_list var draft low entries ≡ Err NotDerived
 with_list-short var draft low entries short = rw (le_false (length entries) draft.left short) refl
+
+pub with_list-outside : (var : VarId) (draft : Draft) (low : ℤ) (entries : List (Option ℤ)) (fault : DeriveFault) → (fault ≡ Memory) ⊎ ((fault ≡ NotDerived) × (list_all is_entry_within entries ≡ false)) → (fault ≡ Memory) ⊎ (with_list var draft low entries ≡ Err fault)
+with_list-outside var draft low entries fault (inl memory) = inl memory
+with_list-outside var draft low entries fault (inr (is, outside)) = inr (rw is (refused (nat_le (length entries) draft.left) (list_all is_entry_within entries) _ outside))
+  where
+    refused : (a b : Bool) (made : Result Draft DeriveFault) → b ≡ false → cond (a && b) made (Err NotDerived) ≡ Err NotDerived
+    refused true b made outside = rw outside refl
+    refused false b made outside = refl
 
 entry_within : (entry : Option ℤ) → is_entry_within entry ≡ true → IfSome entry IsWithinLimit
 entry_within None h = tt

@@ -1,47 +1,106 @@
 -- Weights that are moved, one more at a time.
-use Rattle.std.proofs.Common.{◌≡◌, ℕ, zero, suc, ◌+◌, ◌<◌, ◌≤◌, Bool, true, false, ◌&&◌, List, [], ◌∷◌, ◌++◌, length, get_or, take, refl, sym, ap, ◌∙◌, subst, inl, inr, arith, ℤ, pos, ◌+ℤ◌, unsigned_abs, Option, None, All}
+use Rattle.std.proofs.Common.{◌≡◌, ℕ, zero, suc, ◌+◌, ◌<◌, ◌≤◌, Bool, true, false, cond, ◌&&◌, nat_le, List, [], ◌∷◌, ◌++◌, length, get_or, refl, sym, ap, ◌∙◌, arith, ℤ, pos, ◌+ℤ◌, unsigned_abs, Option, None, Some, Result, Err}
 use Rattle.std.specs.List.{list_all}
+use Rattle.std.specs.Option.{option_map_or}
+use Rattle.std.proofs.Math.Numerals.{add-one}
 use Rattle.std.proofs.lemmas.Int.{ints}
-use Rattle.std.proofs.lemmas.List.{take_more, length-take, get_or_past, length-map, get_or-map}
-use Rattle.std.proofs.lemmas.Bool.{cases_lt}
-use Rattle.fzn_domain.specs.Limits.{IsInLimits}
-use Rattle.fzn_meaning.specs.declared.term.Term.{Term}
-use Rattle.fzn_meaning.specs.declared.term.Term.TheVariants.{Constant, Variable}
-use Rattle.fzn_meaning.specs.Term.{IsTerm, number_in, numbers_in}
+use Rattle.std.proofs.lemmas.Bool.Decides.{nat_tests}
+use Rattle.fzn_domain.specs.declared.literal.VarId.{VarId}
+use Rattle.fzn_domain.specs.IntSet.{IntSet, contains, size, least}
+use Rattle.fzn_domain.specs.Limits.{IsInLimits, IsLimited}
+use Rattle.fzn_domain.specs.Narrow.{set_of}
+use Rattle.fzn_domain.proofs.SetLemmas.{contains-least, member_of_size}
+use Rattle.fzn_meaning.specs.declared.constraint.Constraint.{Constraint}
+use Rattle.fzn_cited.specs.declared.fault.DeriveFault.{DeriveFault}
+use Rattle.fzn_cited.specs.declared.fault.DeriveFault.TheVariants.{NotDerived}
 use Rattle.fzn_meaning.specs.declared.row.Listed.{Listed}
 use Rattle.fzn_meaning.specs.declared.row.Part.{Part}
 use Rattle.fzn_meaning.specs.Separable.{listed_at, weight_at}
+use Rattle.fzn_row.specs.Draft.{Draft}
 use Rattle.fzn_row.specs.Prices.{is_entry_within}
 use Rattle.fzn_row.specs.Weights.{both_weights}
-use Rattle.fzn_row.specs.Moves.{moved_from}
+use Rattle.fzn_row.specs.Decided.{decider_in}
+use Rattle.fzn_row.specs.Moves.{weight_within, decided_weight, moved_from, span, is_narrow, part_moved, decided_moved}
+use Rattle.fzn_row.proofs.InverseLemmas.{one_on, none_on}
+use Rattle.fzn_row.proofs.PriceLemmas.{both_true}
 
-one_on : (low : ℤ) (k : ℕ) → (low +ℤ pos 1) +ℤ pos k ≡ low +ℤ pos (suc k)
-one_on low k = omega (arith, ints)
+module _ (more : ℤ → Option ℤ) (old : Option Listed) where
+  abbrev pub Moved : ℤ → Option ℤ
+  Moved at = both_weights (listed_at old at) (more at)
 
-pub length-moved : (low : ℤ) (targets : List ℤ) (old : Option Listed) (part : Part) → length (moved_from low targets old part) ≡ length targets
-length-moved low [] old part = refl
-length-moved low (t ∷ targets) old part = ap (λ (n : ℕ). suc n) (length-moved (low +ℤ pos 1) targets old part)
+  pub length-moved : (low : ℤ) (count : ℕ) → length (moved_from more low count old) ≡ count
+  length-moved low zero = refl
+  length-moved low (suc count) = ap (λ (n : ℕ). suc n) (length-moved (low +ℤ pos 1) count)
 
-pub moved-at : (low : ℤ) (targets : List ℤ) (old : Option Listed) (part : Part) (k : ℕ) (d : ℤ) → k < length targets → get_or (moved_from low targets old part) k None ≡ both_weights (listed_at old (low +ℤ pos k)) (weight_at part (get_or targets k d))
-moved-at low [] old part k d inside = absurd (omega arith)
-moved-at low (t ∷ targets) old part zero d inside = ap (λ (v : ℤ). both_weights (listed_at old v) (weight_at part t)) (omega (arith, ints))
-moved-at low (t ∷ targets) old part (suc k) d inside =
-    moved-at (low +ℤ pos 1) targets old part k d (omega arith) ∙ ap (λ (v : ℤ). both_weights (listed_at old v) (weight_at part (get_or targets k d))) (one_on low k)
+  pub moved-at : (low : ℤ) (count k : ℕ) → k < count → get_or (moved_from more low count old) k None ≡ Moved (low +ℤ pos k)
+  moved-at low zero k inside = absurd (omega arith)
+  moved-at low (suc count) zero inside = ap Moved (sym (none_on low))
+  moved-at low (suc count) (suc k) inside = moved-at (low +ℤ pos 1) count k (omega arith) ∙ ap Moved (one_on low k)
 
-moved-push : (low : ℤ) (targets : List ℤ) (t : ℤ) (old : Option Listed) (part : Part) → moved_from low (targets ++ t ∷ []) old part ≡ moved_from low targets old part ++ both_weights (listed_at old (low +ℤ pos (length targets))) (weight_at part t) ∷ []
-moved-push low [] t old part = ap (λ (v : ℤ). both_weights (listed_at old v) (weight_at part t) ∷ []) (omega (arith, ints))
-moved-push low (x ∷ targets) t old part =
-    ap (λ (es : List (Option ℤ)). both_weights (listed_at old low) (weight_at part x) ∷ es) (moved-push (low +ℤ pos 1) targets t old part
-    ∙ ap (λ (v : ℤ). moved_from (low +ℤ pos 1) targets old part ++ both_weights (listed_at old v) (weight_at part t) ∷ []) (one_on low (length targets)))
+  moved-push : (low : ℤ) (count : ℕ) → moved_from more low (suc count) old ≡ moved_from more low count old ++ Moved (low +ℤ pos count) ∷ []
+  moved-push low zero = ap (λ (v : ℤ). Moved v ∷ []) (sym (none_on low))
+  moved-push low (suc count) =
+      ap (λ (es : List (Option ℤ)). Moved low ∷ es) (moved-push (low +ℤ pos 1) count
+      ∙ ap (λ (v : ℤ). moved_from more (low +ℤ pos 1) count old ++ Moved v ∷ []) (one_on low count))
 
-pub moved-more : (low : ℤ) (targets : List ℤ) (i : ℕ) (d value : ℤ) (old : Option Listed) (part : Part) (entry : Option ℤ) → i < length targets → value ≡ low +ℤ pos i → entry ≡ both_weights (listed_at old value) (weight_at part (get_or targets i d))
-    → moved_from low (take (i + 1) targets) old part ≡ moved_from low (take i targets) old part ++ entry ∷ []
-moved-more low targets i d value old part entry inside value_is is =
-    let count : length (take i targets) ≡ i = omega (arith, length-take i targets) in
-    ap (λ (ts : List ℤ). moved_from low ts old part) (take_more targets i d inside) ∙ moved-push low (take i targets) (get_or targets i d) old part
-    ∙ ap (λ (n : ℕ). moved_from low (take i targets) old part ++ both_weights (listed_at old (low +ℤ pos n)) (weight_at part (get_or targets i d)) ∷ []) count
-    ∙ ap (λ (v : ℤ). moved_from low (take i targets) old part ++ both_weights (listed_at old v) (weight_at part (get_or targets i d)) ∷ []) (sym value_is)
-    ∙ ap (λ (e : Option ℤ). moved_from low (take i targets) old part ++ e ∷ []) (sym is)
+  pub moved-more : (low : ℤ) (count : ℕ) (at : ℤ) (entry : Option ℤ) → at ≡ low +ℤ pos count → entry ≡ Moved at → moved_from more low (count + 1) old ≡ moved_from more low count old ++ entry ∷ []
+  moved-more low count at entry at_is is =
+      ap (λ (n : ℕ). moved_from more low n old) (add-one count) ∙ moved-push low count
+      ∙ ap (λ (v : ℤ). moved_from more low count old ++ Moved v ∷ []) (sym at_is)
+      ∙ ap (λ (e : Option ℤ). moved_from more low count old ++ e ∷ []) (sym is)
+
+-- the same, by other names
+pub moved-same : (set set' : IntSet) (part part' : Part) (by : VarId) (c : Constraint) (low low' : ℤ) (count count' : ℕ) (old old' : Option Listed) → set ≡ set' → part ≡ part' → low ≡ low' → count ≡ count' → old ≡ old'
+    → moved_from (decided_weight set part by c) low count old ≡ moved_from (decided_weight set' part' by c) low' count' old'
+moved-same set set' part part' by c low low' count count' old old' p q r s t = rw (p, q, r, s, t) refl
+
+-- ---- what is decided
+
+module _ (declared : List IntSet) (source by : VarId) (draft : Draft) (c : Constraint) (decider : decider_in source c ≡ Some by) where
+  abbrev Tested : VarId → Result Draft DeriveFault
+  Tested other = cond (is_narrow (set_of declared other)) (part_moved declared c source other draft) (Err NotDerived)
+
+  pub decided-narrow : is_narrow (set_of declared by) ≡ true → decided_moved declared source draft c ≡ part_moved declared c source by draft
+  decided-narrow narrow = ap (λ (o : Option VarId). option_map_or Tested o (Err NotDerived)) decider ∙ ap (λ (b : Bool). cond b (part_moved declared c source by draft) (Err NotDerived)) narrow
+
+  pub decided-wide : is_narrow (set_of declared by) ≡ false → decided_moved declared source draft c ≡ Err NotDerived
+  decided-wide wide = ap (λ (o : Option VarId). option_map_or Tested o (Err NotDerived)) decider ∙ ap (λ (b : Bool). cond b (part_moved declared c source by draft) (Err NotDerived)) wide
+
+le_test : (m n : ℕ) → m ≤ n → nat_le m n ≡ true
+le_test m n h = grind (arith, nat_tests)
+
+pub limits-small : (v : ℤ) → IsInLimits v → unsigned_abs v ≤ 1000000000
+limits-small v within = let low = within.0 in let high = within.1 in grind (arith, ints)
+
+module _ (set : IntSet) where
+  pub narrow-few : is_narrow set ≡ true → span set ≤ 65536
+  narrow-few narrow = few (span set) (both_true (nat_le 1 (size set) && nat_le (unsigned_abs (least set)) 1000000000) (nat_le (span set) 65536) narrow).1
+    where
+      few : (n : ℕ) → nat_le n 65536 ≡ true → n ≤ 65536
+      few n h = grind (arith, nat_tests)
+
+  -- a declared set has its least value within the limits
+  pub narrow-test : IsLimited set → (size set ≡ 0 → ⊥) → is_narrow set ≡ nat_le (span set) 65536
+  narrow-test limited some =
+      let count : 0 < size set = above (size set) some in
+      let member = member_of_size set count in
+      let low = limits-small (least set) (limited (least set) (contains-least set member.0 member.1)) in
+      ap (λ (b : Bool). (b && nat_le (unsigned_abs (least set)) 1000000000) && nat_le (span set) 65536) (le_test 1 (size set) count) ∙ ap (λ (b : Bool). b && nat_le (span set) 65536) (le_test (unsigned_abs (least set)) 1000000000 low)
+    where
+      above : (n : ℕ) → (n ≡ 0 → ⊥) → 0 < n
+      above zero h = absurd (h refl)
+      above (suc n) h = omega arith
+
+  module _ (part : Part) (number : ℤ) where
+    pub weight-inside : contains set number ≡ true → weight_within set part number ≡ weight_at part number
+    weight-inside inside = ap (λ (b : Bool). cond b (weight_at part number) None) inside
+
+    pub weight-outside : (contains set number ≡ true → ⊥) → None ≡ weight_within set part number
+    weight-outside outside = sym (ap (λ (b : Bool). cond b (weight_at part number) None) (not_so (contains set number) outside))
+      where
+        not_so : (b : Bool) → (b ≡ true → ⊥) → b ≡ false
+        not_so true h = absurd (h refl)
+        not_so false h = refl
 
 -- ---- entries that are within the limits
 
@@ -68,18 +127,3 @@ within-fails (e ∷ entries) (suc k) inside fails = right (is_entry_within e) (l
     right : (a b : Bool) → b ≡ false → (a && b) ≡ false
     right true b p = p
     right false b p = refl
-
--- ---- targets
-
-number_small : (count : ℕ) (term : Term) → IsTerm count term → unsigned_abs (number_in term) ≤ 1000000000
-number_small count (Constant k) limits = small k limits
-  where
-    small : (k : ℤ) → IsInLimits k → unsigned_abs k ≤ 1000000000
-    small k within = let low = within.0 in let high = within.1 in grind (arith, ints)
-number_small count (Variable var) limits = omega arith
-
-pub targets-small : (count : ℕ) (targets : List Term) → All (IsTerm count) targets → (k : ℕ) → unsigned_abs (get_or (numbers_in targets) k (pos 0)) ≤ 1000000000
-targets-small count targets formed k = elim (cases_lt k (length targets)) [
-  | inl inside ↦ subst (λ (x : ℤ). unsigned_abs x ≤ 1000000000) (sym (get_or-map number_in targets k (Constant (pos 0)) (pos 0) inside)) (number_small count (get_or targets k (Constant (pos 0))) (formed k (Constant (pos 0)) inside))
-  | inr past ↦ subst (λ (x : ℤ). unsigned_abs x ≤ 1000000000) (sym (get_or_past (numbers_in targets) k (pos 0) (rw (length-map targets number_in) past))) (omega arith)
-]

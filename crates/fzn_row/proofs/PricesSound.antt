@@ -159,7 +159,7 @@ le_both a b c p q = omega (arith, ints)
 le_is : (a b : ℤ) → int_le a b ≡ true → a ≤ℤ b
 le_is a b h = grind (arith, ints)
 
-member : (declared : List IntSet) (values : List ℤ) → IsWithin declared values → (var : VarId) → IsVariable (length declared) var → contains (set_of declared var) (value_of values var) ≡ true
+pub member : (declared : List IntSet) (values : List ℤ) → IsWithin declared values → (var : VarId) → IsVariable (length declared) var → contains (set_of declared var) (value_of values var) ≡ true
 member declared values within var variable = within.inside (var.0 - 1) (omega arith)
 
 nothing-within : (declared : List IntSet) (values : List ℤ) → IsWithin declared values → (var : VarId) → IsVariable (length declared) var → size (set_of declared var) ≡ 0 → ⊥

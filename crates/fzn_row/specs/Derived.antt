@@ -25,7 +25,7 @@ all_cited items = flat_map cited_by items
 abbrev pub item_added : List Constraint → List IntSet → Draft → RowItem → Result Draft DeriveFault
 item_added given declared draft (item.Multiples multiples) = in_turn (multiple_added given) draft multiples
 item_added given declared draft (item.Prices constraint low prices) = prices_added given declared draft constraint low prices
-item_added given declared draft (item.Move constraint variable) = move_added given draft constraint variable
+item_added given declared draft (item.Move constraint variable) = move_added given declared draft constraint variable
 
 -- what all of them make of none
 abbrev pub drafted : List Constraint → List IntSet → ℕ → List RowItem → Result Draft DeriveFault

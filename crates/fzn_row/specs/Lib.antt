@@ -1,3 +1,4 @@
+pub mod Decided
 pub mod Derived
 pub mod Draft
 pub mod Inverses

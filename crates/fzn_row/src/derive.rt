@@ -99,7 +99,7 @@ impl RowDeriver {
             RowItem::Move {
                 constraint,
                 variable,
-            } => self.add_move(alloc, given, *constraint, *variable),
+            } => self.add_move(alloc, given, vars, *constraint, *variable),
         }
     }
 

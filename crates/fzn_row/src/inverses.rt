@@ -219,7 +219,7 @@ fn place_in(places: &[Term], var: VarId) -> Option<usize>
     places.iter().position(|place| is_place_of(*place, var))
 }
 
-fn is_place_of(place: Term, var: VarId) -> bool
+pub(crate) fn is_place_of(place: Term, var: VarId) -> bool
     ensures { result ≡ is_place_of var place }
 {
     match place {

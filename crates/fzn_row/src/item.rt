@@ -21,11 +21,14 @@ pub enum RowItem {
     },
     /// What a variable weighs moves to others whose values decide its own.
     Move {
-        /// The number of the constraint: an element whose entries are at most 65,536 constants, whose index decides its value; or an
-        /// inverse of at most 65,536 places, where the place of one list is i exactly where place i of the other is its number.
+        /// The number of the constraint: one by which another variable decides this one, that is the index of an element of constants,
+        /// the only variable of a sum with a switch, or the other variable of an equation, and is declared to have a value, and at most
+        /// 65,536 numbers from its least value to its greatest; or an inverse of at most 65,536 places, where the place of one list is i
+        /// exactly where place i of the other is its number.
         constraint: u64,
-        /// The value of the element, or a variable at a place of the inverse: of its places the first in the second list counts, and where
-        /// it has none there the first in the first. What it weighed is taken from it before anything is added.
+        /// The value of the element, the switch, or a variable of the equation; or a variable at a place of the inverse: of its places the
+        /// first in the second list counts, and where it has none there the first in the first. What it weighed is taken from it before
+        /// anything is added.
         variable: VarId,
     },
 }

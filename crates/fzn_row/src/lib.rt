@@ -9,6 +9,7 @@ pub use item::RowItem;
 pub use law::{derived_row_holds, derived_row_is_formed, one_derived_row};
 pub use room::RowDeriver;
 
+mod decided;
 mod derive;
 mod inverses;
 mod item;

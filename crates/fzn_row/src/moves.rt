@@ -1,109 +1,139 @@
 // Parts that go from one variable to another.
-ghost use Rattle.std.specs.Prelude.{◌≡◌, ◌⊎◌, ℕ, ◌≤◌, true, false, pos, length, slice_index_or, unsigned_abs, IfOk, IfErr, IfSome, OnOk, Ok, Err};
+ghost use Rattle.std.specs.Prelude.{◌≡◌, ◌⊎◌, ◌<◌, ◌≤◌, true, false, length, unsigned_abs, IfOk, IfErr, IfSome, OnOk, Ok, Err};
 ghost use Rattle.std.specs.List.{All, list_all};
-ghost use Rattle.fzn_domain.specs.Narrow.{IsVariable};
-ghost use Rattle.fzn_meaning.specs.Term.{IsTerm, numbers_in};
+ghost use Rattle.fzn_domain.specs.IntSet.{size};
+ghost use Rattle.fzn_domain.specs.Limits.{IsInLimits};
+ghost use Rattle.fzn_domain.specs.Narrow.{IsVariable, set_of};
 ghost use Rattle.fzn_meaning.specs.Meaning.{IsWellFormedConstraint};
+ghost use Rattle.fzn_meaning.specs.Solutions.{declared_sets};
+ghost use Rattle.fzn_builtin_rules.specs.Form.{form_of};
 ghost use Rattle.fzn_cited.specs.declared.fault.DeriveFault.TheVariants.{Memory, NotDerived};
-ghost use Rattle.fzn_meaning.specs.Separable.{weight_at, IsWeightList, IsCoefficient};
+ghost use Rattle.fzn_meaning.specs.Separable.{IsWeightList, IsCoefficient};
 ghost use Rattle.fzn_row.specs.Draft.{blank_part, part_for, with_part};
 ghost use Rattle.fzn_row.specs.Prices.{is_entry_within};
 ghost use Rattle.fzn_row.specs.Weights.{both_weights};
-ghost use Rattle.fzn_row.specs.Moves.{moved_from, part_moved, is_constant, are_targets, part_moved_by, move_added};
+ghost use Rattle.fzn_row.specs.Decided.{AreBounded};
+ghost use Rattle.fzn_row.specs.Moves.{weight_within, decided_weight, moved_from, span, is_narrow, part_moved, decided_moved, part_moved_by, move_added};
 ghost use Rattle.fzn_row.specs.Room.{draft_of, room_size, IsRoom};
 
+use crate::decided::{decided_in, decider_in};
 use crate::room::{LIMIT, RowDeriver, sum_within};
 use fzn_cited::{DeriveFault, constraint_at};
-use fzn_domain::VarId;
+use fzn_domain::{Domain, VarId};
 use fzn_list::Items;
-use fzn_meaning::{Constraint, Listed, Part, Term, listed_at, weight_at};
+use fzn_meaning::{Constraint, Listed, Part, Var, listed_at, weight_at};
 use std::alloc::{AllocError, Global};
 use std::mem;
 
-/// How many targets there are at the most.
+/// How many values are listed at the most by one move.
 pub(crate) const MOST_TARGETS: usize = 65_536;
 
 impl RowDeriver {
-    /// Moves what the variable weighs by the constraint: as the value of an element of constants to the index, as a place of an inverse to
-    /// the places of the other list.
+    /// Moves what the variable weighs by the constraint: to the one that decides it, and of a place of an inverse to the places of the
+    /// other list.
     pub(crate) fn add_move(
         &mut self,
         alloc: Global,
         given: &[Constraint],
+        vars: &[Var],
         id: u64,
         var: VarId,
     ) -> Result<(), DeriveFault>
         requires room { IsRoom self.old }
+        requires vars { length vars.now ≡ room_size self.old }
         requires given { All (IsWellFormedConstraint (room_size self.old)) given.now }
         ensures variables { room_size self.new ≡ room_size self.old }
         ensures room { IsRoom self.new }
-        ensures ok { OnOk result (move_added given.now (draft_of self.old) id var ≡ Ok (draft_of self.new)) }
-        ensures err { IfErr result (λ fault. (fault ≡ Memory) ⊎ (move_added given.now (draft_of self.old) id var ≡ Err fault)) }
+        ensures ok { OnOk result (move_added given.now (declared_sets vars.now) (draft_of self.old) id var ≡ Ok (draft_of self.new)) }
+        ensures err { IfErr result (λ fault. (fault ≡ Memory) ⊎ (move_added given.now (declared_sets vars.now) (draft_of self.old) id var ≡ Err fault)) }
     {
         let Some(constraint) = constraint_at(given, id) else {
             return Err(DeriveFault::NoSuchConstraint);
         };
-        self.move_by(alloc, var, constraint)
+        self.move_by(alloc, vars, var, constraint)
     }
 
-    #[tactic(auto, unfolding(fzn_meaning::specs::Meaning::IsWellFormedConstraint))]
     fn move_by(
         &mut self,
         alloc: Global,
+        vars: &[Var],
         var: VarId,
         constraint: &Constraint,
     ) -> Result<(), DeriveFault>
         requires room { IsRoom self.old }
+        requires vars { length vars.now ≡ room_size self.old }
         requires constraint { IsWellFormedConstraint (room_size self.old) constraint.now }
         ensures variables { room_size self.new ≡ room_size self.old }
         ensures room { IsRoom self.new }
-        ensures ok { OnOk result (part_moved_by var (draft_of self.old) constraint.now ≡ Ok (draft_of self.new)) }
-        ensures err { IfErr result (λ fault. (fault ≡ Memory) ⊎ (part_moved_by var (draft_of self.old) constraint.now ≡ Err fault)) }
+        ensures ok { OnOk result (part_moved_by (declared_sets vars.now) var (draft_of self.old) constraint.now ≡ Ok (draft_of self.new)) }
+        ensures err { IfErr result (λ fault. (fault ≡ Memory) ⊎ (part_moved_by (declared_sets vars.now) var (draft_of self.old) constraint.now ≡ Err fault)) }
     {
         match constraint {
-            Constraint::Element {
-                index: Term::Variable(index),
-                entries,
-                value: Term::Variable(value),
-            } => {
-                if *value != var || !are_targets(entries.as_slice()) {
-                    return Err(DeriveFault::NotDerived);
-                }
-                self.move_part(alloc, *value, *index, entries.as_slice())
-            }
             Constraint::Inverse { forward, backward } => {
                 self.move_place(alloc, var, forward.as_slice(), backward.as_slice())
             }
-            _ => Err(DeriveFault::NotDerived),
+            _ => self.move_decided(alloc, vars, var, constraint),
         }
     }
 
-    /// Moves what one variable weighs at the targets to the values, from 1 on, of another.
+    /// Moves what the variable weighs to the one that decides it.
+    fn move_decided(
+        &mut self,
+        alloc: Global,
+        vars: &[Var],
+        source: VarId,
+        constraint: &Constraint,
+    ) -> Result<(), DeriveFault>
+        requires room { IsRoom self.old }
+        requires vars { length vars.now ≡ room_size self.old }
+        requires constraint { IsWellFormedConstraint (room_size self.old) constraint.now }
+        ensures variables { room_size self.new ≡ room_size self.old }
+        ensures room { IsRoom self.new }
+        ensures ok { OnOk result (decided_moved (declared_sets vars.now) source (draft_of self.old) constraint.now ≡ Ok (draft_of self.new)) }
+        ensures err { IfErr result (λ fault. (fault ≡ Memory) ⊎ (decided_moved (declared_sets vars.now) source (draft_of self.old) constraint.now ≡ Err fault)) }
+    {
+        let Some(by) = decider_in(source, constraint) else {
+            return Err(DeriveFault::NotDerived);
+        };
+        if !is_narrow(declared_set(vars, by)) {
+            return Err(DeriveFault::NotDerived);
+        }
+        self.move_part(alloc, vars, constraint, source, by)
+    }
+
+    /// Moves what one variable weighs to the one that decides it.
     fn move_part(
         &mut self,
         alloc: Global,
+        vars: &[Var],
+        constraint: &Constraint,
         source: VarId,
-        var: VarId,
-        targets: &[Term],
+        by: VarId,
     ) -> Result<(), DeriveFault>
         requires room { IsRoom self.old }
+        requires vars { length vars.now ≡ room_size self.old }
         requires source { IsVariable (room_size self.old) source }
-        requires var { IsVariable (room_size self.old) var }
-        requires targets { All (IsTerm (room_size self.old)) targets.now }
-        requires few { length targets.now ≤ 65536 }
+        requires by { IsVariable (room_size self.old) by }
+        requires form { IfSome (form_of constraint.now) AreBounded }
+        requires narrow { is_narrow (set_of (declared_sets vars.now) by) ≡ true }
         ensures variables { room_size self.new ≡ room_size self.old }
         ensures room { IsRoom self.new }
-        ensures ok { OnOk result (part_moved source var (pos 1) (numbers_in targets.now) (draft_of self.old) ≡ Ok (draft_of self.new)) }
-        ensures err { IfErr result (λ fault. (fault ≡ Memory) ⊎ (part_moved source var (pos 1) (numbers_in targets.now) (draft_of self.old) ≡ Err fault)) }
+        ensures ok { OnOk result (part_moved (declared_sets vars.now) constraint.now source by (draft_of self.old) ≡ Ok (draft_of self.new)) }
+        ensures err { IfErr result (λ fault. (fault ≡ Memory) ⊎ (part_moved (declared_sets vars.now) constraint.now source by (draft_of self.old) ≡ Err fault)) }
     {
-        if self.left < targets.len() {
+        let values = declared_set(vars, by);
+        let low = values.min();
+        let count = span(values);
+        if self.left < count {
             return Err(DeriveFault::NotDerived);
         }
+        let set = declared_set(vars, source);
         let part = self.take_part(source)?;
-        let place = self.place_of(var)?;
-        let weights = moved(alloc, &self.parts[place].listed, &part, targets)?;
-        self.left -= targets.len();
-        self.parts[place].listed = Some(Listed { low: 1, weights });
+        let place = self.place_of(by)?;
+        let old = &self.parts[place].listed;
+        let weights = moved(alloc, old, &low, count, set, &part, by, constraint)?;
+        self.left -= count;
+        self.parts[place].listed = Some(Listed { low, weights });
         Ok(())
     }
 
@@ -129,39 +159,85 @@ impl RowDeriver {
     }
 }
 
-/// What was listed for each value, from 1 on, and what the part weighs at its target, unless one of these leaves the limits.
+/// What was listed for each of so many values from low on, and what the part weighs at the value that is decided there, unless one of these
+/// leaves the limits.
 fn moved(
     alloc: Global,
     old: &Option<Listed>,
+    low: &i64,
+    count: usize,
+    set: &Domain,
     part: &Part,
-    targets: &[Term],
+    by: VarId,
+    constraint: &Constraint,
 ) -> Result<Items<Option<i64>>, DeriveFault>
     requires old { IfSome old.now IsWeightList }
+    requires low { unsigned_abs low.now ≤ 1000000000 }
+    requires few { count ≤ 65536 }
     requires part { IfSome part.now.listed IsWeightList × IsCoefficient part.now.coefficient }
-    requires targets { (k : ℕ) → unsigned_abs (slice_index_or (numbers_in targets.now) k (pos 0)) ≤ 1000000000 }
-    requires few { length targets.now ≤ 65536 }
-    ensures ok { IfOk result (λ entries. entries ≡ moved_from (pos 1) (numbers_in targets.now) old.now part.now) }
+    requires form { IfSome (form_of constraint.now) AreBounded }
+    ensures ok { IfOk result (λ entries. entries ≡ moved_from (decided_weight set.now part.now by constraint.now) low.now count old.now) }
     ensures within { IfOk result (λ entries. list_all is_entry_within entries ≡ true) }
-    ensures err { IfErr result (λ fault. (fault ≡ Memory) ⊎ ((fault ≡ NotDerived) × (list_all is_entry_within (moved_from (pos 1) (numbers_in targets.now) old.now part.now) ≡ false))) }
+    ensures err { IfErr result (λ fault. (fault ≡ Memory) ⊎ ((fault ≡ NotDerived) × (list_all is_entry_within (moved_from (decided_weight set.now part.now by constraint.now) low.now count old.now) ≡ false))) }
 {
     let mut entries = Items::new(alloc);
-    for i in 0..targets.len() {
-        let value = 1 + i as i64;
-        let entry = plus_weight(listed_at(old, &value), part, &targets[i].number())?;
+    for i in 0..count {
+        let value = *low + i as i64;
+        let more = decided_weight(set, part, by, constraint, &value);
+        let entry = plus(listed_at(old, &value), more)?;
         entries.push(entry)?;
     }
     Ok(entries)
 }
 
-/// What was listed and what the part weighs at the target, unless that leaves the limits.
-fn plus_weight(entry: Option<i64>, part: &Part, target: &i64) -> Result<Option<i64>, DeriveFault>
+/// What the part, whose variable has this set, weighs where the other variable has this value.
+fn decided_weight(
+    set: &Domain,
+    part: &Part,
+    by: VarId,
+    constraint: &Constraint,
+    value: &i64,
+) -> Option<i128>
     requires part { IfSome part.now.listed IsWeightList × IsCoefficient part.now.coefficient }
-    requires target { unsigned_abs target.now ≤ 1000000000 }
-    ensures ok { IfOk result (λ both. both ≡ both_weights entry (weight_at part.now target.now)) }
-    ensures within { IfOk result (λ both. is_entry_within both ≡ true) }
-    ensures err { IfErr result (λ fault. (fault ≡ NotDerived) × (is_entry_within (both_weights entry (weight_at part.now target.now)) ≡ false)) }
+    requires form { IfSome (form_of constraint.now) AreBounded }
+    requires value { unsigned_abs value.now ≤ 10000000000 }
+    ensures value { result ≡ decided_weight set.now part.now by constraint.now value.now }
+    ensures bounded { IfSome result (λ weight. unsigned_abs weight ≤ 10000000000000000000000000000000) }
 {
-    plus(entry, weight_at(part, target))
+    match decided_in(by, value, constraint) {
+        None => None,
+        Some(number) => weight_within(set, part, number),
+    }
+}
+
+/// What the part weighs at the number, where that is in the set.
+fn weight_within(set: &Domain, part: &Part, number: i128) -> Option<i128>
+    requires part { IfSome part.now.listed IsWeightList × IsCoefficient part.now.coefficient }
+    ensures value { result ≡ weight_within set.now part.now number }
+    ensures bounded { IfSome result (λ weight. unsigned_abs weight ≤ 10000000000000000000000000000000) }
+{
+    if set.is_empty() {
+        return None;
+    }
+    if number < set.min() as i128 {
+        return None;
+    }
+    if number > set.max() as i128 {
+        return None;
+    }
+    let value = narrow(&number);
+    if set.contains(value) {
+        weight_at(part, &value)
+    } else {
+        None
+    }
+}
+
+fn narrow(number: &i128) -> i64
+    requires { IsInLimits number.now }
+    ensures { result ≡ number.now }
+{
+    *number as i64
 }
 
 /// Both weights together, unless that leaves the limits; none where either is barred.
@@ -181,24 +257,25 @@ pub(crate) fn plus(entry: Option<i64>, more: Option<i128>) -> Result<Option<i64>
     Ok(Some(both))
 }
 
-/// At most 65,536 entries, which are constants.
-fn are_targets(entries: &[Term]) -> bool
-    ensures { result ≡ are_targets entries.now }
+/// The declared set of the variable.
+fn declared_set(vars: &[Var], var: VarId) -> &Domain
+    requires { IsVariable (length vars.now) var }
+    ensures { result.now ≡ set_of (declared_sets vars.now) var }
 {
-    entries.len() <= MOST_TARGETS && are_constants(entries)
+    &vars[var.0 - 1].domain
 }
 
-fn are_constants(entries: &[Term]) -> bool
-    ensures { result ≡ list_all is_constant entries.now }
+/// How many numbers there are from the least to the greatest.
+fn span(set: &Domain) -> usize
+    requires { 0 < size set.now }
+    ensures value { result ≡ span set.now }
 {
-    entries.iter().all(|entry| is_constant(entry))
+    (set.max() - set.min()) as usize + 1
 }
 
-fn is_constant(term: &Term) -> bool
-    ensures { result ≡ is_constant term.now }
+/// Some number, and at most 65,536 from the least to the greatest.
+fn is_narrow(set: &Domain) -> bool
+    ensures { result ≡ is_narrow set.now }
 {
-    match term {
-        Term::Constant(_) => true,
-        Term::Variable(_) => false,
-    }
+    !set.is_empty() && span(set) <= MOST_TARGETS
 }
