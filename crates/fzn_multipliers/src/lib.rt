@@ -6,7 +6,7 @@
 #![tactic(auto)]
 
 pub use bounds::{Bounds, declared_bounds};
-pub use rows::{Row, Rows};
+pub use rows::{Entry, Row, Rows};
 pub use subgradient::multipliers;
 pub use work::Work;
 

@@ -19,10 +19,11 @@ const GRIDS: [i64; 5] = [1024, 1 << 20, 64, 8, 1];
 /// enough is left.
 const SHARES: [i128; 2] = [1 << 10, 1 << 40];
 
-/// The items of one separable row of the model with these rows, where it has elements of constants, and all different, circuits or inverses:
-/// the row bounds the objective better than single constraints do, or, where there is no objective, nothing meets it. `None` where none is
-/// found. Multipliers of rows and prices of values are sought together by the subgradient method, which moves them towards the constraints
-/// that are violated where the sum is least. It answers `Err` where memory runs out.
+/// The items of one separable row of the model with these rows, where it has Booleans that compare a variable with a number, or elements of
+/// constants, and all different, circuits or inverses: the row bounds the objective better than single constraints do, or, where there is
+/// no objective, nothing meets it. `None` where none is found. Multipliers of rows and prices of values are sought together by the
+/// subgradient method, which moves them towards the constraints that are violated where the sum is least. It answers `Err` where memory
+/// runs out.
 pub fn prices(alloc: Global, model: &Model, rows: &Rows) -> Result<Option<Items<RowItem>>, Memory> {
     match Problem::of(alloc, model, rows)? {
         Some(problem) => sought(alloc, &problem, rows),

@@ -23,7 +23,7 @@ pub struct Lagrangian {
     pub steepest: i64,
     /// By the places of the definitions: their multipliers.
     pub defining: Vec<i64>,
-    /// By the places of the moves by elements: whether there was something that moved.
+    /// By the places of the moves to one variable: whether there was something that moved.
     pub moving: Vec<bool>,
     /// By the places of the moves by inverses: the same.
     pub exchanging: Vec<bool>,
@@ -179,21 +179,21 @@ impl Lagrangian {
         };
         let from = problem.lists.list_of(one.value);
         let slope = self.last_slope_of(one.value);
-        if slope == 0 && from.is_none() {
+        if slope == 0 && !self.weighs(from) {
             return false;
         }
-        let mut place_after = 0i64;
+        let mut value = one.first();
         for entry in problem.moves.entries_of(one) {
-            place_after = place_after.saturating_add(1);
             let mut more = slope.saturating_mul(*entry);
             if let Some(from) = from {
                 more = more.saturating_add(self.weight_at(from, *entry));
             }
-            if let Some(place) = index.place_of(place_after)
+            if let Some(place) = index.place_of(value)
                 && let Some(weight) = self.weights.get_mut(place)
             {
                 *weight = weight.saturating_add(more);
             }
+            value = value.saturating_add(1);
         }
         self.flatten(one.value);
         if let Some(from) = from {
@@ -321,7 +321,7 @@ impl Lagrangian {
             let sum = self.exchanged(problem, *one, None);
             self.set(one.variable, sum);
         }
-        for one in problem.moves.all.iter() {
+        for one in problem.moves.all.iter().rev() {
             if let Some(exchange) = problem.moves.exchanges.of(one.index) {
                 let sum = self.exchanged(problem, exchange, Some(*one));
                 self.set(one.value, sum);

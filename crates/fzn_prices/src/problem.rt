@@ -3,6 +3,7 @@ use crate::apart::Aparts;
 use crate::definitions::{Definition, Definitions};
 use crate::lists::Lists;
 use crate::moves::Moves;
+use crate::switches::Switch;
 use fzn_domain::Memory;
 use fzn_meaning::{Constraint, Goal, Model};
 use fzn_multipliers::{Bounds, Row, Rows, Work, declared_bounds};
@@ -42,9 +43,9 @@ pub struct Problem {
 }
 
 impl Problem {
-    /// That of a model, where something has prices and something moves.
+    /// That of a model, where something moves, and something has prices or is moved by a comparison.
     pub fn of(alloc: Global, model: &Model, rows: &Rows) -> Result<Option<Problem>, Memory> {
-        if !has_both(model) {
+        if !has_mover(model) {
             return Ok(None);
         }
         let objective = objective_of(model);
@@ -52,10 +53,13 @@ impl Problem {
         let bounds = declared_bounds(alloc, model)?;
         let mut room = Work::new(MOST_LISTED);
         let mut used = used_in(alloc, rows, bounds.len())?;
-        let moves = Moves::of(alloc, model, &bounds, target, &mut used, &mut room)?;
+        let moves = Moves::of(alloc, model, rows, &bounds, target, &mut used, &mut room)?;
         let aparts = Aparts::of(alloc, model, &bounds, &used, &mut room)?;
         let lists = Lists::of(alloc, model, &bounds, &aparts, &moves)?;
-        if moves.all.is_empty() || aparts.all.is_empty() || !lists.can_all_be() {
+        if moves.all.is_empty()
+            || aparts.all.is_empty() && moves.switches == 0
+            || !lists.can_all_be()
+        {
             return Ok(None);
         }
         let definitions = Definitions::of(alloc, rows, &bounds, target, &lists, &moves)?;
@@ -107,13 +111,18 @@ impl Problem {
     }
 }
 
-/// Whether the model has an element and something of which no two places have one value.
-fn has_both(model: &Model) -> bool {
+/// Whether the model has a comparison with a number that a Boolean switches, or an element and something of which no two places have one
+/// value.
+fn has_mover(model: &Model) -> bool {
     let mut has_element = false;
     let mut has_apart = false;
     for constraint in model.constraints.as_slice() {
         match constraint {
             Constraint::Element { .. } => has_element = true,
+            Constraint::Compare { .. } | Constraint::Linear { .. }
+                if Switch::of(constraint).is_some() => {
+                return true;
+            }
             Constraint::AllDifferent { .. }
             | Constraint::Circuit { .. }
             | Constraint::Inverse { .. } => has_apart = true,
