@@ -10,6 +10,11 @@ use fzn_trail::Trail;
 use std::alloc::Global;
 use std::collections::HashMap;
 
+/// So many values a variable has at most whose comparisons stand in a list, and so many all of these have together.
+const WIDEST: usize = 1_024;
+
+const MOST: usize = 1_048_576;
+
 /// What tells a comparison from the others.
 #[derive(Clone, Copy, Debug, PartialEq, Eq, Hash, Drop)]
 struct Key {
@@ -18,11 +23,26 @@ struct Key {
     value: i64,
 }
 
+/// Where the comparisons of a variable stand in the list.
+#[derive(Clone, Copy, Debug)]
+struct Row {
+    /// The least declared value, and how many follow one another from it on; 0 where the comparisons stand in none.
+    least: i64,
+    width: usize,
+    /// How many values others have.
+    first: usize,
+}
+
 /// Comparisons `x <= k` and `x == k`, each numbered as it came. One that is taken out for being decided waits beside its variable
 /// until that is set free.
 #[derive(Drop)]
 pub struct Comparisons {
     lits: Vec<Lit>,
+    /// By variable.
+    rows: Vec<Row>,
+    /// By value, first the comparison `x <= k` and then `x == k`: its number and one more, or 0 where it has none.
+    listed: Vec<u32>,
+    /// The numbers of all others.
     numbers: HashMap<Key, usize>,
     heap: Heap,
     /// By variable: the first comparison that waits.
@@ -32,35 +52,79 @@ pub struct Comparisons {
 }
 
 impl Comparisons {
-    /// No comparison, over this many variables.
-    pub fn new(alloc: Global, vars: usize) -> Result<Comparisons, Memory> {
+    /// No comparison, over variables with these least and greatest values.
+    pub fn new(alloc: Global, bounds: &[(i64, i64)]) -> Result<Comparisons, Memory> {
+        let mut rows = Vec::new(alloc);
+        let mut count = 0;
+        for (least, greatest) in bounds {
+            let row = row_of(*least, *greatest, count);
+            rows.push(row)?;
+            count = count.wrapping_add(row.width);
+        }
         Ok(Comparisons {
             lits: Vec::new(alloc),
+            rows,
+            listed: vec![in alloc; 0; count.wrapping_mul(2)]?,
             numbers: HashMap::new(alloc),
             heap: Heap::new(alloc),
-            first_waiting: vec![in alloc; None; vars]?,
+            first_waiting: vec![in alloc; None; bounds.len()]?,
             next_waiting: Vec::new(alloc),
         })
     }
 
     /// The present conflict names the comparison.
     pub fn bump(&mut self, lit: Lit, ties: &mut Ties) -> Result<(), Memory> {
+        let number = match self.slot(lit) {
+            Some(slot) => self.listed_number(slot, lit, ties)?,
+            None => self.hashed_number(lit, ties)?,
+        };
+        self.heap.bump(number);
+        Ok(())
+    }
+
+    /// Where the comparison stands in the list.
+    #[inline(always)]
+    fn slot(&self, lit: Lit) -> Option<usize> {
+        let row = self.rows.get(lit.var.0.saturating_sub(1))?;
+        let offset = lit.value.wrapping_sub(row.least);
+        if offset < 0 || row.width as u64 <= offset.unsigned_abs() {
+            return None;
+        }
+        let value = row.first.wrapping_add(offset.unsigned_abs() as usize);
+        Some(
+            value
+                .wrapping_mul(2)
+                .wrapping_add((lit.op == Op::Equal) as usize),
+        )
+    }
+
+    /// The number of the comparison at this place of the list.
+    #[inline(always)]
+    fn listed_number(&mut self, slot: usize, lit: Lit, ties: &mut Ties) -> Result<usize, Memory> {
+        let known = self.listed.get(slot).copied().unwrap_or(0);
+        if known > 0 {
+            return Ok((known - 1) as usize);
+        }
+        let number = self.add(lit, ties)?;
+        if slot < self.listed.len() && number < u32::MAX as usize {
+            self.listed[slot] = number as u32 + 1;
+        }
+        Ok(number)
+    }
+
+    /// The number of a comparison that stands in no list.
+    fn hashed_number(&mut self, lit: Lit, ties: &mut Ties) -> Result<usize, Memory> {
         let key = Key {
             var: lit.var.0,
             is_equal: lit.op == Op::Equal,
             value: lit.value,
         };
-        let known = self.numbers.get(&key).copied();
-        let number = match known {
-            Some(number) => number,
-            None => {
-                let number = self.add(lit, ties)?;
-                self.numbers.insert(key, number)?;
-                number
-            }
-        };
-        self.heap.bump(number);
-        Ok(())
+        if let Some(number) = self.numbers.get(&key).copied() {
+            return Ok(number);
+        }
+        let number = self.add(lit, ties)?;
+        self.numbers.insert(key, number)?;
+        Ok(number)
     }
 
     fn add(&mut self, lit: Lit, ties: &mut Ties) -> Result<usize, Memory> {
@@ -115,5 +179,19 @@ impl Comparisons {
             self.heap.put(number);
             waiting = self.next_waiting.get(number).copied().flatten();
         }
+    }
+}
+
+/// The row of a variable with this least and this greatest value, where so many values of others are listed.
+fn row_of(least: i64, greatest: i64, count: usize) -> Row {
+    let width = greatest
+        .wrapping_sub(least)
+        .unsigned_abs()
+        .saturating_add(1) as usize;
+    let is_listed = least <= greatest && width <= WIDEST && width.wrapping_add(count) <= MOST;
+    Row {
+        least,
+        width: if is_listed { width } else { 0 },
+        first: count,
     }
 }

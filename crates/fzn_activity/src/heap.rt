@@ -11,26 +11,12 @@ const MOST: f64 = 1e100;
 
 const SMALLER: f64 = 1e-100;
 
-/// What a number is chosen by.
-#[derive(Clone, Copy, Debug)]
-struct Rank {
-    activity: f64,
-    tie: u64,
-}
-
-impl Rank {
-    fn precedes(self, other: Rank) -> bool {
-        self.activity > other.activity || (self.activity == other.activity && self.tie < other.tie)
-    }
-}
-
 /// Numbers from 0 up, each of which is in or out. Of those that are in the most active one is at hand, and of several the one with the
 /// least tie.
 #[derive(Drop)]
 pub struct Heap {
+    /// Of those that are in, each comes before the two at twice its place and one or two more.
     pool: Pool,
-    activities: Vec<f64>,
-    ties: Vec<u64>,
     /// What the present conflict counts.
     weight: f64,
 }
@@ -40,17 +26,13 @@ impl Heap {
     pub fn new(alloc: Global) -> Heap {
         Heap {
             pool: Pool::new(alloc),
-            activities: Vec::new(alloc),
-            ties: Vec::new(alloc),
             weight: 1.0,
         }
     }
 
     /// One more number, which is in and has no activity.
     pub fn grow(&mut self, tie: u64) -> Result<usize, Memory> {
-        self.activities.push(0.0)?;
-        self.ties.push(tie)?;
-        let number = self.pool.grow()?;
+        let number = self.pool.grow(tie)?;
         self.put(number);
         Ok(number)
     }
@@ -62,7 +44,7 @@ impl Heap {
 
     /// The most active of those that are in.
     pub fn top(&self) -> Option<usize> {
-        self.pool.at(0)
+        Some(self.pool.at(0)?.number)
     }
 
     /// Lets a number in.
@@ -80,10 +62,10 @@ impl Heap {
 
     /// Lets a number in with this activity.
     pub fn set(&mut self, number: usize, activity: f64) {
-        if number >= self.activities.len() {
+        let Some(known) = self.pool.activity_mut(number) else {
             return;
-        }
-        self.activities[number] = activity;
+        };
+        *known = activity;
         self.put(number);
         if let Some(place) = self.pool.place_of(number) {
             self.settle(place);
@@ -100,11 +82,11 @@ impl Heap {
 
     /// The present conflict names the number.
     pub fn bump(&mut self, number: usize) {
-        if number >= self.activities.len() {
+        let Some(activity) = self.pool.activity_mut(number) else {
             return;
-        }
-        self.activities[number] += self.weight;
-        if self.activities[number] > MOST {
+        };
+        *activity += self.weight;
+        if *activity > MOST {
             self.shrink();
         }
         if let Some(place) = self.pool.place_of(number) {
@@ -123,9 +105,7 @@ impl Heap {
 
     fn shrink(&mut self) {
         self.weight *= SMALLER;
-        for activity in self.activities.iter_mut() {
-            *activity *= SMALLER;
-        }
+        self.pool.scale(SMALLER);
     }
 
     /// The number at this place alone may stand too low or too high.
@@ -140,12 +120,11 @@ impl Heap {
         let Some(rising) = self.pool.at(place) else {
             return;
         };
-        let rank = self.rank(rising);
         let mut at = place;
         while at > 0 {
             let parent = (at - 1) / 2;
             match self.pool.at(parent) {
-                Some(above) if rank.precedes(self.rank(above)) => self.pool.stand(above, at),
+                Some(above) if rising.precedes(&above) => self.pool.stand(above, at),
                 _ => break,
             }
             at = parent;
@@ -161,13 +140,12 @@ impl Heap {
         let Some(sinking) = self.pool.at(place) else {
             return;
         };
-        let rank = self.rank(sinking);
         let count = self.pool.len();
         let mut at = place;
         while at < count / 2 {
             let child = self.first_of(2 * at + 1);
             match self.pool.at(child) {
-                Some(below) if self.rank(below).precedes(rank) => self.pool.stand(below, at),
+                Some(below) if below.precedes(&sinking) => self.pool.stand(below, at),
                 _ => break,
             }
             at = child;
@@ -181,30 +159,8 @@ impl Heap {
     {
         let right = left.saturating_add(1);
         match (self.pool.at(left), self.pool.at(right)) {
-            (Some(one), Some(other)) if self.rank(other).precedes(self.rank(one)) => right,
+            (Some(one), Some(other)) if other.precedes(&one) => right,
             _ => left,
-        }
-    }
-
-    fn rank(&self, number: usize) -> Rank {
-        Rank {
-            activity: self.activity(number),
-            tie: self.tie(number),
-        }
-    }
-
-    fn activity(&self, number: usize) -> f64 {
-        match self.activities.get(number) {
-            Some(activity) => *activity,
-            None => 0.0,
-        }
-    }
-
-    /// What breaks ties.
-    pub fn tie(&self, number: usize) -> u64 {
-        match self.ties.get(number) {
-            Some(tie) => *tie,
-            None => 0,
         }
     }
 }

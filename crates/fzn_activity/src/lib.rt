@@ -9,7 +9,7 @@
 
 pub use comparisons::Comparisons;
 pub use heap::Heap;
-pub use open::{greatest_value, least_value, literal_on, open_domain, splits, value_left};
+pub use open::{greatest_value, least_value, literal_on, open_domain, splits, value_of};
 pub use pool::Pool;
 pub use ties::Ties;
 

@@ -71,53 +71,15 @@ pub fn greatest_value(trail: &Trail, vars: usize, number: usize) -> Option<Lit>
     Some(literal_on(number, Op::AtLeast, domain.max()))
 }
 
-/// The value that is left after an assertion, of several there were before it, where just one is left.
-pub fn value_left(before: &Domain, lit: Lit) -> Option<i64> {
-    if before.is_empty() {
+/// The value of the variable of this number, counted from 0, where it has just one.
+pub fn value_of(trail: &Trail, number: usize) -> Option<i64> {
+    let sets = trail.sets();
+    if number >= sets.len() {
         return None;
     }
-    let (least, greatest) = (before.min(), before.max());
-    match lit.op {
-        Op::Equal => Some(lit.value),
-        Op::AtMost => {
-            if has_above(before, least, lit.value) {
-                None
-            } else {
-                Some(least)
-            }
-        }
-        Op::AtLeast => {
-            if has_below(before, greatest, lit.value) {
-                None
-            } else {
-                Some(greatest)
-            }
-        }
-        Op::NotEqual => {
-            if before.len() != 2 {
-                None
-            } else if lit.value == least {
-                Some(greatest)
-            } else {
-                Some(least)
-            }
-        }
+    let domain = sets.domain(VarId(number + 1));
+    if domain.is_empty() || domain.min() != domain.max() {
+        return None;
     }
-}
-
-/// Whether the set has a value above this one of its values, up to that number. Both ends are looked at first, since to go on from a value
-/// takes longer the more of those behind it are missing.
-fn has_above(set: &Domain, value: i64, most: i64) -> bool {
-    value < most
-        && (set.contains(value.saturating_add(1))
-            || set.contains(most)
-            || set.above(value).is_some_and(|next| next <= most))
-}
-
-/// The same below.
-fn has_below(set: &Domain, value: i64, least: i64) -> bool {
-    least < value
-        && (set.contains(value.saturating_sub(1))
-            || set.contains(least)
-            || set.below(value).is_some_and(|next| least <= next))
+    Some(domain.min())
 }

@@ -6,7 +6,7 @@ use crate::choice::Choice;
 use crate::order::Order;
 use crate::probes::Probes;
 use crate::restarts::Restarts;
-use fzn_activity::{Comparisons, Heap, Ties, greatest_value, least_value, open_domain, value_left};
+use fzn_activity::{Comparisons, Heap, Ties, greatest_value, least_value, open_domain, value_of};
 use fzn_costs::{Costs, costs_of};
 use fzn_domain::{Domain, GREATEST_VALUE, LEAST_VALUE, Lit, Memory, Op, VarId};
 use fzn_meaning::{Goal, Model, Var};
@@ -58,12 +58,14 @@ impl Guide {
         let order = Order::new(alloc, vars.len(), annotations, &mut ties)?;
         let activity = by_rank(alloc, vars.len(), &order, &mut ties)?;
         let parameters = choice.parameters;
+        let bounds = bounds_of(alloc, vars)?;
+        let comparisons = Comparisons::new(alloc, bounds.as_slice())?;
         Ok(Guide {
             order,
-            bounds: bounds_of(alloc, vars)?,
+            bounds,
             last_values: vec![in alloc; None; vars.len()]?,
             found_values: vec![in alloc; None; vars.len()]?,
-            comparisons: Comparisons::new(alloc, vars.len())?,
+            comparisons,
             activity,
             ties,
             restarts: choice
@@ -199,16 +201,15 @@ impl Guide {
         self.free || !self.order.is_annotated(number)
     }
 
-    /// The entries from this place on will be dropped.
+    /// The entries from this place on will be dropped. A variable that has one value now came to it by one of them.
     pub fn undo(&mut self, trail: &Trail, from: usize) {
         self.order.undo(from);
         for place in from..trail.len() {
-            let lit = trail.entry(place).lit;
-            let number = lit.var.0.saturating_sub(1);
+            let number = trail.entry(place).lit.var.0.saturating_sub(1);
             self.order.set_free(number);
             if self.is_by_activity(number) {
                 if !self.probes.is_assumed()
-                    && let Some(value) = value_left(trail.domain_before(place), lit)
+                    && let Some(value) = value_of(trail, number)
                 {
                     self.keep_value(number, value);
                 }

@@ -8,7 +8,7 @@
 //! Contracts see the number of variables and of decisions alone. All else steers: the order of the annotations, the activity of
 //! comparisons and of variables, the values that variables had last and in the last solution, what values cost. None of it is trusted; a
 //! decision is tested on the trail, so only its use is at stake. No decision passes over all variables: what may be open stands in
-//! heaps, which lose what is met fixed and get it back as it is undone.
+//! heaps and among ranks, which lose what is met fixed and get it back as it is undone.
 #![tactic(auto)]
 
 pub use choice::Choice;
@@ -20,5 +20,6 @@ mod choice;
 mod guide;
 mod order;
 mod probes;
+mod ranks;
 mod restarts;
 mod search;

@@ -1,6 +1,7 @@
 // The order of the annotations.
 ghost use Rattle.std.specs.Prelude.{◌≡◌, length};
 
+use crate::ranks::Ranks;
 use fzn_activity::{Heap, Pool, Ties, open_domain};
 use fzn_domain::{Domain, Lit, Memory, VarId};
 use fzn_strategy::{Annotation, ValueChoice, VarChoice};
@@ -29,7 +30,7 @@ struct Group {
 #[derive(Drop)]
 pub struct Order {
     /// Those that may have more than one value.
-    open: Heap,
+    open: Ranks,
     groups: Vec<Group>,
     /// By variable.
     seats: Vec<Option<Seat>>,
@@ -49,7 +50,7 @@ impl Order {
         let mut seats = vec![in alloc; None; vars]?;
         let mut ranks = vec![in alloc; None; vars]?;
         let mut groups = Vec::new(alloc);
-        let mut rank = 0u64;
+        let mut rank: usize = 0;
         for annotation in annotations {
             let mut group = Group::new(alloc, annotation);
             for var in annotation.vars.as_slice() {
@@ -81,11 +82,11 @@ impl Order {
         requires { vars ≡ length trail.now.declared }
     {
         for _ in 0..self.open.len() {
-            let number = self.open.top()?;
+            let number = self.open.first()?;
             if open_domain(trail, vars, number).is_some() {
                 return Some(number);
             }
-            self.open.pop();
+            self.open.remove(number);
         }
         None
     }
@@ -115,9 +116,9 @@ impl Order {
         }
         self.noted = trail.len();
         for _ in 0..self.changed.len() {
-            if let Some(number) = self.changed.at(0) {
+            if let Some(ranked) = self.changed.at(0) {
                 self.changed.take(0);
-                self.look_at(trail, vars, number);
+                self.look_at(trail, vars, ranked.number);
             }
         }
     }
@@ -137,12 +138,12 @@ impl Order {
 
     /// How early the variable of this number, counted from 0, comes.
     pub fn rank(&self, number: usize) -> u64 {
-        self.open.tie(number)
+        self.open.rank(number) as u64
     }
 
     /// The variable of this number, counted from 0, may have more than one value again.
     pub fn set_free(&mut self, number: usize) {
-        self.open.put(number);
+        self.open.insert(number);
         let _ = self.changed.put(number);
     }
 
@@ -156,23 +157,23 @@ impl Order {
 fn all_in(alloc: Global, count: usize) -> Result<Pool, Memory> {
     let mut pool = Pool::new(alloc);
     for _ in 0..count {
-        let number = pool.grow()?;
+        let number = pool.grow(0)?;
         let _ = pool.put(number);
     }
     Ok(pool)
 }
 
 /// The variables by their ranks, and those without one after this many, by their numbers.
-fn ranked(alloc: Global, ranks: &[Option<u64>], count: u64) -> Result<Heap, Memory> {
-    let mut heap = Heap::new(alloc);
-    for number in 0..ranks.len() {
-        let rank = match ranks[number] {
+fn ranked(alloc: Global, given: &[Option<usize>], count: usize) -> Result<Ranks, Memory> {
+    let mut ranks = Vec::new(alloc);
+    for number in 0..given.len() {
+        let rank = match given[number] {
             Some(rank) => rank,
-            None => count.saturating_add(number as u64),
+            None => count.saturating_add(number),
         };
-        heap.grow(rank)?;
+        ranks.push(rank)?;
     }
-    Ok(heap)
+    Ranks::new(alloc, ranks, count.saturating_add(given.len()))
 }
 
 impl Group {
