@@ -24,7 +24,9 @@ pub fn first_uip(
     }
     replace_level_0(graph, marks)?;
     marks.settle()?;
-    told(alloc, graph, marks, conflict)
+    let learned = told(alloc, graph, marks, conflict)?;
+    marks.clear();
+    Ok(learned)
 }
 
 /// The clause that denies the kept entries, with all that is told of it.

@@ -70,13 +70,18 @@ impl Marks {
         }
     }
 
-    /// Takes all marks away, and makes room for the entries.
-    pub fn begin(&mut self, graph: &Implications) -> Result<(), Memory> {
+    /// Takes all marks away, which costs least while they are at hand.
+    pub fn clear(&mut self) {
         clear_at(&mut self.needs, &self.marked);
         clear_at(&mut self.needs, &self.rooted);
         self.marked.clear();
-        self.lower.clear();
         self.rooted.clear();
+    }
+
+    /// Takes all marks away, and makes room for the entries.
+    pub fn begin(&mut self, graph: &Implications) -> Result<(), Memory> {
+        self.clear();
+        self.lower.clear();
         self.equations.clear();
         self.open.begin(graph.trail.len())?;
         self.outcome.begin(graph)?;
@@ -229,7 +234,7 @@ impl Marks {
     #[inline(always)]
     fn add_behind(&mut self, graph: &Implications, place: usize, own: Lit) -> Result<(), Memory> {
         match self.needs.get(place) {
-            Some(need) if *need != own => {
+            Some(need) if *need != own && !implies(own, *need) => {
                 let need = *need;
                 self.causes.add_behind(graph, Cause { place, need })
             }

@@ -133,12 +133,16 @@ impl AllBounds {
         Walk::Open(at)
     }
 
-    /// Takes in the entries that are new. It answers `Err` where memory runs out, and what is known stays fit for use.
-    pub fn follow(&mut self, graph: &Implications) -> Result<(), Memory> {
-        for place in self.list.len()..graph.trail.len() {
-            let bounds = self.bounds_at(graph, place);
-            self.list.push(bounds)?;
-        }
+    /// Of how many entries, the first, they are known.
+    pub fn len(&self) -> usize {
+        self.list.len()
+    }
+
+    /// Takes in the next entry, which is at this place. It answers `Err` where memory runs out, and what is known stays fit for use.
+    #[inline(always)]
+    pub fn take_in(&mut self, graph: &Implications, place: usize) -> Result<(), Memory> {
+        let bounds = self.bounds_at(graph, place);
+        self.list.push(bounds)?;
         Ok(())
     }
 

@@ -1,6 +1,7 @@
 // Which entries of a trail made literals false.
 
 use crate::gaps::{Gap, Gaps};
+use crate::holes::Row;
 use crate::implications::Implications;
 use crate::implied::{canonical, implies, opposite};
 use crate::orders::{NEAR, Orders};
@@ -147,14 +148,16 @@ impl Causes {
         Ok(())
     }
 
-    /// The entry that made a literal false, with the bound that is needed of it, where both are found on a short way. What
+    /// The entry that made a literal false, with the literal that is needed of it, where it is one entry, and found on a short way. What
     /// stands behind an entry of level 0 is not told.
     #[inline(always)]
     pub fn sole(&self, graph: &Implications, lit: Lit) -> Option<Cause> {
-        let declared = graph.declared(lit.var)?;
-        let need = bound_against(lit, declared)?;
-        let last = graph.last_of(lit.var)?;
-        let place = self.orders.soon_true(need, last)?;
+        let row = self.orders.row(lit.var);
+        let need = truth_against(lit, &row)?;
+        if !row.has(graph, need) {
+            return None;
+        }
+        let place = self.orders.soon_true(graph, need)?;
         Some(Cause { place, need })
     }
 
@@ -391,6 +394,11 @@ impl Causes {
             Some(root) => root,
             None => declared,
         };
+        if let Some(entry) = graph.entry(place)
+            && self.orders.row(entry.lit.var).is_noted()
+        {
+            return self.find_taken_out(graph, members, place, crossing);
+        }
         let missing = count_between(members, crossing.from, crossing.until, graph.trail.len());
         let count = self.found.len();
         if self.walk_taken_out(graph, members, place, crossing, missing, NEAR)? {
@@ -438,7 +446,7 @@ impl Causes {
         Ok(missing == 0)
     }
 
-    /// Adds the entries before this one that took out a member that was crossed, each found by halves.
+    /// Adds the entries before this one that took out a member that was crossed, each found by itself.
     fn find_taken_out(
         &mut self,
         graph: &Implications,
@@ -461,8 +469,8 @@ impl Causes {
                 op: Op::NotEqual,
                 value,
             };
-            if let Some(found) = self.orders.first_by_halves(graph, need, last)?
-                && graph.is_at(found, need)
+            if let Some(found) = self.orders.taken_out_by(graph, need, last)?
+                && found <= last
             {
                 self.taken_out.push((found, value))?;
             }
@@ -484,41 +492,22 @@ impl Causes {
     }
 }
 
-/// The bound that is true, over the declared set, where the literal is false, if it names the literal's number or one next to it, and that
-/// is a member.
+/// The literal that is true where the other one is false, which names its number or one next to it, where it is no equation: at an end of the
+/// declared set a bound.
 #[inline(always)]
-fn bound_against(lit: Lit, declared: &Domain) -> Option<Lit> {
-    let (is_lower, step) = match lit.op {
-        Op::Equal | Op::NotEqual => end_against(lit, declared)?,
-        _ => (lit.op == Op::AtMost, 1),
+fn truth_against(lit: Lit, row: &Row) -> Option<Lit> {
+    let value = lit.value;
+    let (op, value) = match lit.op {
+        Op::AtMost => (Op::AtLeast, value.saturating_add(1)),
+        Op::AtLeast => (Op::AtMost, value.saturating_sub(1)),
+        Op::Equal if value <= row.low => (Op::AtLeast, value.saturating_add(1)),
+        Op::Equal if row.high <= value => (Op::AtMost, value.saturating_sub(1)),
+        Op::Equal => (Op::NotEqual, value),
+        Op::NotEqual if value <= row.low => (Op::AtMost, value),
+        Op::NotEqual if row.high <= value => (Op::AtLeast, value),
+        Op::NotEqual => return None,
     };
-    let number = if is_lower {
-        lit.value.saturating_add(step)
-    } else {
-        lit.value.saturating_sub(step)
-    };
-    if !declared.contains(number) {
-        return None;
-    }
-    Some(Lit {
-        var: lit.var,
-        op: if is_lower { Op::AtLeast } else { Op::AtMost },
-        value: number,
-    })
-}
-
-/// The same of an equation or an inequality at an end of the set: whether the bound is a lower one, and how far away it is.
-#[inline(always)]
-fn end_against(lit: Lit, declared: &Domain) -> Option<(bool, i64)> {
-    if declared.is_empty() {
-        return None;
-    }
-    let is_first = lit.value <= declared.min();
-    if !is_first && lit.value < declared.max() {
-        return None;
-    }
-    let is_equation = lit.op == Op::Equal;
-    Some((is_first == is_equation, if is_equation { 1 } else { 0 }))
+    Some(Lit { op, value, ..lit })
 }
 
 /// Whether the literal takes out a member that was crossed.

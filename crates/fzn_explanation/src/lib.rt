@@ -13,6 +13,7 @@ pub use implied::{canonical, implies, opposite};
 mod bounds;
 mod causes;
 mod gaps;
+mod holes;
 mod implications;
 mod implied;
 mod orders;

@@ -2,6 +2,7 @@
 // halves among all where that way is long.
 
 use crate::bounds::{AllBounds, End, Walk};
+use crate::holes::{Holes, Row};
 use crate::implications::Implications;
 use crate::implied::is_true_on;
 use fzn_domain::{Domain, Lit, Memory, Op, VarId};
@@ -19,6 +20,7 @@ pub struct Orders {
     /// The places that are not in their order yet, last to first.
     fresh: Vec<usize>,
     bounds: AllBounds,
+    holes: Holes,
 }
 
 impl Orders {
@@ -29,6 +31,7 @@ impl Orders {
             orders: Vec::new(alloc),
             fresh: Vec::new(alloc),
             bounds: AllBounds::new(alloc),
+            holes: Holes::new(alloc),
         }
     }
 
@@ -36,6 +39,7 @@ impl Orders {
     pub fn clear(&mut self) {
         self.orders.clear();
         self.bounds.rewind(0);
+        self.holes.clear();
     }
 
     /// Only the first so many entries are sure to stand.
@@ -45,13 +49,24 @@ impl Orders {
 
     /// Takes in the entries that are new. It answers `Err` where memory runs out, and what is known stays fit for use.
     pub fn take_in(&mut self, graph: &Implications) -> Result<(), Memory> {
-        self.bounds.follow(graph)
+        self.holes.number_all(graph)?;
+        for place in self.bounds.len()..graph.trail.len() {
+            self.holes.note(graph, place);
+            self.bounds.take_in(graph, place)?;
+        }
+        Ok(())
     }
 
-    /// The entry that made a bound true, from this one on its variable down, where that is found on a short way.
+    /// The declared set of a variable.
     #[inline(always)]
-    pub fn soon_true(&self, bound: Lit, last: usize) -> Option<usize> {
-        match self.bounds.walk_to(End::of(bound), last, NEAR) {
+    pub fn row(&self, var: VarId) -> Row {
+        self.holes.row(var)
+    }
+
+    /// The entry that made a literal true, which is no equation, where that is found on a short way.
+    #[inline(always)]
+    pub fn soon_true(&self, graph: &Implications, truth: Lit) -> Option<usize> {
+        match self.walk_back(graph, truth, graph.last_of(truth.var)?, NEAR) {
             Walk::Found(found) => found,
             Walk::Open(_) => None,
         }
@@ -114,16 +129,38 @@ impl Orders {
         last: usize,
         most: usize,
     ) -> Walk {
+        let row = self.holes.row(truth.var);
+        if let Some(place) = self.holes.taken_out_by(graph, row, truth) {
+            return Walk::Found(Some(place));
+        }
         match self.bounds.walk_within(truth.value, last, most) {
-            Walk::Found(Some(at)) if is_true_before(graph, at, truth) => {
+            Walk::Found(Some(at)) if !row.is_noted() && is_true_before(graph, at, truth) => {
                 walk_to(graph, truth, at, most)
             }
             ended => ended,
         }
     }
 
+    /// The entry that asserts an inequality, if one stands; where that is not noted, it is looked for by halves from this entry on its
+    /// variable down. It answers `Err` where memory runs out, and what is known stays fit for use.
+    pub fn taken_out_by(
+        &mut self,
+        graph: &Implications,
+        inequality: Lit,
+        last: usize,
+    ) -> Result<Option<usize>, Memory> {
+        let row = self.holes.row(inequality.var);
+        if row.is_noted() {
+            return Ok(self.holes.taken_out_by(graph, row, inequality));
+        }
+        match self.first_by_halves(graph, inequality, last)? {
+            Some(found) if graph.is_at(found, inequality) => Ok(Some(found)),
+            _ => Ok(None),
+        }
+    }
+
     /// The same by halves alone; none too where it isn't found in that way.
-    pub fn first_by_halves(
+    fn first_by_halves(
         &mut self,
         graph: &Implications,
         truth: Lit,
