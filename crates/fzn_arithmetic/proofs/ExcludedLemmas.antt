@@ -108,24 +108,22 @@ absolute_sides (negsuc n) = inr (grind (arith, ints))
 
 -- ---- terms that lie in such intervals
 
+-- so do the least and the greatest value of such a term
+ends_inside : (sets : List IntSet) (term : Term) (interval : Interval) → is_some_empty sets ≡ false → IsTerm (length sets) term → LiesIn sets term interval → IsIn interval (least_value sets term) × IsIn interval (greatest_value sets term)
+ends_inside sets term interval filled fits inside = let ends = MayBe-ends sets term filled fits in (inside _ ends.0, inside _ ends.1)
+
 module _ (sets : List IntSet) (left right of : Term) (l r o : Interval) (filled : is_some_empty sets ≡ false) (in_l : LiesIn sets left l) (in_r : LiesIn sets right r) (in_o : LiesIn sets of o) where
   met_product : IsTerm (length sets) left → IsTerm (length sets) right → IsTerm (length sets) of → IsProductBeyond l r o → IsMet (constraint.Arithmetic operation.Times left right of) sets rule.Box
   unfolding IsMet IsBoxMet
   met_product first second third beyond =
-      let x = MayBe-ends sets left filled first in
-      let y = MayBe-ends sets right filled second in
-      let z = MayBe-ends sets of filled third in
-      let x0 = in_l (least_value sets left) x.0 in
-      let x1 = in_l (greatest_value sets left) x.1 in
-      let y0 = in_r (least_value sets right) y.0 in
-      let y1 = in_r (greatest_value sets right) y.1 in
-      let z0 = in_o (least_value sets of) z.0 in
-      let z1 = in_o (greatest_value sets of) z.1 in
+      let x = ends_inside sets left l filled first in_l in
+      let y = ends_inside sets right r filled second in_r in
+      let z = ends_inside sets of o filled third in_o in
       elim beyond [
         | inl above ↦ inl (All-from_recursion (λ (product : ℤ). greatest_value sets of <ℤ product) (corners sets left right)
-            (exceeds _ (above _ _ x0 y0) z1.1, (exceeds _ (above _ _ x0 y1) z1.1, (exceeds _ (above _ _ x1 y0) z1.1, (exceeds _ (above _ _ x1 y1) z1.1, tt)))))
+            (exceeds _ (above _ _ x.0 y.0) z.1.1, (exceeds _ (above _ _ x.0 y.1) z.1.1, (exceeds _ (above _ _ x.1 y.0) z.1.1, (exceeds _ (above _ _ x.1 y.1) z.1.1, tt)))))
         | inr below ↦ inr (All-from_recursion (λ (product : ℤ). product <ℤ least_value sets of) (corners sets left right)
-            (falls_short _ (below _ _ x0 y0) z0.0, (falls_short _ (below _ _ x0 y1) z0.0, (falls_short _ (below _ _ x1 y0) z0.0, (falls_short _ (below _ _ x1 y1) z0.0, tt)))))
+            (falls_short _ (below _ _ x.0 y.0) z.0.0, (falls_short _ (below _ _ x.0 y.1) z.0.0, (falls_short _ (below _ _ x.1 y.0) z.0.0, (falls_short _ (below _ _ x.1 y.1) z.0.0, tt)))))
       ]
     where
       exceeds : (p : ℤ) → o.high <ℤ p → greatest_value sets of ≤ℤ o.high → greatest_value sets of <ℤ p

@@ -127,7 +127,7 @@ fn image_at(shape: Shape, left: i64, right: i64) -> Image {
     match shape {
         Shape::Quotient => of_operation(Operation::Quotient, &left, &right),
         Shape::Remainder => of_operation(Operation::Remainder, &left, &right),
-        Shape::Product | Shape::Absolute => of_operation(Operation::Times, &left, &right), // Not asked.
+        _ => Image::Fails, // Not asked.
     }
 }
 

@@ -12,13 +12,13 @@ const LOOKS: usize = 4;
 /// Whether no values in the intervals seem to meet the constraint.
 pub fn seems_excluded(shape: Shape, left: Interval, right: Interval, of: Interval) -> bool {
     match shape {
-        Shape::Product | Shape::Absolute => is_excluded(shape, left, right, of),
         Shape::Quotient | Shape::Remainder => {
             left.is_limited()
                 && right.is_limited()
                 && of.is_limited()
                 && is_given_by_no_divisor(shape, left, right, of)
         }
+        _ => is_excluded(shape, left, right, of),
     }
 }
 
@@ -54,8 +54,8 @@ pub fn seem_beyond(shape: Shape, left: Interval, right: Interval, of: Interval) 
         return false;
     }
     match shape {
-        Shape::Product | Shape::Absolute => false,
         Shape::Quotient | Shape::Remainder => are_all_beyond(shape, left, right, of),
+        _ => false,
     }
 }
 
