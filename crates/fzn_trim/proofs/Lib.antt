@@ -3,6 +3,7 @@ mod ListLemmas
 mod ListingLemmas
 mod MarksLemmas
 mod NeededLemmas
+mod ShorterLemmas
 mod ShowsLemmas
 mod TrialLemmas
 mod TrimLemmas

@@ -1,8 +1,7 @@
 -- Why an answer follows from the constraints of the model that are needed for those which its steps infer from.
-use Rattle.std.proofs.Common.{◌≡◌, ◌⊎◌, ◌↔◌, ℕ, zero, suc, ◌+◌, ◌-◌, ◌==◌, ◌<◌, ◌≤◌, Bool, true, false, List, [], ◌∷◌, ◌++◌, ℤ, length, drop, take, get_or, Option, Some, None, IfSome, slice_get, flat_map, refl, sym, ap, subst, ◌∙◌, inl, inr, arith}
+use Rattle.std.proofs.Common.{◌≡◌, ◌↔◌, ℕ, zero, suc, ◌+◌, ◌-◌, ◌==◌, ◌≤◌, Bool, true, false, List, [], ◌∷◌, ◌++◌, ℤ, length, drop, take, get_or, Option, None, IfSome, slice_get, refl, sym, ap, subst, ◌∙◌, inl, inr, arith}
 use Rattle.std.specs.Prelude.{Contains, if◌then◌else◌, slice_range}
-use Rattle.std.specs.List.{All, filter_map}
-use Rattle.std.proofs.lemmas.Bool.{cases_Bool}
+use Rattle.std.specs.List.{All}
 use Rattle.std.proofs.lemmas.List.{drop_all, length-append, length-map}
 use Rattle.std.proofs.lemmas.List.Elements.{All-contains, All-cons, All-nil, Contains-get_or}
 use Rattle.std.proofs.lemmas.Option.{slice_get_cases}
@@ -14,10 +13,9 @@ use Rattle.fzn_meaning.specs.Meaning.{Meets, IsWellFormedConstraint}
 use Rattle.fzn_meaning.specs.Solutions.{declared_sets, IsCovered, IsExhausted, IsSolution}
 use Rattle.fzn_derive.specs.declared.derivation.Derivation.{Derivation}
 use Rattle.fzn_cited.specs.Cited.{constraint_at}
-use Rattle.fzn_cited.specs.Cited.{AreMet}
 use Rattle.fzn_derive.specs.Derived.{cited}
 use Rattle.fzn_derive.proofs.DerivedLaws.{derived-Meets}
-use Rattle.fzn_head.specs.Extended.{with_constraint, IsDerivedOf, Extends}
+use Rattle.fzn_head.specs.Extended.{with_constraint, Extends}
 use Rattle.fzn_head.proofs.ExtendedLaws.{IsCitable, citable-after, with_constraints, only_constraints}
 use Rattle.fzn_trim.specs.Core.{only, IsNeeded}
 use Rattle.fzn_trim.proofs.ListLemmas.{flat-in, one-at, picked-contains}

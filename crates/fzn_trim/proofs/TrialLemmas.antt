@@ -1,9 +1,10 @@
 -- Steps that stand the test of a plan.
-use Rattle.std.proofs.Common.{◌≡◌, ℕ, ◌+◌, ◌<◌, ◌≤◌, List, [], ◌∷◌, ◌++◌, length, refl, sym, subst, ap, ◌∙◌, arith, ◌==◌, not, false}
+use Rattle.std.proofs.Common.{◌≡◌, ◌⊎◌, ℕ, ◌+◌, ◌<◌, ◌≤◌, List, [], ◌∷◌, ◌++◌, length, refl, sym, subst, ap, ◌∙◌, arith, inl, inr, ◌==◌, not, false}
 use Rattle.std.specs.Prelude.{slice_index}
 use Rattle.std.proofs.lemmas.List.Elements.{recursion_from_All}
 use Rattle.fzn_domain.specs.declared.literal.Lit.{Lit}
 use Rattle.fzn_meaning.specs.declared.model.Model.{Model}
+use Rattle.fzn_cert.specs.declared.step.Inference.{Inference}
 use Rattle.fzn_cert.specs.declared.step.Step.{Step}
 use Rattle.fzn_cert.specs.declared.step.Step.TheVariants.{Infer, Resolve, Solution, Delete}
 use Rattle.fzn_cert.specs.declared.step.Version.TheVariants.{Two}
@@ -28,11 +29,11 @@ deletion-spelled ids may =
     let some : 0 < length ids = grind (arith, parts.0) in
     (refl, some, recursion_from_All IsNumber ids may.0, IdsRise-from_test ids parts.1)
 
-pub renumbered-spelled : (numbers : List ℕ) (step : Step) → IsSpelled Two step → CitesNumbers (renumbered numbers step) → IsSpelled Two (renumbered numbers step)
-renumbered-spelled numbers (Infer it) spelled may = spelled
-renumbered-spelled numbers (Resolve clause ids) spelled may = (spelled.0, recursion_from_All IsNumber _ may)
-renumbered-spelled numbers (Solution values) spelled may = spelled
-renumbered-spelled numbers (Delete ids) spelled may = spelled
+pub renumbered-spelled : (constraints numbers : List ℕ) (step : Step) → IsSpelled Two step → CitesNumbers (renumbered constraints numbers step) → IsSpelled Two (renumbered constraints numbers step)
+renumbered-spelled constraints numbers (Infer it) spelled may = (may, spelled.1, spelled.2)
+renumbered-spelled constraints numbers (Resolve clause ids) spelled may = (spelled.0, recursion_from_All IsNumber _ may)
+renumbered-spelled constraints numbers (Solution values) spelled may = spelled
+renumbered-spelled constraints numbers (Delete ids) spelled may = spelled
 
 -- the line of a step from clauses begins so
 begins-so : (clause : List Lit) (ids : List ℕ) → slice_index (step_text (Resolve clause ids)) 0 ≡ 114
@@ -40,15 +41,24 @@ unfolding spaced
 begins-so [] ids = refl
 begins-so (lit ∷ clause) ids = refl
 
--- and each step of another line stays as it is
-pub stays : (numbers : List ℕ) (step : Step) (text : List ℕ) → text ≡ step_text step → (slice_index text 0 == 114) ≡ false → text ≡ step_text (renumbered numbers step)
-stays numbers (Infer it) text is test = is
-stays numbers (Resolve clause ids) text is test =
+-- and that of a step from a constraint so
+infers-so : (it : Inference) → slice_index (step_text (Infer it)) 0 ≡ 105
+unfolding spaced
+infers-so it = refl
+
+-- and each step of another line stays as it is, and of the second kind each where constraints keep their numbers
+pub stays : (constraints numbers : List ℕ) (step : Step) (text : List ℕ) → text ≡ step_text step → (slice_index text 0 == 114) ≡ false → ((slice_index text 0 == 105) ≡ false) ⊎ (constraints ≡ []) → text ≡ step_text (renumbered constraints numbers step)
+stays constraints numbers (Infer it) text is test (inl other) =
+    let first : slice_index text 0 ≡ 105 = ap (λ (t : List ℕ). slice_index t 0) is ∙ infers-so it in
+    let same : (105 == 105) ≡ false = subst (λ (n : ℕ). (n == 105) ≡ false) first other in
+    cc
+stays constraints numbers (Infer it) text is test (inr none) = subst (λ (cs : List ℕ). text ≡ step_text (renumbered cs numbers (Infer it))) (sym none) is
+stays constraints numbers (Resolve clause ids) text is test other =
     let first : slice_index text 0 ≡ 114 = ap (λ (t : List ℕ). slice_index t 0) is ∙ begins-so clause ids in
     let same : (114 == 114) ≡ false = subst (λ (n : ℕ). (n == 114) ≡ false) first test in
     cc
-stays numbers (Solution values) text is test = is
-stays numbers (Delete ids) text is test = is
+stays constraints numbers (Solution values) text is test other = is
+stays constraints numbers (Delete ids) text is test other = is
 
 -- ---- one line more
 

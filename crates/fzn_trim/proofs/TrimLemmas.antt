@@ -25,7 +25,7 @@ use Rattle.fzn_checker.specs.Held.{lines_to_end, IsCertificate, HoldsCertificate
 use Rattle.fzn_checker.specs.Opened.{IsHeadOf, IsInFront, plain, headed}
 use Rattle.fzn_checker.proofs.CallerLemmas.{certificate-accepted}
 use Rattle.fzn_trim.specs.declared.trimming.Trimmed.{Trimmed}
-use Rattle.fzn_trim.specs.Kept.{IsTrimOf}
+use Rattle.fzn_trim.specs.Kept.{IsTrimOf, IsTrimBehind}
 use Rattle.fzn_trim.specs.Trimmed.{Trims, IsTrimFault}
 use Rattle.fzn_trim.specs.Written.{front_of, head_text, IsWriteFault}
 use Rattle.fzn_trim.proofs.ShowsLemmas.{shows-of}
@@ -51,16 +51,27 @@ front-is model after (derivation ∷ later) wf formed head =
           ∙ append_assoc three_line (head_counts_line (head_for model (length read))) (derivation_lines read);
     })
 
+-- steps in place of those that are held stand behind the head of these
+pub behind-old : (model after : Model) (held : Held) (steps : List Step) (read : List Derivation) → IsWellFormed model → IsWellFormed after → IsHeadOf model after held.derivations.items → read ≡ held.derivations.items → IsTrimOf after held steps
+    → IsTrimBehind model (length after.constraints) held steps (front_of after read)
+behind-old model after held steps read wf formed head is trim = record {
+  left = after;
+  opens = front-is model after read wf formed (subst (IsHeadOf model after) (sym is) head);
+  few = omega arith;
+  trim = trim;
+}
+
 module _ (file cert : Option (List ℕ)) (model after : Model) (states : States file model) where
   -- the certificate of the steps that are left
-  pub trims-of : (held : Held) (kept : List Step) (read : List Derivation) (trimmed : Trimmed) → IsWellFormed model → IsWellFormed after → HoldsCertificate model after cert held → read ≡ held.derivations.items → IsTrimOf after held kept
-      → trimmed.steps ≡ length held.steps → trimmed.kept ≡ length kept → Trims file cert (front_of after read ++ lines_to_end kept held.closed) trimmed
-  trims-of held kept read trimmed wf formed is_held read_is trim steps count =
-      let bytes = front_of after read ++ lines_to_end kept held.closed in
-      let extends = is_held.derives.extends in
-      let new : IsCertificate model after Two (Some bytes) kept held.closed = record {
-        front = front_of after read;
-        opens = front-is model after read wf formed (subst (IsHeadOf model after) (sym read_is) is_held.derives);
+  pub trims-of : (held : Held) (kept : List Step) (front : List ℕ) (trimmed : Trimmed) → IsWellFormed model → IsWellFormed after → HoldsCertificate model after cert held → IsTrimBehind model (length after.constraints) held kept front
+      → trimmed.steps ≡ length held.steps → trimmed.kept ≡ length kept → Trims file cert (front ++ lines_to_end kept held.closed) trimmed
+  trims-of held kept front trimmed wf formed is_held behind steps count =
+      let bytes = front ++ lines_to_end kept held.closed in
+      let left = behind.left in
+      let trim = behind.trim in
+      let new : IsCertificate model left Two (Some bytes) kept held.closed = record {
+        front = front;
+        opens = behind.opens;
         spelled = trim.lines;
         text = refl;
       } in
@@ -70,8 +81,10 @@ module _ (file cert : Option (List ℕ)) (model after : Model) (states : States 
         closed = held.closed;
         shows = shows-of file cert model after states held wf formed is_held;
         verdict = subst (λ (found : List (List ℤ)). IsOutcomeOn model (Some bytes) (accepted found held.closed)) trim.found
-            (certificate-accepted model after Two (Some bytes) kept held.closed wf new trim.accepted trim.may_end);
+            (certificate-accepted model left Two (Some bytes) kept held.closed wf new trim.accepted trim.may_end);
         after = after;
+        left = left;
+        few = behind.few;
         version = is_held.version;
         steps = held.steps;
         old = is_held.certificate;

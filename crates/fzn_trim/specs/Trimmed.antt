@@ -17,21 +17,24 @@ use Rattle.fzn_checker.specs.Held.{IsCertificate}
 use Rattle.fzn_trim.specs.declared.trimming.Trimmed.{Trimmed}
 
 -- The file states a model, and the old certificate is accepted for it. The new bytes are a certificate that is accepted with the same
--- solutions and the same ending, and they have no more steps. Their steps are of version 2, behind a head that derives the same constraints.
+-- solutions and the same ending, and they have no more steps. Their steps are of version 2, behind a head that derives no more constraints
+-- where it derives any.
 pub record Trims (file cert : Option (List ℕ)) (bytes : List ℕ) (trimmed : Trimmed) : Type 0 where
   pub model : Model
   pub found : List (List ℤ)
   pub closed : Bool
   pub shows : Shows file cert model found closed
   pub verdict : IsOutcomeOf model bytes (accepted found closed)
-  -- the model with the constraints that the old certificate's head derives, and so does the new one's
+  -- the model with the constraints that the old certificate's head derives, and with those that the new one's derives, which are no more
   pub after : Model
+  pub left : Model
+  pub few : length left.constraints ≤ length after.constraints
   -- the steps of the old certificate, and those of the new one
   pub version : Version
   pub steps : List Step
   pub old : IsCertificate model after version cert steps closed
   pub kept : List Step
-  pub new : IsCertificate model after Two (Some bytes) kept closed
+  pub new : IsCertificate model left Two (Some bytes) kept closed
   pub fewer : length kept ≤ length steps
   pub counts : (trimmed.steps ≡ length steps) × (trimmed.kept ≡ length kept)
 

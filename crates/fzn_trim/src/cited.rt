@@ -67,7 +67,7 @@ fn numbers_in(alloc: Global, kept: &Kept) -> Result<Vec<u64>, Memory>
 }
 
 /// Puts the number of the constraint at the end, where the step infers from one.
-fn push_number(step: &Step, numbers: &mut Vec<u64>) -> Result<(), Memory>
+pub fn push_number(step: &Step, numbers: &mut Vec<u64>) -> Result<(), Memory>
     ensures { OnOk result (numbers.new.items ≡ numbers.old.items ++ filter_map inferred_from (step.now ∷ [])) }
 {
     match step {

@@ -9,12 +9,14 @@ use fzn_derive::Derivation;
 use fzn_domain::Memory;
 use std::alloc::Global;
 
-/// The derivations and the steps of a trimmed certificate, in order. The steps are made one by one from those of the old one, which alone are
-/// held.
+/// What stands in front of the steps of a trimmed certificate, and the steps, in order. These are made one by one from those of the old one,
+/// which alone are held.
 #[derive(Drop)]
 pub struct Kept {
-    /// How the head derives constraints, as in the old certificate; none where it has no head.
+    /// How the head of the old certificate derives constraints; none where it has no head.
     pub derivations: Vec<Derivation>,
+    /// The lines in front of the steps, where they are others than those of the old certificate.
+    pub front: Option<String>,
     /// The steps of the old certificate.
     pub held: Script,
     /// What is made of them, and none where they all stay as they are.

@@ -6,7 +6,7 @@ ghost use Rattle.fzn_meaning.specs.Meaning.{longest};
 ghost use Rattle.fzn_row.specs.Derived.{cited_by, all_cited};
 ghost use Rattle.fzn_derive.specs.Derived.{cited};
 ghost use Rattle.fzn_trim.specs.Core.{IsNeeded};
-ghost use Rattle.fzn_trim.specs.Marks.{mark_at, HasMore};
+ghost use Rattle.fzn_trim.specs.Marks.{mark_at, AreMarksOf, HasMore};
 
 use fzn_cited::Multiple;
 use fzn_derive::Derivation;
@@ -26,6 +26,22 @@ pub fn needed_numbers(
     ensures needed { IfOk result (λ found. (number : ℕ) → Contains found.items number ↔ ((1 ≤ number) × (number ≤ own) × IsNeeded own derivations.now numbers.now number)) }
     ensures rising { IfOk result (λ found. IsStrictlyIncreasing found.items) }
 {
+    let marks = needed_marks(alloc, own, derivations, numbers)?;
+    marked_numbers(alloc, own, marks.as_slice())
+}
+
+/// A mark at the number of each constraint that is needed for those with these numbers, where the first of the derivations gives the
+/// constraint behind number `own`. It answers `Err` where memory runs out.
+pub fn needed_marks(
+    alloc: Global,
+    own: usize,
+    derivations: &[Derivation],
+    numbers: &[u64],
+) -> Result<Vec<bool>, Memory>
+    requires few { own + length derivations.now ≤ longest }
+    ensures len { IfOk result (λ marks. length marks.items ≡ own + length derivations.now + 1) }
+    ensures needed { IfOk result (λ marks. AreMarksOf (IsNeeded own derivations.now numbers.now) marks.items) }
+{
     let mut marks = Vec::from_elem(alloc, false, own + derivations.len() + 1)?;
     mark_all(&mut marks, numbers);
     let mut place = derivations.len();
@@ -35,7 +51,7 @@ pub fn needed_numbers(
             mark_cited(&mut marks, &derivations[place]);
         }
     }
-    marked_numbers(alloc, own, marks.as_slice())
+    Ok(marks)
 }
 
 /// The numbers from 1 to `own` that are marked.

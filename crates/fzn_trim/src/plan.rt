@@ -1,12 +1,12 @@
 // Which steps of a certificate its answer rests on. Nothing is promised of what is found here: whoever takes it tests the steps of its lines.
-ghost use Rattle.std.specs.Prelude.{◌≡◌, ◌==◌, ◌-◌, ℕ, List, [], length, map, slice_get, slice_index, unwrap_or, IfOk, IfSome};
+ghost use Rattle.std.specs.Prelude.{◌≡◌, ◌⊎◌, ◌==◌, ◌-◌, ℕ, List, [], false, length, map, slice_get, slice_index, unwrap_or, IfOk, IfSome};
 ghost use Rattle.fzn_cert.specs.declared.step.Step.{Step};
 ghost use Rattle.fzn_cert.specs.declared.step.Step.TheVariants.{Delete};
 ghost use Rattle.fzn_cert.specs.declared.step.Version.TheVariants.{Two};
 ghost use Rattle.fzn_cert.specs.Spelling.{step_text, IsSpelled};
-ghost use Rattle.fzn_trim.specs.Planned.{new_number, renumbered, planned_step, planned, CitesNumbers};
+ghost use Rattle.fzn_trim.specs.Planned.{new_constraint, new_number, renumbered, planned_step, planned, CitesNumbers};
 
-use fzn_cert::Step;
+use fzn_cert::{Inference, Step};
 use fzn_cert_reader::Script;
 use fzn_checker::Held;
 use fzn_domain::Memory;
@@ -36,6 +36,9 @@ pub struct Plan {
     pub numbers: Vec<u64>,
     /// The numbers of the lines whose clauses each deletion gives up.
     pub deletions: Vec<Items<u64>>,
+    /// The new number of each constraint from the first on, and 0 of one that has none any more. Constraints behind the last of these keep
+    /// their numbers.
+    pub constraints: Vec<u64>,
 }
 
 impl Plan {
@@ -56,12 +59,13 @@ impl Plan {
         }
     }
 
-    /// The text of a line that stays as it is, without its line feed; none of one that cites clauses, and of a deletion that the plan adds.
+    /// The text of a line that stays as it is, without its line feed; none of one that cites clauses, of one from a constraint where
+    /// constraints have new numbers, and of a deletion that the plan adds.
     pub fn unchanged<'a>(&self, held: &'a Script, line: Line) -> Option<&'a [u8]>
         ensures { IfSome result (λ text. text.now ≡ step_text (planned_step self.now held.now line)) }
     {
         match line {
-            Line::Keep { place } => line_without_ids(held, place),
+            Line::Keep { place } => line_that_stays(held, place, &self.constraints),
             Line::Deletion { .. } => None,
         }
     }
@@ -75,7 +79,7 @@ impl Plan {
         match line {
             Line::Keep { place } => match held.get(alloc, place)? {
                 None => Ok(nothing(alloc)),
-                Some(step) => renumbered(alloc, step, &self.numbers),
+                Some(step) => renumbered(alloc, step, &self.constraints, &self.numbers),
             },
             Line::Deletion { place } => match self.deletions.get(place) {
                 None => Ok(nothing(alloc)),
@@ -85,8 +89,8 @@ impl Plan {
     }
 }
 
-/// The lines of a certificate with all solutions of this one, and those of its other steps that its first empty clause rests on. It
-/// answers `Err` where memory runs out.
+/// The lines of a certificate with all solutions of this one, and those of its other steps that its first empty clause rests on; all
+/// constraints keep their numbers. It answers `Err` where memory runs out.
 pub fn planned_lines(alloc: Global, model: &Model, held: &Held) -> Result<Plan, Memory> {
     let citations = Citations::of(alloc, model, &held.steps)?;
     let needed = needed_steps(alloc, &citations, held.closed)?;
@@ -104,19 +108,28 @@ pub fn planned_lines(alloc: Global, model: &Model, held: &Held) -> Result<Plan, 
         lines: writing.lines,
         numbers: writing.numbers,
         deletions: writing.deletions,
+        constraints: Vec::new(alloc),
     })
 }
 
-/// The text of the held step at this place, without its line feed, where it cites no clauses.
-fn line_without_ids(held: &Script, place: usize) -> Option<&[u8]>
-    ensures { IfSome result (λ text. (numbers : List ℕ) → text.now ≡ step_text (renumbered numbers (unwrap_or (slice_get held.now place) (Delete [])))) }
+/// The text of the held step at this place, without its line feed, where it cites no clauses, and no constraint that may have a new number.
+fn line_that_stays<'a>(held: &'a Script, place: usize, constraints: &[u64]) -> Option<&'a [u8]>
+    ensures { IfSome result (λ text. (numbers : List ℕ) → text.now ≡ step_text (renumbered constraints.now numbers (unwrap_or (slice_get held.now place) (Delete [])))) }
 {
     let text = held.line(place)?;
-    if is_resolution(text) {
+    if is_renumbered(text, constraints) {
         None
     } else {
         Some(text)
     }
+}
+
+/// Whether a line is one of a step from clauses, or from a constraint where constraints have new numbers.
+fn is_renumbered(line: &[u8], constraints: &[u64]) -> bool
+    ensures resolution { result ≡ false → (slice_index line.now 0 == 114) ≡ false }
+    ensures inference { result ≡ false → ((slice_index line.now 0 == 105) ≡ false) ⊎ (constraints.now ≡ []) }
+{
+    is_resolution(line) || (is_inference(line) && !constraints.is_empty())
 }
 
 /// Whether a line is one of a step from clauses.
@@ -124,6 +137,13 @@ fn is_resolution(line: &[u8]) -> bool
     ensures { result ≡ (slice_index line.now 0 == 114) }
 {
     !line.is_empty() && line[0] == b'r'
+}
+
+/// Whether a line is one of a step from a constraint.
+fn is_inference(line: &[u8]) -> bool
+    ensures { result ≡ (slice_index line.now 0 == 105) }
+{
+    !line.is_empty() && line[0] == b'i'
 }
 
 /// A deletion of nothing.
@@ -143,11 +163,21 @@ fn deletion(alloc: Global, ids: &[u64]) -> Result<Step, Memory>
     Ok(Step::Delete { ids })
 }
 
-/// The step with the new numbers of the clauses that it cites.
-fn renumbered(alloc: Global, step: Step, numbers: &[u64]) -> Result<Step, Memory>
-    ensures { IfOk result (λ new. new ≡ renumbered numbers.now step) }
+/// The step with the new numbers of the constraint and of the clauses that it cites.
+fn renumbered(
+    alloc: Global,
+    step: Step,
+    constraints: &[u64],
+    numbers: &[u64],
+) -> Result<Step, Memory>
+    ensures { IfOk result (λ new. new ≡ renumbered constraints.now numbers.now step) }
 {
     match step {
+        Step::Infer(inference) => Ok(Step::Infer(Inference {
+            constraint: new_constraint(constraints, inference.constraint),
+            rule: inference.rule,
+            clause: inference.clause,
+        })),
         Step::Resolve { clause, ids } => {
             let ids = new_numbers(alloc, numbers, ids.as_slice())?;
             Ok(Step::Resolve { clause, ids })
@@ -173,6 +203,16 @@ fn new_number(numbers: &[u64], id: u64) -> u64
     match numbers.get(place_of(id)) {
         Some(number) => *number,
         None => 0,
+    }
+}
+
+/// The new number of the constraint with this one.
+pub fn new_constraint(constraints: &[u64], number: u64) -> u64
+    ensures { result ≡ new_constraint constraints.now number }
+{
+    match constraints.get(place_of(number)) {
+        Some(new) => *new,
+        None => number,
     }
 }
 
@@ -286,7 +326,7 @@ fn mark(needed: &mut [bool], place: usize) {
     }
 }
 
-fn is_marked(needed: &[bool], place: usize) -> bool {
+pub fn is_marked(needed: &[bool], place: usize) -> bool {
     match needed.get(place) {
         Some(is_needed) => *is_needed,
         None => false,

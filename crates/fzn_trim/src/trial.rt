@@ -1,5 +1,5 @@
 // The test of a plan: the steps of its lines have to be accepted, with the same answer, and may be no more.
-ghost use Rattle.std.specs.Prelude.{◌≡◌, ◌∷◌, ◌++◌, [], List, length, IfOk, IsTrue};
+ghost use Rattle.std.specs.Prelude.{◌≡◌, ◌∷◌, ◌++◌, [], List, length, None, IfOk, IsTrue};
 ghost use Rattle.std.specs.Bool.{OnTrue};
 ghost use Rattle.std.specs.List.{All};
 ghost use Rattle.fzn_meaning.specs.WellFormed.{IsWellFormed};
@@ -21,8 +21,8 @@ use fzn_list::Items;
 use fzn_meaning::Model;
 use std::alloc::Global;
 
-/// The steps of a trimmed certificate: those of the plan where they stand the test, and else those that are held; and the derivations that
-/// are held. It answers `Err` where memory runs out.
+/// The steps of a trimmed certificate behind the head that is held: those of a plan where they stand the test, and else those that are held;
+/// and the derivations that are held. It answers `Err` where memory runs out.
 pub fn trimmed_steps(alloc: Global, model: &Model, held: Held) -> Result<Kept, Memory>
     requires model { IsWellFormed model.now }
     requires stands { Stands model.now held }
@@ -31,23 +31,38 @@ pub fn trimmed_steps(alloc: Global, model: &Model, held: Held) -> Result<Kept, M
     ensures derivations { IfOk result (λ kept. kept.derivations.items ≡ held.derivations.items) }
 {
     let plan = planned_lines(alloc, model, &held)?;
+    tested_steps(alloc, model, held, plan)
+}
+
+/// The steps of this plan where they stand the test, and else those that are held; and the derivations that are held. It answers `Err` where
+/// memory runs out.
+pub fn tested_steps(alloc: Global, model: &Model, held: Held, plan: Plan) -> Result<Kept, Memory>
+    requires model { IsWellFormed model.now }
+    requires stands { Stands model.now held }
+    requires lines { AllHaveLines Two 0 held.steps }
+    ensures steps { IfOk result (λ kept. IsTrimOf model.now held (kept_steps kept)) }
+    ensures derivations { IfOk result (λ kept. kept.derivations.items ≡ held.derivations.items) }
+    ensures front { IfOk result (λ kept. kept.front ≡ None) }
+{
     if is_trim(alloc, model, &held, &plan)? {
         Ok(Kept {
             derivations: held.derivations,
             held: held.steps,
+            front: None,
             plan: Some(plan),
         })
     } else {
         Ok(Kept {
             derivations: held.derivations,
             held: held.steps,
+            front: None,
             plan: None,
         })
     }
 }
 
-/// Whether the steps of the plan are accepted with the same answer, and are no more.
-fn is_trim(alloc: Global, model: &Model, held: &Held, plan: &Plan) -> Result<bool, Memory>
+/// Whether the steps of the plan are accepted for the model with the same answer, and are no more.
+pub fn is_trim(alloc: Global, model: &Model, held: &Held, plan: &Plan) -> Result<bool, Memory>
     requires { IsWellFormed model.now }
     ensures { IfOk result (λ is_trim. OnTrue is_trim (IsTrimOf model.now held.now (planned plan.now held.now.steps))) }
 {
@@ -91,11 +106,12 @@ fn takes(
     }
 }
 
-/// Whether the clauses that a step cites have numbers, and those of a deletion are some and rise.
+/// Whether the constraint and the clauses that a step cites have numbers, and those of a deletion are some and rise.
 fn may_stand(step: &Step) -> bool
     ensures { IsTrue result → CitesNumbers step.now }
 {
     match step {
+        Step::Infer(inference) => is_number(inference.constraint),
         Step::Resolve { ids, .. } => are_numbers(ids.as_slice()),
         Step::Delete { ids } => are_numbers(ids.as_slice()) && is_deletion(ids.as_slice()),
         _ => true,
@@ -105,7 +121,14 @@ fn may_stand(step: &Step) -> bool
 fn are_numbers(ids: &[u64]) -> bool
     ensures { IsTrue result → All IsNumber ids.now }
 {
-    ids.iter().all(|id| 1 <= *id && *id <= LAST_STEP)
+    ids.iter().all(|id| is_number(*id))
+}
+
+/// From 1 on, of at most 18 digits.
+fn is_number(number: u64) -> bool
+    ensures { IsTrue result → IsNumber number }
+{
+    1 <= number && number <= LAST_STEP
 }
 
 /// How many bytes the line of the step has, without its line feed. It answers `Err` where memory runs out.

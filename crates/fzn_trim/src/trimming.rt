@@ -4,11 +4,11 @@ ghost use Rattle.fzn_cert_reader.specs.Reader.{progress, reader_below};
 ghost use Rattle.fzn_checker.specs.Checked.{IsUnread};
 ghost use Rattle.fzn_trim.specs.Trimmed.{IsTrimmed, IsTrimFault, IsTrimDue};
 
-use crate::trial::trimmed_steps;
+use crate::shorter::trimmed_certificate;
+use crate::stated::read_stated;
 use crate::write::write_certificate;
 use fzn_cert_reader::StepReader;
 use fzn_checker::{CheckFault, hold_certificate};
-use fzn_reading::read_model;
 use fzn_streams::{TrackedRead, TrackedReader, TrackedWrite, TrackedWriter};
 use std::alloc::Global;
 use std::io::{Read, Write};
@@ -23,12 +23,14 @@ pub struct Trimmed {
 }
 
 /// Checks the certificate of a file, and writes to `new` one that shows the same: with all its solutions, those of its other steps that its
-/// first empty clause rests on, and deletions. It has no more steps. Of an open answer the solutions alone are left. All constraints that
-/// the head of the old one derives, that of the new one derives too: it is of version 3 then, and else of version 2.
+/// first empty clause rests on, and deletions. It has no more steps. Of an open answer the solutions alone are left. Its head derives no more
+/// constraints: those that the steps need that are left, and those that these need. It is of version 3 where it derives any, and else of
+/// version 2.
 ///
 /// Nothing is written where it answers `File` with the first fault of the file, `Refused` with the first faulty line of the certificate, or
 /// `Read` where a read of either fails. It answers `Memory` where memory runs out, and `WriteCert` where a write or the flush of `new`
-/// fails; a beginning of the new certificate may stand then. All steps are held at once, as the text of their lines.
+/// fails; a beginning of the new certificate may stand then. All steps are held at once, as the text of their lines, and so is the file, which
+/// is read a second time from there for a head with fewer lines.
 pub fn trim<R: Read + Drop, C: Read + Drop, W: Write>(
     alloc: Global,
     file: R,
@@ -61,12 +63,12 @@ pub fn trim_tracked<R: TrackedRead, C: TrackedRead + Drop, W: TrackedWrite>(
     ensures due { IfErr result (IsTrimDue (R.has_failed file.new) (C.has_failed (reader_below cert.new)) (W.has_failed new.new)) }
     ensures same_stream { W.stream new.new ≡ W.stream new.old }
 {
-    let mut model = read_model(alloc, file)?;
-    let held = hold_certificate(alloc, &mut model, cert)?;
+    let mut stated = read_stated(alloc, file)?;
+    let held = hold_certificate(alloc, &mut stated.model, cert)?;
     let steps = held.steps.len();
     let closed = held.closed;
-    let kept = trimmed_steps(alloc, &model, held)?;
-    write_certificate(alloc, &model, &kept, closed, new)?;
+    let kept = trimmed_certificate(alloc, stated.bytes.as_slice(), &stated.model, held)?;
+    write_certificate(alloc, &stated.model, &kept, closed, new)?;
     Ok(Trimmed {
         steps,
         kept: kept.len(),

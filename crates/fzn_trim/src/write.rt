@@ -6,7 +6,7 @@ ghost use Rattle.fzn_cert.specs.Spelling.{end_line, header_text, step_line};
 ghost use Rattle.fzn_cert.specs.Verdict.{lines_of};
 ghost use Rattle.fzn_checker.specs.Held.{lines_to_end};
 ghost use Rattle.fzn_head.specs.Head.{three_line, head_counts_line, derivation_line, derivation_lines};
-ghost use Rattle.fzn_trim.specs.Kept.{kept_steps};
+ghost use Rattle.fzn_trim.specs.Kept.{kept_front, kept_steps};
 ghost use Rattle.fzn_trim.specs.Planned.{planned, planned_step};
 ghost use Rattle.fzn_trim.specs.Written.{front_text, front_of, head_text, IsWriteFault, IsWriteDue};
 
@@ -22,9 +22,9 @@ use fzn_meaning::Model;
 use fzn_streams::{TrackedWrite, WriteFailed, put};
 use std::alloc::Global;
 
-/// Writes a certificate with these derivations and steps and this ending, each step as it is made: one of version 3, or of version 2 where
-/// there are no derivations. The model has the constraints that they derive. It answers `Memory` where memory runs out, and `WriteCert` only
-/// where a write or the flush of `new` failed, and a beginning of the certificate stands then.
+/// Writes a certificate with these steps behind what stands in front of them, and this ending, each step as it is made. The model has the
+/// constraints that the held derivations give. It answers `Memory` where memory runs out, and `WriteCert` only where a write or the flush of
+/// `new` failed, and a beginning of the certificate stands then.
 #[tactic(auto, using(fzn_streams::proofs::CallerLemmas::puts))]
 pub fn write_certificate<W: TrackedWrite>(
     alloc: Global,
@@ -33,16 +33,49 @@ pub fn write_certificate<W: TrackedWrite>(
     closed: bool,
     new: &mut W,
 ) -> Result<(), CheckFault>
-    ensures text { Puts (W.contents new.old) (W.contents new.new) result (front_of model.now kept.now.derivations.items ++ lines_to_end (kept_steps kept.now) closed) }
+    ensures text { Puts (W.contents new.old) (W.contents new.new) result (kept_front model.now kept.now ++ lines_to_end (kept_steps kept.now) closed) }
     ensures fault { IfErr result IsWriteFault }
     ensures due { IfErr result (IsWriteDue (W.has_failed new.new)) }
     ensures same_stream { W.stream new.new ≡ W.stream new.old }
 {
-    let derivations = kept.derivations.as_slice();
+    put_kept_front(alloc, model, kept, new)?;
+    put_lines(alloc, kept, closed, new)
+}
+
+/// Writes what stands in front of the steps.
+fn put_kept_front<W: TrackedWrite>(
+    alloc: Global,
+    model: &Model,
+    kept: &Kept,
+    new: &mut W,
+) -> Result<(), CheckFault>
+    ensures text { Puts (W.contents new.old) (W.contents new.new) result (kept_front model.now kept.now) }
+    ensures fault { IfErr result IsWriteFault }
+    ensures due { IfErr result (IsWriteDue (W.has_failed new.new)) }
+    ensures same_stream { W.stream new.new ≡ W.stream new.old }
+{
+    match &kept.front {
+        Some(lines) => put_text(new, lines.as_bytes()),
+        None => put_old_front(alloc, model, kept.derivations.as_slice(), new),
+    }
+}
+
+/// Writes what stands in front of the steps of the old certificate: lines of version 3, or of version 2 where it derives nothing. The model has
+/// the constraints that these derivations give.
+fn put_old_front<W: TrackedWrite>(
+    alloc: Global,
+    model: &Model,
+    derivations: &[Derivation],
+    new: &mut W,
+) -> Result<(), CheckFault>
+    ensures text { Puts (W.contents new.old) (W.contents new.new) result (front_of model.now derivations.now) }
+    ensures fault { IfErr result IsWriteFault }
+    ensures due { IfErr result (IsWriteDue (W.has_failed new.new)) }
+    ensures same_stream { W.stream new.new ≡ W.stream new.old }
+{
     let variables = model.vars.len() as u64;
     let constraints = model.constraints.len().saturating_sub(derivations.len()) as u64;
-    put_front(alloc, variables, constraints, derivations, new)?;
-    put_lines(alloc, kept, closed, new)
+    put_front(alloc, variables, constraints, derivations, new)
 }
 
 /// Writes the lines of the steps and the last one, and flushes the writer.

@@ -1,4 +1,4 @@
-use Rattle.std.proofs.Common.{◌≡◌, ℕ, Vec, Global, true, false, ap, sym, ◌∙◌, append-nil}
+use Rattle.std.proofs.Common.{ℕ, Vec, Global, true, false, ap, sym, ◌∙◌, append-nil}
 use Rattle.fzn_trim.proofs.MarksLemmas.{listed-more}
 use Rattle.fzn_trim.proofs.needed.marked_numbers.Goals as goal
 use Rattle.fzn_trim.proofs.needed.marked_numbers.Goals.{then-marks-before+in_ok-push, else-marks-before}

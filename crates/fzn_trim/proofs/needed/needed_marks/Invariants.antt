@@ -1,7 +1,7 @@
 use Rattle.std.proofs.Common.{◌≡◌, ◌+◌, ◌≤◌, length, drop}
 use Rattle.fzn_trim.specs.Core.{IsNeeded}
 use Rattle.fzn_trim.specs.Marks.{AreMarksOf}
-use Rattle.fzn_trim.proofs.needed.needed_numbers.Given as goal
+use Rattle.fzn_trim.proofs.needed.needed_marks.Given as goal
 
 abbrev pub invariant-loop-place : goal.invariant-loop-place
 invariant-loop-place l = record {
