@@ -10,9 +10,10 @@ use fzn_trail::Trail;
 use std::alloc::Global;
 use std::collections::HashMap;
 
-/// So many values a variable has at most whose comparisons stand in a list, and so many all of these have together.
+/// The most values of a variable, from its least to its greatest, whose comparisons stand in the list.
 const WIDEST: usize = 1_024;
 
+/// The most values of all these variables together.
 const MOST: usize = 1_048_576;
 
 /// What tells a comparison from the others.
@@ -26,10 +27,11 @@ struct Key {
 /// Where the comparisons of a variable stand in the list.
 #[derive(Clone, Copy, Debug)]
 struct Row {
-    /// The least declared value, and how many follow one another from it on; 0 where the comparisons stand in none.
+    /// The least declared value.
     least: i64,
+    /// How many values there are from the least to the greatest; 0 where the comparisons do not stand in the list.
     width: usize,
-    /// How many values others have.
+    /// How many values of variables before this one the list has.
     first: usize,
 }
 

@@ -4,9 +4,10 @@ use crate::implications::Implications;
 use fzn_domain::{Domain, Lit, Memory, Op, VarId};
 use std::alloc::Global;
 
-/// So many values a variable has at most whose entries are noted, and so many all of these have together.
+/// The most values of a variable, from its least to its greatest, of which it is noted what took them out.
 const WIDEST: usize = 1_024;
 
+/// The most values of all these variables together.
 const MOST: usize = 1_048_576;
 
 /// No entry. So is the place of an entry behind all that fit in memory.
