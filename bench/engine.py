@@ -132,4 +132,5 @@ def main():
                     print(f'{name:10} {label:6} {spent:9.2f}' + ''.join(f' {count / spent:14.0f}' for count in counts), flush=True)
 
 
-main()
+if __name__ == '__main__':
+    main()
