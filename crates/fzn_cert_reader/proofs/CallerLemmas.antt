@@ -13,7 +13,6 @@ use Rattle.fzn_cert.specs.Stream.{IsFaultOf, After, line_of_fault}
 use Rattle.fzn_cert.proofs.CallerLemmas.{some_is}
 use Rattle.fzn_cert_reader.specs.Reader.{Progress, IsAtStart, IsNextFault, GivesStep, Ends, FindsFault, HasRead, lines_read, text_of, certificate_text}
 use Rattle.fzn_cert_reader.proofs.ReadLaws.{Consumes-then, Consumes_nothing}
-pub use Rattle.fzn_cert_reader.proofs.StepLaws.{IdsRise-from_test}
 
 none_some : (h : Header) → None ≡ Some h → ⊥
 none_some h e = cc

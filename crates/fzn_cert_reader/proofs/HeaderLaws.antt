@@ -14,9 +14,8 @@ use Rattle.fzn_cert.proofs.CallerLemmas.{and_true, some_is, counts_words, counts
 use Rattle.fzn_head.specs.declared.head.Head.{Head}
 use Rattle.fzn_head.specs.Head.{head_counts, head_of_words, IsSizedHead, IsHeadCountsText}
 use Rattle.fzn_head.proofs.HeadLaws.{head_counts_is, head_again, head_takes}
-use Rattle.fzn_cert_reader.proofs.OptionLaws.{bind_some, chosen}
-use Rattle.fzn_cert_reader.proofs.NumberLaws.{natural_takes}
-use Rattle.fzn_cert_reader.proofs.LineLaws.{spaced-words_of, false_true}
+use Rattle.fzn_cert_line.proofs.CallerLemmas.{spaced-words_of, natural_takes, bind_some, chosen}
+use Rattle.fzn_cert_reader.proofs.EndingLaws.{false_true}
 
 apart_from : (line : List ℕ) → bytes_eq line (codes "fzc 1") ≡ false → bytes_eq line (codes "fzc 2") ≡ false → (v : Version) → line ≡ version_text v → ⊥
 apart_from line h k One e = false_true (sym h ∙ (bytes_eq-Decides line (codes "fzc 1")).1 e)

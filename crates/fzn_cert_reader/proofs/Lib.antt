@@ -1,17 +1,6 @@
 pub mod CallerLemmas
-mod DerivationLaws
+mod EndingLaws
 mod HeaderLaws
-mod LineLaws
-mod LoopLaws
-mod MultipleLaws
-mod NumberLaws
-mod OptionLaws
 mod ReadLaws
-mod RiseLaws
-mod RowLaws
-mod RowLoops
 mod ScriptLaws
-mod SplitLaws
-mod StepLaws
 mod ToldLaws
-mod WordLaws

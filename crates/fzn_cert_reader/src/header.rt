@@ -6,9 +6,8 @@ ghost use Rattle.fzn_cert.specs.Reading.{words_of, counts_of};
 ghost use Rattle.fzn_head.specs.Head.{head_counts, head_of_words, IsSizedHead, IsFirstText, IsHeadCountsText};
 ghost use Rattle.fzn_cert_reader.specs.First.{first_text};
 
-use crate::number::natural_of;
-use crate::words::words_of;
 use fzn_cert::Version;
+use fzn_cert_line::{natural_of, words_of};
 use fzn_head::Head;
 
 /// What a first line says.

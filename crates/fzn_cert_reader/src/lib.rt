@@ -2,32 +2,22 @@
 //!
 //! In: a reader of bytes. Out: one step at a time, what the first and the last lines say, or the first faulty line and its fault; in
 //! version three what the lines of its head derive, one at a time, before the steps; from `StepLines` one line at a time, with its bytes.
-//! `Script` holds steps as the text of their lines, and `derivation_of_line` reads one line that derives a constraint. Proved against
-//! `specs/Reader.antt` (what one call takes of the bytes, and what is told of them), `specs/Opening.antt` (the same of the first two lines
-//! of whichever version and of a head), `specs/Script.antt`, `fzn_cert`'s `Spelling` (the one line of a step), `Derivations` (that of a
-//! derivation) and `Stream` (the fault of a line), and `fzn_head`'s `Head` (the lines of a head); within, `specs/Rows.antt` (an item of a
-//! row, up to the next one). Whether a step is accepted is not asked here.
+//! `Script` holds steps as the text of their lines. What one line spells is read by `fzn_cert_line`. Proved against `specs/Reader.antt`
+//! (what one call takes of the bytes, and what is told of them), `specs/Opening.antt` (the same of the first two lines of whichever version
+//! and of a head), `specs/Script.antt`, `fzn_cert`'s `Spelling` (the one line of a step) and `Stream` (the fault of a line), and
+//! `fzn_head`'s `Head` (the lines of a head). Whether a step is accepted is not asked here.
 #![tactic(auto)]
 
-pub use derivation::derivation_of_line;
 pub use header::FirstLine;
-pub use parse::{is_deletion, read_line};
 pub use reader::StepLines;
 pub use script::Script;
 pub use stream::{StepReader, line_of};
 
-mod derivation;
 mod ending;
 mod header;
 mod input;
 mod lines;
-mod literal;
-mod number;
 mod opening;
-mod parse;
 mod reader;
-mod row;
-mod rule;
 mod script;
 mod stream;
-mod words;

@@ -9,13 +9,12 @@ ghost use Rattle.fzn_cert_reader.specs.Told.{TakesNone, TakesEnd};
 ghost use Rattle.fzn_cert.specs.declared.fault.FaultKind.TheVariants.{Read, Trailing};
 ghost use Rattle.fzn_cert.specs.Stream.{IsFaultOf, IsTrailedBy, IsHeaderFaultOf, IsVersionText, IsCountsText};
 
-use crate::derivation::derivation_of_line;
 use crate::ending::closed_of_line;
 use crate::header::{FirstLine, counts_of_line, first_of_line, head_of_line, version_of_line};
 use crate::input::Bytes;
 use crate::lines::{LineEnd, next_line};
-use crate::parse::step_after;
 use fzn_cert::{FaultKind, Step, Version};
+use fzn_cert_line::{derivation_of_line, step_after};
 use fzn_derive::Derivation;
 use fzn_head::Head;
 use fzn_streams::{ReadFailed, TrackedRead};

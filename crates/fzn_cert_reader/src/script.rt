@@ -6,8 +6,8 @@ ghost use Rattle.fzn_cert.specs.Spelling.{step_text, IsSpelled};
 ghost use Rattle.fzn_cert.specs.Reading.{step_of};
 ghost use Rattle.fzn_cert.specs.Verdict.{lines_of};
 
-use crate::parse::read_line;
 use fzn_cert::{Step, Version, push_step};
+use fzn_cert_line::read_line;
 use fzn_domain::Memory;
 use std::alloc::{AllocError, Global};
 use std::marker::Model;

@@ -1,5 +1,5 @@
 use fzn_cert::{one_derivation, push_derivation};
-use fzn_cert_reader::derivation_of_line;
+use fzn_cert_line::derivation_of_line;
 use fzn_domain::Memory;
 use std::alloc::Global;
 use std::test::*;

@@ -3,7 +3,7 @@ ghost use Rattle.std.specs.Prelude.{◌≤◌, IfOk, IfSome};
 ghost use Rattle.fzn_hints.specs.Spelled.{HaveSolutionLine};
 
 use fzn_cert::{LINE_LIMIT, Step, Version};
-use fzn_cert_reader::read_line;
+use fzn_cert_line::read_line;
 use fzn_domain::Memory;
 use fzn_list::Items;
 use std::alloc::Global;

@@ -13,7 +13,7 @@ use Rattle.fzn_cert.specs.Reading.{ids_rise}
 use Rattle.fzn_cert.specs.Past.{StepsPast}
 use Rattle.fzn_cert.specs.Verdict.{AllHaveLines, MayEnd}
 use Rattle.fzn_cert.proofs.CallerLemmas.{and_true}
-use Rattle.fzn_cert_reader.proofs.CallerLemmas.{IdsRise-from_test}
+use Rattle.fzn_cert_line.proofs.CallerLemmas.{IdsRise-from_test}
 use Rattle.fzn_checker.specs.declared.hold.Held.{Held}
 use Rattle.fzn_checker.specs.declared.hold.Taken.{Taken}
 use Rattle.fzn_checker.specs.Held.{HasTaken, Stands}

@@ -1,6 +1,6 @@
 use Rattle.std.proofs.Common.{ℕ, List, sym, ap, ◌∙◌}
 use Rattle.std.specs.Str.{bytes_eq}
-use Rattle.fzn_cert_reader.proofs.LineLaws.{no_end}
+use Rattle.fzn_cert_reader.proofs.EndingLaws.{no_end}
 use Rattle.fzn_cert_reader.proofs.ending.closed_of_line.Goals as goal
 
 pub returns-else-eq-2-clause-none : goal.returns-else-eq-2-clause-none

@@ -1,5 +1,5 @@
 use Rattle.fzn_cert.specs.declared.step.Version.TheVariants.{Two}
-use Rattle.fzn_cert_reader.proofs.LineLaws.{found_step}
+use Rattle.fzn_cert_line.proofs.CallerLemmas.{found_step}
 use Rattle.fzn_cert_reader.proofs.script.Script.get.Goals as goal
 
 pub returns-in-Some-clause-spelled : goal.returns-in-Some-clause-spelled

@@ -1,5 +1,0 @@
-use Rattle.fzn_cert_reader.proofs.RowLoops.{IsReading}
-use Rattle.fzn_cert_reader.proofs.row.multiples_before_item.Given as goal
-
-abbrev pub invariant-loop-word : goal.invariant-loop-word
-invariant-loop-word l = IsReading l.multiples l.words l.initial.words

@@ -1,5 +1,0 @@
-use Rattle.fzn_cert_reader.proofs.RowLoops.{IsPricing}
-use Rattle.fzn_cert_reader.proofs.row.prices_before_item.Given as goal
-
-abbrev pub invariant-loop-word : goal.invariant-loop-word
-invariant-loop-word l = IsPricing l.prices l.words l.initial.words
