@@ -10,8 +10,8 @@ use Rattle.fzn_meaning.specs.Term.{IsPlace}
 use Rattle.fzn_meaning.specs.Meaning.{IsWellFormedConstraint}
 use Rattle.fzn_builtin_rules.specs.Form.{Form, Fits}
 use Rattle.fzn_builtin_rules.proofs.CallerLemmas.{form_fits}
-use Rattle.fzn_linear.specs.Opposite.{opposites}
-use Rattle.fzn_linear.proofs.CallerLemmas.{opposites_fit, opposites-twice, length-opposites}
+use Rattle.fzn_sum.specs.Opposite.{opposites}
+use Rattle.fzn_sum.proofs.CallerLemmas.{opposites_fit, opposites-twice, length-opposites}
 use Rattle.fzn_linear.specs.declared.form.SumForm.{SumForm}
 use Rattle.fzn_linear.specs.OppositeForm.{other_bound, opposite_form}
 use Rattle.fzn_linear.specs.Kinds.{form_of_sum, IsFormOf, IsSumReady}

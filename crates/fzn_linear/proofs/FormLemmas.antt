@@ -30,9 +30,9 @@ use Rattle.fzn_propagator.specs.Clause.{IsJustified}
 use Rattle.fzn_propagator.specs.Inference.{AllFixed, IsTight, IsInferredOut}
 use Rattle.fzn_propagator.specs.Barred.{IsToDiffer, LeavesNoBarred}
 use Rattle.fzn_propagator.proofs.CallerLemmas.{one_end, flat_cond, justified_by}
-use Rattle.fzn_linear.specs.Opposite.{opposites}
-use Rattle.fzn_linear.specs.Refuted.{LeavesSome, LeavesEach}
-use Rattle.fzn_linear.proofs.CallerLemmas.{total_le, none_barred_opposites, sum_at-opposites, opposites-twice, opposites_fit}
+use Rattle.fzn_sum.specs.Opposite.{opposites}
+use Rattle.fzn_sum.specs.Refuted.{LeavesSome, LeavesEach}
+use Rattle.fzn_sum.proofs.CallerLemmas.{total_le, none_barred_opposites, sum_at-opposites, opposites-twice, opposites_fit}
 use Rattle.fzn_linear.specs.OppositeForm.{other_comparison, other_bound}
 use Rattle.fzn_linear.specs.Sum.{IsFound, IsLeftAlone}
 use Rattle.fzn_linear.specs.Switched.{IsSwitchAt}

@@ -1,5 +1,5 @@
 -- What a pass adds to what was found.
-use Rattle.std.proofs.Common.{◌≡◌, ℕ, ◌+◌, Bool, true, false, List, get_or, refl, sym, subst, inl, inr, arith, Result, Ok, Err, Option, Some, None, IfNone, OnOk}
+use Rattle.std.proofs.Common.{◌≡◌, ℕ, ◌+◌, Bool, true, false, List, get_or, refl, sym, subst, inl, inr, arith, Result, Ok, Err, OnOk}
 use Rattle.std.specs.List.{AllWithin}
 use Rattle.std.proofs.lemmas.Bool.{cases_eq}
 use Rattle.fzn_domain.specs.IntSet.{IntSet}
@@ -12,7 +12,7 @@ use Rattle.fzn_builtin_rules.specs.declared.ends.Ends.{Ends}
 use Rattle.fzn_linear.specs.declared.form.SumForm.{SumForm}
 use Rattle.fzn_linear.specs.declared.pass.Pass.{Pass}
 use Rattle.fzn_linear.specs.declared.side.Side.{Side}
-use Rattle.fzn_linear.specs.Ends.{AreEnds}
+use Rattle.fzn_sum.specs.Ends.{AreEnds}
 use Rattle.fzn_linear.specs.Kinds.{form_of_sum, IsFormOf}
 use Rattle.fzn_linear.specs.Passes.{AddsInferences}
 use Rattle.fzn_linear.specs.Sum.{IsFormLeft, IsLeftAlone}
@@ -37,10 +37,6 @@ module _ (number : ℕ) (sum : SumForm) (trail : Levels) where
 pub ok_then : {T E P Q : Type 0} (result : Result T E) → OnOk result P → (P → Q) → OnOk result Q
 ok_then (Ok x) p f = f p
 ok_then (Err e) p f = tt
-
-pub none_then : {A : Type 0} (o : Option A) (P Q : Type 0) → (P → Q) → IfNone o P → IfNone o Q
-none_then None P Q f h = f h
-none_then (Some x) P Q f h = tt
 
 pub within_more : (P : Place → Type 0) (places : List Place) (i : ℕ) → AllWithin P places 0 i → ((d : Place) → P (get_or places i d)) → AllWithin P places 0 (i + 1)
 within_more P places i before here = λ k d after below. elim (cases_eq k i) [

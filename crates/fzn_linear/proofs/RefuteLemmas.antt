@@ -26,16 +26,16 @@ use Rattle.fzn_propagator.specs.Left.{IsLeft}
 use Rattle.fzn_propagator.proofs.CallerLemmas.{end_left, ends_ordered, last_fails, value_where_false, denied_one, may_fail, forcing_of_false, forcing_push}
 use Rattle.fzn_terms.proofs.ProductLemmas.{mono_up, mono_down}
 use Rattle.fzn_linear.specs.declared.form.SumForm.{SumForm}
-use Rattle.fzn_linear.specs.declared.inequality.Inequality.{Inequality}
+use Rattle.fzn_sum.specs.declared.inequality.Inequality.{Inequality}
 use Rattle.fzn_linear.specs.declared.side.Side.{Side}
-use Rattle.fzn_linear.specs.Explained.{Exceeds}
+use Rattle.fzn_sum.specs.Explained.{Exceeds}
 use Rattle.fzn_linear.specs.Kinds.{form_of_sum}
-use Rattle.fzn_linear.specs.Opposite.{opposites}
+use Rattle.fzn_sum.specs.Opposite.{opposites}
 use Rattle.fzn_linear.specs.OppositeForm.{other_comparison, other_bound}
 use Rattle.fzn_linear.specs.Passes.{IsInferredGuarded, IsBoundOfSide}
-use Rattle.fzn_linear.specs.Refuted.{RulesOut, IsSumConflict, IsRefutation}
+use Rattle.fzn_sum.specs.Refuted.{RulesOut, IsSumConflict, IsRefutation}
 use Rattle.fzn_linear.specs.Switched.{form_where, value_where, MayBeSwitchAt, IsSwitchFixed, guard_of}
-use Rattle.fzn_linear.proofs.CallerLemmas.{total_le, least_sum-opposites, greatest_sum-opposites, opposites_fit, rules_out-more}
+use Rattle.fzn_sum.proofs.CallerLemmas.{total_le, least_sum-opposites, greatest_sum-opposites, opposites_fit, rules_out-more}
 
 -- ---- the ends on the denied sets
 
@@ -207,11 +207,3 @@ module _ (side : Side) (part : Inequality) (trail_is : part.trail.now ≡ side.p
 pub as_sum : (P : Comparison → List Place → ℤ → Type 0) (sum : SumForm) (places : List Place) (bound : ℤ) → sum.comparison ≡ NotEqual → places ≡ sum.places → bound ≡ sum.bound → P NotEqual places bound → P sum.comparison sum.places sum.bound
 as_sum P sum places bound is places_are bound_is h =
     subst (λ (k : Comparison). P k sum.places sum.bound) (sym is) (subst (λ (ps : List Place). P NotEqual ps sum.bound) places_are (subst (λ (b : ℤ). P NotEqual places b) bound_is h))
-
--- a refutation of the opposite inequality refutes that the sum is the number
-pub refutes_below : (trail : Levels) (places : List Place) (number : ℤ) (part : Inequality) (clause : List Lit) → part.trail.now ≡ trail → part.places.now ≡ opposites places → part.bound ≡ pos 0 -ℤ number → IsRefutation part.trail.now AtMost part.places.now part.bound clause → IsRefutation trail Equal places number clause
-refutes_below trail places number part clause trail_is places_are bound_is refutes =
-    let a = subst (λ (t : Levels). IsRefutation t AtMost part.places.now part.bound clause) trail_is refutes in
-    let b = subst (λ (ps : List Place). IsRefutation trail AtMost ps part.bound clause) places_are a in
-    let there = subst (λ (z : ℤ). IsRefutation trail AtMost (opposites places) z clause) bound_is b in
-    record { forcing = there.forcing; rules_out = inr there.rules_out }

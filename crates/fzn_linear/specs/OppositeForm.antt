@@ -3,7 +3,7 @@ use Rattle.std.specs.Prelude.{ℤ, pos, ◌-ℤ◌}
 use Rattle.fzn_meaning.specs.declared.relation.Comparison.{Comparison}
 use Rattle.fzn_meaning.specs.declared.relation.Comparison.TheVariants.{AtMost, Equal, NotEqual}
 use Rattle.fzn_builtin_rules.specs.Form.{Form, form}
-use Rattle.fzn_linear.specs.Opposite.{opposites}
+use Rattle.fzn_sum.specs.Opposite.{opposites}
 
 abbrev pub other_comparison : Comparison → Comparison
 other_comparison AtMost = AtMost

@@ -5,12 +5,12 @@ use Rattle.fzn_meaning.specs.declared.constraint.Constraint.{Constraint}
 use Rattle.fzn_trail.specs.Levels.{Levels}
 use Rattle.fzn_propagator.specs.Inference.{Inference, AreFoundOf}
 use Rattle.fzn_linear.specs.declared.form.SumForm.{SumForm}
-use Rattle.fzn_linear.specs.declared.inequality.Inequality.{Inequality}
+use Rattle.fzn_sum.specs.declared.inequality.Inequality.{Inequality}
 use Rattle.fzn_linear.specs.declared.pass.Pass.{Pass}
 use Rattle.fzn_linear.specs.declared.side.Side.{Side}
-use Rattle.fzn_linear.specs.Explained.{Exceeds}
+use Rattle.fzn_sum.specs.Explained.{Exceeds}
 use Rattle.fzn_linear.specs.Kinds.{form_of_sum, IsFormOf}
-use Rattle.fzn_linear.specs.Refuted.{RulesOut}
+use Rattle.fzn_sum.specs.Refuted.{RulesOut}
 use Rattle.fzn_linear.specs.Sum.{IsFound}
 use Rattle.fzn_linear.specs.Switched.{guard_of}
 

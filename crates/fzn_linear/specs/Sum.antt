@@ -10,8 +10,8 @@ use Rattle.fzn_builtin_rules.specs.Form.{Form, IsFormMet}
 use Rattle.fzn_trail.specs.Levels.{Levels}
 use Rattle.fzn_terms.specs.Values.{IsTerm-prop}
 use Rattle.fzn_propagator.specs.Clause.{IsJustifiedBy}
-use Rattle.fzn_linear.specs.Opposite.{opposites}
-use Rattle.fzn_linear.specs.Refuted.{LeavesEach}
+use Rattle.fzn_sum.specs.Opposite.{opposites}
+use Rattle.fzn_sum.specs.Refuted.{LeavesEach}
 use Rattle.fzn_linear.specs.Switched.{form_where, IsSwitchAt}
 use Rattle.fzn_linear.specs.declared.form.SumForm.{SumForm}
 

@@ -2,7 +2,7 @@
 ghost use Rattle.std.specs.Prelude.{◌≡◌, IfOk};
 ghost use Rattle.std.specs.List.{All};
 ghost use Rattle.fzn_domain.specs.Limits.{IsSmall};
-ghost use Rattle.fzn_linear.specs.Opposite.{opposites};
+ghost use Rattle.fzn_sum.specs.Opposite.{opposites};
 ghost use Rattle.fzn_linear.specs.Kinds.{form_of_sum};
 ghost use Rattle.fzn_linear.specs.OppositeForm.{other_comparison, other_bound, opposite_form};
 

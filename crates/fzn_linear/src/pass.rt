@@ -4,13 +4,13 @@ ghost use Rattle.fzn_domain.specs.Narrow.{NoneEmpty};
 ghost use Rattle.fzn_linear.specs.Kinds.{IsSumReady, IsReady-prop};
 ghost use Rattle.fzn_linear.specs.Switched.{form_where, IsSwitchAt, MayBeSwitchAt, IsSwitchFixed};
 
-use crate::ends::{ends_of, turned};
 use crate::form::SumForm;
 use crate::side::Side;
 use fzn_builtin_rules::Ends;
 use fzn_domain::Memory;
 use fzn_meaning::Comparison;
 use fzn_propagator::Findings;
+use fzn_sum::{ends_of, turned};
 use fzn_terms::{greatest_of, is_fixed, least_of};
 use fzn_trail::Trail;
 use std::alloc::Global;
@@ -33,7 +33,7 @@ pub(crate) struct Pass<'a> {
 impl<'a> Pass<'a> {
     ghost use Rattle.std.specs.Prelude.{[]};
     ghost use Rattle.fzn_builtin_rules.specs.Linear.{least_sum};
-    ghost use Rattle.fzn_linear.specs.Ends.{AreEnds};
+    ghost use Rattle.fzn_sum.specs.Ends.{AreEnds};
     ghost use Rattle.fzn_linear.specs.Kinds.{form_of_sum};
     ghost use Rattle.fzn_linear.specs.Passes.{AddsFound};
     ghost use Rattle.fzn_linear.specs.Sum.{IsFormLeft, IsLeftAlone};

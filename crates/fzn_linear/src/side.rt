@@ -5,11 +5,7 @@ ghost use Rattle.fzn_linear.specs.Kinds.{form_of_sum};
 ghost use Rattle.fzn_linear.specs.Sum.{IsSumWithOpposite, IsSum-prop};
 ghost use Rattle.fzn_linear.specs.Switched.{form_where, MayBeSwitchAt, MayBeSwitchAt-prop, IsSwitchFixed, guard_of};
 
-use crate::at_most::{floors_of, refute_place};
-use crate::ends::ends_of;
 use crate::form::SumForm;
-use crate::inequality::Inequality;
-use crate::not_equal::{conflict_not_equal, refute_not_equal};
 use crate::pass::Pass;
 use fzn_builtin_rules::Ends;
 use fzn_domain::{Lit, Memory, Op};
@@ -17,6 +13,7 @@ use fzn_list::Items;
 use fzn_meaning::{Comparison, Term};
 use fzn_propagator::Findings;
 use fzn_rules::Rule;
+use fzn_sum::{Inequality, conflict_not_equal, ends_of, floors_of, refute_not_equal, refute_place};
 
 /// What has to hold in a pass where the switch has one value, which it may have.
 #[derive(Clone, Copy)]
@@ -36,7 +33,7 @@ pub(crate) struct Side<'a> {
 impl<'a> Side<'a> {
     ghost use Rattle.fzn_builtin_rules.specs.Linear.{least_sum};
     ghost use Rattle.fzn_propagator.specs.Inference.{IsTight};
-    ghost use Rattle.fzn_linear.specs.Ends.{AreEnds};
+    ghost use Rattle.fzn_sum.specs.Ends.{AreEnds};
     ghost use Rattle.fzn_linear.specs.Passes.{AddsFound, IsInferredGuarded, IsBoundOfSide};
     ghost use Rattle.fzn_linear.specs.Sum.{IsFormLeft};
 

@@ -1,5 +1,5 @@
 use Rattle.std.proofs.Common.{◌≡◌, take}
-use Rattle.fzn_linear.specs.Opposite.{opposites}
+use Rattle.fzn_sum.specs.Opposite.{opposites}
 use Rattle.fzn_linear.proofs.opposite.opposites.Given as goal
 
 abbrev pub invariant-loop-place : goal.invariant-loop-place

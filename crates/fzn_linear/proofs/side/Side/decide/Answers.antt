@@ -1,7 +1,7 @@
 use Rattle.std.proofs.Common.{rules, w64, FitsSigned}
 use Rattle.std.proofs.lemmas.Int.{to_z-of_z}
 use Rattle.std.proofs.lemmas.Option.{IfSome_then}
-use Rattle.fzn_linear.specs.Refuted.{IsSumConflict}
+use Rattle.fzn_sum.specs.Refuted.{IsSumConflict}
 use Rattle.fzn_linear.proofs.RefuteLemmas.{as_sum, cause_of_conflict}
 use Rattle.fzn_linear.proofs.side.Side.decide.Goals as goal
 

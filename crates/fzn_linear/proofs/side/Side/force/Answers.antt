@@ -5,10 +5,10 @@ use Rattle.fzn_domain.specs.declared.literal.Lit.{Lit}
 use Rattle.fzn_meaning.specs.declared.term.Place.{Place}
 use Rattle.fzn_meaning.specs.declared.relation.Comparison.TheVariants.{AtMost}
 use Rattle.fzn_propagator.specs.Inference.{IsTight, spread_of_place}
-use Rattle.fzn_linear.specs.Refuted.{IsRefutation}
+use Rattle.fzn_sum.specs.Refuted.{IsRefutation}
 use Rattle.fzn_linear.proofs.PassLemmas.{adds_none, adds_both, within_more}
 use Rattle.fzn_linear.proofs.RefuteLemmas.{cause_of_forced}
-use Rattle.fzn_linear.proofs.EndLemmas.{tight_within}
+use Rattle.fzn_sum.proofs.CallerLemmas.{tight_within}
 use Rattle.fzn_linear.proofs.side.Side.force.Goals as goal
 
 pub loop-place-init : goal.loop-place-init

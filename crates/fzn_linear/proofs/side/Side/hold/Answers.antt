@@ -3,7 +3,7 @@ use Rattle.std.proofs.lemmas.Int.{to_z-of_z}
 use Rattle.std.proofs.lemmas.Option.{IfSome_then}
 use Rattle.fzn_domain.specs.declared.literal.Lit.{Lit}
 use Rattle.fzn_meaning.specs.declared.relation.Comparison.TheVariants.{NotEqual}
-use Rattle.fzn_linear.specs.Refuted.{IsRefutation, LeavesEach}
+use Rattle.fzn_sum.specs.Refuted.{IsRefutation, LeavesEach}
 use Rattle.fzn_linear.proofs.PassLemmas.{ok_then}
 use Rattle.fzn_linear.proofs.RefuteLemmas.{as_sum, cause_of_refutation}
 use Rattle.fzn_linear.proofs.side.Side.hold.Goals as goal

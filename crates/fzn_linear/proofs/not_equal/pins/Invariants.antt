@@ -1,5 +1,0 @@
-use Rattle.fzn_linear.specs.Pinned.{ArePinned}
-use Rattle.fzn_linear.proofs.not_equal.pins.Given as goal
-
-abbrev pub invariant-loop-i : goal.invariant-loop-i
-invariant-loop-i l = ArePinned l.trail l.places l.i l.except l.clause
