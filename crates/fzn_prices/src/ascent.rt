@@ -1,10 +1,9 @@
 // The search for multipliers and prices.
-use crate::apart::Apart;
 use crate::lagrangian::Lagrangian;
 use crate::multiplier::{Multiplier, ONE, PACE, narrowed};
-use crate::problem::Problem;
 use fzn_domain::Memory;
 use fzn_multipliers::{Row, Rows, Work};
+use fzn_relaxation::{Apart, Problem};
 use std::alloc::Global;
 
 const MOST_ROUNDS: usize = 1_500;

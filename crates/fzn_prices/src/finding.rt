@@ -1,13 +1,12 @@
 // The items of one separable row that bounds the objective well, or that nothing meets.
-use crate::apart::Apart;
 use crate::ascent::{Ascent, part};
 use crate::multiplier::Multiplier;
-use crate::problem::Problem;
 use fzn_cited::Multiple;
 use fzn_domain::{Memory, VarId};
 use fzn_list::Items;
 use fzn_meaning::Model;
 use fzn_multipliers::Rows;
+use fzn_relaxation::{Apart, Problem};
 use fzn_row::RowItem;
 use std::alloc::Global;
 

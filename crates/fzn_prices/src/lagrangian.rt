@@ -1,13 +1,10 @@
 // The objective with a sum of rows, each times its multiplier, and with prices, where each variable is free within its declared set.
-use crate::apart::Apart;
-use crate::exchanges::Exchange;
-use crate::lists::List;
-use crate::moves::Move;
 use crate::multiplier::{Multiplier, narrowed};
-use crate::problem::Problem;
 use fzn_domain::Memory;
 use fzn_meaning::Term;
+use fzn_moves::{Exchange, Move};
 use fzn_multipliers::{Row, Rows};
+use fzn_relaxation::{Apart, List, Problem};
 use std::alloc::Global;
 
 /// The sum that some multipliers and prices make, and where it is least.

@@ -1,7 +1,7 @@
 // The constraints whose places have different values.
-use crate::lists::MOST_VALUES;
 use fzn_domain::Memory;
 use fzn_meaning::{Constraint, Model, Term};
+use fzn_moves::MOST_VALUES;
 use fzn_multipliers::{Bounds, Work};
 use std::alloc::Global;
 

@@ -1,7 +1,7 @@
 // The rows that are used to take variables out of the sum.
 use crate::lists::Lists;
-use crate::moves::Moves;
 use fzn_domain::Memory;
+use fzn_moves::Moves;
 use fzn_multipliers::{Bounds, Row, Rows, Work};
 use std::alloc::Global;
 

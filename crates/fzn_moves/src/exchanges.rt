@@ -31,7 +31,8 @@ pub struct Exchanges {
 }
 
 impl Exchanges {
-    pub fn new(alloc: Global, vars: usize) -> Result<Exchanges, Memory> {
+    /// Those of a model with so many variables, before one is added.
+    pub(crate) fn new(alloc: Global, vars: usize) -> Result<Exchanges, Memory> {
         Ok(Exchanges {
             all: Vec::new(alloc),
             places: Vec::new(alloc),
@@ -40,7 +41,7 @@ impl Exchanges {
     }
 
     /// Adds the variables of a first list: the place of its first one.
-    pub fn add_list(&mut self, terms: &[Term]) -> Result<usize, Memory> {
+    pub(crate) fn add_list(&mut self, terms: &[Term]) -> Result<usize, Memory> {
         let start = self.places.len();
         for term in terms {
             if let Term::Variable(var) = *term {
@@ -51,7 +52,7 @@ impl Exchanges {
     }
 
     /// Adds the move of a variable to the list that was added last, which begins at this place.
-    pub fn add(
+    pub(crate) fn add(
         &mut self,
         constraint: u64,
         variable: usize,

@@ -1,14 +1,10 @@
 // The variables whose values are weighed one by one.
 use crate::apart::{Apart, Aparts, Kind};
-use crate::exchanges::Exchange;
-use crate::moves::{Move, Moves};
 use fzn_domain::Memory;
 use fzn_meaning::{Model, Term};
+use fzn_moves::{Exchange, MOST_VALUES, Move, Moves};
 use fzn_multipliers::Bounds;
 use std::alloc::Global;
-
-/// So many values are listed of a variable at the most.
-pub const MOST_VALUES: usize = 65_536;
 
 /// The values of a variable from its least to its greatest.
 #[derive(Clone, Copy, Debug)]

@@ -2,10 +2,9 @@
 use crate::apart::Aparts;
 use crate::definitions::{Definition, Definitions};
 use crate::lists::Lists;
-use crate::moves::Moves;
-use crate::switches::Switch;
 use fzn_domain::Memory;
 use fzn_meaning::{Constraint, Goal, Model};
+use fzn_moves::{Moves, Switch};
 use fzn_multipliers::{Bounds, Row, Rows, Work, declared_bounds};
 use std::alloc::Global;
 
