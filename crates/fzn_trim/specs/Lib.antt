@@ -3,6 +3,5 @@ pub mod Kept
 pub mod Listing
 pub mod Marks
 pub mod Planned
-pub mod Stated
 pub mod Trimmed
 pub mod Written

@@ -24,7 +24,6 @@ mod needed;
 mod plan;
 mod print;
 mod shorter;
-mod stated;
 mod trial;
 mod trimming;
 mod write;

@@ -13,7 +13,7 @@ of-true false Fact h is = cc
 -- the model of the bytes is the one that was read, and the steps stand the test for it with what the head derives
 pub returns-then-branch : goal.returns-then-branch
 returns-then-branch c = λ own reads.
-    let model = c.in-Ok.model in
+    let model = c.in-Ok.file.model in
     let steps = planned c.args.plan.now c.args.held.now.steps in
     let same : model ≡ own = one-stated c.one_model.ensures c.args.bytes.now model own c.in-Ok.ensures.right reads in
     subst (λ (m : Model). IsTrimBehind m c.args.most c.args.held.now steps (string_bytes c.in_ok-front.front)) same (record {
