@@ -8,17 +8,17 @@ ghost use Rattle.fzn_cert.specs.declared.step.Version.TheVariants.{Two};
 ghost use Rattle.fzn_cert.specs.Verdict.{AllHaveLines};
 ghost use Rattle.fzn_checker.specs.Held.{Stands};
 ghost use Rattle.fzn_checker.specs.Opened.{IsHeadOf, IsInFront};
-ghost use Rattle.fzn_trim.specs.Kept.{kept_steps, kept_front, IsTrimBehind};
-ghost use Rattle.fzn_trim.specs.Planned.{planned};
+ghost use Rattle.fzn_core.specs.Kept.{kept_steps};
+ghost use Rattle.fzn_core.specs.Planned.{planned};
+ghost use Rattle.fzn_trim.specs.Behind.{kept_front, IsTrimBehind};
 
-use crate::cited::push_number;
-use crate::kept::Kept;
-use crate::needed::needed_marks;
-use crate::plan::{Plan, is_marked, new_constraint, planned_lines};
-use crate::trial::{is_trim, tested_steps};
 use fzn_cert::{Version, header_of};
 use fzn_checker::Held;
 use fzn_cited::Multiple;
+use fzn_core::{
+    Kept, Plan, is_marked, is_trim, needed_marks, new_constraint, planned_lines, push_number,
+    tested_steps,
+};
 use fzn_derive::Derivation;
 use fzn_domain::Memory;
 use fzn_head::open_with;

@@ -1,8 +1,9 @@
 use Rattle.std.proofs.Common.{◌≡◌, Bool, true, false, string_bytes, subst, arith}
 use Rattle.std.specs.Bool.{OnTrue}
 use Rattle.fzn_meaning.specs.declared.model.Model.{Model}
-use Rattle.fzn_trim.specs.Kept.{IsTrimOf, IsTrimBehind}
-use Rattle.fzn_trim.specs.Planned.{planned}
+use Rattle.fzn_core.specs.Kept.{IsTrimOf}
+use Rattle.fzn_core.specs.Planned.{planned}
+use Rattle.fzn_trim.specs.Behind.{IsTrimBehind}
 use Rattle.fzn_trim.proofs.ShorterLemmas.{one-stated}
 use Rattle.fzn_trim.proofs.shorter.tested_front.Goals as goal
 

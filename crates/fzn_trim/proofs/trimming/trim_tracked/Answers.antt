@@ -5,8 +5,9 @@ use Rattle.fzn_head.proofs.CallerLemmas.{one_for_each}
 use Rattle.fzn_checker.specs.FileFaults.{fault_from}
 use Rattle.fzn_checker.specs.Held.{lines_to_end}
 use Rattle.fzn_checker.proofs.CallerLemmas.{error-is, lines-two}
+use Rattle.fzn_core.specs.Kept.{kept_steps}
 use Rattle.fzn_trim.specs.declared.trimming.Trimmed.{Trimmed}
-use Rattle.fzn_trim.specs.Kept.{kept_front, kept_steps, IsTrimBehind}
+use Rattle.fzn_trim.specs.Behind.{kept_front, IsTrimBehind}
 use Rattle.fzn_trim.specs.Trimmed.{IsTrimFault}
 use Rattle.fzn_trim.proofs.TrimLemmas.{trims-of, certificate-fault, write-fault, model-fault}
 use Rattle.fzn_trim.proofs.trimming.trim_tracked.Goals as goal
