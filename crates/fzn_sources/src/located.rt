@@ -1,5 +1,5 @@
 // From the bytes of a file to its model and the items of its constraints.
-ghost use Rattle.std.specs.Prelude.{◌≡◌, true, IfOk, IfErr, IfSome};
+ghost use Rattle.std.specs.Prelude.{◌≡◌, true, Ok, IfOk, IfErr, IfSome};
 ghost use Rattle.fzn_meaning.specs.WellFormed.{IsWellFormed};
 ghost use Rattle.fzn_reading.specs.declared.fault.ModelFault.TheVariants.{Read as Failed};
 ghost use Rattle.fzn_reading.specs.Reads.{Answers, Reads};
@@ -41,6 +41,7 @@ pub struct Located {
 pub fn read_located<R: TrackedRead>(alloc: Global, input: &mut R) -> Result<Located, ModelFault>
     ensures right { IfSome (R.remaining input.old) (λ bytes. Answers bytes (model_located result)) }
     ensures bytes { IfOk result (λ file. IfSome (R.remaining input.old) (λ bytes. bytes ≡ file.bytes.items)) }
+    ensures reads { IfOk result (λ file. Reads file.bytes.items (Ok file.model)) }
     ensures sources { IfOk result (λ file. AreSources file.bytes.items file.model.constraints file.sources.items) }
     ensures well_formed { IfOk result (λ file. IsWellFormed file.model) }
     ensures due { IfErr result (λ fault. fault ≡ Failed → R.has_failed input.new ≡ true) }
@@ -57,15 +58,19 @@ pub fn read_located<R: TrackedRead>(alloc: Global, input: &mut R) -> Result<Loca
     }
 }
 
-/// The model of these bytes, or their first fault.
-fn stated_in(alloc: Global, bytes: &[u8]) -> Result<Stated, Halt<Fault>>
+/// The model that these bytes state, with the item that states each of its constraints. It answers `Fault` with the first fault of the bytes,
+/// and `Memory` where memory runs out.
+pub fn stated_in(alloc: Global, bytes: &[u8]) -> Result<Stated, Halt<Fault>>
     ensures right { Reads bytes.now (model_stated result) }
     ensures sources { IfOk result (λ file. AreSources bytes.now file.model.constraints file.sources.items) }
     ensures well_formed { IfOk result (λ file. IsWellFormed file.model) }
 {
-    let tokens = tokens(alloc, bytes)?;
-    let tree = parse(alloc, &tokens)?;
-    let items = items_of(alloc, &tokens)?;
+    let (tree, items) = {
+        let tokens = tokens(alloc, bytes)?;
+        let tree = parse(alloc, &tokens)?;
+        let items = items_of(alloc, &tokens)?;
+        (tree, items)
+    };
     within_limits();
     let named = type_check(alloc, &tree)?;
     let sources = sources_of(alloc, &tree, items.as_slice())?;

@@ -1,10 +1,3 @@
-mod CoreLemmas
-mod ListLemmas
-mod ListingLemmas
-mod MarksLemmas
-mod NeededLemmas
 mod ShorterLemmas
-mod ShowsLemmas
-mod TrialLemmas
 mod TrimLemmas
 mod WriteLemmas

@@ -24,11 +24,12 @@ use Rattle.fzn_checker.specs.FileFaults.{fault_from}
 use Rattle.fzn_checker.specs.Held.{lines_to_end, IsCertificate, HoldsCertificate}
 use Rattle.fzn_checker.specs.Opened.{IsHeadOf, IsInFront, plain, headed}
 use Rattle.fzn_checker.proofs.CallerLemmas.{certificate-accepted}
+use Rattle.fzn_core.specs.Kept.{IsTrimOf}
+use Rattle.fzn_core.proofs.CallerLemmas.{shows-of}
 use Rattle.fzn_trim.specs.declared.trimming.Trimmed.{Trimmed}
-use Rattle.fzn_trim.specs.Kept.{IsTrimOf, IsTrimBehind}
+use Rattle.fzn_trim.specs.Behind.{IsTrimBehind}
 use Rattle.fzn_trim.specs.Trimmed.{Trims, IsTrimFault}
 use Rattle.fzn_trim.specs.Written.{front_of, head_text, IsWriteFault}
-use Rattle.fzn_trim.proofs.ShowsLemmas.{shows-of}
 
 -- what is written in front of the steps stands in front of steps of version two
 front-is : (model after : Model) (read : List Derivation) → IsWellFormed model → IsWellFormed after → IsHeadOf model after read → IsInFront model after Two (front_of after read)

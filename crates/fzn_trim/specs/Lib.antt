@@ -1,8 +1,3 @@
-pub mod Core
-pub mod Kept
-pub mod Listing
-pub mod Marks
-pub mod Planned
-pub mod Stated
+pub mod Behind
 pub mod Trimmed
 pub mod Written

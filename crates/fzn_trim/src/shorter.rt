@@ -8,18 +8,17 @@ ghost use Rattle.fzn_cert.specs.declared.step.Version.TheVariants.{Two};
 ghost use Rattle.fzn_cert.specs.Verdict.{AllHaveLines};
 ghost use Rattle.fzn_checker.specs.Held.{Stands};
 ghost use Rattle.fzn_checker.specs.Opened.{IsHeadOf, IsInFront};
-ghost use Rattle.fzn_trim.specs.Kept.{kept_steps, kept_front, IsTrimBehind};
-ghost use Rattle.fzn_trim.specs.Planned.{planned};
+ghost use Rattle.fzn_core.specs.Kept.{kept_steps};
+ghost use Rattle.fzn_core.specs.Planned.{planned};
+ghost use Rattle.fzn_trim.specs.Behind.{kept_front, IsTrimBehind};
 
-use crate::cited::push_number;
-use crate::kept::Kept;
-use crate::needed::needed_marks;
-use crate::plan::{Plan, is_marked, new_constraint, planned_lines};
-use crate::stated::model_of;
-use crate::trial::{is_trim, tested_steps};
 use fzn_cert::{Version, header_of};
 use fzn_checker::Held;
 use fzn_cited::Multiple;
+use fzn_core::{
+    Kept, Plan, is_marked, is_trim, needed_marks, new_constraint, planned_lines, push_number,
+    tested_steps,
+};
 use fzn_derive::Derivation;
 use fzn_domain::Memory;
 use fzn_head::open_with;
@@ -28,6 +27,7 @@ use fzn_list::Items;
 use fzn_meaning::Model;
 use fzn_reading::one_model;
 use fzn_row::RowItem;
+use fzn_sources::stated_in;
 use std::alloc::Global;
 
 /// The steps of a trimmed certificate, and what stands in front of them: those of a plan behind a head without the lines that nothing needs,
@@ -108,8 +108,8 @@ fn tested_front(
     ensures { IfOk result (λ found. IfSome found (λ front. (own : Model) → Reads bytes.now (Ok own)
         → IsTrimBehind own most held.now (planned plan.now held.now.steps) (string_bytes front))) }
 {
-    let mut model = match model_of(alloc, bytes) {
-        Ok(model) => model,
+    let mut model = match stated_in(alloc, bytes) {
+        Ok(file) => file.model,
         Err(Halt::Memory) => return Err(Memory),
         // Not reached: the bytes have stated a model before.
         Err(Halt::Fault(_)) => return Ok(None),

@@ -5,10 +5,10 @@ ghost use Rattle.fzn_checker.specs.Checked.{IsUnread};
 ghost use Rattle.fzn_trim.specs.Trimmed.{IsTrimmed, IsTrimFault, IsTrimDue};
 
 use crate::shorter::trimmed_certificate;
-use crate::stated::read_stated;
 use crate::write::write_certificate;
 use fzn_cert_reader::StepReader;
 use fzn_checker::{CheckFault, hold_certificate};
+use fzn_sources::read_located;
 use fzn_streams::{TrackedRead, TrackedReader, TrackedWrite, TrackedWriter};
 use std::alloc::Global;
 use std::io::{Read, Write};
@@ -63,12 +63,12 @@ pub fn trim_tracked<R: TrackedRead, C: TrackedRead + Drop, W: TrackedWrite>(
     ensures due { IfErr result (IsTrimDue (R.has_failed file.new) (C.has_failed (reader_below cert.new)) (W.has_failed new.new)) }
     ensures same_stream { W.stream new.new ≡ W.stream new.old }
 {
-    let mut stated = read_stated(alloc, file)?;
-    let held = hold_certificate(alloc, &mut stated.model, cert)?;
+    let mut located = read_located(alloc, file)?;
+    let held = hold_certificate(alloc, &mut located.model, cert)?;
     let steps = held.steps.len();
     let closed = held.closed;
-    let kept = trimmed_certificate(alloc, stated.bytes.as_slice(), &stated.model, held)?;
-    write_certificate(alloc, &stated.model, &kept, closed, new)?;
+    let kept = trimmed_certificate(alloc, located.bytes.as_slice(), &located.model, held)?;
+    write_certificate(alloc, &located.model, &kept, closed, new)?;
     Ok(Trimmed {
         steps,
         kept: kept.len(),

@@ -3,17 +3,19 @@
 //! as version 2 or trimmed.
 //!
 //! In: the command line. Out: the answer on standard output, or one line on standard error, and the status that goes with it. What is
-//! printed and when is proved on `check` and `to2` of `fzn_checker`, `bound` of `fzn_bound`, `trim` and `core` of `fzn_trim`, and `items` of
-//! `fzn_items`; here the paths are opened. A new certificate is written to no file that is read, and its file is made by the first write.
+//! printed and when is proved on `check` and `to2` of `fzn_checker`, `bound` of `fzn_bound`, `trim` of `fzn_trim`, `core` of `fzn_core`, and
+//! `items` of `fzn_items`; here the paths are opened. A new certificate is written to no file that is read, and its file is made by the first
+//! write.
 #![tactic(auto)]
 
 use crate::fault::Fault;
 use fzn_bound::bound;
 use fzn_checker::{CheckFault, check, to2};
+use fzn_core::core;
 use fzn_items::items;
 use fzn_options::{CheckOptions, OptionsFault, check_options_of};
 use fzn_paths::{LateWriter, NewFile, file_at, file_of, is_among};
-use fzn_trim::{core, trim};
+use fzn_trim::trim;
 use std::env;
 use std::fs::File;
 use std::io::{BufWriter, Write};

@@ -15,6 +15,9 @@ pub returns-in-Ok-clause-bytes : goal.returns-in-Ok-clause-bytes
 returns-in-Ok-clause-bytes g c =
     known_whole (g.R.Read.remaining c.args.input.now) c.in_ok-bytes.bytes.items c.as_slice.result.now c.in-Ok.file.model c.as_slice.ensures.value c.in_ok-bytes.ensures.bytes c.in-Ok.ensures.right
 
+pub returns-in-Ok-clause-reads : goal.returns-in-Ok-clause-reads
+returns-in-Ok-clause-reads g c = subst (λ (bytes : List ℕ). Reads bytes (Ok c.in-Ok.file.model)) c.as_slice.ensures.value c.in-Ok.ensures.right
+
 pub returns-in-Ok-clause-sources : goal.returns-in-Ok-clause-sources
 returns-in-Ok-clause-sources g c =
     subst (λ (bytes : List ℕ). AreSources bytes c.in-Ok.file.model.constraints c.in-Ok.file.sources.items) c.as_slice.ensures.value c.in-Ok.ensures.sources

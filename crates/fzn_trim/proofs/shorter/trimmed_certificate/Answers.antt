@@ -1,6 +1,7 @@
 use Rattle.std.proofs.Common.{◌≡◌, length, ap, sym, subst}
 use Rattle.std.specs.Prelude.{option_map, string_bytes}
-use Rattle.fzn_trim.specs.Kept.{kept_steps, kept_front, front_by, IsTrimBehind}
+use Rattle.fzn_core.specs.Kept.{kept_steps}
+use Rattle.fzn_trim.specs.Behind.{kept_front, front_by, IsTrimBehind}
 use Rattle.fzn_trim.specs.Written.{front_of}
 use Rattle.fzn_trim.proofs.TrimLemmas.{behind-old}
 use Rattle.fzn_trim.proofs.shorter.trimmed_certificate.Goals as goal

@@ -1,5 +1,5 @@
 use Rattle.std.proofs.Common.{◌<◌, ◌≤◌, length, arith}
-use Rattle.fzn_trim.specs.Planned.{planned_step}
+use Rattle.fzn_core.specs.Planned.{planned_step}
 use Rattle.fzn_trim.proofs.WriteLemmas.{step-stopped, steps-written}
 use Rattle.fzn_trim.proofs.write.put_planned.Goals as goal
 

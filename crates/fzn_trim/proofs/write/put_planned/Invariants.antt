@@ -2,7 +2,7 @@ use Rattle.std.proofs.Common.{◌≡◌, take}
 use Rattle.std.specs.List.{flat_map}
 use Rattle.std.specs.Io.KnownBytes.{Appends}
 use Rattle.fzn_cert.specs.Spelling.{step_line}
-use Rattle.fzn_trim.specs.Planned.{planned_step}
+use Rattle.fzn_core.specs.Planned.{planned_step}
 use Rattle.fzn_trim.proofs.write.put_planned.Given as goal
 
 abbrev pub invariant-loop-place : goal.invariant-loop-place

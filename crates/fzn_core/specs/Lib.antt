@@ -1,0 +1,5 @@
+pub mod Core
+pub mod Kept
+pub mod Listing
+pub mod Marks
+pub mod Planned

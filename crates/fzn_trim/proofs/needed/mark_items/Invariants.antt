@@ -1,7 +1,0 @@
-use Rattle.std.proofs.Common.{take}
-use Rattle.fzn_row.specs.Derived.{all_cited}
-use Rattle.fzn_trim.specs.Marks.{HasMore}
-use Rattle.fzn_trim.proofs.needed.mark_items.Given as goal
-
-abbrev pub invariant-loop-item : goal.invariant-loop-item
-invariant-loop-item l = HasMore l.initial.marks.items l.marks.items (all_cited (take l.item-index l.items))

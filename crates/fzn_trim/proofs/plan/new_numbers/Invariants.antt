@@ -1,6 +1,0 @@
-use Rattle.std.proofs.Common.{◌≡◌, map, take}
-use Rattle.fzn_trim.specs.Planned.{new_number}
-use Rattle.fzn_trim.proofs.plan.new_numbers.Given as goal
-
-abbrev pub invariant-loop-id : goal.invariant-loop-id
-invariant-loop-id l = l.new ≡ map (new_number l.numbers) (take l.id-index l.ids)
