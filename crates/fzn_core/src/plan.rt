@@ -206,7 +206,7 @@ fn new_number(numbers: &[u64], id: u64) -> u64
     }
 }
 
-/// The new number of the constraint with this one. They are counted from 1, and a constraint behind the last of the new numbers keeps its own.
+/// The new number of the constraint with this one, counted from 1. A constraint behind the last of these keeps its number.
 pub fn new_constraint(constraints: &[u64], number: u64) -> u64
     ensures { result ≡ new_constraint constraints.now number }
 {
