@@ -1,13 +1,15 @@
 -- Sums and the variables of places, one more place at a time.
-use Rattle.std.proofs.Common.{◌≡◌, ℕ, ◌+◌, ◌<◌, List, [], ◌∷◌, ◌++◌, length, get_or, take, drop, refl, sym, ap, ◌∙◌, arith, ℤ, pos, ◌+ℤ◌, ◌-ℤ◌, ◌*ℤ◌, Option, None, Some}
+use Rattle.std.proofs.Common.{◌≡◌, ℕ, ◌+◌, ◌<◌, ◌≤◌, Bool, true, false, cond, nat_eq, List, [], ◌∷◌, ◌++◌, length, get_or, take, drop, refl, sym, ap, ◌∙◌, subst, arith, ℤ, pos, ◌+ℤ◌, ◌-ℤ◌, ◌*ℤ◌, Option, None, Some}
 use Rattle.std.specs.Option.{option_map_or}
 use Rattle.std.proofs.lemmas.Int.{ints}
-use Rattle.std.proofs.lemmas.List.{take_more, drop_more, take-append-drop}
+use Rattle.std.proofs.lemmas.List.{take_all, take_more, drop_more, take-append-drop}
 use Rattle.fzn_domain.specs.declared.literal.VarId.{VarId}
 use Rattle.fzn_meaning.specs.declared.term.Term.{Term}
+use Rattle.fzn_meaning.specs.declared.term.Term.TheVariants.{Constant, Variable}
 use Rattle.fzn_meaning.specs.declared.term.Place.{Place}
 use Rattle.fzn_builtin_rules.specs.Form.{Form}
 use Rattle.fzn_row.specs.Decided.{term_where, sum_where, coefficient_besides, another_in, another_of, sum_compares, bit, quotient, form_value}
+use Rattle.fzn_row.proofs.IntLemmas.{plus_times}
 
 module _ (var : VarId) (value other : ℤ) where
   abbrev pub Product : Place → ℤ
@@ -21,14 +23,66 @@ module _ (var : VarId) (value other : ℤ) where
   sum-more places i d sum after inside so_far is =
       is ∙ ap (λ (x : ℤ). x +ℤ Product (get_or places i d)) so_far ∙ sym (ap (sum_where var value other) (take_more places i d inside) ∙ sum-push (take i places) (get_or places i d))
 
--- what an equation makes of the other variable
-equation-is : (by : VarId) (value : ℤ) (found : Form) (number divisor : ℤ) → found.switch ≡ None → number ≡ found.bound -ℤ sum_where by value (pos 0) found.places → divisor ≡ coefficient_besides by found.places → quotient number divisor ≡ form_value by value found
-equation-is by value found number divisor none number_is divisor_is =
-    ap (λ (x : ℤ). quotient x divisor) number_is ∙ ap (quotient (found.bound -ℤ sum_where by value (pos 0) found.places)) divisor_is
-    ∙ sym (ap (λ (s : Option Term). option_map_or (λ switch. Some (bit (sum_compares found.comparison (sum_where by value (pos 0) found.places) found.bound))) s (quotient (found.bound -ℤ sum_where by value (pos 0) found.places) (coefficient_besides by found.places))) none)
+-- numbers by which the sum over the places is, for each value of the variable and each of all others
+abbrev pub AreParts : VarId → ℤ → ℤ → ℤ → List Place → Type 0
+AreParts var rest coefficient besides places = (value other : ℤ) → (rest +ℤ coefficient *ℤ value) +ℤ besides *ℤ other ≡ sum_where var value other places
 
-pub equation-from : (by : VarId) (value : ℤ) (found : Form) (number divisor : ℤ) (result : Option ℤ) → result ≡ quotient number divisor → found.switch ≡ None → number ≡ found.bound -ℤ sum_where by value (pos 0) found.places → divisor ≡ coefficient_besides by found.places → result ≡ form_value by value found
-equation-from by value found number divisor result is none number_is divisor_is = is ∙ equation-is by value found number divisor none number_is divisor_is
+module _ (var : VarId) (rest coefficient besides : ℤ) (places : List Place) (i : ℕ) (d place : Place) (inside : i < length places) (here : place ≡ get_or places i d) (so_far : AreParts var rest coefficient besides (take i places)) where
+  parts-more : (rest' coefficient' besides' : ℤ) → ((value other : ℤ) → (rest' +ℤ coefficient' *ℤ value) +ℤ besides' *ℤ other ≡ ((rest +ℤ coefficient *ℤ value) +ℤ besides *ℤ other) +ℤ Product var value other place) → AreParts var rest' coefficient' besides' (take (i + 1) places)
+  parts-more rest' coefficient' besides' step = λ value other.
+      sum-more var value other places i d _ _ inside (so_far value other) (step value other ∙ ap (λ (p : Place). ((rest +ℤ coefficient *ℤ value) +ℤ besides *ℤ other) +ℤ Product var value other p) here)
+
+  module _ (rest' coefficient' besides' : ℤ) where
+    pub constant-more : (k : ℤ) → place.term ≡ Constant k → rest' ≡ rest +ℤ place.coefficient *ℤ k → coefficient' ≡ coefficient → besides' ≡ besides → AreParts var rest' coefficient' besides' (take (i + 1) places)
+    constant-more k term rest_is coefficient_is besides_is = parts-more rest' coefficient' besides' (λ value other.
+        let e : Product var value other place ≡ place.coefficient *ℤ k = ap (λ (t : Term). place.coefficient *ℤ term_where var value other t) term in
+        let f = ap (λ (x : ℤ). x *ℤ value) coefficient_is in
+        let g = ap (λ (x : ℤ). x *ℤ other) besides_is in
+        omega (arith, ints))
+
+    -- what a variable is multiplied with goes to its own coefficient, or to that of all others
+    module _ (v : VarId) (term : place.term ≡ Variable v) (rest_is : rest' ≡ rest) where
+      product-is : (value other : ℤ) (test : Bool) → nat_eq v.0 var.0 ≡ test → Product var value other place ≡ place.coefficient *ℤ cond test value other
+      product-is value other test is = ap (λ (t : Term). place.coefficient *ℤ term_where var value other t) term ∙ ap (λ (b : Bool). place.coefficient *ℤ cond b value other) is
+
+      pub coefficient-more : nat_eq v.0 var.0 ≡ true → coefficient' ≡ coefficient +ℤ place.coefficient → besides' ≡ besides → AreParts var rest' coefficient' besides' (take (i + 1) places)
+      coefficient-more test coefficient_is besides_is = parts-more rest' coefficient' besides' (λ value other.
+          let e : Product var value other place ≡ place.coefficient *ℤ value = product-is value other true test in
+          let f = ap (λ (x : ℤ). x *ℤ value) coefficient_is ∙ plus_times coefficient place.coefficient value in
+          let g = ap (λ (x : ℤ). x *ℤ other) besides_is in
+          omega (arith, ints))
+
+      pub besides-more : nat_eq v.0 var.0 ≡ false → coefficient' ≡ coefficient → besides' ≡ besides +ℤ place.coefficient → AreParts var rest' coefficient' besides' (take (i + 1) places)
+      besides-more test coefficient_is besides_is = parts-more rest' coefficient' besides' (λ value other.
+          let e : Product var value other place ≡ place.coefficient *ℤ other = product-is value other false test in
+          let f = ap (λ (x : ℤ). x *ℤ value) coefficient_is in
+          let g = ap (λ (x : ℤ). x *ℤ other) besides_is ∙ plus_times besides place.coefficient other in
+          omega (arith, ints))
+
+module _ (var : VarId) (rest coefficient besides : ℤ) (places : List Place) (i : ℕ) (all : length places ≤ i) (are : AreParts var rest coefficient besides (take i places)) where
+  whole : AreParts var rest coefficient besides places
+  whole = subst (AreParts var rest coefficient besides) (take_all i places all) are
+
+  pub whole-sum : (value : ℤ) → rest +ℤ coefficient *ℤ value ≡ sum_where var value (pos 0) places
+  whole-sum value = let e = whole value (pos 0) in omega (arith, ints)
+
+  pub whole-besides : besides ≡ coefficient_besides var places
+  whole-besides = let zero = whole (pos 0) (pos 0) in let one = whole (pos 0) (pos 1) in omega (arith, ints)
+
+-- what a form makes of the variable that is decided, where the sum is this
+module _ (by : VarId) (value : ℤ) (found : Form) (sum bound : ℤ) (sum_is : sum ≡ sum_where by value (pos 0) found.places) (bound_is : bound ≡ found.bound) where
+  abbrev by_switch : Option Term → Option ℤ
+  by_switch switch = option_map_or (λ (s : Term). Some (bit (sum_compares found.comparison (sum_where by value (pos 0) found.places) found.bound))) switch (quotient (found.bound -ℤ sum_where by value (pos 0) found.places) (coefficient_besides by found.places))
+
+  pub switch-is : (switch : Term) → found.switch ≡ Some switch → ◌≡◌ {A = Option ℤ} (Some (bit (sum_compares found.comparison sum bound))) (form_value by value found)
+  switch-is switch is =
+      ap (λ (x : ℤ). Some (bit (sum_compares found.comparison x bound))) sum_is ∙ ap (λ (x : ℤ). Some (bit (sum_compares found.comparison (sum_where by value (pos 0) found.places) x))) bound_is
+      ∙ sym (ap by_switch is)
+
+  pub equation-is : (divisor : ℤ) → divisor ≡ coefficient_besides by found.places → found.switch ≡ None → quotient (bound -ℤ sum) divisor ≡ form_value by value found
+  equation-is divisor divisor_is is =
+      ap (λ (x : ℤ). quotient (bound -ℤ x) divisor) sum_is ∙ ap (λ (x : ℤ). quotient (x -ℤ sum_where by value (pos 0) found.places) divisor) bound_is
+      ∙ ap (quotient (found.bound -ℤ sum_where by value (pos 0) found.places)) divisor_is ∙ sym (ap by_switch is)
 
 module _ (one two : VarId) where
   another-append : (xs ys : List Place) → another_of one two xs ≡ None → another_of one two (xs ++ ys) ≡ another_of one two ys

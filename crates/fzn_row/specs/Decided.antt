@@ -54,7 +54,7 @@ pub record AreBounded (found : Form) : Type 0 where
   pub few : length found.places ≤ 2 * longest
   pub bound : unsigned_abs found.bound ≤ 1000000000
 
--- whether a sum sum_compares so with the bound, and that as a number
+-- whether a sum compares so with the bound, and that as a number
 abbrev pub sum_compares : Comparison → ℤ → ℤ → Bool
 sum_compares AtMost sum bound = int_le sum bound
 sum_compares Equal sum bound = int_eq sum bound

@@ -1,4 +1,5 @@
 pub mod Decided
+pub mod Dependence
 pub mod Derived
 pub mod Draft
 pub mod Inverses

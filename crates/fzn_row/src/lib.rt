@@ -10,6 +10,7 @@ pub use law::{derived_row_holds, derived_row_is_formed, one_derived_row};
 pub use room::RowDeriver;
 
 mod decided;
+mod dependence;
 mod derive;
 mod inverses;
 mod item;

@@ -1,8 +1,7 @@
 // Parts that go from one variable to another.
-ghost use Rattle.std.specs.Prelude.{◌≡◌, ◌⊎◌, ◌<◌, ◌≤◌, true, false, length, unsigned_abs, IfOk, IfErr, IfSome, OnOk, Ok, Err};
+ghost use Rattle.std.specs.Prelude.{◌≡◌, ◌⊎◌, ◌<◌, ◌≤◌, true, false, length, unsigned_abs, option_and_then, IfOk, IfErr, IfSome, OnOk, Ok, Err};
 ghost use Rattle.std.specs.List.{All, list_all};
 ghost use Rattle.fzn_domain.specs.IntSet.{size};
-ghost use Rattle.fzn_domain.specs.Limits.{IsInLimits};
 ghost use Rattle.fzn_domain.specs.Narrow.{IsVariable, set_of};
 ghost use Rattle.fzn_meaning.specs.Meaning.{IsWellFormedConstraint};
 ghost use Rattle.fzn_meaning.specs.Solutions.{declared_sets};
@@ -13,10 +12,12 @@ ghost use Rattle.fzn_row.specs.Draft.{blank_part, part_for, with_part};
 ghost use Rattle.fzn_row.specs.Prices.{is_entry_within};
 ghost use Rattle.fzn_row.specs.Weights.{both_weights};
 ghost use Rattle.fzn_row.specs.Decided.{AreBounded};
+ghost use Rattle.fzn_row.specs.Dependence.{dependent_at};
 ghost use Rattle.fzn_row.specs.Moves.{weight_within, decided_weight, moved_from, span, is_narrow, part_moved, decided_moved, part_moved_by, move_added};
 ghost use Rattle.fzn_row.specs.Room.{draft_of, room_size, IsRoom};
 
-use crate::decided::{decided_in, decider_in};
+use crate::decided::decider_in;
+use crate::dependence::Dependence;
 use crate::room::{LIMIT, RowDeriver, sum_within};
 use fzn_cited::{DeriveFault, constraint_at};
 use fzn_domain::{Domain, VarId};
@@ -180,10 +181,11 @@ fn moved(
     ensures within { IfOk result (λ entries. list_all is_entry_within entries ≡ true) }
     ensures err { IfErr result (λ fault. (fault ≡ Memory) ⊎ ((fault ≡ NotDerived) × (list_all is_entry_within (moved_from (decided_weight set.now part.now by constraint.now) low.now count old.now) ≡ false))) }
 {
+    let dependence = Dependence::of(by, constraint);
     let mut entries = Items::new(alloc);
     for i in 0..count {
         let value = *low + i as i64;
-        let more = decided_weight(set, part, by, constraint, &value);
+        let more = dependent_weight(set, part, &dependence, &value);
         let entry = plus(listed_at(old, &value), more)?;
         entries.push(entry)?;
     }
@@ -191,23 +193,18 @@ fn moved(
 }
 
 /// What the part, whose variable has this set, weighs where the other variable has this value.
-fn decided_weight(
+fn dependent_weight(
     set: &Domain,
     part: &Part,
-    by: VarId,
-    constraint: &Constraint,
+    dependence: &Dependence<'_>,
     value: &i64,
 ) -> Option<i128>
     requires part { IfSome part.now.listed IsWeightList × IsCoefficient part.now.coefficient }
-    requires form { IfSome (form_of constraint.now) AreBounded }
     requires value { unsigned_abs value.now ≤ 10000000000 }
-    ensures value { result ≡ decided_weight set.now part.now by constraint.now value.now }
+    ensures value { result ≡ option_and_then (weight_within set.now part.now) (dependent_at dependence.now value.now) }
     ensures bounded { IfSome result (λ weight. unsigned_abs weight ≤ 10000000000000000000000000000000) }
 {
-    match decided_in(by, value, constraint) {
-        None => None,
-        Some(number) => weight_within(set, part, number),
-    }
+    weight_within(set, part, dependence.at(value)?)
 }
 
 /// What the part weighs at the number, where that is in the set.
@@ -225,19 +222,12 @@ fn weight_within(set: &Domain, part: &Part, number: i128) -> Option<i128>
     if number > set.max() as i128 {
         return None;
     }
-    let value = narrow(&number);
+    let value = number as i64;
     if set.contains(value) {
         weight_at(part, &value)
     } else {
         None
     }
-}
-
-fn narrow(number: &i128) -> i64
-    requires { IsInLimits number.now }
-    ensures { result ≡ number.now }
-{
-    *number as i64
 }
 
 /// Both weights together, unless that leaves the limits; none where either is barred.
@@ -247,14 +237,10 @@ pub(crate) fn plus(entry: Option<i64>, more: Option<i128>) -> Result<Option<i64>
     ensures within { IfOk result (λ both. is_entry_within both ≡ true) }
     ensures err { IfErr result (λ fault. (fault ≡ NotDerived) × (is_entry_within (both_weights entry more) ≡ false)) }
 {
-    let Some(weight) = entry else {
-        return Ok(None);
-    };
-    let Some(more) = more else {
-        return Ok(None);
-    };
-    let both = sum_within(weight, more, LIMIT)?;
-    Ok(Some(both))
+    match (entry, more) {
+        (Some(weight), Some(more)) => Ok(Some(sum_within(weight, more, LIMIT)?)),
+        _ => Ok(None),
+    }
 }
 
 /// The declared set of the variable.

@@ -1,11 +1,11 @@
-use Rattle.std.proofs.Common.{arith, ◌≡◌, ◌<◌, ◌++◌, ◌∷◌, [], get_or, true, false, sym, ap, ◌∙◌, subst, inr, List, Option, None, ℤ, pos, ◌+ℤ◌, w64, to_z, of_z}
+use Rattle.std.proofs.Common.{arith, ◌≡◌, ◌<◌, ◌++◌, ◌∷◌, [], get_or, true, false, sym, ap, ◌∙◌, subst, inr, List, Option, None, option_and_then, ℤ, pos, ◌+ℤ◌, w64, to_z, of_z}
 use Rattle.std.specs.List.{list_all}
 use Rattle.std.proofs.lemmas.Int.{ints}
 use Rattle.std.proofs.lemmas.Result.{err_from_is_err_and}
 use Rattle.fzn_meaning.specs.Separable.{listed_at}
 use Rattle.fzn_row.specs.Prices.{is_entry_within}
 use Rattle.fzn_row.specs.Weights.{both_weights}
-use Rattle.fzn_row.specs.Moves.{moved_from, decided_weight}
+use Rattle.fzn_row.specs.Moves.{weight_within, moved_from, decided_weight}
 use Rattle.fzn_row.proofs.MoveLemmas.{moved-more, moved-at, length-moved, within-push, within-fails, Moved}
 use Rattle.fzn_row.proofs.moves.moved.Goals as goal
 
@@ -19,9 +19,10 @@ loop-i-preserved c =
     let small = c.requires.low in
     let value : ℤ = to_z w64 (of_z w64 (to_z w64 (of_z w64 low) +ℤ to_z w64 i)) in
     let value_is : value ≡ low +ℤ pos i = omega (arith, ints) in
+    let more_is : c.dependent_weight-more.result ≡ more value = c.dependent_weight-more.ensures.value ∙ ap (option_and_then (weight_within c.args.set.now c.args.part.now)) (c.of-dependence.ensures value) in
     let entry = c.in_ok-entry.entry in
     let e : entry ≡ both_weights (listed_at old value) (more value) =
-    c.in_ok-entry.ensures.ok ∙ ap (λ (o : Option ℤ). both_weights o c.decided_weight-more.result) c.listed_at.ensures.value ∙ ap (both_weights (listed_at old value)) c.decided_weight-more.ensures.value in
+    c.in_ok-entry.ensures.ok ∙ ap (λ (o : Option ℤ). both_weights o c.dependent_weight-more.result) c.listed_at.ensures.value ∙ ap (both_weights (listed_at old value)) more_is in
     record {
       so_far = c.in_ok-push.ensures.ok ∙ ap (λ (es : List (Option ℤ)). es ++ entry ∷ []) c.loop-i.invariant.so_far ∙ sym (moved-more more old low i value entry value_is e);
       within = subst (λ (es : List (Option ℤ)). list_all is_entry_within es ≡ true) (sym c.in_ok-push.ensures.ok) (within-push c.loop-i.entries entry c.loop-i.invariant.within c.in_ok-entry.ensures.within);
@@ -40,8 +41,9 @@ returns-in_err-entry-clause-err c =
     let small = c.requires.low in
     let value : ℤ = to_z w64 (of_z w64 (to_z w64 (of_z w64 low) +ℤ to_z w64 i)) in
     let value_is : value ≡ low +ℤ pos i = omega (arith, ints) in
-    let here : both_weights c.listed_at.result c.decided_weight-more.result ≡ get_or (moved_from more low count old) i None =
-    ap (λ (o : Option ℤ). both_weights o c.decided_weight-more.result) c.listed_at.ensures.value ∙ ap (both_weights (listed_at old value)) c.decided_weight-more.ensures.value
+    let more_is : c.dependent_weight-more.result ≡ more value = c.dependent_weight-more.ensures.value ∙ ap (option_and_then (weight_within c.args.set.now c.args.part.now)) (c.of-dependence.ensures value) in
+    let here : both_weights c.listed_at.result c.dependent_weight-more.result ≡ get_or (moved_from more low count old) i None =
+    ap (λ (o : Option ℤ). both_weights o c.dependent_weight-more.result) c.listed_at.ensures.value ∙ ap (both_weights (listed_at old value)) more_is
     ∙ ap (Moved more old) value_is ∙ sym (moved-at more old low count i inside) in
     let fails : is_entry_within (get_or (moved_from more low count old) i None) ≡ false = ap is_entry_within (sym here) ∙ c.in_err-entry.ensures.err.1 in
     rw (p.1, p.2) (inr (c.in_err-entry.ensures.err.0, within-fails (moved_from more low count old) i (rw (length-moved more old low count) inside) fails))

@@ -6,6 +6,6 @@ use Rattle.fzn_row.proofs.moves.moved.Given as goal
 
 abbrev pub invariant-loop-i : goal.invariant-loop-i
 invariant-loop-i l = record {
-  so_far : l.entries ≡ moved_from (decided_weight l.set l.part l.by l.constraint) l.low l.i l.old;
+  so_far : l.entries ≡ moved_from (decided_weight l.set l.part l.fn.by l.fn.constraint) l.low l.i l.old;
   within : list_all is_entry_within l.entries ≡ true;
 }

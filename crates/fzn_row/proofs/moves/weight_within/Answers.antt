@@ -1,6 +1,7 @@
 use Rattle.std.proofs.Common.{arith, ◌≡◌, true, sym, ap, ◌∙◌, w64, to_z, of_z}
 use Rattle.std.proofs.lemmas.Int.{ints}
 use Rattle.std.proofs.lemmas.Bool.{true≢false}
+use mir.Syntax.{w128}
 use Rattle.fzn_domain.specs.IntSet.{contains}
 use Rattle.fzn_meaning.specs.Separable.{weight_at}
 use Rattle.fzn_row.proofs.MoveLemmas.{weight-inside, weight-outside}
@@ -17,11 +18,11 @@ returns-then-number-max-clause-value c = weight-outside c.args.set.now c.args.pa
 
 pub returns-then-contains-clause-value : goal.returns-then-contains-clause-value
 returns-then-contains-clause-value c =
-    let passed : to_z w64 (of_z w64 c.narrow-value.result) ≡ c.args.number = omega (arith, ints) in
+    let passed : to_z w64 (of_z w64 (to_z w128 (of_z w128 c.args.number))) ≡ c.args.number = omega (arith, ints) in
     let inside : contains c.args.set.now c.args.number ≡ true = ap (contains c.args.set.now) (sym passed) ∙ sym c.contains.ensures ∙ c.if-contains.true in
     c.weight_at.ensures.value ∙ ap (weight_at c.args.part.now) passed ∙ sym (weight-inside c.args.set.now c.args.part.now c.args.number inside)
 
 pub returns-else-contains-clause-value : goal.returns-else-contains-clause-value
 returns-else-contains-clause-value c =
-    let passed : to_z w64 (of_z w64 c.narrow-value.result) ≡ c.args.number = omega (arith, ints) in
+    let passed : to_z w64 (of_z w64 (to_z w128 (of_z w128 c.args.number))) ≡ c.args.number = omega (arith, ints) in
     weight-outside c.args.set.now c.args.part.now c.args.number (λ inside. true≢false (sym inside ∙ ap (contains c.args.set.now) (sym passed) ∙ sym c.contains.ensures ∙ c.if-contains.false))
