@@ -13,8 +13,8 @@ use Rattle.fzn_meaning.specs.Entries.{IsIndex}
 use Rattle.fzn_sets.specs.Terms.{least_value, greatest_value, IsFixedTo, MayBe, term_at}
 
 -- no number is in both sets
-abbrev pub AreApart : IntSet → IntSet → Type 0
-AreApart s t = (v : ℤ) → contains s v ≡ true → contains t v ≡ true → ⊥
+abbrev pub AreDisjoint : IntSet → IntSet → Type 0
+AreDisjoint s t = (v : ℤ) → contains s v ≡ true → contains t v ≡ true → ⊥
 
 -- every number of the first set is in the second
 abbrev pub IsPartOf : IntSet → IntSet → Type 0

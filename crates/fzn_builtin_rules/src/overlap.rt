@@ -2,14 +2,14 @@
 ghost use Rattle.std.specs.Prelude.{◌≡◌, ◌↔◌, ◌<◌, ◌≤ℤ◌, true, false, ℤ, pos, IsTrue, IfNone, IfSome, unsigned_abs};
 ghost use Rattle.fzn_domain.specs.IntSet.{contains, size, least, greatest};
 ghost use Rattle.fzn_domain.specs.Limits.{IsInLimits};
-ghost use Rattle.fzn_builtin_rules.specs.Rows.{AreApart, IsPartOf, AbsolutesApart, IsNextCandidate, NoCandidate, IsNextAbsolute, NoAbsoluteAbove, IsNextShared, NoneShared};
+ghost use Rattle.fzn_builtin_rules.specs.Rows.{AreDisjoint, IsPartOf, AbsolutesApart, IsNextCandidate, NoCandidate, IsNextAbsolute, NoAbsoluteAbove, IsNextShared, NoneShared};
 
 use fzn_domain::Domain;
 
 /// Whether no number is in both sets. It goes up both by turns, so it takes no more steps than the one with fewer gaps has gaps.
 pub(crate) fn are_apart(first: &Domain, second: &Domain) -> bool
     requires { 0 < size first.now }
-    ensures { IsTrue result ↔ AreApart first.now second.now }
+    ensures { IsTrue result ↔ AreDisjoint first.now second.now }
 {
     let mut value = first.min();
     while !second.contains(value) {

@@ -6,7 +6,7 @@ use Rattle.std.specs.Fmt.{decimal, signed_decimal}
 use Rattle.fzn_domain.specs.declared.literal.VarId.{VarId}
 use Rattle.fzn_cited.specs.declared.multiple.Multiple.{Multiple}
 use Rattle.fzn_row.specs.declared.item.RowItem.{RowItem}
-use Rattle.fzn_row.specs.declared.item.RowItem.TheVariants.{Multiples, Prices, Move}
+use Rattle.fzn_row.specs.declared.item.RowItem.TheVariants.{Multiples, Prices, Move, Columns, Rows}
 use Rattle.fzn_derive.specs.declared.derivation.Derivation.{Derivation}
 use Rattle.fzn_derive.specs.declared.derivation.Derivation.TheVariants.{Sum, Parity, AllDifferent, Row}
 use Rattle.fzn_cert.specs.Text.{spaced}
@@ -22,11 +22,17 @@ var_text var = decimal var.0
 abbrev pub multiple_words : Multiple → List (List ℕ)
 multiple_words multiple = signed_decimal multiple.multiplier ∷ decimal multiple.constraint ∷ []
 
+-- the number that has the first price, and the prices
+abbrev pub priced_words : ℤ → List ℤ → List (List ℕ)
+priced_words low prices = signed_decimal low ∷ map signed_decimal prices
+
 -- an item of a row: its letter, and the numbers behind it
 abbrev pub item_words : RowItem → List (List ℕ)
 item_words (Multiples multiples) = codes "l" ∷ flat_map multiple_words multiples
-item_words (Prices constraint low prices) = codes "p" ∷ decimal constraint ∷ signed_decimal low ∷ map signed_decimal prices
+item_words (Prices constraint low prices) = codes "p" ∷ decimal constraint ∷ priced_words low prices
 item_words (Move constraint variable) = codes "m" ∷ decimal constraint ∷ var_text variable ∷ []
+item_words (Columns constraint column low prices) = codes "t" ∷ decimal constraint ∷ decimal column ∷ priced_words low prices
+item_words (Rows constraint variable) = codes "w" ∷ decimal constraint ∷ var_text variable ∷ []
 
 -- the words of a derivation's line
 abbrev pub derivation_words : Derivation → List (List ℕ)
@@ -55,10 +61,15 @@ abbrev pub IsFirstPriced : ℤ → Type 0
 IsFirstPriced low = IsBetween (negsuc 999999999) (pos 1000000000) low
 
 -- a price keeps the limits of a multiplier
+abbrev pub ArePriced : ℤ → List ℤ → Type 0
+ArePriced low prices = IsFirstPriced low × AllByRecursion IsMultiplier prices
+
 abbrev pub IsRowItem : RowItem → Type 0
 IsRowItem (Multiples multiples) = AllByRecursion IsMultiple multiples
-IsRowItem (Prices constraint low prices) = IsNumber constraint × IsFirstPriced low × AllByRecursion IsMultiplier prices
+IsRowItem (Prices constraint low prices) = IsNumber constraint × ArePriced low prices
 IsRowItem (Move constraint variable) = IsNumber constraint × IsVariableNumber variable
+IsRowItem (Columns constraint column low prices) = IsNumber constraint × IsNumber column × ArePriced low prices
+IsRowItem (Rows constraint variable) = IsNumber constraint × IsVariableNumber variable
 
 -- the numbers have a spelling
 abbrev pub IsDerivation : Derivation → Type 0
@@ -87,20 +98,33 @@ multiples_of (word ∷ next ∷ words) = do
 abbrev pub first_priced_of : List ℕ → Option ℤ
 first_priced_of word = integer_within (negsuc 999999999) (pos 1000000000) word
 
-unfoldable pub prices_of : List (List ℕ) → Option RowItem
-prices_of [] = None
-prices_of (number ∷ []) = None
-prices_of (number ∷ first ∷ words) = do
-  constraint ← positive_of number
-  low ← first_priced_of first
-  prices ← items_of multiplier_of words
-  Some (Prices constraint low prices)
+-- the number that has the first price, and the prices
+unfoldable pub priced_of : List (List ℕ) → Option (ℤ × List ℤ)
+priced_of [] = None
+priced_of (first ∷ words) = first_priced_of first >>= λ low. items_of multiplier_of words >>= λ prices. Some (low, prices)
 
-unfoldable pub move_of : List (List ℕ) → Option RowItem
-move_of [] = None
-move_of (number ∷ []) = None
-move_of (number ∷ word ∷ []) = positive_of number >>= λ constraint. variable_of word >>= λ variable. Some (Move constraint variable)
-move_of (number ∷ word ∷ next ∷ words) = None
+-- a variable, and nothing behind it
+unfoldable pub only_variable_of : List (List ℕ) → Option VarId
+only_variable_of [] = None
+only_variable_of (word ∷ []) = variable_of word
+only_variable_of (word ∷ next ∷ words) = None
+
+-- a number, and what the words behind it spell
+unfoldable pub behind_number : {A : Type 0} → (List (List ℕ) → Option A) → List (List ℕ) → Option (ℕ × A)
+behind_number f [] = None
+behind_number f (word ∷ words) = positive_of word >>= λ number. f words >>= λ x. Some (number, x)
+
+abbrev pub prices_of : List (List ℕ) → Option RowItem
+prices_of words = behind_number priced_of words >>= λ it. Some (Prices it.0 it.1.0 it.1.1)
+
+abbrev pub move_of : List (List ℕ) → Option RowItem
+move_of words = behind_number only_variable_of words >>= λ it. Some (Move it.0 it.1)
+
+abbrev pub columns_of : List (List ℕ) → Option RowItem
+columns_of words = behind_number (behind_number priced_of) words >>= λ it. Some (Columns it.0 it.1.0 it.1.1.0 it.1.1.1)
+
+abbrev pub rows_of : List (List ℕ) → Option RowItem
+rows_of words = behind_number only_variable_of words >>= λ it. Some (Rows it.0 it.1)
 
 -- the item of this letter, with these words behind it
 unfoldable pub row_item_of : List ℕ → List (List ℕ) → Option RowItem
@@ -108,11 +132,13 @@ row_item_of letter words =
     if bytes_eq letter (codes "l") then (multiples_of words >>= λ multiples. Some (Multiples multiples))
     else (if bytes_eq letter (codes "p") then prices_of words
     else (if bytes_eq letter (codes "m") then move_of words
-    else None))
+    else (if bytes_eq letter (codes "t") then columns_of words
+    else (if bytes_eq letter (codes "w") then rows_of words
+    else None))))
 
 -- an item begins with this word
 unfoldable pub is_letter : List ℕ → Bool
-is_letter word = bytes_eq word (codes "l") || (bytes_eq word (codes "p") || bytes_eq word (codes "m"))
+is_letter word = bytes_eq word (codes "l") || (bytes_eq word (codes "p") || (bytes_eq word (codes "m") || (bytes_eq word (codes "t") || bytes_eq word (codes "w"))))
 
 -- the words in front of the first item, and those from it on
 unfoldable pub before_item : List (List ℕ) → List (List ℕ)

@@ -2,8 +2,8 @@
 ghost use Rattle.std.specs.Prelude.{◌≡◌, ◌++◌, [], ◌∷◌, map, codes, OnOk, string_bytes};
 ghost use Rattle.std.specs.List.{flat_map};
 ghost use Rattle.std.specs.Fmt.{decimal, signed_decimal};
-ghost use Rattle.fzn_cert.specs.Derivations.{multiple_words, var_text, item_words, derivation_text};
-ghost use Rattle.fzn_cert.specs.Parts.{after_spaces, derivation_parts};
+ghost use Rattle.fzn_cert.specs.Derivations.{multiple_words, var_text, priced_words, item_words, derivation_text};
+ghost use Rattle.fzn_cert.specs.Parts.{after_space, after_spaces, derivation_parts};
 
 use crate::line::{push_ids, push_integers};
 use fzn_cited::Multiple;
@@ -105,29 +105,59 @@ fn push_item(text: &mut String, item: &RowItem) -> Result<(), Memory>
             constraint,
             low,
             prices,
-        } => push_prices(text, *constraint, *low, prices.as_slice()),
+        } => {
+            text.push_str(" p")?;
+            push_number(text, *constraint)?;
+            push_priced(text, *low, prices.as_slice())
+        }
         RowItem::Move {
             constraint,
             variable,
-        } => push_move(text, *constraint, *variable),
+        } => {
+            text.push_str(" m")?;
+            push_at_variable(text, *constraint, *variable)
+        }
+        RowItem::Columns {
+            constraint,
+            column,
+            low,
+            prices,
+        } => {
+            text.push_str(" t")?;
+            push_number(text, *constraint)?;
+            push_number(text, *column)?;
+            push_priced(text, *low, prices.as_slice())
+        }
+        RowItem::Rows {
+            constraint,
+            variable,
+        } => {
+            text.push_str(" w")?;
+            push_at_variable(text, *constraint, *variable)
+        }
     }
 }
 
-fn push_prices(text: &mut String, constraint: u64, low: i64, prices: &[i64]) -> Result<(), Memory>
-    ensures { OnOk result (string_bytes text.new ≡ string_bytes text.old ++ after_spaces (codes "p" ∷ decimal constraint ∷ signed_decimal low ∷ map signed_decimal prices.now)) }
+fn push_number(text: &mut String, number: u64) -> Result<(), Memory>
+    ensures { OnOk result (string_bytes text.new ≡ string_bytes text.old ++ after_space (decimal number)) }
 {
-    text.push_str(" p ")?;
-    text.push_str(Buffer::new().format(constraint))?;
+    text.push(' ')?;
+    text.push_str(Buffer::new().format(number))?;
+    Ok(())
+}
+
+fn push_priced(text: &mut String, low: i64, prices: &[i64]) -> Result<(), Memory>
+    ensures { OnOk result (string_bytes text.new ≡ string_bytes text.old ++ after_spaces (priced_words low prices.now)) }
+{
     text.push(' ')?;
     text.push_str(Buffer::new().format(low))?;
     push_integers(text, prices)
 }
 
-fn push_move(text: &mut String, constraint: u64, variable: VarId) -> Result<(), Memory>
-    ensures { OnOk result (string_bytes text.new ≡ string_bytes text.old ++ after_spaces (codes "m" ∷ decimal constraint ∷ var_text variable ∷ [])) }
+fn push_at_variable(text: &mut String, constraint: u64, variable: VarId) -> Result<(), Memory>
+    ensures { OnOk result (string_bytes text.new ≡ string_bytes text.old ++ after_spaces (decimal constraint ∷ var_text variable ∷ [])) }
 {
-    text.push_str(" m ")?;
-    text.push_str(Buffer::new().format(constraint))?;
+    push_number(text, constraint)?;
     text.push(' ')?;
     text.push_str(Buffer::new().format(variable.0))?;
     Ok(())

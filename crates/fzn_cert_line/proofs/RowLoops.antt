@@ -1,16 +1,18 @@
 -- Items of a row one after the other, as they are read.
-use Rattle.std.proofs.Common.{◌≡◌, ℕ, ◌<◌, ◌≤◌, Bool, true, false, List, [], ◌∷◌, ◌++◌, length, Option, Some, None, refl, sym, ap, subst, ◌∙◌, arith}
+use Rattle.std.proofs.Common.{◌≡◌, ℕ, ◌<◌, ◌≤◌, Bool, true, false, List, [], ◌∷◌, ◌++◌, length, drop, Option, Some, None, refl, sym, ap, subst, ◌∙◌, arith}
 use Rattle.std.specs.Prelude.{ℤ}
 use Rattle.std.proofs.lemmas.List.{append-nil}
+use Rattle.std.proofs.lemmas.Bool.{false≢true}
+use Rattle.fzn_domain.specs.declared.literal.VarId.{VarId}
 use Rattle.fzn_cited.specs.declared.multiple.Multiple.{Multiple}
 use Rattle.fzn_row.specs.declared.item.RowItem.{RowItem}
 use Rattle.fzn_row.specs.declared.item.RowItem.TheVariants as item
 use Rattle.fzn_cert.specs.Words.{◌>>=◌, positive_of, items_of}
-use Rattle.fzn_cert.specs.Derivations.{multiplier_of, variable_of, multiples_of, first_priced_of, prices_of, move_of, row_item_of, is_letter, before_item, from_item, items_among, row_items_of}
+use Rattle.fzn_cert.specs.Derivations.{multiplier_of, multiples_of, first_priced_of, priced_of, only_variable_of, behind_number, row_item_of, is_letter, before_item, from_item, items_among, row_items_of}
 use Rattle.fzn_cert.proofs.CallerLemmas.{some_is, decimal_is_no_letter, first_priced_is_no_letter}
 use Rattle.fzn_cert_line.specs.declared.row.Letter.{Letter}
 use Rattle.fzn_cert_line.specs.declared.row.Letter.TheVariants as letter
-use Rattle.fzn_cert_line.specs.Rows.{letter_word, from_letter, up_to_item}
+use Rattle.fzn_cert_line.specs.Rows.{letter_word, from_letter, leading_number, up_to_item}
 use Rattle.fzn_cert_line.proofs.OptionLaws.{bind_some}
 use Rattle.fzn_cert_line.proofs.WordLaws.{number_takes}
 use Rattle.fzn_cert_line.proofs.LoopLaws.{with_front, regroup, goes_on, stops, ends}
@@ -24,11 +26,20 @@ unfolding is_letter
 letter_is_one letter.Multiples = refl
 letter_is_one letter.Prices = refl
 letter_is_one letter.Move = refl
+letter_is_one letter.Columns = refl
+letter_is_one letter.Rows = refl
 
 number_is_none : (word : List ℕ) (n : ℕ) → positive_of word ≡ Some n → is_letter word ≡ false
 number_is_none word n h =
     let t = number_takes word n h in
     subst (λ (w : List ℕ). is_letter w ≡ false) (sym t.0) (decimal_is_no_letter n t.1)
+
+letter_is_no_number : (word : List ℕ) → is_letter word ≡ true → positive_of word ≡ None
+letter_is_no_number word is = by (positive_of word) refl
+  where
+    by : (read : Option ℕ) → positive_of word ≡ read → positive_of word ≡ None
+    by None e = e
+    by (Some n) e = absurd (false≢true (sym (number_is_none word n e) ∙ is))
 
 first_is_none : (word : List ℕ) (low : ℤ) → first_priced_of word ≡ Some low → is_letter word ≡ false
 first_is_none word low h =
@@ -195,134 +206,147 @@ pub multiples-not : (start : List (List ℕ)) → None ≡ up_to_item multiples_
 unfolding row_item_of
 multiples-not start e = up-none (row_item_of (letter_word letter.Multiples)) start (rw (up-not multiples_of start e) refl)
 
-pub prices-are-read : (start : List (List ℕ)) (read : Option (RowItem × List (List ℕ))) → read ≡ up_to_item prices_of start → read ≡ up_to_item (row_item_of (letter_word letter.Prices)) start
-unfolding row_item_of up_to_item
-prices-are-read start read e = e
+-- what was read, as an item of a row
+abbrev pub made : {A B : Type 0} → (A → B) → Option (A × List (List ℕ)) → Option (B × List (List ℕ))
+made of read = read >>= λ r. Some (of r.0, r.1)
 
-pub move-is-read : (start : List (List ℕ)) (read : Option (RowItem × List (List ℕ))) → read ≡ up_to_item move_of start → read ≡ up_to_item (row_item_of (letter_word letter.Move)) start
-unfolding row_item_of up_to_item
-move-is-read start read e = e
-
--- ---- prices behind a constraint and the first number that has one
-
-pub prices-none : (start : List (List ℕ)) → start ≡ [] → None ≡ up_to_item prices_of start
-unfolding prices_of before_item
-prices-none start e = up-none prices_of start (rw e refl)
-
-no-number : (word : List ℕ) (words : List (List ℕ)) → positive_of word ≡ None → prices_of (word ∷ words) ≡ None
-unfolding prices_of
-no-number word [] h = refl
-no-number word (next ∷ words) h = rw h refl
-
-pub prices-no-number : (start : List (List ℕ)) (word : List ℕ) (rest : List (List ℕ)) → start ≡ word ∷ rest → positive_of word ≡ None → None ≡ up_to_item prices_of start
-unfolding before_item prices_of
-prices-no-number start word rest e h = up-none prices_of start (ap (λ (ws : List (List ℕ)). prices_of (before_item ws)) e ∙ by (is_letter word) refl)
+up-made : {A B : Type 0} (f : List (List ℕ) → Option A) (of : A → B) (g : List (List ℕ) → Option B) (words : List (List ℕ)) → g (before_item words) ≡ (f (before_item words) >>= λ x. Some (of x)) → up_to_item g words ≡ made of (up_to_item f words)
+unfolding up_to_item
+up-made {A} {B} f of g words e = rw e (by (f (before_item words)))
   where
-    by : (b : Bool) → is_letter word ≡ b → prices_of (before_item (word ∷ rest)) ≡ None
-    by true so = rw so refl
-    by false so = rw so (no-number word (before_item rest) h)
+    of_read : A → Option B
+    of_read x = Some (of x)
 
-pub prices-no-first : (start : List (List ℕ)) (word : List ℕ) (c : ℕ) → start ≡ word ∷ [] → positive_of word ≡ Some c → None ≡ up_to_item prices_of start
-unfolding before_item prices_of
-prices-no-first start word c e h = up-none prices_of start (rw (e, number_is_none word c h) refl)
-
-pub prices-no-low : (start : List (List ℕ)) (word first : List ℕ) (rest : List (List ℕ)) (c : ℕ) → start ≡ word ∷ first ∷ rest → positive_of word ≡ Some c → first_priced_of first ≡ None → None ≡ up_to_item prices_of start
-unfolding before_item prices_of
-prices-no-low start word first rest c e h none = up-none prices_of start (ap (λ (ws : List (List ℕ)). prices_of (before_item ws)) e ∙ by (is_letter first) refl)
-  where
-    by : (b : Bool) → is_letter first ≡ b → prices_of (before_item (word ∷ first ∷ rest)) ≡ None
-    by true so = rw (number_is_none word c h, so) refl
-    by false so = rw (number_is_none word c h, so, h, none) refl
-
-pub prices-read : (start : List (List ℕ)) (word first : List ℕ) (rest : List (List ℕ)) (c : ℕ) (low held : ℤ) (prices : List ℤ) (behind : List (List ℕ)) → start ≡ word ∷ first ∷ rest
-    → positive_of word ≡ Some c → first_priced_of first ≡ Some low → held ≡ low → Some (prices, behind) ≡ up_to_item (items_of multiplier_of) rest → Some (item.Prices c held prices, behind) ≡ up_to_item prices_of start
-unfolding prices_of
-prices-read start word first rest c low held prices behind e number is same read =
-    let one = at-number word (first ∷ rest) (number_is_none word c number) in
-    let two = at-number first rest (first_is_none first low is) in
-    let t = up-taken (items_of multiplier_of) rest prices behind read in
-    let all : before_item start ≡ word ∷ first ∷ before_item rest = ap before_item e ∙ one.before ∙ ap (λ (ws : List (List ℕ)). word ∷ ws) two.before in
-    ap (λ (l : ℤ). Some (item.Prices c l prices, behind)) same
-    ∙ up-some prices_of start (item.Prices c low prices) behind (rw (all, number, is, t.read) refl) (ap from_item e ∙ one.from ∙ two.from ∙ t.behind_is)
-
-pub prices-not : (start : List (List ℕ)) (word first : List ℕ) (rest : List (List ℕ)) (c : ℕ) (low : ℤ) → start ≡ word ∷ first ∷ rest
-    → positive_of word ≡ Some c → first_priced_of first ≡ Some low → None ≡ up_to_item (items_of multiplier_of) rest → None ≡ up_to_item prices_of start
-unfolding prices_of
-prices-not start word first rest c low e number is read =
-    let one = at-number word (first ∷ rest) (number_is_none word c number) in
-    let two = at-number first rest (first_is_none first low is) in
-    let all : before_item start ≡ word ∷ first ∷ before_item rest = ap before_item e ∙ one.before ∙ ap (λ (ws : List (List ℕ)). word ∷ ws) two.before in
-    up-none prices_of start (rw (all, number, is, up-not (items_of multiplier_of) rest read) refl)
-
--- ---- a move
-
-pub move-none : (start : List (List ℕ)) → start ≡ [] → None ≡ up_to_item move_of start
-unfolding move_of before_item
-move-none start e = up-none move_of start (rw e refl)
-
-no-move : (word : List ℕ) (words : List (List ℕ)) → positive_of word ≡ None → move_of (word ∷ words) ≡ None
-unfolding move_of
-no-move word [] h = refl
-no-move word (next ∷ []) h = rw h refl
-no-move word (next ∷ third ∷ words) h = refl
-
-pub move-no-number : (start : List (List ℕ)) (word : List ℕ) (rest : List (List ℕ)) → start ≡ word ∷ rest → positive_of word ≡ None → None ≡ up_to_item move_of start
-unfolding before_item move_of
-move-no-number start word rest e h = up-none move_of start (ap (λ (ws : List (List ℕ)). move_of (before_item ws)) e ∙ by (is_letter word) refl)
-  where
-    by : (b : Bool) → is_letter word ≡ b → move_of (before_item (word ∷ rest)) ≡ None
-    by true so = rw so refl
-    by false so = rw so (no-move word (before_item rest) h)
-
-pub move-no-second : (start : List (List ℕ)) (word : List ℕ) (c : ℕ) → start ≡ word ∷ [] → positive_of word ≡ Some c → None ≡ up_to_item move_of start
-unfolding before_item move_of
-move-no-second start word c e h = up-none move_of start (rw (e, number_is_none word c h) refl)
-
-no-variable : (word next : List ℕ) (words : List (List ℕ)) → positive_of next ≡ None → move_of (word ∷ next ∷ words) ≡ None
-unfolding move_of
-no-variable word next [] h = by (positive_of word)
-  where
-    by : (read : Option ℕ) → (read >>= λ c. variable_of next >>= λ var. Some (item.Move c var)) ≡ None
+    by : (read : Option A) → ((read >>= of_read) >>= λ y. Some (y, from_item words)) ≡ made of (read >>= λ x. Some (x, from_item words))
     by None = refl
-    by (Some c) = rw h refl
-no-variable word next (third ∷ words) h = refl
+    by (Some x) = refl
 
-pub move-no-variable : (start : List (List ℕ)) (word next : List ℕ) (rest : List (List ℕ)) (c : ℕ) → start ≡ word ∷ next ∷ rest → positive_of word ≡ Some c → positive_of next ≡ None → None ≡ up_to_item move_of start
-unfolding before_item move_of
-move-no-variable start word next rest c e h none = up-none move_of start (ap (λ (ws : List (List ℕ)). move_of (before_item ws)) e ∙ by (is_letter next) refl)
+-- ---- behind a number
+
+-- a number, and what was read behind it
+abbrev pub numbered : {A : Type 0} → Option ℕ → Option (A × List (List ℕ)) → Option ((ℕ × A) × List (List ℕ))
+numbered number read = number >>= λ n. read >>= λ r. Some ((n, r.0), r.1)
+
+pub behind_is_read : {A : Type 0} (f : List (List ℕ) → Option A) (words : List (List ℕ)) → up_to_item (behind_number f) words ≡ numbered (leading_number words) (up_to_item f (drop 1 words))
+unfolding up_to_item behind_number leading_number before_item from_item
+behind_is_read f [] = refl
+behind_is_read {A} f (word ∷ words) = by (is_letter word) refl
   where
-    by : (b : Bool) → is_letter next ≡ b → move_of (before_item (word ∷ next ∷ rest)) ≡ None
-    by true so = rw (number_is_none word c h, so) refl
-    by false so = rw (number_is_none word c h, so) (no-variable word next (before_item rest) none)
+    behind : Option ℕ → Option A → Option (ℕ × A)
+    behind number read = number >>= λ n. read >>= λ x. Some (n, x)
 
-move-over : (start : List (List ℕ)) (word next : List ℕ) (rest : List (List ℕ)) (c v : ℕ) → start ≡ word ∷ next ∷ rest → positive_of word ≡ Some c → positive_of next ≡ Some v → BeginsItem rest
-    → Some (item.Move c (record { 0 = v }), rest) ≡ up_to_item move_of start
-unfolding move_of
-move-over start word next rest c v e h k at =
-    let one = at-number word (next ∷ rest) (number_is_none word c h) in
-    let two = at-number next rest (number_is_none next v k) in
-    let all : before_item start ≡ word ∷ next ∷ [] =
-    ap before_item e ∙ one.before ∙ ap (λ (ws : List (List ℕ)). word ∷ ws) two.before ∙ ap (λ (ws : List (List ℕ)). word ∷ next ∷ ws) at.before in
-    up-some move_of start (item.Move c (record { 0 = v })) rest (rw (all, h, k) refl) (ap from_item e ∙ one.from ∙ two.from ∙ at.from)
+    joined : (number : Option ℕ) (read : Option A) → (behind number read >>= λ x. Some (x, from_item words)) ≡ numbered number (read >>= λ x. Some (x, from_item words))
+    joined None read = refl
+    joined (Some n) None = refl
+    joined (Some n) (Some x) = refl
 
-pub move-end : (start : List (List ℕ)) (word next : List ℕ) (rest : List (List ℕ)) (c v : ℕ) → start ≡ word ∷ next ∷ rest → positive_of word ≡ Some c → positive_of next ≡ Some v → rest ≡ []
-    → Some (item.Move c (record { 0 = v }), []) ≡ up_to_item move_of start
-move-end start word next rest c v e h k none = move-over start word next [] c v (e ∙ ap (λ (ws : List (List ℕ)). word ∷ next ∷ ws) none) h k at-end
+    by : (b : Bool) → is_letter word ≡ b → up_to_item (behind_number f) (word ∷ words) ≡ numbered (positive_of word) (up_to_item f words)
+    by true so = rw (so, letter_is_no_number word so) refl
+    by false so = rw so (joined (positive_of word) (f (before_item words)))
 
-pub move-letter : (start : List (List ℕ)) (word next third : List ℕ) (rest : List (List ℕ)) (c v : ℕ) (one : Letter) → start ≡ word ∷ next ∷ third ∷ rest → positive_of word ≡ Some c → positive_of next ≡ Some v → third ≡ letter_word one
-    → Some (item.Move c (record { 0 = v }), letter_word one ∷ rest) ≡ up_to_item move_of start
-move-letter start word next third rest c v one e h k is =
-    move-over start word next (letter_word one ∷ rest) c v (e ∙ ap (λ (w : List ℕ). word ∷ next ∷ w ∷ rest) is) h k (at-letter one rest)
+-- ---- the number that has the first price, and the prices
 
-pub move-more : (start : List (List ℕ)) (word next third : List ℕ) (rest : List (List ℕ)) (c v : ℕ) → start ≡ word ∷ next ∷ third ∷ rest → positive_of word ≡ Some c → positive_of next ≡ Some v → is_letter third ≡ false
-    → None ≡ up_to_item move_of start
-unfolding move_of
-move-more start word next third rest c v e h k number =
-    let one = at-number word (next ∷ third ∷ rest) (number_is_none word c h) in
-    let two = at-number next (third ∷ rest) (number_is_none next v k) in
-    let all : before_item start ≡ word ∷ next ∷ third ∷ before_item rest =
-    ap before_item e ∙ one.before ∙ ap (λ (ws : List (List ℕ)). word ∷ ws) two.before ∙ ap (λ (ws : List (List ℕ)). word ∷ next ∷ ws) (at-number third rest number).before in
-    up-none move_of start (rw all refl)
+pub priced-none : (start : List (List ℕ)) → start ≡ [] → None ≡ up_to_item priced_of start
+unfolding priced_of before_item
+priced-none start e = up-none priced_of start (rw e refl)
+
+pub priced-no-low : (start : List (List ℕ)) (first : List ℕ) (rest : List (List ℕ)) → start ≡ first ∷ rest → first_priced_of first ≡ None → None ≡ up_to_item priced_of start
+unfolding before_item priced_of
+priced-no-low start first rest e none = up-none priced_of start (ap (λ (ws : List (List ℕ)). priced_of (before_item ws)) e ∙ by (is_letter first) refl)
+  where
+    by : (b : Bool) → is_letter first ≡ b → priced_of (before_item (first ∷ rest)) ≡ None
+    by true so = rw so refl
+    by false so = rw (so, none) refl
+
+pub priced-read : (start : List (List ℕ)) (first : List ℕ) (rest : List (List ℕ)) (low held : ℤ) (prices : List ℤ) (behind : List (List ℕ)) → start ≡ first ∷ rest → first_priced_of first ≡ Some low → held ≡ low
+    → Some (prices, behind) ≡ up_to_item (items_of multiplier_of) rest → Some ((held, prices), behind) ≡ up_to_item priced_of start
+unfolding priced_of
+priced-read start first rest low held prices behind e is same read =
+    let one = at-number first rest (first_is_none first low is) in
+    let t = up-taken (items_of multiplier_of) rest prices behind read in
+    ap (λ (l : ℤ). Some ((l, prices), behind)) same
+    ∙ up-some priced_of start (low, prices) behind (rw (ap before_item e ∙ one.before, is, t.read) refl) (ap from_item e ∙ one.from ∙ t.behind_is)
+
+pub priced-not : (start : List (List ℕ)) (first : List ℕ) (rest : List (List ℕ)) (low : ℤ) → start ≡ first ∷ rest → first_priced_of first ≡ Some low → None ≡ up_to_item (items_of multiplier_of) rest → None ≡ up_to_item priced_of start
+unfolding priced_of
+priced-not start first rest low e is read =
+    let one = at-number first rest (first_is_none first low is) in
+    up-none priced_of start (rw (ap before_item e ∙ one.before, is, up-not (items_of multiplier_of) rest read) refl)
+
+-- ---- a variable that ends the item
+
+abbrev pub variable_of_number : ℕ → VarId
+variable_of_number n = record { 0 = n }
+
+pub variable-none : (start : List (List ℕ)) → start ≡ [] → None ≡ up_to_item only_variable_of start
+unfolding only_variable_of before_item
+variable-none start e = up-none only_variable_of start (rw e refl)
+
+no-variable : (word : List ℕ) (words : List (List ℕ)) → positive_of word ≡ None → only_variable_of (word ∷ words) ≡ None
+unfolding only_variable_of
+no-variable word [] h = rw h refl
+no-variable word (next ∷ words) h = refl
+
+pub variable-no-number : (start : List (List ℕ)) (word : List ℕ) (rest : List (List ℕ)) → start ≡ word ∷ rest → positive_of word ≡ None → None ≡ up_to_item only_variable_of start
+unfolding before_item only_variable_of
+variable-no-number start word rest e h = up-none only_variable_of start (ap (λ (ws : List (List ℕ)). only_variable_of (before_item ws)) e ∙ by (is_letter word) refl)
+  where
+    by : (b : Bool) → is_letter word ≡ b → only_variable_of (before_item (word ∷ rest)) ≡ None
+    by true so = rw so refl
+    by false so = rw so (no-variable word (before_item rest) h)
+
+variable-over : (start : List (List ℕ)) (word : List ℕ) (rest : List (List ℕ)) (n : ℕ) → start ≡ word ∷ rest → positive_of word ≡ Some n → BeginsItem rest → Some (variable_of_number n, rest) ≡ up_to_item only_variable_of start
+unfolding only_variable_of
+variable-over start word rest n e h at =
+    let one = at-number word rest (number_is_none word n h) in
+    let all : before_item start ≡ word ∷ [] = ap before_item e ∙ one.before ∙ ap (λ (ws : List (List ℕ)). word ∷ ws) at.before in
+    up-some only_variable_of start (variable_of_number n) rest (rw (all, h) refl) (ap from_item e ∙ one.from ∙ at.from)
+
+pub variable-end : (start : List (List ℕ)) (word : List ℕ) (rest : List (List ℕ)) (n : ℕ) → start ≡ word ∷ rest → positive_of word ≡ Some n → rest ≡ [] → Some (variable_of_number n, []) ≡ up_to_item only_variable_of start
+variable-end start word rest n e h none = variable-over start word [] n (e ∙ ap (λ (ws : List (List ℕ)). word ∷ ws) none) h at-end
+
+pub variable-letter : (start : List (List ℕ)) (word behind : List ℕ) (rest : List (List ℕ)) (n : ℕ) (one : Letter) → start ≡ word ∷ behind ∷ rest → positive_of word ≡ Some n → behind ≡ letter_word one
+    → Some (variable_of_number n, letter_word one ∷ rest) ≡ up_to_item only_variable_of start
+variable-letter start word behind rest n one e h is = variable-over start word (letter_word one ∷ rest) n (e ∙ ap (λ (w : List ℕ). word ∷ w ∷ rest) is) h (at-letter one rest)
+
+pub variable-more : (start : List (List ℕ)) (word behind : List ℕ) (rest : List (List ℕ)) (n : ℕ) → start ≡ word ∷ behind ∷ rest → positive_of word ≡ Some n → is_letter behind ≡ false → None ≡ up_to_item only_variable_of start
+unfolding only_variable_of
+variable-more start word behind rest n e h number =
+    let one = at-number word (behind ∷ rest) (number_is_none word n h) in
+    let all : before_item start ≡ word ∷ behind ∷ before_item rest = ap before_item e ∙ one.before ∙ ap (λ (ws : List (List ℕ)). word ∷ ws) (at-number behind rest number).before in
+    up-none only_variable_of start (rw all refl)
+
+-- ---- items of numbers
+
+abbrev pub prices_item : ℕ × (ℤ × List ℤ) → RowItem
+prices_item it = item.Prices it.0 it.1.0 it.1.1
+
+abbrev pub move_item : ℕ × VarId → RowItem
+move_item it = item.Move it.0 it.1
+
+abbrev pub columns_item : ℕ × (ℕ × (ℤ × List ℤ)) → RowItem
+columns_item it = item.Columns it.0 it.1.0 it.1.1.0 it.1.1.1
+
+abbrev pub rows_item : ℕ × VarId → RowItem
+rows_item it = item.Rows it.0 it.1
+
+pub prices_are_read : (words : List (List ℕ)) → up_to_item (row_item_of (letter_word letter.Prices)) words ≡ made prices_item (numbered (leading_number words) (up_to_item priced_of (drop 1 words)))
+unfolding row_item_of
+prices_are_read words = up-made (behind_number priced_of) prices_item (row_item_of (letter_word letter.Prices)) words refl ∙ ap (made prices_item) (behind_is_read priced_of words)
+
+pub move_is_read : (words : List (List ℕ)) → up_to_item (row_item_of (letter_word letter.Move)) words ≡ made move_item (up_to_item (behind_number only_variable_of) words)
+unfolding row_item_of
+move_is_read words = up-made (behind_number only_variable_of) move_item (row_item_of (letter_word letter.Move)) words refl
+
+pub columns_are_read : (words : List (List ℕ)) → up_to_item (row_item_of (letter_word letter.Columns)) words ≡ made columns_item (numbered (leading_number words) (numbered (leading_number (drop 1 words)) (up_to_item priced_of (drop 1 (drop 1 words)))))
+unfolding row_item_of
+columns_are_read words =
+    up-made (behind_number (behind_number priced_of)) columns_item (row_item_of (letter_word letter.Columns)) words refl
+    ∙ ap (made columns_item) (behind_is_read (behind_number priced_of) words ∙ ap (numbered (leading_number words)) (behind_is_read priced_of (drop 1 words)))
+
+pub rows_are_read : (words : List (List ℕ)) → up_to_item (row_item_of (letter_word letter.Rows)) words ≡ made rows_item (up_to_item (behind_number only_variable_of) words)
+unfolding row_item_of
+rows_are_read words = up-made (behind_number only_variable_of) rows_item (row_item_of (letter_word letter.Rows)) words refl
 
 -- ---- all items
 

@@ -1,6 +1,5 @@
 -- What a core makes of a whole certificate, and what a fault leaves.
-use Rattle.std.proofs.Common.{◌≡◌, ℕ, ◌≤◌, Bool, List, [], length, Option, Some, None, Err, IfSome, refl, sym, subst, arith, append-nil}
-use Rattle.std.specs.Io.KnownBytes.{Appends}
+use Rattle.std.proofs.Common.{◌≡◌, ℕ, ◌≤◌, Bool, List, length, Option, Err, IfSome, refl, sym, subst, arith}
 use Rattle.std.proofs.KnownBytes.{Keeps-refl}
 use Rattle.fzn_lexer.specs.declared.token.Span.{Span}
 use Rattle.fzn_meaning.specs.declared.model.Model.{Model}
@@ -22,14 +21,6 @@ use Rattle.fzn_core.specs.declared.listing.Listed.{Listed}
 use Rattle.fzn_core.specs.Core.{IsCore}
 use Rattle.fzn_core.specs.Listing.{core_text, Lists, IsListFault}
 use Rattle.fzn_core.proofs.ShowsLemmas.{shows-of}
-
--- ---- the text
-
-pub Appends-nothing : (known : Option (List ℕ)) → Appends known known []
-Appends-nothing None = tt
-Appends-nothing (Some bytes) = sym (append-nil bytes)
-
--- ---- the answer
 
 -- no more are derived than there are constraints
 pub derived-among : (model after : Model) (cert : Option (List ℕ)) (held : Held) → HoldsCertificate model after cert held → length held.derivations.items ≤ length after.constraints
@@ -85,6 +76,3 @@ pub model-fault : (file cert before : Option (List ℕ)) (fault : ModelFault) �
 model-fault file cert before (reading.File fault) h = (Keeps-refl before, h)
 model-fault file cert before reading.Memory h = Keeps-refl before
 model-fault file cert before reading.Read h = Keeps-refl before
-
-pub memory-fault : (file cert before : Option (List ℕ)) → IsListFault file cert before before Memory
-memory-fault file cert before = Keeps-refl before

@@ -97,6 +97,8 @@ fn mark_item(marks: &mut Vec<bool>, item: &RowItem)
         RowItem::Multiples(multiples) => mark_multiples(marks, multiples.as_slice()),
         RowItem::Prices { constraint, .. } => mark(marks, *constraint),
         RowItem::Move { constraint, .. } => mark(marks, *constraint),
+        RowItem::Columns { constraint, .. } => mark(marks, *constraint),
+        RowItem::Rows { constraint, .. } => mark(marks, *constraint),
     }
 }
 

@@ -1,5 +1,5 @@
 // Which steps of a certificate its answer rests on. Nothing is promised of what is found here: whoever takes it tests the steps of its lines.
-ghost use Rattle.std.specs.Prelude.{◌≡◌, ◌⊎◌, ◌==◌, ◌-◌, ℕ, List, [], false, length, map, slice_get, slice_index, unwrap_or, IfOk, IfSome};
+ghost use Rattle.std.specs.Prelude.{◌≡◌, ◌⊎◌, ◌==◌, ◌-◌, ℕ, List, [], false, length, map, slice_get, slice_index, slice_index_or, unwrap_or, IfOk, IfSome};
 ghost use Rattle.fzn_cert.specs.declared.step.Step.{Step};
 ghost use Rattle.fzn_cert.specs.declared.step.Step.TheVariants.{Delete};
 ghost use Rattle.fzn_cert.specs.declared.step.Version.TheVariants.{Two};
@@ -327,7 +327,9 @@ fn mark(needed: &mut [bool], place: usize) {
 }
 
 /// Whether there is a mark at this place, counted from 0; behind the last there is none.
-pub fn is_marked(needed: &[bool], place: usize) -> bool {
+pub fn is_marked(needed: &[bool], place: usize) -> bool
+    ensures { result ≡ slice_index_or needed.now place false }
+{
     match needed.get(place) {
         Some(is_needed) => *is_needed,
         None => false,

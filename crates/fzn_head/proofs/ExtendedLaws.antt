@@ -52,12 +52,12 @@ pub terms-more : (constraints : List Constraint) (constraint : Constraint) → t
 terms-more [] constraint = omega arith
 terms-more (first ∷ later) constraint = omega (arith, terms-more later constraint)
 
-listed-last : (parts : List Part) (part : Part) → listed_in (parts ++ part ∷ []) ≡ listed_in parts + listed_of part.listed
+listed-last : (parts : List Part) (part : Part) → listed_in (parts ++ part ∷ []) ≡ listed_in parts + listed_of part
 listed-last [] part = omega arith
 listed-last (first ∷ later) part = omega (arith, listed-last later part)
 
 -- one part more
-pub listed-more : (parts : List Part) (i : ℕ) (d : Part) → i < length parts → listed_in (take (i + 1) parts) ≡ listed_in (take i parts) + listed_of (get_or parts i d).listed
+pub listed-more : (parts : List Part) (i : ℕ) (d : Part) → i < length parts → listed_in (take (i + 1) parts) ≡ listed_in (take i parts) + listed_of (get_or parts i d)
 listed-more parts i d inside = ap listed_in (take_more parts i d inside) ∙ listed-last (take i parts) (get_or parts i d)
 
 pub terms-grow : (model after : Model) (derivations : List Derivation) → Extends model derivations after → terms_held_in model.constraints ≤ terms_held_in after.constraints

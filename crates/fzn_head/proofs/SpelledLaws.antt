@@ -5,10 +5,10 @@ use Rattle.std.proofs.lemmas.List.Elements.{recursion_from_All}
 use Rattle.fzn_domain.specs.declared.literal.VarId.{VarId}
 use Rattle.fzn_cited.specs.declared.multiple.Multiple.{Multiple}
 use Rattle.fzn_row.specs.declared.item.RowItem.{RowItem}
-use Rattle.fzn_row.specs.declared.item.RowItem.TheVariants.{Multiples, Prices}
+use Rattle.fzn_row.specs.declared.item.RowItem.TheVariants.{Multiples}
 use Rattle.fzn_derive.specs.declared.derivation.Derivation.TheVariants.{Sum, Parity, AllDifferent, Row}
 use Rattle.fzn_cert.specs.Spelling.{IsNumber}
-use Rattle.fzn_cert.specs.Derivations.{IsDerivation, IsMultiplier, IsMultiple, IsVariableNumber, IsFirstPriced, IsRowItem}
+use Rattle.fzn_cert.specs.Derivations.{IsDerivation, IsMultiplier, IsMultiple, IsVariableNumber, IsFirstPriced, ArePriced, IsRowItem}
 
 pub sum_is_spelled : (multiples : List Multiple) → All IsMultiple multiples → IsDerivation (Sum multiples)
 sum_is_spelled multiples all = recursion_from_All IsMultiple multiples all
@@ -27,5 +27,5 @@ row_is_spelled items all = recursion_from_All IsRowItem items all
 pub multiples_are_spelled : (multiples : List Multiple) → All IsMultiple multiples → IsRowItem (Multiples multiples)
 multiples_are_spelled multiples all = recursion_from_All IsMultiple multiples all
 
-pub prices_are_spelled : (constraint : ℕ) (low : ℤ) (prices : List ℤ) → IsNumber constraint → IsFirstPriced low → All IsMultiplier prices → IsRowItem (Prices constraint low prices)
-prices_are_spelled constraint low prices number first all = (number, first, recursion_from_All IsMultiplier prices all)
+pub prices_are_spelled : (low : ℤ) (prices : List ℤ) → IsFirstPriced low → All IsMultiplier prices → ArePriced low prices
+prices_are_spelled low prices first all = (first, recursion_from_All IsMultiplier prices all)

@@ -4,6 +4,7 @@ use Rattle.fzn_meaning.specs.declared.constraint.Constraint.{Constraint}
 use Rattle.fzn_meaning.specs.declared.constraint.Constraint.TheVariants.{Linear, ArrayBoolXor, AllDifferent, Row}
 use Rattle.fzn_meaning.specs.declared.row.Listed.{Listed}
 use Rattle.fzn_meaning.specs.declared.row.Part.{Part}
+use Rattle.fzn_meaning.specs.declared.row.Part.TheVariants.{Variable, Table}
 use Rattle.fzn_meaning.specs.declared.model.Model.{Model}
 use Rattle.fzn_meaning.specs.Solutions.{declared_sets}
 use Rattle.fzn_derive.specs.declared.derivation.Derivation.{Derivation}
@@ -39,16 +40,21 @@ IsExtended model after = (derivations : List Derivation) × Extends model deriva
 
 -- ---- how many terms there are
 
--- how many weights are listed for all parts
-abbrev pub listed_of : Option Listed → ℕ
-listed_of None = 0
-listed_of (Some listed) = length listed.weights
+-- how many weights are listed for a variable
+abbrev pub listed_for : Option Listed → ℕ
+listed_for None = 0
+listed_for (Some listed) = length listed.weights
+
+-- how many numbers a look at the part goes over: of a table those of all its rows
+abbrev pub listed_of : Part → ℕ
+listed_of (Variable part) = listed_for part.listed
+listed_of (Table table) = length table.rows
 
 abbrev pub listed_in : List Part → ℕ
 listed_in [] = 0
-listed_in (part ∷ parts) = listed_of part.listed + listed_in parts
+listed_in (part ∷ parts) = listed_of part + listed_in parts
 
--- those that are held of a constraint of a kind that is derived: of a row its parts, and what is listed for them
+-- those that are held of a constraint of a kind that is derived: of a row its parts, what is listed for variables, and all numbers of its tables
 abbrev pub terms_held : Constraint → ℕ
 terms_held (Linear sum comparison bound switch) = length sum
 terms_held (ArrayBoolXor inputs) = length inputs

@@ -3,12 +3,12 @@ ghost use Rattle.std.specs.Prelude.{◌≡◌, ◌⊎◌, ◌+◌, [], ◌∷◌
 ghost use Rattle.std.specs.List.{All};
 ghost use Rattle.fzn_meaning.specs.Meaning.{IsWellFormedConstraint};
 ghost use Rattle.fzn_cited.specs.declared.fault.DeriveFault.TheVariants.{Memory};
-ghost use Rattle.fzn_head.specs.Extended.{Extends, IsFaultyWithin, terms_held, listed_of, listed_in};
+ghost use Rattle.fzn_head.specs.Extended.{Extends, IsFaultyWithin, terms_held, listed_for, listed_of, listed_in};
 ghost use Rattle.fzn_head.specs.Extender.{IsReadyFor, most_terms};
 
 use fzn_cited::DeriveFault;
 use fzn_derive::{Derivation, Deriver};
-use fzn_meaning::{Constraint, Model, Part};
+use fzn_meaning::{Constraint, Listed, Model, Part};
 use std::alloc::{AllocError, Global};
 
 /// How many terms all derived constraints have at most together.
@@ -82,7 +82,7 @@ fn terms_held(constraint: &Constraint) -> u128
     }
 }
 
-/// How many parts there are, and how many weights are listed for them, together.
+/// How many parts there are, and how many numbers a look at each goes over, together.
 fn parts_held(parts: &[Part]) -> u128
     ensures { result ≡ length parts.now + listed_in parts.now }
 {
@@ -93,10 +93,20 @@ fn parts_held(parts: &[Part]) -> u128
     held
 }
 
+/// How many numbers a look at the part goes over: those that are listed for a variable, and the entries of a table's rows.
 fn listed_of(part: &Part) -> usize
-    ensures { result ≡ listed_of part.now.listed }
+    ensures { result ≡ listed_of part.now }
 {
-    match &part.listed {
+    match part {
+        Part::Variable(part) => listed_for(&part.listed),
+        Part::Table(table) => table.rows.constants().len(),
+    }
+}
+
+fn listed_for(listed: &Option<Listed>) -> usize
+    ensures { result ≡ listed_for listed.now }
+{
+    match listed {
         None => 0,
         Some(listed) => listed.weights.len(),
     }

@@ -3,7 +3,7 @@ ghost use Rattle.std.specs.Prelude.{◌≡◌, ◌++◌, [], ◌∷◌, ◌+◌,
 ghost use Rattle.std.specs.List.{All};
 ghost use Rattle.fzn_meaning.specs.Meaning.{longest, IsWellFormedConstraint};
 ghost use Rattle.fzn_meaning.specs.WellFormed.{IsWellFormed};
-ghost use Rattle.fzn_cert.specs.Derivations.{IsDerivation, IsMultiplier, IsMultiple, IsVariableNumber, IsFirstPriced, IsRowItem};
+ghost use Rattle.fzn_cert.specs.Derivations.{IsDerivation, IsMultiplier, IsMultiple, IsVariableNumber, IsFirstPriced, ArePriced, IsRowItem};
 ghost use Rattle.fzn_cert.specs.Spelling.{IsNumber};
 ghost use Rattle.fzn_head.specs.Extended.{Extends};
 ghost use Rattle.fzn_head.specs.Extender.{IsReadyFor, most_terms};
@@ -114,7 +114,7 @@ fn are_items(items: &[RowItem]) -> bool
     items.iter().all(|item| is_item(item))
 }
 
-#[tactic(auto, using(crate::proofs::SpelledLaws::multiples_are_spelled, crate::proofs::SpelledLaws::prices_are_spelled))]
+#[tactic(auto, using(crate::proofs::SpelledLaws::multiples_are_spelled))]
 fn is_item(item: &RowItem) -> bool
     ensures { IsTrue result → IsRowItem item.now }
 {
@@ -124,8 +124,18 @@ fn is_item(item: &RowItem) -> bool
             constraint,
             low,
             prices,
-        } => is_number(*constraint) && is_first_priced(*low) && are_prices(prices.as_slice()),
+        } => is_number(*constraint) && are_priced(*low, prices.as_slice()),
         RowItem::Move {
+            constraint,
+            variable,
+        } => is_number(*constraint) && is_number(variable.0 as u64),
+        RowItem::Columns {
+            constraint,
+            column,
+            low,
+            prices,
+        } => is_number(*constraint) && is_number(*column) && are_priced(*low, prices.as_slice()),
+        RowItem::Rows {
             constraint,
             variable,
         } => is_number(*constraint) && is_number(variable.0 as u64),
@@ -137,6 +147,13 @@ fn are_multiples(multiples: &[Multiple]) -> bool
 {
     multiples.iter().all(|multiple| is_multiplier(multiple.multiplier)
         && is_number(multiple.constraint))
+}
+
+#[tactic(auto, using(crate::proofs::SpelledLaws::prices_are_spelled))]
+fn are_priced(low: i64, prices: &[i64]) -> bool
+    ensures { IsTrue result → ArePriced low prices.now }
+{
+    is_first_priced(low) && are_prices(prices)
 }
 
 fn are_prices(prices: &[i64]) -> bool

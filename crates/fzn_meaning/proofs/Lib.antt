@@ -10,4 +10,5 @@ pub mod OrderLemmas
 mod ReturnLemmas
 pub mod RowLemmas
 pub mod SumLemmas
+pub mod TableWeightLemmas
 pub mod WeightedLemmas

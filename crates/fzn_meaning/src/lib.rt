@@ -12,7 +12,7 @@ pub use extremum::Extreme;
 pub use meaning::holds;
 pub use model::{Goal, IndexRange, Kind, Model, OutputItem, Var, better, is_solution};
 pub use relation::{Comparison, Relation};
-pub use row::{Listed, Part, Row, listed_at, product, weighed, weight_at};
+pub use row::{Listed, Part, Row, TablePart, VariablePart, listed_at, product, weighed, weight_at};
 pub use solution_cut::cut;
 pub use sum::{Sum, plus_product};
 pub use table::Rows;

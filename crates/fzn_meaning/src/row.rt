@@ -1,9 +1,13 @@
-// Separable rows: a sum of what each variable weighs at its value, which is at most a bound.
+// Separable rows: a sum of what each variable weighs at its value, and each table at its row, which is at most a bound.
 ghost use Rattle.std.specs.Prelude.{◌≡◌, ◌↔◌, ◌+◌, ◌*◌, ◌^◌, ◌≤◌, ◌-ℤ◌, ◌*ℤ◌, IsTrue, IfSome, length, unsigned_abs};
-ghost use Rattle.fzn_meaning.specs.Separable.{entry_in, listed_at, weighed, weight_at, RowHolds, IsWithinLimit, IsCoefficient, IsWeightList, IsSeparableRow};
+ghost use Rattle.fzn_meaning.specs.Separable.{entry_in, listed_at, weighed, weight_at, row_weight, weight_of, RowHolds, IsWithinLimit, IsCoefficient, IsWeightList, IsTablePart, IsPart, IsSeparableRow};
+ghost use Rattle.fzn_meaning.specs.Term.{values_of};
 
+use crate::entries::Entries;
+use crate::table::{Rows, is_row};
+use crate::term::Term;
 use fzn_domain::VarId;
-use fzn_list::Items;
+use fzn_list::{Items, Shared};
 
 /// A number for each of the numbers that follow one another from the first one, or none for one that is barred.
 #[derive(Debug, Drop)]
@@ -17,7 +21,7 @@ pub struct Listed {
 /// What a variable weighs at each value: its coefficient times the value, and what is listed for the value. Where a list stands, a value
 /// that it does not cover is barred. So a part takes the room of what was listed for it, however many values its variable has.
 #[derive(Debug, Drop)]
-pub struct Part {
+pub struct VariablePart {
     /// The variable.
     pub var: VarId,
     /// From -10^12 to 10^12.
@@ -26,10 +30,31 @@ pub struct Part {
     pub listed: Option<Listed>,
 }
 
-/// No variable has a barred value, and what all weigh at their values is at most the bound together. A variable without a part weighs 0.
-#[derive(Debug, Drop)]
+/// What a table weighs at the row that equals its places: what is listed for the row. Where several do, the first counts.
+#[derive(Drop)]
+pub struct TablePart {
+    /// The places, of which there is one.
+    pub places: Shared<Term>,
+    /// The rows, one after another, each as long as the places.
+    pub rows: Rows,
+    /// A number for each row, from -10^18 to 10^18, or none for one that is barred.
+    pub weights: Items<Option<i64>>,
+}
+
+/// A part of a row.
+#[derive(Drop)]
+pub enum Part {
+    /// Of a variable.
+    Variable(VariablePart),
+    /// Of a table.
+    Table(TablePart),
+}
+
+/// No variable has a barred value, each table has a row that equals its places and is not barred, and what all weigh is at most the bound
+/// together. A variable without a part weighs 0.
+#[derive(Drop)]
 pub struct Row {
-    /// At most 100,000 parts, each of another variable.
+    /// At most 100,000 parts, no two of one variable.
     pub parts: Items<Part>,
     /// From -10^18 to 10^18.
     pub bound: i64,
@@ -42,7 +67,7 @@ pub(crate) fn meets_row(row: &Row, values: &[i64]) -> bool
 {
     let mut total: i128 = 0;
     for part in row.parts.as_slice() {
-        match weight_at(part, &values[part.var.0 - 1]) {
+        match weight_of(part, values) {
             None => return false,
             Some(weight) => total += weight,
         }
@@ -50,9 +75,45 @@ pub(crate) fn meets_row(row: &Row, values: &[i64]) -> bool
     total <= row.bound as i128
 }
 
+/// What the part weighs at these values; `None` where it is barred there.
+fn weight_of(part: &Part, values: &[i64]) -> Option<i128>
+    requires part { IsPart (length values.now) part.now }
+    ensures value { result ≡ weight_of values.now part.now }
+    ensures bounded { IfSome result (λ weight. unsigned_abs weight ≤ 1000000000000 * 2 ^ 63 + 1000000000000000000) }
+{
+    match part {
+        Part::Variable(part) => weight_at(part, &values[part.var.0 - 1]),
+        Part::Table(table) => row_weight(table, values),
+    }
+}
+
+/// What is listed for the first row that equals the values of the places; `None` where no row does, or where it is barred.
+fn row_weight(table: &TablePart, values: &[i64]) -> Option<i128>
+    requires part { IsTablePart (length values.now) table.now }
+    ensures value { result ≡ row_weight (values_of values.now table.now.places) table.now.rows table.now.weights }
+    ensures bounded { IfSome result (λ weight. unsigned_abs weight ≤ 1000000000000 * 2 ^ 63 + 1000000000000000000) }
+{
+    let places = Entries::new(&table.places, values);
+    for r in 0..table.weights.len() {
+        if is_row(&places, table.rows.constants(), r) {
+            return entry_number(table.weights.as_slice()[r]);
+        }
+    }
+    None
+}
+
+fn entry_number(entry: Option<i64>) -> Option<i128>
+    ensures { result ≡ entry }
+{
+    match entry {
+        None => None,
+        Some(weight) => Some(weight as i128),
+    }
+}
+
 /// What the variable of the part weighs at a value, which is its coefficient times the value and what is listed for it; `None` where the
 /// value is barred.
-pub fn weight_at(part: &Part, value: &i64) -> Option<i128>
+pub fn weight_at(part: &VariablePart, value: &i64) -> Option<i128>
     requires coefficient { IsCoefficient part.now.coefficient }
     requires listed { IfSome part.now.listed IsWeightList }
     ensures value { result ≡ weight_at part.now value.now }

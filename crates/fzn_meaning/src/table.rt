@@ -63,7 +63,7 @@ pub(crate) fn is_table(places: &Entries, rows: &[Term]) -> bool
     false
 }
 
-fn is_row(places: &Entries, rows: &[Term], row: usize) -> bool
+pub(crate) fn is_row(places: &Entries, rows: &[Term], row: usize) -> bool
     requires within { row * length places.now + length places.now ≤ length rows.now }
     ensures { IsTrue result ↔ (row_at (length places.now) (numbers_in rows.now) row ≡ places.now) }
 {

@@ -42,6 +42,17 @@ const ASSIGNED: &str =
 const CHEAPER: &str =
     "var 1..3: x; var 1..3: y; var 1..3: z; var 0..9: a; var 0..9: b; var 0..9: c; var 0..9: total; solve satisfy;";
 
+/// Offers in two tables that have a place in common, one with what each costs, and no two of which are cheap together: 8 at the least.
+const OFFERED: &str =
+    "var 1..3: x; var 1..3: y; var 1..3: z; var 0..9: a; var 0..9: b; var 0..9: c; var 0..27: total;
+    constraint fzn_table_int([x,a],[1,1,2,3,3,5]); constraint fzn_table_int([y,b],[1,2,2,3,3,6]); constraint fzn_table_int([z,c],[1,1,2,4,3,4]);
+    constraint fzn_table_int([x,y],[1,3,2,2,3,1,3,2]); constraint fzn_table_int([y,z],[1,3,2,2,2,3,3,1]);
+    constraint int_lin_eq([1,1,1,-1],[a,b,c,total],0); solve minimize total;";
+
+/// The same variables, less in total.
+const LOWER: &str =
+    "var 1..3: x; var 1..3: y; var 1..3: z; var 0..9: a; var 0..9: b; var 0..9: c; var 0..7: total; solve satisfy;";
+
 /// Multipliers with constraints, or variables with constraints, or constraints, or how many items.
 fn write_one(text: &mut String, derivation: &Derivation) -> Result<(), Memory> {
     match derivation {
@@ -159,6 +170,21 @@ fn a_row_that_bounds_what_is_assigned(rt: HostRuntime) -> Result<(), Fail> {
     };
     assert!(rt; told(alloc, ASSIGNED, items, 100, CHEAPER)? == "refuted");
     assert!(rt; told(alloc, ASSIGNED, items, 100, ASSIGNED)? == "open");
+    Ok(())
+}
+
+#[test]
+fn a_row_that_bounds_what_tables_offer(rt: HostRuntime) -> Result<(), Fail> {
+    let alloc = rt.alloc();
+    let model = model_of(alloc, OFFERED)?;
+    let rows = Rows::of(alloc, &model)?;
+    let found = prices(alloc, &model, &rows)?;
+    let items = match &found {
+        Some(items) => items.as_slice(),
+        None => &[],
+    };
+    assert!(rt; told(alloc, OFFERED, items, 100, LOWER)? == "refuted");
+    assert!(rt; told(alloc, OFFERED, items, 100, OFFERED)? == "open");
     Ok(())
 }
 

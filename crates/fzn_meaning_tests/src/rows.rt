@@ -24,6 +24,22 @@ const COSTS: &str = "var 1..3: x; var 0..99: y;
 /// Without what costs least.
 const DEAR: &str = "var 2..3: x; var 0..99: y; solve satisfy;";
 
+/// Two numbers that are 3 together, and at most 2.
+const PAIR: &str = "var 1..2: x; var 1..2: y;
+    constraint fzn_table_int([x,y],[1,2,2,1]); constraint int_lin_le([1,1],[x,y],2); solve satisfy;";
+
+/// A table in which one place is a number, and what is at least 2.
+const PLACED: &str = "var 1..2: x;
+    constraint fzn_table_int([3,x],[3,1,4,2]); constraint int_lin_le([-1],[x],-2); solve satisfy;";
+
+/// The same, and what is at least 1.
+const LOW: &str = "var 1..2: x;
+    constraint fzn_table_int([3,x],[3,1,4,2]); constraint int_lin_le([-1],[x],-1); solve satisfy;";
+
+/// Costs that are 7 together in each row, and at most 6.
+const OFFERS: &str = "var 1..2: x; var 0..9: y; var 0..9: z;
+    constraint fzn_table_int([x,y,z],[1,2,5,2,5,2]); constraint int_lin_le([1,1],[y,z],6); solve satisfy;";
+
 fn prices(alloc: Global, low: i64, prices: &[i64]) -> Result<RowItem, Memory> {
     Ok(RowItem::Prices {
         constraint: 1,
@@ -43,6 +59,22 @@ fn multiple(alloc: Global, multiplier: i64, constraint: u64) -> Result<RowItem, 
 
 fn moved(constraint: u64, variable: usize) -> RowItem {
     RowItem::Move {
+        constraint,
+        variable: VarId(variable),
+    }
+}
+
+fn columns(alloc: Global, column: u64, low: i64, prices: &[i64]) -> Result<RowItem, Memory> {
+    Ok(RowItem::Columns {
+        constraint: 1,
+        column,
+        low,
+        prices: Items::from_slice(alloc, prices)?,
+    })
+}
+
+fn to_rows(constraint: u64, variable: usize) -> RowItem {
+    RowItem::Rows {
         constraint,
         variable: VarId(variable),
     }
@@ -117,5 +149,48 @@ fn what_derives_no_row(rt: HostRuntime) -> Result<(), Fail> {
     assert!(rt; told(alloc, COSTS, &none, 3, COSTS)? == "no such constraint");
     let below = [multiple(alloc, -1, 2)?];
     assert!(rt; told(alloc, COSTS, &below, 3, COSTS)? == "not derived");
+    Ok(())
+}
+
+#[test]
+fn columns_pay_for_the_entries_of_rows(rt: HostRuntime) -> Result<(), Fail> {
+    let alloc = rt.alloc();
+    let items = [
+        multiple(alloc, 1, 2)?,
+        columns(alloc, 1, 1, &[1, 2])?,
+        columns(alloc, 2, 1, &[1, 2])?,
+    ];
+    assert!(rt; told(alloc, PAIR, &items, 8, PAIR)? == "refuted");
+    assert!(rt; told(alloc, PAIR, &items, 7, PAIR)? == "not derived");
+    let one = [multiple(alloc, 1, 2)?, columns(alloc, 1, 1, &[1, 2])?];
+    assert!(rt; told(alloc, PAIR, &one, 8, PAIR)? == "open");
+    let none = [columns(alloc, 3, 1, &[1, 2])?];
+    assert!(rt; told(alloc, PAIR, &none, 8, PAIR)? == "not derived");
+    Ok(())
+}
+
+#[test]
+fn a_number_pays_by_the_bound(rt: HostRuntime) -> Result<(), Fail> {
+    let alloc = rt.alloc();
+    let items = [
+        multiple(alloc, 1, 2)?,
+        columns(alloc, 1, 3, &[5])?,
+        to_rows(1, 1),
+    ];
+    assert!(rt; told(alloc, PLACED, &items, 4, PLACED)? == "refuted");
+    assert!(rt; told(alloc, LOW, &items, 4, LOW)? == "open");
+    Ok(())
+}
+
+#[test]
+fn what_variables_weigh_goes_to_the_rows_of_a_table(rt: HostRuntime) -> Result<(), Fail> {
+    let alloc = rt.alloc();
+    let items = [multiple(alloc, 1, 2)?, to_rows(1, 2), to_rows(1, 3)];
+    assert!(rt; told(alloc, OFFERS, &items, 4, OFFERS)? == "refuted");
+    assert!(rt; told(alloc, OFFERS, &items, 3, OFFERS)? == "not derived");
+    let one = [multiple(alloc, 1, 2)?, to_rows(1, 2)];
+    assert!(rt; told(alloc, OFFERS, &one, 4, OFFERS)? == "open");
+    let other = [multiple(alloc, 1, 2)?, to_rows(2, 2)];
+    assert!(rt; told(alloc, OFFERS, &other, 4, OFFERS)? == "not derived");
     Ok(())
 }

@@ -55,6 +55,7 @@ impl Moves {
             constraint,
             index,
             value,
+            column: None,
             low: 1,
             start,
             end: self.entries.len(),
@@ -63,7 +64,7 @@ impl Moves {
     }
 
     /// Lets the first variable move to the second, by their numbers less one, where it can.
-    fn cast(&mut self, moved: usize, kept: usize) -> bool {
+    pub(crate) fn cast(&mut self, moved: usize, kept: usize) -> bool {
         let can_be = moved != kept
             && self.roles.get(moved).copied() == Some(Role::Open)
             && matches!(

@@ -1,4 +1,4 @@
-// What moves from one variable to others: by equations of two, comparisons with numbers, elements of constants, and inverses.
+// What moves from one variable to others: by equations of two, comparisons with numbers, elements of constants, tables, and inverses.
 use crate::exchanges::Exchanges;
 use fzn_domain::Memory;
 use fzn_meaning::{Model, Term};
@@ -18,10 +18,12 @@ pub struct Move {
     pub index: usize,
     /// The number of the other one, less one: of an element the value.
     pub value: usize,
+    /// Where the constraint is a table: the column of the one that decides, counted from 1.
+    pub column: Option<u64>,
     /// The value of the first one that has the first entry.
     pub(crate) low: i64,
     /// The place of its first entry.
-    pub(crate) start: usize,
+    pub start: usize,
     /// The place behind its last one.
     pub(crate) end: usize,
 }
@@ -33,23 +35,26 @@ pub(crate) enum Role {
     Open,
     /// Others move to it by equations or by comparisons.
     Kept,
-    /// It is the index of an element whose value moves to it.
+    /// It is the index of an element or the key of a table, whose values move to it.
     Index,
     /// It never moves.
     Fixed,
     /// It moves to another by an equation or by a comparison.
     Moved,
-    /// It moves to the index of an element, after all others that do not move by an inverse.
+    /// It moves to the index of an element or to the key of a table, after all others that do not move by an inverse.
     Late,
 }
 
 /// The moves of a model.
 #[derive(Debug, Drop)]
 pub struct Moves {
-    /// Those by equations, by comparisons and by elements, in this order. No variable moves twice, and none to one that has moved before.
+    /// Those by equations, by comparisons, by elements and by tables, in this order. No variable moves twice, and none to one that has moved
+    /// before. Those by one table stand side by side.
     pub all: Vec<Move>,
     /// How many of them are by comparisons.
     pub switches: usize,
+    /// How many of them are by tables.
+    pub tables: usize,
     /// Those by inverses, which come behind: what has moved to an index moves on.
     pub exchanges: Exchanges,
     /// The entries of those in `all`, where those of one move stand side by side.
@@ -73,6 +78,7 @@ impl Moves {
         let mut moves = Moves {
             all: Vec::new(alloc),
             switches: 0,
+            tables: 0,
             exchanges: Exchanges::new(alloc, bounds.len())?,
             entries: Vec::new(alloc),
             roles: vec![in alloc; Role::Open; bounds.len()]?,
@@ -83,6 +89,7 @@ impl Moves {
             *role = Role::Fixed;
         }
         moves.add_elements(model, bounds, used, room)?;
+        moves.add_tables(alloc, model, bounds, used, room)?;
         let elements = mem::replace(&mut moves.all, Vec::new(alloc));
         moves.add_equations(alloc, model, rows, bounds, used, room)?;
         moves.add_switches(model, bounds, used, room)?;
@@ -118,6 +125,7 @@ impl Moves {
             constraint,
             index,
             value,
+            column: None,
             low,
             start,
             end: self.entries.len(),
@@ -140,7 +148,12 @@ impl Moves {
         )
     }
 
-    /// What the one variable is for each value of the other from `first` on: the entries of an element.
+    /// How many entries all of them have together.
+    pub fn len(&self) -> usize {
+        self.entries.len()
+    }
+
+    /// What the one variable is for each value of the other from `first` on: the entries of an element. `NO_ENTRY` stands where there is none.
     pub fn entries_of(&self, one: Move) -> &[i64] {
         if one.start <= one.end && one.end <= self.entries.len() {
             &self.entries[one.start..one.end]

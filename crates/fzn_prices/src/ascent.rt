@@ -37,6 +37,8 @@ pub struct Ascent {
     pub weights: Vec<Multiplier>,
     /// The prices of the values, constraint by constraint.
     pub prices: Vec<Multiplier>,
+    /// The prices of the entries of tables, column by column.
+    pub columns: Vec<Multiplier>,
     /// The sum that they make.
     pub lagrangian: Lagrangian,
     is_refutation: bool,
@@ -55,6 +57,7 @@ impl Ascent {
         let mut ascent = Ascent {
             weights: weights_of(alloc, problem, rows)?,
             prices: prices_of(alloc, problem)?,
+            columns: vec![in alloc; Multiplier::price(true); problem.tables.prices]?,
             lagrangian: Lagrangian::new(alloc, problem)?,
             is_refutation: problem.objective.is_none(),
             first: 0,
@@ -82,7 +85,8 @@ impl Ascent {
             self.lagrangian.charge(problem, *apart, prices);
             start = end;
         }
-        self.lagrangian.end(problem, rows)
+        self.lagrangian.pay(problem, &self.columns);
+        self.lagrangian.end(problem, rows, &self.columns)
     }
 
     /// Betters the bound while it can.
@@ -134,6 +138,9 @@ impl Ascent {
         for multiplier in self.prices.iter_mut() {
             multiplier.keep();
         }
+        for multiplier in self.columns.iter_mut() {
+            multiplier.keep();
+        }
     }
 
     /// Goes back to the best bound, for shorter steps. Whether they are not too short.
@@ -144,6 +151,9 @@ impl Ascent {
             multiplier.retreat();
         }
         for multiplier in self.prices.iter_mut() {
+            multiplier.retreat();
+        }
+        for multiplier in self.columns.iter_mut() {
             multiplier.retreat();
         }
         LEAST_STEP <= self.step
@@ -178,19 +188,26 @@ impl Ascent {
             );
             start = end;
         }
-        let is_open = measure_each(&mut self.weights);
-        measure_each(&mut self.prices) || is_open
+        self.lagrangian.compare(problem, &mut self.columns);
+        let is_one_open = measure_each(&mut self.weights);
+        let is_other_open = measure_each(&mut self.prices);
+        measure_each(&mut self.columns) || is_one_open || is_other_open
     }
 
     /// The multipliers move, so far that a bound which is linear rises by the gap.
     fn advance(&mut self, gap: i128) -> bool {
-        let square = turned(&mut self.weights).saturating_add(turned(&mut self.prices));
+        let square = turned(&mut self.weights)
+            .saturating_add(turned(&mut self.prices))
+            .saturating_add(turned(&mut self.columns));
         let wanted = (narrowed(gap) as i128).wrapping_mul(self.step as i128);
         let pace = paced(wanted, square);
         for multiplier in self.weights.iter_mut() {
             multiplier.go(pace);
         }
         for multiplier in self.prices.iter_mut() {
+            multiplier.go(pace);
+        }
+        for multiplier in self.columns.iter_mut() {
             multiplier.go(pace);
         }
         true
@@ -222,8 +239,9 @@ impl Ascent {
         self.is_worth(self.best, ONE)
     }
 
-    /// Rounds the best multipliers to a grid, those to 0 that count for less than one part of so many of what the bound has risen. Whether
-    /// they are nearly as good there, and none is too large.
+    /// Rounds the best multipliers to a grid, those to 0 that count for less than one part of so many of what the bound has risen, but for
+    /// prices of entries, of which there are so many that small ones count together. Whether they are nearly as good there, and none is too
+    /// large.
     pub fn round(&mut self, problem: &Problem, rows: &Rows, grid: i64, share: i128) -> bool {
         let least = narrowed(self.best.wrapping_sub(self.first) / share.max(1));
         for multiplier in self.weights.iter_mut() {
@@ -232,13 +250,16 @@ impl Ascent {
         for multiplier in self.prices.iter_mut() {
             multiplier.round(grid, least);
         }
+        for multiplier in self.columns.iter_mut() {
+            multiplier.round(grid, 0);
+        }
         let bound = self.bound(problem, rows, grid);
         self.is_worth(bound, grid) && self.is_near(bound, grid) && self.is_small()
     }
 
     fn is_small(&self) -> bool {
-        for multiplier in self.weights.iter().chain(self.prices.iter()) {
-            if MOST < multiplier.number.saturating_abs() {
+        for multipliers in [&self.weights, &self.prices, &self.columns] {
+            if !are_small(multipliers) {
                 return false;
             }
         }
@@ -303,6 +324,15 @@ fn count(
     if start <= end && end <= prices.len() {
         lagrangian.count(problem, apart, &mut prices[start..end]);
     }
+}
+
+fn are_small(multipliers: &[Multiplier]) -> bool {
+    for multiplier in multipliers {
+        if MOST < multiplier.number.saturating_abs() {
+            return false;
+        }
+    }
+    true
 }
 
 fn measure_each(multipliers: &mut Vec<Multiplier>) -> bool {

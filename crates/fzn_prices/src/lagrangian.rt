@@ -2,7 +2,7 @@
 use crate::multiplier::{Multiplier, narrowed};
 use fzn_domain::Memory;
 use fzn_meaning::Term;
-use fzn_moves::{Exchange, Move};
+use fzn_moves::{Exchange, Move, NO_ENTRY};
 use fzn_multipliers::{Row, Rows};
 use fzn_relaxation::{Apart, List, Problem};
 use std::alloc::Global;
@@ -13,17 +13,23 @@ pub struct Lagrangian {
     /// By the numbers of the variables, less one: what each is multiplied with.
     slopes: Vec<i64>,
     /// By the places of the values that are listed: what each weighs besides.
-    weights: Vec<i64>,
+    pub(crate) weights: Vec<i64>,
     /// What is added besides.
     constant: i128,
-    /// The greatest number that a variable is multiplied with, without its sign.
+    /// The greatest number that a variable is multiplied with or that moves by a table, without its sign.
     pub steepest: i64,
     /// By the places of the definitions: their multipliers.
     pub defining: Vec<i64>,
     /// By the places of the moves to one variable: whether there was something that moved.
     pub moving: Vec<bool>,
-    /// By the places of the moves by inverses: the same.
+    /// By the places of the entries of those: what moved there by a table.
+    moved: Vec<i64>,
+    /// By the places of the moves by inverses: whether there was something that moved.
     pub exchanging: Vec<bool>,
+    /// By the tables: the row that weighs least, counted from 0.
+    pub(crate) rows: Vec<usize>,
+    /// By the variables that go to rows of tables: whether there was something that went.
+    pub giving: Vec<bool>,
     /// By the numbers of the variables, less one: their values where the sum is least.
     values: Vec<i64>,
 }
@@ -39,7 +45,10 @@ impl Lagrangian {
             steepest: 0,
             defining: vec![in alloc; 0; problem.definitions.len()]?,
             moving: vec![in alloc; false; problem.moves.all.len()]?,
+            moved: vec![in alloc; 0; problem.moves.len()]?,
             exchanging: vec![in alloc; false; problem.moves.exchanges.all.len()]?,
+            rows: vec![in alloc; 0usize; problem.tables.all.len()]?,
+            giving: vec![in alloc; false; problem.tables.givers()]?,
             values: vec![in alloc; 0; vars]?,
         })
     }
@@ -64,7 +73,7 @@ impl Lagrangian {
         }
     }
 
-    fn flatten(&mut self, variable: usize) {
+    pub(crate) fn flatten(&mut self, variable: usize) {
         if let Some(slope) = self.slopes.get_mut(variable) {
             *slope = 0;
         }
@@ -120,12 +129,14 @@ impl Lagrangian {
         }
     }
 
-    /// Takes out what is defined and what moves: the least that is left then.
-    pub fn end(&mut self, problem: &Problem, rows: &Rows) -> i128 {
+    /// Takes out what is defined, what moves, and what goes to rows of tables, with these prices of their entries: the least that is left
+    /// then.
+    pub fn end(&mut self, problem: &Problem, rows: &Rows, prices: &[Multiplier]) -> i128 {
         self.define(problem, rows);
         self.move_all(problem);
         self.exchange_all(problem);
-        self.minimise(problem)
+        let tables = self.weigh(problem, prices);
+        self.minimise(problem).wrapping_add(tables)
     }
 
     /// Takes the defined variables out.
@@ -147,12 +158,12 @@ impl Lagrangian {
         }
     }
 
-    fn slope_of(&self, variable: usize) -> i64 {
+    pub(crate) fn slope_of(&self, variable: usize) -> i64 {
         self.slopes.get(variable).copied().unwrap_or(0)
     }
 
     /// What a variable is multiplied with at last.
-    fn last_slope_of(&mut self, variable: usize) -> i64 {
+    pub(crate) fn last_slope_of(&mut self, variable: usize) -> i64 {
         let slope = self.slope_of(variable);
         self.steepest = self.steepest.max(slope.saturating_abs());
         slope
@@ -180,23 +191,43 @@ impl Lagrangian {
             return false;
         }
         let mut value = one.first();
+        let mut at = one.start;
         for entry in problem.moves.entries_of(one) {
-            let mut more = slope.saturating_mul(*entry);
-            if let Some(from) = from {
-                more = more.saturating_add(self.weight_at(from, *entry));
-            }
-            if let Some(place) = index.place_of(value)
-                && let Some(weight) = self.weights.get_mut(place)
-            {
-                *weight = weight.saturating_add(more);
+            if *entry != NO_ENTRY {
+                let mut more = slope.saturating_mul(*entry);
+                if let Some(from) = from {
+                    more = more.saturating_add(self.weight_at(from, *entry));
+                }
+                if let Some(place) = index.place_of(value)
+                    && let Some(weight) = self.weights.get_mut(place)
+                {
+                    *weight = weight.saturating_add(more);
+                }
+                if one.column.is_some() {
+                    self.note_moved(at, more);
+                }
             }
             value = value.saturating_add(1);
+            at = at.saturating_add(1);
         }
         self.flatten(one.value);
         if let Some(from) = from {
             self.clear(from);
         }
         true
+    }
+
+    /// Notes what moves by a table at the entry at this place.
+    fn note_moved(&mut self, place: usize, weight: i64) {
+        self.steepest = self.steepest.max(weight.saturating_abs());
+        if let Some(moved) = self.moved.get_mut(place) {
+            *moved = weight;
+        }
+    }
+
+    /// What moved by a table at the entry at this place.
+    pub fn moved_at(&self, place: usize) -> i64 {
+        self.moved.get(place).copied().unwrap_or(0)
     }
 
     fn exchange_all(&mut self, problem: &Problem) {
@@ -302,18 +333,19 @@ impl Lagrangian {
         least
     }
 
-    fn set(&mut self, variable: usize, value: i64) {
+    pub(crate) fn set(&mut self, variable: usize, value: i64) {
         if let Some(place) = self.values.get_mut(variable) {
             *place = value;
         }
     }
 
-    fn value_of(&self, variable: usize) -> i64 {
+    pub(crate) fn value_of(&self, variable: usize) -> i64 {
         self.values.get(variable).copied().unwrap_or(0)
     }
 
     /// Finds the values there of the variables that were taken out.
     pub fn settle(&mut self, problem: &Problem, rows: &Rows) {
+        self.settle_givers(problem);
         for one in problem.moves.exchanges.all.iter() {
             let sum = self.exchanged(problem, *one, None);
             self.set(one.variable, sum);

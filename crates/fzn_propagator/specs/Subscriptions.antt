@@ -6,6 +6,8 @@ use Rattle.fzn_domain.specs.declared.literal.VarId.{VarId}
 use Rattle.fzn_meaning.specs.declared.term.Term.{Term}
 use Rattle.fzn_meaning.specs.declared.term.Term.TheVariants.{Constant, Variable}
 use Rattle.fzn_meaning.specs.declared.term.Place.{Place}
+use Rattle.fzn_meaning.specs.declared.row.Part.{Part}
+use Rattle.fzn_meaning.specs.declared.row.Part.TheVariants as kind
 use Rattle.fzn_meaning.specs.declared.constraint.Constraint.{Constraint}
 use Rattle.fzn_meaning.specs.declared.constraint.Constraint.TheVariants.{Compare, BoolNot, BoolToInt, Linear, BoolLinEq, Arithmetic, IntAbs, Extremum, Element, SetIn, Gated, BoolXor, ArrayBoolXor, BoolClause, AllDifferent, Table, Cumulative, Circuit, Inverse, Row}
 use Rattle.fzn_propagator.specs.declared.event.Event.{Event}
@@ -15,6 +17,11 @@ use Rattle.fzn_propagator.specs.declared.subscriptions.Subscription.{Subscriptio
 
 abbrev pub terms_in : List Place → List Term
 terms_in places = map (λ place. place.term) places
+
+-- the variable of a part, or the places of its table
+abbrev pub terms_of_part : Part → List Term
+terms_of_part (kind.Variable part) = Variable part.var ∷ []
+terms_of_part (kind.Table table) = table.places
 
 -- every term that the meaning of the constraint looks at
 unfoldable pub terms_of : Constraint → List Term
@@ -37,7 +44,7 @@ terms_of (Table places rows) = places
 terms_of (Cumulative starts durations uses capacity) = starts ++ durations ++ uses ++ capacity ∷ []
 terms_of (Circuit successors) = successors
 terms_of (Inverse forward backward) = forward ++ backward
-terms_of (Row row) = map (λ part. Variable part.var) row.parts
+terms_of (Row row) = flat_map terms_of_part row.parts
 
 -- ---- what is waited for
 

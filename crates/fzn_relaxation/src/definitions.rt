@@ -1,5 +1,6 @@
 // The rows that are used to take variables out of the sum.
 use crate::lists::Lists;
+use crate::tables::Tables;
 use fzn_domain::Memory;
 use fzn_moves::Moves;
 use fzn_multipliers::{Bounds, Row, Rows, Work};
@@ -37,7 +38,8 @@ pub struct Definitions {
 }
 
 impl Definitions {
-    /// The objective by a row, the wide variables of that by others, and so on, but for those that are listed or moved.
+    /// The objective by a row, the wide variables of that by others, and so on, but for those that are listed or moved or that go to the
+    /// rows of tables.
     pub fn of(
         alloc: Global,
         rows: &Rows,
@@ -45,6 +47,7 @@ impl Definitions {
         objective: Option<usize>,
         lists: &Lists,
         moves: &Moves,
+        tables: &Tables,
     ) -> Result<Definitions, Memory> {
         let mut definitions = Definitions {
             all: Vec::new(alloc),
@@ -66,6 +69,7 @@ impl Definitions {
             if is_wide(bounds, variable)
                 && lists.list_of(variable).is_none()
                 && !moves.is_moved(variable)
+                && !tables.is_giver(variable)
             {
                 definitions.define(rows, variable, &mut waiting)?;
             }

@@ -1,5 +1,6 @@
 // The variables whose values are weighed one by one.
 use crate::apart::{Apart, Aparts, Kind};
+use crate::tables::Tables;
 use fzn_domain::Memory;
 use fzn_meaning::{Model, Term};
 use fzn_moves::{Exchange, MOST_VALUES, Move, Moves};
@@ -35,10 +36,10 @@ impl List {
     }
 }
 
-/// The lists of those that constraints tell apart and of those to which others move.
+/// The lists of those that constraints tell apart, of those to which others move, and of those that are paid by tables.
 #[derive(Debug, Drop)]
 pub struct Lists {
-    /// Those of the constraints that tell apart, and then those of the moves.
+    /// Those of the constraints that tell apart, then those of the moves, and then those of the tables.
     pub all: Vec<List>,
     /// By the numbers of the variables, less one: the place of the list.
     places: Vec<Option<usize>>,
@@ -53,13 +54,14 @@ impl Lists {
         bounds: &[Bounds],
         aparts: &Aparts,
         moves: &Moves,
+        tables: &Tables,
     ) -> Result<Lists, Memory> {
         let mut lists = Lists {
             all: Vec::new(alloc),
             places: vec![in alloc; None; bounds.len()]?,
             allowed: Vec::new(alloc),
         };
-        lists.add_all(model, bounds, aparts, moves)?;
+        lists.add_all(model, bounds, aparts, moves, tables)?;
         for apart in aparts.all.iter() {
             lists.bar_outside(aparts, *apart);
         }
@@ -78,6 +80,7 @@ impl Lists {
         bounds: &[Bounds],
         aparts: &Aparts,
         moves: &Moves,
+        tables: &Tables,
     ) -> Result<(), Memory> {
         for apart in aparts.all.iter() {
             for term in aparts.terms_of(*apart) {
@@ -88,6 +91,11 @@ impl Lists {
         }
         for one in moves.all.iter() {
             self.add(model, bounds, one.index)?;
+        }
+        for table in tables.all.iter() {
+            for column in tables.columns_of(*table) {
+                self.add(model, bounds, column.variable)?;
+            }
         }
         Ok(())
     }

@@ -1,7 +1,9 @@
 // What is bounded, and by which constraints.
 use crate::apart::Aparts;
+use crate::choosing::Chosen;
 use crate::definitions::{Definition, Definitions};
 use crate::lists::Lists;
+use crate::tables::Tables;
 use fzn_domain::Memory;
 use fzn_meaning::{Constraint, Goal, Model};
 use fzn_moves::{Moves, Switch};
@@ -33,6 +35,8 @@ pub struct Problem {
     pub aparts: Aparts,
     /// What moves to other variables, once variables are taken out.
     pub moves: Moves,
+    /// The tables whose rows are weighed.
+    pub tables: Tables,
     /// The variables that have a weight for each value.
     pub lists: Lists,
     /// By the numbers of the variables, less one.
@@ -42,7 +46,8 @@ pub struct Problem {
 }
 
 impl Problem {
-    /// That of a model, where something moves, and something has prices or is moved by a comparison.
+    /// That of a model, where something moves, and something has prices or is moved by a comparison or a table, or where rows of tables are
+    /// weighed.
     pub fn of(alloc: Global, model: &Model, rows: &Rows) -> Result<Option<Problem>, Memory> {
         if !has_mover(model) {
             return Ok(None);
@@ -53,15 +58,16 @@ impl Problem {
         let mut room = Work::new(MOST_LISTED);
         let mut used = used_in(alloc, rows, bounds.len())?;
         let moves = Moves::of(alloc, model, rows, &bounds, target, &mut used, &mut room)?;
+        let chosen = Chosen::of(alloc, model, &bounds, &moves, &mut used)?;
         let aparts = Aparts::of(alloc, model, &bounds, &used, &mut room)?;
-        let lists = Lists::of(alloc, model, &bounds, &aparts, &moves)?;
-        if moves.all.is_empty()
-            || aparts.all.is_empty() && moves.switches == 0
-            || !lists.can_all_be()
-        {
+        let tables = Tables::of(
+            alloc, model, &bounds, &chosen, &aparts, &moves, target, &mut room,
+        )?;
+        let lists = Lists::of(alloc, model, &bounds, &aparts, &moves, &tables)?;
+        if tables.all.is_empty() && !is_enough(&moves, &aparts) || !lists.can_all_be() {
             return Ok(None);
         }
-        let definitions = Definitions::of(alloc, rows, &bounds, target, &lists, &moves)?;
+        let definitions = Definitions::of(alloc, rows, &bounds, target, &lists, &moves, &tables)?;
         let free = free_rows(alloc, rows, &definitions)?;
         let plain = plain_in(alloc, &used, &lists)?;
         Ok(Some(Problem {
@@ -70,6 +76,7 @@ impl Problem {
             definitions: definitions.all,
             aparts,
             moves,
+            tables,
             lists,
             bounds,
             plain,
@@ -82,6 +89,7 @@ impl Problem {
         cost = cost.saturating_add(rows.rows.len().saturating_mul(8));
         cost = cost.saturating_add(self.plain.len().saturating_mul(2));
         cost = cost.saturating_add(self.lists.len().saturating_mul(2));
+        cost = cost.saturating_add(self.tables.cost());
         for one in self.moves.all.iter() {
             cost = cost.saturating_add(self.moves.entries_of(*one).len());
         }
@@ -110,13 +118,19 @@ impl Problem {
     }
 }
 
-/// Whether the model has a comparison with a number that a Boolean switches, or an element and something of which no two places have one
-/// value.
+/// Whether something moves, and something has prices or is moved by a comparison or a table.
+fn is_enough(moves: &Moves, aparts: &Aparts) -> bool {
+    !moves.all.is_empty() && (!aparts.all.is_empty() || moves.switches != 0 || moves.tables != 0)
+}
+
+/// Whether the model has a table, a comparison with a number that a Boolean switches, or an element and something of which no two places
+/// have one value.
 fn has_mover(model: &Model) -> bool {
     let mut has_element = false;
     let mut has_apart = false;
     for constraint in model.constraints.as_slice() {
         match constraint {
+            Constraint::Table { .. } => return true,
             Constraint::Element { .. } => has_element = true,
             Constraint::Compare { .. } | Constraint::Linear { .. }
                 if Switch::of(constraint).is_some() => {

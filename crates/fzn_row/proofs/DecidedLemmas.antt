@@ -1,5 +1,5 @@
 -- Sums and the variables of places, one more place at a time.
-use Rattle.std.proofs.Common.{◌≡◌, ℕ, ◌+◌, ◌<◌, ◌≤◌, Bool, true, false, cond, nat_eq, List, [], ◌∷◌, ◌++◌, length, get_or, take, drop, refl, sym, ap, ◌∙◌, subst, arith, ℤ, pos, ◌+ℤ◌, ◌-ℤ◌, ◌*ℤ◌, Option, None, Some}
+use Rattle.std.proofs.Common.{◌≡◌, ℕ, ◌+◌, ◌<◌, ◌≤◌, Bool, true, false, cond, nat_eq, List, [], ◌∷◌, ◌++◌, length, get_or, take, drop, refl, sym, ap, ◌∙◌, subst, arith, ℤ, pos, ◌+ℤ◌, ◌-ℤ◌, ◌*ℤ◌, Option, None, Some, option_and_then}
 use Rattle.std.specs.Option.{option_map_or}
 use Rattle.std.proofs.lemmas.Int.{ints}
 use Rattle.std.proofs.lemmas.List.{take_all, take_more, drop_more, take-append-drop}
@@ -7,8 +7,10 @@ use Rattle.fzn_domain.specs.declared.literal.VarId.{VarId}
 use Rattle.fzn_meaning.specs.declared.term.Term.{Term}
 use Rattle.fzn_meaning.specs.declared.term.Term.TheVariants.{Constant, Variable}
 use Rattle.fzn_meaning.specs.declared.term.Place.{Place}
-use Rattle.fzn_builtin_rules.specs.Form.{Form}
-use Rattle.fzn_row.specs.Decided.{term_where, sum_where, coefficient_besides, another_in, another_of, sum_compares, bit, quotient, form_value}
+use Rattle.fzn_meaning.specs.declared.constraint.Constraint.{Constraint}
+use Rattle.fzn_meaning.specs.declared.constraint.Constraint.TheVariants.{Element}
+use Rattle.fzn_builtin_rules.specs.Form.{Form, form_of}
+use Rattle.fzn_row.specs.Decided.{term_where, sum_where, coefficient_besides, another_in, another_of, sum_compares, bit, quotient, form_value, decided_in}
 use Rattle.fzn_row.proofs.IntLemmas.{plus_times}
 
 module _ (var : VarId) (value other : ℤ) where
@@ -102,3 +104,14 @@ module _ (one two : VarId) where
     another-found v found =
         ap (another_of one two) (sym (take-append-drop i places)) ∙ another-append (take i places) (drop i places) so_far ∙ ap (another_of one two) (drop_more places i d inside)
         ∙ ap (λ (o : Option VarId). option_map_or (λ (w : VarId). Some w) o (another_of one two (drop (i + 1) places))) found
+
+-- ---- constraints with a form
+
+no-element_form : (index : Term) (entries : List Term) (result : Term) (found : Form) → form_of (Element index entries result) ≡ Some found → ⊥
+unfolding form_of
+no-element_form index entries result found is = cc
+
+-- what a constraint with a form decides is what the form gives
+pub decided-form : (by : VarId) (value : ℤ) (c : Constraint) (found : Form) → form_of c ≡ Some found → form_value by value found ≡ decided_in by value c
+decided-form by value (Element index entries result) found is = absurd (no-element_form index entries result found is)
+decided-form by value c found is = sym (ap (option_and_then (form_value by value)) is)

@@ -8,7 +8,7 @@ use Rattle.std.proofs.lemmas.Bool.{eq-eqb, eqb-true}
 use Rattle.std.proofs.lemmas.Bool.Decides.{nat_tests, Decides-int_eq}
 use Rattle.fzn_meaning.specs.declared.term.Term.{Term}
 use Rattle.fzn_meaning.specs.declared.row.Listed.{Listed}
-use Rattle.fzn_meaning.specs.declared.row.Part.{Part}
+use Rattle.fzn_meaning.specs.declared.row.VariablePart.{VariablePart}
 use Rattle.fzn_meaning.specs.Separable.{listed_at, weight_at, IsWithinLimit}
 use Rattle.fzn_cited.specs.declared.fault.DeriveFault.{DeriveFault}
 use Rattle.fzn_cited.specs.declared.fault.DeriveFault.TheVariants.{Memory}
@@ -69,7 +69,7 @@ same_test x y x_fits y_fits = both_ways (nat_eq (of_z w64 x) (of_z w64 y)) (int_
 
 -- ---- places
 
-module _ (part : Part) (count : ℕ) (value : ℤ) where
+module _ (part : VariablePart) (count : ℕ) (value : ℤ) where
   raise_append : (number : ℤ) (draft : Draft) (xs ys : List Term)
       → places_raised part count value number draft (xs ++ ys) ≡ and_then (places_raised part count value number draft xs) (λ next. places_raised part count value (number +ℤ pos (length xs)) next ys)
   raise_append number draft [] ys = ap (λ (n : ℤ). places_raised part count value n draft ys) (sym (none_on number))

@@ -17,7 +17,7 @@ use Rattle.fzn_meaning.specs.Entries.{IsIndex, entry_at}
 use Rattle.fzn_meaning.specs.Inverse.{IsInverse}
 use Rattle.fzn_cited.specs.declared.fault.DeriveFault.{DeriveFault}
 use Rattle.fzn_cited.specs.declared.fault.DeriveFault.TheVariants.{NotDerived}
-use Rattle.fzn_meaning.specs.declared.row.Part.{Part}
+use Rattle.fzn_meaning.specs.declared.row.VariablePart.{VariablePart}
 use Rattle.fzn_meaning.specs.Separable.{entry_in, listed_at, weighed, weight_at, RowHolds}
 use Rattle.fzn_row.specs.Draft.{Draft, row_of, part_for, with_bound}
 use Rattle.fzn_row.specs.Weights.{both_weights, without_part}
@@ -46,7 +46,7 @@ entry-raised c u w gain value more entry false is gains weighs =
     plus_none : (w gain : ℤ) → gain ≡ pos 0 → w ≡ w +ℤ gain
     plus_none w gain e = omega (arith, ints)
 
-raised-weight : (old : Part) (count : ℕ) (value : ℤ) (more : Option ℤ) (u w gain : ℤ) → IsIndex count u → IsGain value more u gain → weighed old.coefficient u (listed_at old.listed u) ≡ Some w
+raised-weight : (old : VariablePart) (count : ℕ) (value : ℤ) (more : Option ℤ) (u w gain : ℤ) → IsIndex count u → IsGain value more u gain → weighed old.coefficient u (listed_at old.listed u) ≡ Some w
     → weighed old.coefficient u (entry_in (raised_from (pos 1) count value more old.listed) (u -ℤ pos 1)) ≡ Some (w +ℤ gain)
 raised-weight old count value more (pos zero) w gain index gains weighs = absurd (let a = index.0 in omega (arith, ints))
 raised-weight old count value more (pos (suc k)) w gain index gains weighs =
@@ -97,7 +97,7 @@ module _ (values : List ℤ) (count : ℕ) (value : ℤ) where
   gains_nothing : (more : Option ℤ) (at : ℤ) → at ≢ value → IsGain value more at (pos 0)
   gains_nothing more at other = record { here = λ same. absurd (other same); elsewhere = λ _. refl }
 
-  module _ (part : Part) where
+  module _ (part : VariablePart) where
     -- where no place has the value, nothing changes
     places-none : (number : ℤ) (places : List Term) (draft after : Draft) (excess : ℤ) → Exceeds values draft excess → All (IsIndex count) (values_of values places) → All (λ (u : ℤ). u ≢ value) (values_of values places)
         → places_raised part count value number draft places ≡ Ok after → Exceeds values after excess
@@ -168,7 +168,7 @@ to-alone us value v k is leads m d inside =
     )
 
 module _ (values : List ℤ) where
-  all-exceed : (part : Part) (value v w : ℤ) (places : List Term) (draft after : Draft) (excess : ℤ) → Exceeds values draft excess → LeadsTo (values_of values places) value v → weight_at part v ≡ Some w
+  all-exceed : (part : VariablePart) (value v w : ℤ) (places : List Term) (draft after : Draft) (excess : ℤ) → Exceeds values draft excess → LeadsTo (values_of values places) value v → weight_at part v ≡ Some w
       → places_raised part (length places) value (pos 1) draft places ≡ Ok after → Exceeds values after (excess +ℤ w)
   all-exceed part value (pos zero) w places draft after excess h leads weighs is = absurd (let a = leads.index.0 in omega (arith, ints))
   all-exceed part value (pos (suc k)) w places draft after excess h leads weighs is =
@@ -195,9 +195,9 @@ module _ (values : List ℤ) where
 
 -- ---- the place of a variable
 
-record IsPlace (var : VarId) (places : List Term) (place : ℕ) : Type 0 where
-  inside : place < length places
-  is : (d : Term) → get_or places place d ≡ Variable var
+pub record IsPlace (var : VarId) (places : List Term) (place : ℕ) : Type 0 where
+  pub inside : place < length places
+  pub is : (d : Term) → get_or places place d ≡ Variable var
 
 same_var : (a b : VarId) → a.0 ≡ b.0 → a ≡ b
 same_var a b e = ap (λ (n : ℕ). record { 0 = n }) e
@@ -206,7 +206,7 @@ is_that : (var : VarId) (term : Term) → is_place_of var term ≡ true → term
 is_that var (Constant k) test = absurd (cc)
 is_that var (Variable other) test = ap (λ (v : VarId). Variable v) (same_var other var (eqb-true other.0 var.0 test))
 
-place-found : (var : VarId) (places : List Term) (place : ℕ) → place_in var places ≡ Some place → IsPlace var places place
+pub place-found : (var : VarId) (places : List Term) (place : ℕ) → place_in var places ≡ Some place → IsPlace var places place
 place-found var places place found = record {
   inside = (position-Some (is_place_of var) places place (Constant (pos 0)) found).0;
   is = λ d. is_that var (get_or places place d) (position-Some (is_place_of var) places place d found).1;

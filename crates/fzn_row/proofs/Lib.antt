@@ -15,5 +15,8 @@ mod MultiplesSound
 mod PartLemmas
 mod PriceLemmas
 mod PricesSound
+mod TableLemmas
+mod TableRowLemmas
+mod TablesSound
 mod TurnLemmas
 mod WeightsSound

@@ -1,5 +1,5 @@
 -- Weights that are moved, one more at a time.
-use Rattle.std.proofs.Common.{◌≡◌, ℕ, zero, suc, ◌+◌, ◌<◌, ◌≤◌, Bool, true, false, cond, ◌&&◌, nat_le, List, [], ◌∷◌, ◌++◌, length, get_or, refl, sym, ap, ◌∙◌, arith, ℤ, pos, ◌+ℤ◌, unsigned_abs, Option, None, Some, Result, Err}
+use Rattle.std.proofs.Common.{◌≡◌, ℕ, zero, suc, ◌+◌, ◌<◌, ◌≤◌, Bool, true, false, cond, ◌&&◌, nat_le, List, [], ◌∷◌, ◌++◌, length, get_or, refl, sym, ap, ◌∙◌, arith, ℤ, pos, ◌+ℤ◌, unsigned_abs, Option, None, Some, option_and_then, Result, Err}
 use Rattle.std.specs.List.{list_all}
 use Rattle.std.specs.Option.{option_map_or}
 use Rattle.std.proofs.Math.Numerals.{add-one}
@@ -14,13 +14,13 @@ use Rattle.fzn_meaning.specs.declared.constraint.Constraint.{Constraint}
 use Rattle.fzn_cited.specs.declared.fault.DeriveFault.{DeriveFault}
 use Rattle.fzn_cited.specs.declared.fault.DeriveFault.TheVariants.{NotDerived}
 use Rattle.fzn_meaning.specs.declared.row.Listed.{Listed}
-use Rattle.fzn_meaning.specs.declared.row.Part.{Part}
+use Rattle.fzn_meaning.specs.declared.row.VariablePart.{VariablePart}
 use Rattle.fzn_meaning.specs.Separable.{listed_at, weight_at}
-use Rattle.fzn_row.specs.Draft.{Draft}
-use Rattle.fzn_row.specs.Prices.{is_entry_within}
-use Rattle.fzn_row.specs.Weights.{both_weights}
-use Rattle.fzn_row.specs.Decided.{decider_in}
-use Rattle.fzn_row.specs.Moves.{weight_within, decided_weight, moved_from, span, is_narrow, part_moved, decided_moved}
+use Rattle.fzn_row.specs.Draft.{Draft, part_for}
+use Rattle.fzn_row.specs.Prices.{is_entry_within, with_list}
+use Rattle.fzn_row.specs.Weights.{both_weights, without_part}
+use Rattle.fzn_row.specs.Decided.{decider_in, decided_in}
+use Rattle.fzn_row.specs.Moves.{weight_within, weight_where, decided_weight, moved_from, span, is_narrow, part_moved_so, part_moved, decided_moved}
 use Rattle.fzn_row.proofs.InverseLemmas.{one_on, none_on}
 use Rattle.fzn_row.proofs.PriceLemmas.{both_true}
 
@@ -50,9 +50,23 @@ module _ (more : ℤ → Option ℤ) (old : Option Listed) where
       ∙ ap (λ (e : Option ℤ). moved_from more low count old ++ e ∷ []) (sym is)
 
 -- the same, by other names
-pub moved-same : (set set' : IntSet) (part part' : Part) (by : VarId) (c : Constraint) (low low' : ℤ) (count count' : ℕ) (old old' : Option Listed) → set ≡ set' → part ≡ part' → low ≡ low' → count ≡ count' → old ≡ old'
-    → moved_from (decided_weight set part by c) low count old ≡ moved_from (decided_weight set' part' by c) low' count' old'
-moved-same set set' part part' by c low low' count count' old old' p q r s t = rw (p, q, r, s, t) refl
+pub moved-same : (set set' : IntSet) (part part' : VariablePart) (decided : ℤ → Option ℤ) (low low' : ℤ) (count count' : ℕ) (old old' : Option Listed) → set ≡ set' → part ≡ part' → low ≡ low' → count ≡ count' → old ≡ old'
+    → moved_from (weight_where set part decided) low count old ≡ moved_from (weight_where set' part' decided) low' count' old'
+moved-same set set' part part' decided low low' count count' old old' p q r s t = rw (p, q, r, s, t) refl
+
+moved-alike : (more more' : ℤ → Option ℤ) (old : Option Listed) → ((value : ℤ) → more value ≡ more' value) → (low : ℤ) (count : ℕ) → moved_from more low count old ≡ moved_from more' low count old
+moved-alike more more' old each low zero = refl
+moved-alike more more' old each low (suc count) =
+    ap (λ (w : Option ℤ). both_weights (listed_at old low) w ∷ moved_from more (low +ℤ pos 1) count old) (each low)
+    ∙ ap (λ (es : List (Option ℤ)). both_weights (listed_at old low) (more' low) ∷ es) (moved-alike more more' old each (low +ℤ pos 1) count)
+
+-- it moves by what is decided
+pub moved_so-is : (declared : List IntSet) (decided : ℤ → Option ℤ) (source by : VarId) (draft : Draft) (c : Constraint) → ((value : ℤ) → decided value ≡ decided_in by value c) → part_moved_so declared decided source by draft ≡ part_moved declared c source by draft
+moved_so-is declared decided source by draft c each =
+    let set = set_of declared source in
+    let part = part_for source draft.parts in
+    ap (with_list by (without_part source draft) (least (set_of declared by)))
+    (moved-alike (weight_where set part decided) (decided_weight set part by c) (part_for by (without_part source draft).parts).listed (λ value. ap (option_and_then (weight_within set part)) (each value)) (least (set_of declared by)) (span (set_of declared by)))
 
 -- ---- what is decided
 
@@ -91,7 +105,7 @@ module _ (set : IntSet) where
       above zero h = absurd (h refl)
       above (suc n) h = omega arith
 
-  module _ (part : Part) (number : ℤ) where
+  module _ (part : VariablePart) (number : ℤ) where
     pub weight-inside : contains set number ≡ true → weight_within set part number ≡ weight_at part number
     weight-inside inside = ap (λ (b : Bool). cond b (weight_at part number) None) inside
 

@@ -13,7 +13,7 @@ use Rattle.fzn_meaning.proofs.CallerLemmas.{bits-choice}
 use Rattle.fzn_cited.specs.declared.fault.DeriveFault.TheVariants.{NoSuchConstraint, NotDerived}
 use Rattle.fzn_cited.specs.Cited.{constraint_at}
 use Rattle.fzn_cited.proofs.CitedLemmas.{each_at}
-use Rattle.fzn_meaning.specs.declared.row.Part.{Part}
+use Rattle.fzn_meaning.specs.declared.row.VariablePart.{VariablePart}
 use Rattle.fzn_meaning.specs.Separable.{entry_in, listed_at, weighed, weight_at, RowHolds}
 use Rattle.fzn_row.specs.Draft.{Draft, row_of, part_for}
 use Rattle.fzn_row.specs.Weights.{both_weights, without_part}
@@ -36,14 +36,14 @@ pub record IsPlaced (low : ℤ) (count : ℕ) (value : ℤ) : Type 0 where
 back : (v low : ℤ) (k : ℕ) → v -ℤ low ≡ pos k → low +ℤ pos k ≡ v
 back v low k e = omega (arith, ints)
 
-placed : (low high value : ℤ) → low ≤ℤ value → value ≤ℤ high → IsPlaced low (unsigned_abs (high -ℤ low) + 1) value
+pub placed : (low high value : ℤ) → low ≤ℤ value → value ≤ℤ high → IsPlaced low (unsigned_abs (high -ℤ low) + 1) value
 placed low high value from to = record {
   place = unsigned_abs (value -ℤ low);
   distance = let h : low ≤ℤ value = from in grind (arith, ints);
   inside = grind (arith, ints);
 }
 
-moved-weight : (more : ℤ → Option ℤ) (low : ℤ) (count : ℕ) (old : Part) (v w m : ℤ) → IsPlaced low count v → weighed old.coefficient v (listed_at old.listed v) ≡ Some w → more v ≡ Some m
+pub moved-weight : (more : ℤ → Option ℤ) (low : ℤ) (count : ℕ) (old : VariablePart) (v w m : ℤ) → IsPlaced low count v → weighed old.coefficient v (listed_at old.listed v) ≡ Some w → more v ≡ Some m
     → weighed old.coefficient v (entry_in (moved_from more low count old.listed) (v -ℤ low)) ≡ Some (w +ℤ m)
 moved-weight more low count old v w m has weighs moves =
     ap (weighed old.coefficient v)
@@ -54,7 +54,7 @@ moved-weight more low count old v w m has weighs moves =
 
 module _ (declared : List IntSet) (values : List ℤ) (within : IsWithin declared values) where
   -- the part weighs what it did at its variable's value
-  weighs-there : (source by : VarId) (part : Part) (c : Constraint) → IsVariable (length declared) source → decided_in by (value_of values by) c ≡ Some (value_of values source)
+  weighs-there : (source by : VarId) (part : VariablePart) (c : Constraint) → IsVariable (length declared) source → decided_in by (value_of values by) c ≡ Some (value_of values source)
       → decided_weight (set_of declared source) part by c (value_of values by) ≡ weight_at part (value_of values source)
   weighs-there source by part c variable decided =
       ap (option_and_then (weight_within (set_of declared source) part)) decided ∙ ap (λ (b : Bool). cond b (weight_at part (value_of values source)) None) (member declared values within source variable)

@@ -27,7 +27,8 @@ use Rattle.fzn_cited.specs.declared.fault.DeriveFault.TheVariants.{NoSuchConstra
 use Rattle.fzn_cited.specs.Cited.{constraint_at}
 use Rattle.fzn_cited.proofs.CitedLemmas.{each_at}
 use Rattle.fzn_meaning.specs.declared.row.Listed.{Listed}
-use Rattle.fzn_meaning.specs.declared.row.Part.{Part}
+use Rattle.fzn_meaning.specs.declared.row.Part.TheVariants as kind
+use Rattle.fzn_meaning.specs.declared.row.VariablePart.{VariablePart}
 use Rattle.fzn_meaning.specs.Separable.{entry_in, listed_at, weighed, weight_of, RowHolds}
 use Rattle.fzn_row.specs.Draft.{Draft, row_of, part_for, with_part, with_bound, and_then, in_turn}
 use Rattle.fzn_row.specs.Prices.{price_in, price_at, entries_from, is_entry_within, with_list, price_added, most_cost, priced_places, is_term_within, has_each_price, are_prices, prices_added}
@@ -70,7 +71,7 @@ dearer c v price (Some x) w is =
 back : (v low : ℤ) (k : ℕ) → v -ℤ low ≡ pos k → low +ℤ pos k ≡ v
 back v low k e = omega (arith, ints)
 
-priced-weight : (part : Part) (low : ℤ) (prices : List ℤ) (v w : ℤ) → HasPrice low (length prices) v → weighed part.coefficient v (listed_at part.listed v) ≡ Some w
+priced-weight : (part : VariablePart) (low : ℤ) (prices : List ℤ) (v w : ℤ) → HasPrice low (length prices) v → weighed part.coefficient v (listed_at part.listed v) ≡ Some w
     → weighed part.coefficient v (entry_in (entries_from low prices part.listed) (v -ℤ low)) ≡ Some (w +ℤ price_at low prices v)
 priced-weight part low prices v w (k, is, inside) weighs =
     ap (weighed part.coefficient v) (ap (entry_in (entries_from low prices part.listed)) is ∙ entries-at low prices part.listed k inside ∙ ap (λ (x : ℤ). option_map (λ y. y +ℤ get_or prices k (pos 0)) (listed_at part.listed x)) (back v low k is))
@@ -81,17 +82,17 @@ priced-weight part low prices v w (k, is, inside) weighs =
 
 -- a list by which the value of the variable weighs so much more
 pub list-exceeds : (values : List ℤ) (low : ℤ) (var : VarId) (entries : List (Option ℤ)) (more : ℤ) (draft after : Draft) (excess : ℤ) → Exceeds values draft excess
-    → ((w : ℤ) → weight_of values (part_for var draft.parts) ≡ Some w → weight_of values (listed_with (part_for var draft.parts) low entries) ≡ Some (w +ℤ more))
+    → ((w : ℤ) → weight_of values (kind.Variable (part_for var draft.parts)) ≡ Some w → weight_of values (kind.Variable (listed_with (part_for var draft.parts) low entries)) ≡ Some (w +ℤ more))
     → with_list var draft low entries ≡ Ok after → Exceeds values after (excess +ℤ more)
 list-exceeds values low var entries more draft after excess h weighs is =
     let old = part_for var draft.parts in
     let new = listed_with old low entries in
     let of = var-part_for var draft.parts in
-    let had = some_of (weight_of values old) (part-weight values var draft.parts h.unbarred) in
-    let had_new : weight_of values (part_for new.var draft.parts) ≡ Some had.0 = ap (λ (x : VarId). weight_of values (part_for x draft.parts)) of ∙ had.1 in
+    let had = some_of (weight_of values (kind.Variable old)) (part-weight values var draft.parts h.unbarred) in
+    let had_new : weight_of values (kind.Variable (part_for new.var draft.parts)) ≡ Some had.0 = ap (λ (x : VarId). weight_of values (kind.Variable (part_for x draft.parts))) of ∙ had.1 in
     let put = put-weight values new draft.parts had.0 (had.0 +ℤ more) h.unbarred had_new (weighs had.0 had.1) in
     subst (λ (d : Draft). Exceeds values d (excess +ℤ more)) (kept (nat_le (length entries) draft.left && list_all is_entry_within entries) (record draft { parts = with_part new draft.parts; left = draft.left - length entries }) after is)
-    (record { unbarred = put.unbarred; is = let e = h.is in let t = put.total in omega (arith, ints) })
+    (record { unbarred = put.unbarred; tables = h.tables; is = let e = h.is in let t = put.total in omega (arith, ints) })
 
 module _ (values : List ℤ) (low : ℤ) (prices : List ℤ) where
   place-exceeds : (term : Term) (draft after : Draft) (excess : ℤ) → Exceeds values draft excess → HasPrice low (length prices) (term_value values term) → price_added low prices draft term ≡ Ok after → Exceeds values after (excess +ℤ price_at low prices (term_value values term))

@@ -16,3 +16,9 @@ dependent_at Nothing value = None
 dependent_at (Entry entries) value = entry_number (numbers_in entries.now) (value -ℤ pos 1)
 dependent_at (Switch sum comparison bound) value = Some (bit (sum_compares comparison (affine_at sum value) bound))
 dependent_at (Equation sum bound) value = quotient (bound -ℤ affine_at sum value) sum.besides
+
+-- what all other variables of the sum together are multiplied with
+abbrev pub besides_in : Dependence → ℤ
+besides_in (Switch sum comparison bound) = sum.besides
+besides_in (Equation sum bound) = sum.besides
+besides_in _ = pos 0

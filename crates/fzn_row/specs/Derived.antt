@@ -11,12 +11,15 @@ use Rattle.fzn_row.specs.Draft.{Draft, empty, row_stated, and_then, in_turn}
 use Rattle.fzn_row.specs.Multiples.{multiple_added}
 use Rattle.fzn_row.specs.Prices.{prices_added}
 use Rattle.fzn_row.specs.Moves.{move_added}
+use Rattle.fzn_row.specs.Tables.{columns_added, rows_added}
 
 -- the numbers of the constraints that the items cite
 abbrev pub cited_by : RowItem → List ℕ
 cited_by (item.Multiples multiples) = map (λ multiple. multiple.constraint) multiples
 cited_by (item.Prices constraint low prices) = constraint ∷ []
 cited_by (item.Move constraint variable) = constraint ∷ []
+cited_by (item.Columns constraint column low prices) = constraint ∷ []
+cited_by (item.Rows constraint variable) = constraint ∷ []
 
 abbrev pub all_cited : List RowItem → List ℕ
 all_cited items = flat_map cited_by items
@@ -26,6 +29,8 @@ abbrev pub item_added : List Constraint → List IntSet → Draft → RowItem �
 item_added given declared draft (item.Multiples multiples) = in_turn (multiple_added given) draft multiples
 item_added given declared draft (item.Prices constraint low prices) = prices_added given declared draft constraint low prices
 item_added given declared draft (item.Move constraint variable) = move_added given declared draft constraint variable
+item_added given declared draft (item.Columns constraint column low prices) = columns_added given declared draft constraint column low prices
+item_added given declared draft (item.Rows constraint variable) = rows_added given declared draft constraint variable
 
 -- what all of them make of none
 abbrev pub drafted : List Constraint → List IntSet → ℕ → List RowItem → Result Draft DeriveFault

@@ -9,7 +9,7 @@ use Rattle.fzn_meaning.specs.declared.term.Term.TheVariants.{Constant, Variable}
 use Rattle.fzn_cited.specs.declared.fault.DeriveFault.{DeriveFault}
 use Rattle.fzn_cited.specs.declared.fault.DeriveFault.TheVariants.{NotDerived}
 use Rattle.fzn_meaning.specs.declared.row.Listed.{Listed}
-use Rattle.fzn_meaning.specs.declared.row.Part.{Part}
+use Rattle.fzn_meaning.specs.declared.row.VariablePart.{VariablePart}
 use Rattle.fzn_meaning.specs.Separable.{listed_at, weight_at}
 use Rattle.fzn_row.specs.Draft.{Draft, part_for, with_bound, and_then}
 use Rattle.fzn_row.specs.Prices.{with_list}
@@ -30,7 +30,7 @@ place_raised count value more draft (Constant k) = if int_eq k value then option
 place_raised count value more draft (Variable var) = with_list var draft (pos 1) (raised_from (pos 1) count value more (part_for var draft.parts).listed)
 
 -- at each place, of which the first has this number, the value weighs as much more as the part does at the number of the place
-abbrev pub places_raised : Part → ℕ → ℤ → ℤ → Draft → List Term → Result Draft DeriveFault
+abbrev pub places_raised : VariablePart → ℕ → ℤ → ℤ → Draft → List Term → Result Draft DeriveFault
 places_raised part count value number draft [] = Ok draft
 places_raised part count value number draft (place ∷ places) =
     and_then (place_raised count value (weight_at part number) draft place) (λ next. places_raised part count value (number +ℤ pos 1) next places)

@@ -1,3 +1,4 @@
+pub mod Amount
 pub mod Decided
 pub mod Dependence
 pub mod Derived
@@ -7,4 +8,5 @@ pub mod Moves
 pub mod Multiples
 pub mod Prices
 pub mod Room
+pub mod Tables
 pub mod Weights

@@ -10,7 +10,7 @@ use Rattle.fzn_cited.specs.declared.fault.DeriveFault.{DeriveFault}
 use Rattle.fzn_cited.specs.declared.fault.DeriveFault.TheVariants.{NoSuchConstraint, NotDerived}
 use Rattle.fzn_cited.specs.Cited.{constraint_at}
 use Rattle.fzn_meaning.specs.declared.row.Listed.{Listed}
-use Rattle.fzn_meaning.specs.declared.row.Part.{Part}
+use Rattle.fzn_meaning.specs.declared.row.VariablePart.{VariablePart}
 use Rattle.fzn_meaning.specs.Separable.{listed_at, weight_at}
 use Rattle.fzn_row.specs.Draft.{Draft, part_for}
 use Rattle.fzn_row.specs.Prices.{with_list}
@@ -19,11 +19,15 @@ use Rattle.fzn_row.specs.Inverses.{inverse_moved}
 use Rattle.fzn_row.specs.Decided.{decider_in, decided_in}
 
 -- what the part weighs at the number, where that is in the set
-abbrev pub weight_within : IntSet → Part → ℤ → Option ℤ
+abbrev pub weight_within : IntSet → VariablePart → ℤ → Option ℤ
 weight_within set part number = if contains set number then weight_at part number else None
 
+-- what the part, whose variable has this set, weighs where that is what is decided at this value
+abbrev pub weight_where : IntSet → VariablePart → (ℤ → Option ℤ) → ℤ → Option ℤ
+weight_where set part decided value = option_and_then (weight_within set part) (decided value)
+
 -- what the part, whose variable has this set, weighs where the other variable has this value
-abbrev pub decided_weight : IntSet → Part → VarId → Constraint → ℤ → Option ℤ
+abbrev pub decided_weight : IntSet → VariablePart → VarId → Constraint → ℤ → Option ℤ
 decided_weight set part by constraint value = option_and_then (weight_within set part) (decided_in by value constraint)
 
 -- for each of so many values from low on: what was listed for it, and what more it weighs
@@ -38,6 +42,12 @@ span set = unsigned_abs (greatest set -ℤ least set) + 1
 -- some number, of which the least lies from -10^9 to 10^9, and at most 65,536 from that to the greatest
 abbrev pub is_narrow : IntSet → Bool
 is_narrow set = nat_le 1 (size set) && nat_le (unsigned_abs (least set)) 1000000000 && nat_le (span set) 65536
+
+-- what the variable weighs moves to one at each of whose values this is decided
+abbrev pub part_moved_so : List IntSet → (ℤ → Option ℤ) → VarId → VarId → Draft → Result Draft DeriveFault
+part_moved_so declared decided source by draft =
+    with_list by (without_part source draft) (least (set_of declared by))
+    (moved_from (weight_where (set_of declared source) (part_for source draft.parts) decided) (least (set_of declared by)) (span (set_of declared by)) (part_for by (without_part source draft).parts).listed)
 
 -- what the variable weighs moves to the one that decides it
 abbrev pub part_moved : List IntSet → Constraint → VarId → VarId → Draft → Result Draft DeriveFault

@@ -1,22 +1,34 @@
 // The variable that decides another one by a constraint.
-ghost use Rattle.std.specs.Prelude.{◌≡◌, ◌*◌, ◌≤◌, length, IfSome};
+ghost use Rattle.std.specs.Prelude.{◌≡◌, ◌*◌, ◌≤◌, ℤ, length, IfSome};
 ghost use Rattle.std.specs.List.{list_all};
+ghost use Rattle.std.specs.Option.{option_map};
 ghost use Rattle.fzn_list.specs.Limits.{longest};
 ghost use Rattle.fzn_builtin_rules.specs.Borrowed.{places_in, form_in};
 ghost use Rattle.fzn_builtin_rules.specs.Form.{form_of};
-ghost use Rattle.fzn_row.specs.Decided.{another_in, another_of, is_decided, form_decider, is_constant, decider_in, AreBounded};
+ghost use Rattle.fzn_row.specs.Decided.{another_in, another_of, coefficient_besides, is_decided, form_decider, form_value, is_constant, decider_in, decided_in, AreBounded};
+ghost use Rattle.fzn_row.specs.Dependence.{dependent_at};
 
-use crate::dependence::Affine;
+use crate::dependence::Dependence;
 use crate::inverses::is_place_of;
 use fzn_builtin_rules::{Form, Places, form_of};
 use fzn_domain::VarId;
 use fzn_meaning::{Comparison, Constraint, Term};
 
+/// A variable that decides another one.
+#[derive(Clone, Copy)]
+pub(crate) struct Decider<'a> {
+    /// The variable.
+    pub by: VarId,
+    /// What the other one is at each value of it.
+    pub dependence: Dependence<'a>,
+}
+
 /// The variable that decides this one by the constraint: the index of an element of constants, whose value it is; or the only other
 /// variable of a form, whose switch it is, or which is a sum that is its bound.
-pub(crate) fn decider_in(var: VarId, constraint: &Constraint) -> Option<VarId>
+pub(crate) fn decider_of<'a>(var: VarId, constraint: &'a Constraint) -> Option<Decider<'a>>
     requires form { IfSome (form_of constraint.now) AreBounded }
-    ensures { result ≡ decider_in var constraint.now }
+    ensures by { option_map (λ found. found.by) result ≡ decider_in var constraint.now }
+    ensures value { IfSome result (λ found. (value : ℤ) → dependent_at found.dependence value ≡ decided_in found.by value constraint.now) }
 {
     match constraint {
         Constraint::Element {
@@ -24,7 +36,10 @@ pub(crate) fn decider_in(var: VarId, constraint: &Constraint) -> Option<VarId>
             entries,
             value: Term::Variable(value),
         } => if value.0 == var.0 && are_constants(entries.as_slice()) {
-            Some(*index)
+            Some(Decider {
+                by: *index,
+                dependence: Dependence::Entry(entries.as_slice()),
+            })
         } else {
             None
         },
@@ -40,21 +55,25 @@ fn are_constants(entries: &[Term]) -> bool
         .all(|entry| matches!(entry, Term::Constant(_)))
 }
 
-fn form_decider(var: VarId, form: &Form<'_>) -> Option<VarId>
+fn form_decider<'a>(var: VarId, form: &Form<'_>) -> Option<Decider<'a>>
     requires form { AreBounded (form_in form.now) }
-    ensures { result ≡ form_decider var (form_in form.now) }
+    ensures by { option_map (λ found. found.by) result ≡ form_decider var (form_in form.now) }
+    ensures value { IfSome result (λ found. (value : ℤ) → dependent_at found.dependence value ≡ form_value found.by value (form_in form.now)) }
 {
     let by = another_of(var, var, &form.places)?;
-    if is_decided(var, by, form) {
-        Some(by)
+    let dependence = Dependence::of_form(by, form);
+    if is_decided(var, by, form, dependence.besides()) {
+        Some(Decider { by, dependence })
     } else {
         None
     }
 }
 
-/// Whether the first variable has one value for each of the second, which is the only other one.
-fn is_decided(var: VarId, by: VarId, form: &Form<'_>) -> bool
+/// Whether the first variable has one value for each of the second, which is the only other one; all but the second are multiplied with
+/// this number together.
+fn is_decided(var: VarId, by: VarId, form: &Form<'_>, besides: i128) -> bool
     requires form { AreBounded (form_in form.now) }
+    requires besides { besides ≡ coefficient_besides by (places_in form.now.places) }
     ensures { result ≡ is_decided var by (form_in form.now) }
 {
     match form.switch {
@@ -62,7 +81,7 @@ fn is_decided(var: VarId, by: VarId, form: &Form<'_>) -> bool
         None => {
             matches!(form.comparison, Comparison::Equal)
                 && another_of(by, var, &form.places).is_none()
-                && Affine::of(by, &form.places).besides != 0
+                && besides != 0
         }
     }
 }

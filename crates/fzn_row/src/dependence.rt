@@ -1,15 +1,14 @@
 // The value of a variable at each value of the one that decides it.
-ghost use Rattle.std.specs.Prelude.{◌≡◌, ◌*◌, ◌≤◌, ℤ, pos, ◌-ℤ◌, length, unsigned_abs, IfSome};
+ghost use Rattle.std.specs.Prelude.{◌≡◌, ◌*◌, ◌≤◌, ℤ, pos, ◌-ℤ◌, length, unsigned_abs};
 ghost use Rattle.std.specs.List.{All};
 ghost use Rattle.fzn_list.specs.Limits.{longest};
 ghost use Rattle.fzn_meaning.specs.Term.{numbers_in};
 ghost use Rattle.fzn_builtin_rules.specs.Borrowed.{places_in, form_in};
-ghost use Rattle.fzn_builtin_rules.specs.Form.{form_of};
-ghost use Rattle.fzn_row.specs.Decided.{sum_where, coefficient_besides, sum_compares, quotient, form_value, entry_number, decided_in, HasSmallNumbers, AreBounded};
+ghost use Rattle.fzn_row.specs.Decided.{sum_where, coefficient_besides, sum_compares, quotient, form_value, entry_number, HasSmallNumbers, AreBounded};
 
-use fzn_builtin_rules::{Form, Places, form_of};
+use fzn_builtin_rules::{Form, Places};
 use fzn_domain::VarId;
-use fzn_meaning::{Comparison, Constraint, Term, plus_product};
+use fzn_meaning::{Comparison, Term, plus_product};
 
 /// A sum, by the value of one of its variables.
 #[derive(Clone, Copy)]
@@ -76,30 +75,29 @@ pub(crate) enum Dependence<'a> {
 }
 
 impl<'a> Dependence<'a> {
-    ghost use Rattle.fzn_row.specs.Dependence.{dependent_at};
+    ghost use Rattle.fzn_row.specs.Dependence.{dependent_at, besides_in};
 
-    /// What the constraint makes of each value of this variable, which decides another one.
-    pub(crate) fn of(by: VarId, constraint: &'a Constraint) -> Dependence<'a>
-        requires form { IfSome (form_of constraint.now) AreBounded }
-        ensures { (value : ℤ) → dependent_at result value ≡ decided_in by value constraint.now }
-    {
-        match constraint {
-            Constraint::Element { entries, .. } => Dependence::Entry(entries.as_slice()),
-            _ => match form_of(constraint) {
-                None => Dependence::Nothing,
-                Some(form) => Dependence::of_form(by, &form),
-            },
-        }
-    }
-
-    fn of_form(by: VarId, form: &Form<'_>) -> Dependence<'a>
+    /// What the form makes of each value of this variable.
+    pub(crate) fn of_form(by: VarId, form: &Form<'_>) -> Dependence<'a>
         requires form { AreBounded (form_in form.now) }
-        ensures { (value : ℤ) → dependent_at result value ≡ form_value by value (form_in form.now) }
+        ensures value { (value : ℤ) → dependent_at result value ≡ form_value by value (form_in form.now) }
+        ensures besides { besides_in result ≡ coefficient_besides by (places_in form.now.places) }
     {
         let sum = Affine::of(by, &form.places);
         match form.switch {
             Some(_) => Dependence::Switch(sum, form.comparison, form.bound),
             None => Dependence::Equation(sum, form.bound),
+        }
+    }
+
+    /// What all other variables of the sum together are multiplied with.
+    pub(crate) fn besides(&self) -> i128
+        ensures { result ≡ besides_in self.now }
+    {
+        match self {
+            Dependence::Switch(sum, _, _) => sum.besides,
+            Dependence::Equation(sum, _) => sum.besides,
+            _ => 0,
         }
     }
 

@@ -1,20 +1,21 @@
 // Rows derived from constraints.
-ghost use Rattle.std.specs.Prelude.{◌≡◌, ◌⊎◌, length, IfOk, IfErr, OnOk, Ok, Err};
+ghost use Rattle.std.specs.Prelude.{◌≡◌, ◌⊎◌, ◌++◌, length, map, IfOk, IfErr, OnOk, Ok, Err};
 ghost use Rattle.std.specs.List.{All};
 ghost use Rattle.fzn_meaning.specs.Meaning.{IsWellFormedConstraint};
 ghost use Rattle.fzn_meaning.specs.Solutions.{declared_sets};
 ghost use Rattle.fzn_cited.specs.declared.fault.DeriveFault.TheVariants.{Memory};
+ghost use Rattle.fzn_meaning.specs.declared.row.Part.TheVariants.{Variable, Table};
 ghost use Rattle.fzn_meaning.specs.Separable.{IsSeparableRow};
 ghost use Rattle.fzn_row.specs.Draft.{empty, row_stated, in_turn};
 ghost use Rattle.fzn_row.specs.Derived.{item_added, IsDerivedRow, IsRowFault};
 ghost use Rattle.fzn_row.specs.Room.{draft_of, room_size, IsRoom};
 
 use crate::item::RowItem;
-use crate::room::RowDeriver;
+use crate::room::{BegunTable, RowDeriver};
 use fzn_cited::DeriveFault;
 use fzn_list::{Items, LONGEST};
-use fzn_meaning::{Constraint, Row, Var};
-use std::alloc::Global;
+use fzn_meaning::{Constraint, Part, Row, Var, VariablePart};
+use std::alloc::{AllocError, Global};
 use std::mem;
 
 impl RowDeriver {
@@ -48,6 +49,7 @@ impl RowDeriver {
         ensures draft { draft_of self.new ≡ empty most }
     {
         self.parts.clear();
+        self.tables.clear();
         self.bound = 0;
         self.left = most;
     }
@@ -100,6 +102,24 @@ impl RowDeriver {
                 constraint,
                 variable,
             } => self.add_move(alloc, given, vars, *constraint, *variable),
+            RowItem::Columns {
+                constraint,
+                column,
+                low,
+                prices,
+            } => self.add_columns(
+                alloc,
+                given,
+                vars,
+                *constraint,
+                *column,
+                low,
+                prices.as_slice(),
+            ),
+            RowItem::Rows {
+                constraint,
+                variable,
+            } => self.add_rows(alloc, given, vars, *constraint, *variable),
         }
     }
 
@@ -108,15 +128,34 @@ impl RowDeriver {
         requires room { IsRoom self.old }
         ensures variables { room_size self.new ≡ room_size self.old }
         ensures ok { IfOk result (λ row. row_stated (draft_of self.old) ≡ Ok row) }
-        ensures err { IfErr result (λ fault. row_stated (draft_of self.old) ≡ Err fault) }
+        ensures err { IfErr result (λ fault. (fault ≡ Memory) ⊎ (row_stated (draft_of self.old) ≡ Err fault)) }
     {
-        if self.parts.len() > LONGEST {
+        if self.parts.len() + self.tables.len() > LONGEST {
             return Err(DeriveFault::NotDerived);
         }
         let parts = mem::replace(&mut self.parts, Vec::new(alloc));
+        let tables = mem::replace(&mut self.tables, Vec::new(alloc));
         Ok(Row {
-            parts: Items::from_vec(parts),
+            parts: both_parts(alloc, parts, tables)?,
             bound: self.bound,
         })
     }
+}
+
+/// The parts of variables, and behind them those of tables.
+fn both_parts(
+    alloc: Global,
+    parts: Vec<VariablePart>,
+    tables: Vec<BegunTable>,
+) -> Result<Items<Part>, AllocError>
+    ensures { IfOk result (λ all. all ≡ map Variable parts.items ++ map (λ begun. Table begun.part) tables.items) }
+{
+    let mut all = Items::new(alloc);
+    for part in parts {
+        all.push(Part::Variable(part))?;
+    }
+    for begun in tables {
+        all.push(Part::Table(begun.part))?;
+    }
+    Ok(all)
 }

@@ -18,7 +18,7 @@ use crate::room::RowDeriver;
 use fzn_cited::DeriveFault;
 use fzn_domain::VarId;
 use fzn_list::Items;
-use fzn_meaning::{Listed, Part, Term, listed_at, weight_at};
+use fzn_meaning::{Listed, Term, VariablePart, listed_at, weight_at};
 use std::alloc::Global;
 
 impl RowDeriver {
@@ -75,7 +75,7 @@ impl RowDeriver {
     fn raise_places(
         &mut self,
         alloc: Global,
-        part: &Part,
+        part: &VariablePart,
         value: i64,
         places: &[Term],
     ) -> Result<(), DeriveFault>
@@ -213,7 +213,7 @@ fn raised_entry(
 }
 
 /// The first place of the variable, counted from 0.
-fn place_in(places: &[Term], var: VarId) -> Option<usize>
+pub(crate) fn place_in(places: &[Term], var: VarId) -> Option<usize>
     ensures { result ≡ place_in var places.now }
 {
     places.iter().position(|place| is_place_of(*place, var))

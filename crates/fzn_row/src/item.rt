@@ -31,4 +31,26 @@ pub enum RowItem {
         /// anything is added.
         variable: VarId,
     },
+    /// Prices of the entries of one column of a table: each row weighs the price of its entry more, and each value of the variable that
+    /// stands at the column weighs its price less.
+    Columns {
+        /// The number of the constraint, a table. As many weights are listed as it has rows, each time.
+        constraint: u64,
+        /// The number of the column, counted from 1. Where a variable stands there, it is declared to have a value, and at most 65,536
+        /// numbers from its least value to its greatest.
+        column: u64,
+        /// The number that has the first price, from -10^9 to 10^9.
+        low: i64,
+        /// The price of it, and of each number behind it: at most 65,536, each from -10^12 to 10^12, where they are to be taken. Every
+        /// other number has the price 0.
+        prices: Items<i64>,
+    },
+    /// What a variable weighs goes to the rows of a table at which it stands: each row weighs as much more as the variable does at the
+    /// row's entry, and is barred where that is barred.
+    Rows {
+        /// The number of the constraint, a table. As many weights are listed as it has rows, each time.
+        constraint: u64,
+        /// A variable at a place of the table, of which the first counts. It weighs nothing afterwards.
+        variable: VarId,
+    },
 }

@@ -1,6 +1,6 @@
 //! Separable rows that are derived from constraints.
 //!
-//! In: constraints, the declared sets, and the items by which a row is derived: multiples, prices and moves. Out: the row, or why there is
+//! In: constraints, the declared sets, and the items by which a row is derived: multiples, prices, moves and tables. Out: the row, or why there is
 //! none. Proved against `specs/Derived`, which says what row items make; and against the meaning of rows: whatever values of the declared
 //! sets meet the constraints that are cited meet the row.
 #![tactic(auto)]
@@ -19,3 +19,4 @@ mod moves;
 mod multiples;
 mod prices;
 mod room;
+mod tables;

@@ -5,24 +5,22 @@ ghost use Rattle.fzn_domain.specs.IntSet.{size};
 ghost use Rattle.fzn_domain.specs.Narrow.{IsVariable, set_of};
 ghost use Rattle.fzn_meaning.specs.Meaning.{IsWellFormedConstraint};
 ghost use Rattle.fzn_meaning.specs.Solutions.{declared_sets};
-ghost use Rattle.fzn_builtin_rules.specs.Form.{form_of};
 ghost use Rattle.fzn_cited.specs.declared.fault.DeriveFault.TheVariants.{Memory, NotDerived};
 ghost use Rattle.fzn_meaning.specs.Separable.{IsWeightList, IsCoefficient};
 ghost use Rattle.fzn_row.specs.Draft.{blank_part, part_for, with_part};
 ghost use Rattle.fzn_row.specs.Prices.{is_entry_within};
 ghost use Rattle.fzn_row.specs.Weights.{both_weights};
-ghost use Rattle.fzn_row.specs.Decided.{AreBounded};
 ghost use Rattle.fzn_row.specs.Dependence.{dependent_at};
-ghost use Rattle.fzn_row.specs.Moves.{weight_within, decided_weight, moved_from, span, is_narrow, part_moved, decided_moved, part_moved_by, move_added};
+ghost use Rattle.fzn_row.specs.Moves.{weight_within, weight_where, moved_from, span, is_narrow, part_moved_so, decided_moved, part_moved_by, move_added};
 ghost use Rattle.fzn_row.specs.Room.{draft_of, room_size, IsRoom};
 
-use crate::decided::decider_in;
+use crate::decided::decider_of;
 use crate::dependence::Dependence;
 use crate::room::{LIMIT, RowDeriver, sum_within};
 use fzn_cited::{DeriveFault, constraint_at};
 use fzn_domain::{Domain, VarId};
 use fzn_list::Items;
-use fzn_meaning::{Constraint, Listed, Part, Var, listed_at, weight_at};
+use fzn_meaning::{Constraint, Listed, Var, VariablePart, listed_at, weight_at};
 use std::alloc::{AllocError, Global};
 use std::mem;
 
@@ -93,13 +91,13 @@ impl RowDeriver {
         ensures ok { OnOk result (decided_moved (declared_sets vars.now) source (draft_of self.old) constraint.now ≡ Ok (draft_of self.new)) }
         ensures err { IfErr result (λ fault. (fault ≡ Memory) ⊎ (decided_moved (declared_sets vars.now) source (draft_of self.old) constraint.now ≡ Err fault)) }
     {
-        let Some(by) = decider_in(source, constraint) else {
+        let Some(decider) = decider_of(source, constraint) else {
             return Err(DeriveFault::NotDerived);
         };
-        if !is_narrow(declared_set(vars, by)) {
+        if !is_narrow(declared_set(vars, decider.by)) {
             return Err(DeriveFault::NotDerived);
         }
-        self.move_part(alloc, vars, constraint, source, by)
+        self.move_part(alloc, vars, &decider.dependence, source, decider.by)
     }
 
     /// Moves what one variable weighs to the one that decides it.
@@ -107,7 +105,7 @@ impl RowDeriver {
         &mut self,
         alloc: Global,
         vars: &[Var],
-        constraint: &Constraint,
+        dependence: &Dependence<'_>,
         source: VarId,
         by: VarId,
     ) -> Result<(), DeriveFault>
@@ -115,12 +113,11 @@ impl RowDeriver {
         requires vars { length vars.now ≡ room_size self.old }
         requires source { IsVariable (room_size self.old) source }
         requires by { IsVariable (room_size self.old) by }
-        requires form { IfSome (form_of constraint.now) AreBounded }
         requires narrow { is_narrow (set_of (declared_sets vars.now) by) ≡ true }
         ensures variables { room_size self.new ≡ room_size self.old }
         ensures room { IsRoom self.new }
-        ensures ok { OnOk result (part_moved (declared_sets vars.now) constraint.now source by (draft_of self.old) ≡ Ok (draft_of self.new)) }
-        ensures err { IfErr result (λ fault. (fault ≡ Memory) ⊎ (part_moved (declared_sets vars.now) constraint.now source by (draft_of self.old) ≡ Err fault)) }
+        ensures ok { OnOk result (part_moved_so (declared_sets vars.now) (dependent_at dependence.now) source by (draft_of self.old) ≡ Ok (draft_of self.new)) }
+        ensures err { IfErr result (λ fault. (fault ≡ Memory) ⊎ (part_moved_so (declared_sets vars.now) (dependent_at dependence.now) source by (draft_of self.old) ≡ Err fault)) }
     {
         let values = declared_set(vars, by);
         let low = values.min();
@@ -132,14 +129,14 @@ impl RowDeriver {
         let part = self.take_part(source)?;
         let place = self.place_of(by)?;
         let old = &self.parts[place].listed;
-        let weights = moved(alloc, old, &low, count, set, &part, by, constraint)?;
+        let weights = moved(alloc, old, &low, count, set, &part, dependence)?;
         self.left -= count;
         self.parts[place].listed = Some(Listed { low, weights });
         Ok(())
     }
 
     /// Takes the part of a variable out. It weighs nothing any more.
-    pub(crate) fn take_part(&mut self, var: VarId) -> Result<Part, AllocError>
+    pub(crate) fn take_part(&mut self, var: VarId) -> Result<VariablePart, AllocError>
         requires var { IsVariable (room_size self.old) var }
         requires room { IsRoom self.old }
         ensures room { IsRoom self.new }
@@ -147,11 +144,12 @@ impl RowDeriver {
         ensures parts { OnOk result (self.new.parts.items ≡ with_part (blank_part var) self.old.parts.items) }
         ensures part { IfOk result (λ part. part ≡ part_for var self.old.parts.items) }
         ensures formed { IfOk result (λ part. IfSome part.listed IsWeightList × IsCoefficient part.coefficient) }
+        ensures tables { self.new.tables.items ≡ self.old.tables.items }
         ensures bound { self.new.bound ≡ self.old.bound }
         ensures left { self.new.left ≡ self.old.left }
     {
         let place = self.place_of(var)?;
-        let blank_part = Part {
+        let blank_part = VariablePart {
             var,
             coefficient: 0,
             listed: None,
@@ -168,24 +166,21 @@ fn moved(
     low: &i64,
     count: usize,
     set: &Domain,
-    part: &Part,
-    by: VarId,
-    constraint: &Constraint,
+    part: &VariablePart,
+    dependence: &Dependence<'_>,
 ) -> Result<Items<Option<i64>>, DeriveFault>
     requires old { IfSome old.now IsWeightList }
     requires low { unsigned_abs low.now ≤ 1000000000 }
     requires few { count ≤ 65536 }
     requires part { IfSome part.now.listed IsWeightList × IsCoefficient part.now.coefficient }
-    requires form { IfSome (form_of constraint.now) AreBounded }
-    ensures ok { IfOk result (λ entries. entries ≡ moved_from (decided_weight set.now part.now by constraint.now) low.now count old.now) }
+    ensures ok { IfOk result (λ entries. entries ≡ moved_from (weight_where set.now part.now (dependent_at dependence.now)) low.now count old.now) }
     ensures within { IfOk result (λ entries. list_all is_entry_within entries ≡ true) }
-    ensures err { IfErr result (λ fault. (fault ≡ Memory) ⊎ ((fault ≡ NotDerived) × (list_all is_entry_within (moved_from (decided_weight set.now part.now by constraint.now) low.now count old.now) ≡ false))) }
+    ensures err { IfErr result (λ fault. (fault ≡ Memory) ⊎ ((fault ≡ NotDerived) × (list_all is_entry_within (moved_from (weight_where set.now part.now (dependent_at dependence.now)) low.now count old.now) ≡ false))) }
 {
-    let dependence = Dependence::of(by, constraint);
     let mut entries = Items::new(alloc);
     for i in 0..count {
         let value = *low + i as i64;
-        let more = dependent_weight(set, part, &dependence, &value);
+        let more = dependent_weight(set, part, dependence, &value);
         let entry = plus(listed_at(old, &value), more)?;
         entries.push(entry)?;
     }
@@ -195,7 +190,7 @@ fn moved(
 /// What the part, whose variable has this set, weighs where the other variable has this value.
 fn dependent_weight(
     set: &Domain,
-    part: &Part,
+    part: &VariablePart,
     dependence: &Dependence<'_>,
     value: &i64,
 ) -> Option<i128>
@@ -208,7 +203,7 @@ fn dependent_weight(
 }
 
 /// What the part weighs at the number, where that is in the set.
-fn weight_within(set: &Domain, part: &Part, number: i128) -> Option<i128>
+fn weight_within(set: &Domain, part: &VariablePart, number: i128) -> Option<i128>
     requires part { IfSome part.now.listed IsWeightList × IsCoefficient part.now.coefficient }
     ensures value { result ≡ weight_within set.now part.now number }
     ensures bounded { IfSome result (λ weight. unsigned_abs weight ≤ 10000000000000000000000000000000) }
@@ -244,7 +239,7 @@ pub(crate) fn plus(entry: Option<i64>, more: Option<i128>) -> Result<Option<i64>
 }
 
 /// The declared set of the variable.
-fn declared_set(vars: &[Var], var: VarId) -> &Domain
+pub(crate) fn declared_set(vars: &[Var], var: VarId) -> &Domain
     requires { IsVariable (length vars.now) var }
     ensures { result.now ≡ set_of (declared_sets vars.now) var }
 {
@@ -252,7 +247,7 @@ fn declared_set(vars: &[Var], var: VarId) -> &Domain
 }
 
 /// How many numbers there are from the least to the greatest.
-fn span(set: &Domain) -> usize
+pub(crate) fn span(set: &Domain) -> usize
     requires { 0 < size set.now }
     ensures value { result ≡ span set.now }
 {
@@ -260,7 +255,7 @@ fn span(set: &Domain) -> usize
 }
 
 /// Some number, and at most 65,536 from the least to the greatest.
-fn is_narrow(set: &Domain) -> bool
+pub(crate) fn is_narrow(set: &Domain) -> bool
     ensures { result ≡ is_narrow set.now }
 {
     !set.is_empty() && span(set) <= MOST_TARGETS

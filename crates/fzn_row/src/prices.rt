@@ -3,7 +3,6 @@ ghost use Rattle.std.specs.Prelude.{◌≡◌, ◌⊎◌, ◌*◌, ◌<◌, ◌�
 ghost use Rattle.std.specs.List.{All, list_all};
 ghost use Rattle.std.specs.Option.{option_map};
 ghost use Rattle.fzn_list.specs.Limits.{longest};
-ghost use Rattle.fzn_domain.specs.Limits.{IsInLimits};
 ghost use Rattle.fzn_domain.specs.Narrow.{IsVariable};
 ghost use Rattle.fzn_meaning.specs.Term.{IsTerm};
 ghost use Rattle.fzn_meaning.specs.Meaning.{IsWellFormedConstraint};
@@ -139,9 +138,9 @@ impl RowDeriver {
 }
 
 /// What a place that is a constant takes from the bound.
-fn less_price(low: &i64, prices: &[i64], value: &i64) -> i128
+pub(crate) fn less_price(low: &i64, prices: &[i64], value: &i64) -> i128
     requires prices { are_prices low.now prices.now ≡ true }
-    requires value { IsInLimits value.now }
+    requires value { unsigned_abs value.now ≤ 10000000000 }
     ensures value { result ≡ pos 0 -ℤ price_at low.now prices.now value.now }
     ensures bounded { unsigned_abs result ≤ 1000000000000000000000000000000 }
 {
@@ -239,7 +238,7 @@ fn least_price(prices: &[i64]) -> i64
 }
 
 /// At most 65,536 prices from -10^12 to 10^12, the first for a number from -10^9 to 10^9.
-fn are_prices(low: &i64, prices: &[i64]) -> bool
+pub(crate) fn are_prices(low: &i64, prices: &[i64]) -> bool
     ensures { result ≡ are_prices low.now prices.now }
 {
     is_value(low) && prices.len() <= MOST_PRICES && are_small(prices)

@@ -7,7 +7,7 @@ ghost use Rattle.fzn_row.specs.Room.{draft_of, room_size, IsRoom, IsPlaceOfPart,
 
 use fzn_cited::DeriveFault;
 use fzn_domain::VarId;
-use fzn_meaning::Part;
+use fzn_meaning::{TablePart, VariablePart};
 use std::alloc::{AllocError, Global};
 
 /// How far from 0 the bound and what is listed lie at the most: 10^18.
@@ -16,16 +16,30 @@ pub(crate) const LIMIT: u64 = 1_000_000_000_000_000_000;
 /// How far from 0 a coefficient lies at the most: 10^12.
 const GREATEST_COEFFICIENT: u64 = 1_000_000_000_000;
 
-/// The room in which rows are made, kept from one to the next, so that each costs what its items add: 8 bytes for each variable.
+/// The part of a table.
+#[derive(Drop)]
+pub(crate) struct BegunTable {
+    /// The number of the constraint.
+    pub constraint: u64,
+    /// What its rows weigh so far.
+    pub part: TablePart,
+}
+
+/// The room in which rows are made, kept from one to the next, so that each costs what its items add: 8 bytes for each variable, and 8
+/// for each constraint up to the last one whose table has had a part.
 ///
 /// The place of a variable's part is found by a slot that is never cleared: it counts only where the part at that place is the variable's
-/// (Preston Briggs and Linda Torczon, An Efficient Representation for Sparse Sets, 1993).
+/// (Preston Briggs and Linda Torczon, An Efficient Representation for Sparse Sets, 1993). So it is with the place of a table's part.
 #[derive(Drop)]
 pub struct RowDeriver {
     /// One for each variable: where its part stands, if it has one.
     pub(crate) slots: Vec<usize>,
     /// The parts so far.
-    pub(crate) parts: Vec<Part>,
+    pub(crate) parts: Vec<VariablePart>,
+    /// One for each number of a constraint, from 0 on: where the part of its table stands, if it has one.
+    pub(crate) table_slots: Vec<usize>,
+    /// The parts of tables so far.
+    pub(crate) tables: Vec<BegunTable>,
     /// The bound so far.
     pub(crate) bound: i64,
     /// How many weights may still be listed.
@@ -41,6 +55,8 @@ impl RowDeriver {
         Ok(RowDeriver {
             slots,
             parts: Vec::new(alloc),
+            table_slots: Vec::new(alloc),
+            tables: Vec::new(alloc),
             bound: 0,
             left: 0,
         })
@@ -53,6 +69,7 @@ impl RowDeriver {
         ensures room { IsRoom self.new }
         ensures variables { room_size self.new ≡ room_size self.old }
         ensures place { IfOk result (IsPlaceOfPart var self.old.parts.items self.new.parts.items) }
+        ensures tables { self.new.tables.items ≡ self.old.tables.items }
         ensures bound { self.new.bound ≡ self.old.bound }
         ensures left { self.new.left ≡ self.old.left }
     {
@@ -71,12 +88,13 @@ impl RowDeriver {
         ensures room { IsRoom self.new }
         ensures variables { room_size self.new ≡ room_size self.old }
         ensures place { IfOk result (IsPlaceOfPart var self.old.parts.items self.new.parts.items) }
+        ensures tables { self.new.tables.items ≡ self.old.tables.items }
         ensures bound { self.new.bound ≡ self.old.bound }
         ensures left { self.new.left ≡ self.old.left }
     {
         let place = self.parts.len();
         self.slots[var.0 - 1] = place;
-        self.parts.push(Part {
+        self.parts.push(VariablePart {
             var,
             coefficient: 0,
             listed: None,

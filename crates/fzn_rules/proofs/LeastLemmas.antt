@@ -1,13 +1,13 @@
--- The least weight of a part at the values of a set.
+-- The least weight of a variable at the values of a set.
 use Rattle.std.proofs.Common.{◌^◌, ◌≡◌, ◌⊎◌, ℕ, ◌+◌, ◌*◌, ◌<◌, ◌≤◌, Bool, true, false, cond, length, get_or, refl, sym, ap, ◌∙◌, subst, inl, inr, arith, ℤ, pos, negsuc, ◌+ℤ◌, ◌-ℤ◌, ◌*ℤ◌, ◌≤ℤ◌, ◌<ℤ◌, int_lt, Option, None, Some, IfSome, unsigned_abs}
 use Rattle.std.proofs.lemmas.Int.{ints}
 use Rattle.std.proofs.lemmas.Bool.{false≢true, cases_lt}
 use Rattle.std.proofs.lemmas.List.{get_or_past}
 use Rattle.fzn_domain.specs.IntSet.{IntSet, contains}
 use Rattle.fzn_meaning.specs.declared.row.Listed.{Listed}
-use Rattle.fzn_meaning.specs.declared.row.Part.{Part}
+use Rattle.fzn_meaning.specs.declared.row.VariablePart.{VariablePart}
 use Rattle.fzn_meaning.specs.Separable.{entry_in, weighed, weight_at}
-use Rattle.fzn_rules.specs.Separable.{IsLeastOf, IsWeightIn}
+use Rattle.fzn_rules.specs.Separable.{IsLeastOf, IsVariableWeightIn}
 use Rattle.fzn_rules.specs.Least.{IsProductIn, IsListedWeightIn, lesser}
 use Rattle.fzn_rules.proofs.ProductLemmas.{mono_up, mono_down}
 
@@ -128,13 +128,13 @@ module _ (set : IntSet) (c : ℤ) (listed : Listed) where
   pub before-all : (least : Option ℤ) → IsLeastOf (IsWeightBefore set c listed (length listed.weights)) least → IsLeastOf (IsListedWeightIn set c listed) least
   before-all least h = least-same (IsWeightBefore set c listed (length listed.weights)) (IsListedWeightIn set c listed) least listed_there (λ w at. by_distance at.0 w (at.0 -ℤ listed.low) refl at.1 at.2) h
 
--- ---- a part
+-- ---- a variable's part
 
 plain : (c v : ℤ) → (c *ℤ v) +ℤ pos 0 ≡ c *ℤ v
 plain c v = omega (arith, ints)
 
-pub least-plain : (set : IntSet) (part : Part) (least : Option ℤ) → part.listed ≡ None → IsLeastOf (IsProductIn set part.coefficient) least → IsLeastOf (IsWeightIn set part) least
-least-plain set part least none h = least-same (IsProductIn set part.coefficient) (IsWeightIn set part) least
+pub least-plain : (set : IntSet) (part : VariablePart) (least : Option ℤ) → part.listed ≡ None → IsLeastOf (IsProductIn set part.coefficient) least → IsLeastOf (IsVariableWeightIn set part) least
+least-plain set part least none h = least-same (IsProductIn set part.coefficient) (IsVariableWeightIn set part) least
     (λ w at. (at.0, at.1, is_at at.0 ∙ ap (λ (x : ℤ). Some x) (sym at.2)))
     (λ w at. (at.0, at.1, some_is _ _ (sym at.2 ∙ is_at at.0))) h
   where
@@ -144,8 +144,8 @@ least-plain set part least none h = least-same (IsProductIn set part.coefficient
     some_is : (a b : ℤ) → ◌≡◌ {A = Option ℤ} (Some a) (Some b) → a ≡ b
     some_is a b e = cc
 
-pub least-listed : (set : IntSet) (part : Part) (listed : Listed) (least : Option ℤ) → part.listed ≡ Some listed → IsLeastOf (IsListedWeightIn set part.coefficient listed) least → IsLeastOf (IsWeightIn set part) least
-least-listed set part listed least some h = least-same (IsListedWeightIn set part.coefficient listed) (IsWeightIn set part) least
+pub least-listed : (set : IntSet) (part : VariablePart) (listed : Listed) (least : Option ℤ) → part.listed ≡ Some listed → IsLeastOf (IsListedWeightIn set part.coefficient listed) least → IsLeastOf (IsVariableWeightIn set part) least
+least-listed set part listed least some h = least-same (IsListedWeightIn set part.coefficient listed) (IsVariableWeightIn set part) least
     (λ w at. (at.0, at.1, is_at at.0 ∙ at.2))
     (λ w at. (at.0, at.1, sym (is_at at.0) ∙ at.2)) h
   where

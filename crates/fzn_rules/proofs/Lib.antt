@@ -14,4 +14,5 @@ mod RisingLemmas
 mod RuleSound
 mod RunLemmas
 pub mod SeparableSound
+mod TableWeightLemmas
 mod TaskLemmas

@@ -5,13 +5,16 @@ use Rattle.std.proofs.lemmas.List.{take_more}
 use Rattle.std.proofs.lemmas.List.Elements.{All-head, All-tail}
 use Rattle.fzn_domain.specs.IntSet.{IntSet, contains}
 use Rattle.fzn_domain.specs.Narrow.{IsWithin, IsVariable, set_of, value_of}
+use Rattle.fzn_meaning.specs.declared.row.VariablePart.{VariablePart}
 use Rattle.fzn_meaning.specs.declared.row.Part.{Part}
+use Rattle.fzn_meaning.specs.declared.row.Part.TheVariants.{Variable, Table}
 use Rattle.fzn_meaning.specs.declared.row.Row.{Row}
 use Rattle.fzn_meaning.specs.declared.constraint.Constraint.{Constraint}
 use Rattle.fzn_meaning.specs.declared.constraint.Constraint.TheVariants as kind
 use Rattle.fzn_meaning.specs.Meaning.{Meets, IsWellFormedConstraint}
 use Rattle.fzn_meaning.specs.Separable.{weight_of, total_weight, IsPart, RowHolds}
-use Rattle.fzn_rules.specs.Separable.{IsLeastOf, IsLeastWeight, IsLeastTotal, IsSeparableMet, IsRowMet}
+use Rattle.fzn_rules.specs.Separable.{IsLeastOf, IsWeightIn, IsLeastWeight, IsLeastTotal, IsSeparableMet, IsRowMet}
+use Rattle.fzn_rules.proofs.TableWeightLemmas.{table_weighs}
 
 -- ---- least totals
 
@@ -51,23 +54,27 @@ no_barred sets (p ∷ parts) total (least, rest, least_is, rest_is, sum) (suc k)
 -- ---- soundness
 
 module _ (sets : List IntSet) (values : List ℤ) (within : IsWithin sets values) where
-  inside : (part : Part) → IsVariable (length sets) part.var → contains (set_of sets part.var) (value_of values part.var) ≡ true
+  inside : (part : VariablePart) → IsVariable (length sets) part.var → contains (set_of sets part.var) (value_of values part.var) ≡ true
   inside part var = within.inside (part.var.0 - 1) (omega arith)
 
-  none_weighs : (part : Part) (weight : Option ℤ) → IsVariable (length sets) part.var → IsLeastWeight sets part None → weight_of values part ≡ weight → IsSome weight → ⊥
-  none_weighs part None var barred is some = absurd (cc)
-  none_weighs part (Some w) var barred is some = barred w (value_of values part.var, inside part var, is)
+  weighs_in : (part : Part) (w : ℤ) → IsPart (length sets) part → weight_of values part ≡ Some w → IsWeightIn sets part w
+  weighs_in (Variable part) w formed is = (value_of values part.var, inside part formed.variable, is)
+  weighs_in (Table table) w formed is = table_weighs sets values table w within formed is
 
-  least_weighs : (part : Part) (least : ℤ) (weight : Option ℤ) → IsVariable (length sets) part.var → IsLeastWeight sets part (Some least) → weight_of values part ≡ weight → IsSome weight → least ≤ℤ unwrap_or weight (pos 0)
-  least_weighs part least None var is weight some = absurd (cc)
-  least_weighs part least (Some w) var is weight some = is.1 w (value_of values part.var, inside part var, weight)
+  none_weighs : (part : Part) (weight : Option ℤ) → IsPart (length sets) part → IsLeastWeight sets part None → weight_of values part ≡ weight → IsSome weight → ⊥
+  none_weighs part None formed barred is some = absurd (cc)
+  none_weighs part (Some w) formed barred is some = barred w (weighs_in part w formed is)
+
+  least_weighs : (part : Part) (least : ℤ) (weight : Option ℤ) → IsPart (length sets) part → IsLeastWeight sets part (Some least) → weight_of values part ≡ weight → IsSome weight → least ≤ℤ unwrap_or weight (pos 0)
+  least_weighs part least None formed is weight some = absurd (cc)
+  least_weighs part least (Some w) formed is weight some = is.1 w (weighs_in part w formed weight)
 
   total_least : (parts : List Part) (total : ℤ) → All (IsPart (length sets)) parts → All (λ (part : Part). IsSome (weight_of values part)) parts → IsLeastTotal sets parts total → total ≤ℤ total_weight values parts
   unfolding total_weight
   total_least [] total formed unbarred is = omega (arith, ints)
   total_least (part ∷ parts) total formed unbarred (least, rest, least_is, rest_is, sum) =
       let here = All-head (IsPart (length sets)) part parts formed in
-      let first = least_weighs part least (weight_of values part) here.variable least_is refl (All-head (λ (part : Part). IsSome (weight_of values part)) part parts unbarred) in
+      let first = least_weighs part least (weight_of values part) here least_is refl (All-head (λ (part : Part). IsSome (weight_of values part)) part parts unbarred) in
       let others = total_least parts rest (All-tail (IsPart (length sets)) part parts formed) (All-tail (λ (part : Part). IsSome (weight_of values part)) part parts unbarred) rest_is in
       omega (arith, ints)
 
@@ -78,7 +85,7 @@ module _ (sets : List IntSet) (values : List ℤ) (within : IsWithin sets values
         let part = barred.1 in
         let formed_there = subst (IsPart (length sets)) barred.3 (formed k part barred.2) in
         let unbarred = subst (λ (p : Part). IsSome (weight_of values p)) barred.3 (holds.none_barred k part barred.2) in
-        none_weighs part (weight_of values part) formed_there.variable barred.4 refl unbarred
+        none_weighs part (weight_of values part) formed_there barred.4 refl unbarred
     | inr above ↦
         let least = total_least row.parts above.0 formed holds.none_barred above.1 in
         omega (arith, ints, least, above.2, holds.most)

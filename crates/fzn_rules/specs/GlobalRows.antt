@@ -9,6 +9,10 @@ use Rattle.fzn_meaning.specs.declared.constraint.Constraint.TheVariants.{Table, 
 use Rattle.fzn_meaning.specs.Entries.{IsIndex}
 use Rattle.fzn_sets.specs.Terms.{greatest_value, MayBe}
 
+-- each value of row r, counted from 0, is in its place's set
+abbrev pub MayBeRow : List IntSet → List Term → List ℤ → ℕ → Type 0
+MayBeRow sets places rows r = (k : ℕ) → k < length places → MayBe sets (slice_index_or places k (Constant (pos 0))) (slice_index_or rows (r * length places + k) (pos 0))
+
 -- some value of row r, counted from 0, is not in its place's set
 abbrev pub IsRowOut : List IntSet → List Term → List ℤ → ℕ → Type 0
 IsRowOut sets places rows r = (k : ℕ) × (k < length places) × (MayBe sets (slice_index_or places k (Constant (pos 0))) (slice_index_or rows (r * length places + k) (pos 0)) → ⊥)

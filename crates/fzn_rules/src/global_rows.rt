@@ -50,7 +50,7 @@ fn are_rows_out(sets: &Sets, places: &[Term], rows: &[Term]) -> bool
 }
 
 /// Whether some value of row r, counted from 0, is not in its place's set.
-fn is_row_out(sets: &Sets, places: &[Term], rows: &[Term], r: usize) -> bool
+pub(crate) fn is_row_out(sets: &Sets, places: &[Term], rows: &[Term], r: usize) -> bool
     requires places { All (IsTerm (length sets.now.present)) places.now }
     requires whole { r * length places.now + length places.now ≤ length rows.now }
     ensures { IsTrue result ↔ IsRowOut sets.now.present places.now (numbers_in rows.now) r }

@@ -30,6 +30,6 @@ pub enum Rule {
     Cut(Items<i64>),
     /// `pair`: one of the two, counted from 1, says that they belong together, and the other that they do not.
     Pair(i64, i64),
-    /// What the variables of a row weigh at least is more than its bound, or all values of one are barred.
+    /// What the parts of a row weigh at least is more than its bound, or all values of a variable or all rows of a table are barred.
     Row,
 }

@@ -6,14 +6,15 @@ use Rattle.std.proofs.lemmas.Bool.{cases_lt}
 use Rattle.std.proofs.lemmas.List.{length-append, get_or_default, get_or_append_left, get_or_push}
 use Rattle.std.proofs.lemmas.List.Elements.{All-head, All-tail, All-push}
 use Rattle.fzn_domain.specs.IntSet.{IntSet}
-use Rattle.fzn_domain.specs.Narrow.{is_some_empty, set_of}
+use Rattle.fzn_domain.specs.Narrow.{is_some_empty}
 use Rattle.fzn_meaning.specs.declared.row.Part.{Part}
 use Rattle.fzn_meaning.specs.declared.row.Row.{Row}
 use Rattle.fzn_meaning.specs.Separable.{IsPart, IsSeparableRow}
-use Rattle.fzn_sets.proofs.ValueLemmas.{some_value}
 use Rattle.fzn_rules.specs.Separable.{IsLeastWeight, IsLeastTotal, IsSeparableMet}
-use Rattle.fzn_separable.specs.Levels.{IsWeight, sum_of, IsNoLighter, AreNoLighterBut, AreLeasts, AreEnough, HasRoom}
-use Rattle.fzn_separable.proofs.WeightLemmas.{some_least, barred_of, of_least, least_above}
+use Rattle.fzn_trail.specs.Levels.{Levels}
+use Rattle.fzn_separable.specs.Levels.{IsWeight, sum_of, IsNoLighter, AreNoLighterBut, AreLeasts, AreEnough, WeighsWhereFixed}
+use Rattle.fzn_separable.proofs.WeightLemmas.{of_least, least_above}
+use Rattle.fzn_separable.proofs.TableLemmas.{some_least}
 
 -- ---- least weights one after the other
 
@@ -42,14 +43,6 @@ module _ (sets : List IntSet) (parts : List Part) where
         bounded = subst (All IsWeight) (sym same) (All-push IsWeight leasts least before.bounded bounded);
       }
 
--- least weights by an index, as totals by recursion
-pub total_of : (sets : List IntSet) (parts : List Part) (leasts : List ℤ) → length leasts ≡ length parts → ((k : ℕ) (p : Part) (d : ℤ) → k < length parts → IsLeastWeight sets (get_or parts k p) (Some (get_or leasts k d))) → IsLeastTotal sets parts (sum_of leasts)
-total_of sets [] [] count each = refl
-total_of sets [] (x ∷ leasts) count each = absurd (omega arith)
-total_of sets (part ∷ parts) [] count each = absurd (omega arith)
-total_of sets (part ∷ parts) (x ∷ leasts) count each =
-    (x, sum_of leasts, each 0 part x (omega arith), total_of sets parts leasts (omega arith) (λ k p d below. each (suc k) p d (omega arith)), refl)
-
 -- ---- when the rule is met
 
 -- by levels that no part is lighter than: some part is barred, or the least weights come to no less
@@ -68,7 +61,7 @@ module _ (sets : List IntSet) where
   met-more part parts None level rest total is none sum met = inl (any_here (λ (p : Part). IsLeastWeight sets p None) part parts is)
   met-more part parts (Some least) level rest total is none sum (inl barred) = inl (any_later (λ (p : Part). IsLeastWeight sets p None) part parts barred)
   met-more part parts (Some least) level rest total is none sum (inr (others, are, above)) =
-      let here = least_above (set_of sets part.var) part least level is none in
+      let here = least_above sets part least level is none in
       inr (least +ℤ others, (least, others, is, are, refl), omega (arith, ints, here, above, sum))
 
   met_by : (parts : List Part) (levels : List ℤ) → is_some_empty sets ≡ false → All (IsPart (length sets)) parts → length levels ≡ length parts → ((k : ℕ) (p : Part) (d : ℤ) → k < length parts → IsNoLighter sets (get_or parts k p) (Some (get_or levels k d))) → Met sets parts (sum_of levels)
@@ -78,7 +71,7 @@ module _ (sets : List IntSet) where
   met_by (part ∷ parts) [] filled formed count each = absurd (omega arith)
   met_by (part ∷ parts) (x ∷ levels) filled formed count each =
       let own = All-head (IsPart (length sets)) part parts formed in
-      let least = some_least (set_of sets part.var) part (some_value sets part.var filled own.variable) in
+      let least = some_least sets part filled own in
       met-more part parts least.0 x (sum_of levels) _ least.1 (each 0 part x (omega arith)) refl (met_by parts levels filled (All-tail (IsPart (length sets)) part parts formed) (omega arith) (λ k p d below. each (suc k) p d (omega arith)))
 
 -- on such sets the rule is met
@@ -94,7 +87,7 @@ met_above sets row levels filled formed count each over = elim (met_by sets row.
 
 -- so it is where each value of some part is barred
 pub met_barred : (sets : List IntSet) (row : Row) (k : ℕ) (part : Part) → k < length row.parts → get_or row.parts k part ≡ part → IsNoLighter sets part None → IsSeparableMet row sets
-met_barred sets row k part inside is none = inl (k, part, inside, is, barred_of (set_of sets part.var) part none)
+met_barred sets row k part inside is none = inl (k, part, inside, is, none)
 
 -- ---- levels on the trail
 
@@ -103,7 +96,7 @@ module _ (sets : List IntSet) (parts : List Part) (leasts : List ℤ) (are : Are
   pub none_lighter : (except : ℕ) → AreNoLighterBut except parts leasts sets
   none_lighter except k p d below apart =
       let count = are.one_each in
-      of_least (set_of sets (get_or parts k p).var) (get_or parts k p) (get_or leasts k d) (get_or leasts k d) (are.each k p d (omega arith)) (self (get_or leasts k d))
+      of_least sets (get_or parts k p) (get_or leasts k d) (get_or leasts k d) (are.each k p d (omega arith)) (self (get_or leasts k d))
     where
       self : (x : ℤ) → x ≤ℤ x
       self x = omega (arith, ints)
@@ -111,7 +104,7 @@ module _ (sets : List IntSet) (parts : List Part) (leasts : List ℤ) (are : Are
   pub none_lighter-below : (except : ℕ) (levels : List ℤ) → ((k : ℕ) (d : ℤ) → k < length leasts → k ≢ except → get_or levels k d ≤ℤ get_or leasts k d) → AreNoLighterBut except parts levels sets
   none_lighter-below except levels low k p d below apart =
       let count = are.one_each in
-      of_least (set_of sets (get_or parts k p).var) (get_or parts k p) (get_or leasts k d) (get_or levels k d) (are.each k p d (omega arith)) (low k d (omega arith) apart)
+      of_least sets (get_or parts k p) (get_or leasts k d) (get_or levels k d) (are.each k p d (omega arith)) (low k d (omega arith) apart)
 
 -- ---- what a pass goes on with
 
@@ -124,12 +117,6 @@ leasts-all sets parts count leasts whole first =
       bounded = first.bounded;
     }
 
--- the least weights come to no more than the bound
-pub room_of : (sets : List IntSet) (row : Row) (leasts : List ℤ) → AreLeasts sets row.parts leasts → sum_of leasts ≤ℤ row.bound → HasRoom sets row
-room_of sets row leasts are le =
-    let one_each = are.one_each in
-    (sum_of leasts, total_of sets row.parts leasts one_each (λ k p d below. are.each k p d (omega arith)), le)
-
 -- levels that are enough, with no part to be left out
 pub enough_for_all : (sets : List IntSet) (parts : List Part) (leasts levels : List ℤ) (bound : ℤ) (except : ℕ) → AreLeasts sets parts leasts → except ≡ length leasts → AreEnough except leasts levels bound → AreNoLighterBut (length parts) parts levels sets
 enough_for_all sets parts leasts levels bound except are past enough =
@@ -141,3 +128,20 @@ part_at parts items k part inside same is default = get_or_default parts k defau
 
 pub formed_at : (parts : List Part) (count k : ℕ) (part : Part) → All (IsPart count) parts → k < length parts → ((default : Part) → get_or parts k default ≡ part) → IsPart count part
 formed_at parts count k part formed inside at = subst (IsPart count) (at part) (formed k part inside)
+
+-- ---- where all variables are fixed
+
+-- one more part, which weighs what it weighs at least
+module _ (trail : Levels) (parts : List Part) (leasts : List ℤ) where
+  abbrev pub WeighBefore : ℕ → Type 0
+  WeighBefore count = (k : ℕ) (p : Part) (d : ℤ) → k < count → WeighsWhereFixed trail (get_or parts k p) (get_or leasts k d)
+
+  pub weigh-more : (i : ℕ) (part : Part) (least : ℤ) → i < length leasts → ((p : Part) → get_or parts i p ≡ part) → ((d : ℤ) → get_or leasts i d ≡ least) → WeighBefore i → WeighsWhereFixed trail part least → WeighBefore (i + 1)
+  weigh-more i part least inside at is before here k p d below = elim (cases_lt k i) [
+    | inl earlier ↦ before k p d earlier
+    | inr past ↦
+        let same : i ≡ k = omega arith in
+        subst (λ (n : ℕ). WeighsWhereFixed trail (get_or parts n p) (get_or leasts n d)) same
+        (subst (λ (q : Part). WeighsWhereFixed trail q (get_or leasts i d)) (sym (at p))
+        (subst (λ (x : ℤ). WeighsWhereFixed trail part x) (sym (is d)) here))
+  ]

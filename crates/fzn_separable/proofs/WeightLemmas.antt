@@ -6,12 +6,13 @@ use Rattle.std.proofs.lemmas.List.{get_or_past, take_more}
 use Rattle.fzn_domain.specs.IntSet.{IntSet, contains, size, least, greatest}
 use Rattle.fzn_domain.proofs.SetLemmas.{member_of_size, contains-least, least_le, contains-greatest, le_greatest}
 use Rattle.fzn_meaning.specs.declared.row.Listed.{Listed}
+use Rattle.fzn_meaning.specs.declared.row.VariablePart.{VariablePart}
 use Rattle.fzn_meaning.specs.declared.row.Part.{Part}
 use Rattle.fzn_meaning.specs.Separable.{entry_in, weighed, weight_at}
-use Rattle.fzn_rules.specs.Separable.{IsLeastOf, IsWeightIn}
+use Rattle.fzn_rules.specs.Separable.{IsLeastOf, IsVariableWeightIn, IsWeightIn}
 use Rattle.fzn_terms.proofs.ProductLemmas.{mono_up, mono_down}
 use Rattle.fzn_rules.specs.Least.{lesser}
-use Rattle.fzn_separable.specs.Levels.{IsWeight, sum_of, HasNoLighter}
+use Rattle.fzn_separable.specs.Levels.{IsWeight, sum_of, IsNoLighter}
 
 pub some_is : (a b : ℤ) → ◌≡◌ {A = Option ℤ} (Some a) (Some b) → a ≡ b
 some_is a b e = cc
@@ -21,7 +22,7 @@ none_some w e = cc
 
 -- ---- a part without a list
 
-module _ (part : Part) (plain : part.listed ≡ None) where
+module _ (part : VariablePart) (plain : part.listed ≡ None) where
   pub plain_weight : (v : ℤ) → weight_at part v ≡ Some (part.coefficient *ℤ v +ℤ pos 0)
   plain_weight v = rw plain refl
 
@@ -61,7 +62,7 @@ at_weight found own w level is also le = let same = some_is own w (sym is ∙ al
 
 -- ---- a part with a list
 
-module _ (part : Part) (listed : Listed) (of : part.listed ≡ Some listed) where
+module _ (part : VariablePart) (listed : Listed) (of : part.listed ≡ Some listed) where
   listed_weight : (v : ℤ) → weight_at part v ≡ weighed part.coefficient v (entry_in listed.weights (v -ℤ listed.low))
   listed_weight v = rw of refl
 
@@ -129,24 +130,24 @@ least-one (Some a) = (refl, λ w e. at_most a w (some_is a w e))
 
 -- ---- at the ends of a set
 
-module _ (set : IntSet) (part : Part) (plain : part.listed ≡ None) where
-  pub least-up : (bottom : ℤ) (least : Option ℤ) → pos 0 ≤ℤ part.coefficient → contains set bottom ≡ true → ((v : ℤ) → contains set v ≡ true → bottom ≤ℤ v) → least ≡ weight_at part bottom → IsLeastOf (IsWeightIn set part) least
+module _ (set : IntSet) (part : VariablePart) (plain : part.listed ≡ None) where
+  pub least-up : (bottom : ℤ) (least : Option ℤ) → pos 0 ≤ℤ part.coefficient → contains set bottom ≡ true → ((v : ℤ) → contains set v ≡ true → bottom ≤ℤ v) → least ≡ weight_at part bottom → IsLeastOf (IsVariableWeightIn set part) least
   least-up bottom least sign member first is =
-      subst (IsLeastOf (IsWeightIn set part)) (sym (is ∙ plain_weight part plain bottom))
+      subst (IsLeastOf (IsVariableWeightIn set part)) (sym (is ∙ plain_weight part plain bottom))
       ((bottom, member, plain_weight part plain bottom), λ w at. plain_up part plain bottom at.0 _ w sign (first at.0 at.1) (plain_weight part plain bottom) at.2)
 
-  pub least-down : (top : ℤ) (least : Option ℤ) → part.coefficient <ℤ pos 0 → contains set top ≡ true → ((v : ℤ) → contains set v ≡ true → v ≤ℤ top) → least ≡ weight_at part top → IsLeastOf (IsWeightIn set part) least
+  pub least-down : (top : ℤ) (least : Option ℤ) → part.coefficient <ℤ pos 0 → contains set top ≡ true → ((v : ℤ) → contains set v ≡ true → v ≤ℤ top) → least ≡ weight_at part top → IsLeastOf (IsVariableWeightIn set part) least
   least-down top least sign member last is =
-      subst (IsLeastOf (IsWeightIn set part)) (sym (is ∙ plain_weight part plain top))
+      subst (IsLeastOf (IsVariableWeightIn set part)) (sym (is ∙ plain_weight part plain top))
       ((top, member, plain_weight part plain top), λ w at. plain_down part plain at.0 top w _ sign (last at.0 at.1) at.2 (plain_weight part plain top))
 
 -- ---- among the first of a list
 
 -- what the part weighs at one of the first so many numbers from this one on, where it is in the set
-abbrev pub IsWeightBefore : IntSet → Part → ℤ → ℕ → ℤ → Type 0
+abbrev pub IsWeightBefore : IntSet → VariablePart → ℤ → ℕ → ℤ → Type 0
 IsWeightBefore set part low count w = (k : ℕ) × (k < count) × (contains set (low +ℤ pos k) ≡ true) × (weight_at part (low +ℤ pos k) ≡ Some w)
 
-module _ (set : IntSet) (part : Part) (low : ℤ) where
+module _ (set : IntSet) (part : VariablePart) (low : ℤ) where
   pub before-none : IsLeastOf (IsWeightBefore set part low 0) None
   before-none w (k, below, member, is) = omega arith
 
@@ -185,9 +186,9 @@ module _ (set : IntSet) (part : Part) (low : ℤ) where
       let next : count + 1 ≡ suc count = omega arith in
       subst (λ (n : ℕ). (least : Option ℤ) × IsLeastOf (IsWeightBefore set part low n) least) next more
 
-pub before-all : (set : IntSet) (part : Part) (listed : Listed) (least : Option ℤ) → part.listed ≡ Some listed → IsLeastOf (IsWeightBefore set part listed.low (length listed.weights)) least → IsLeastOf (IsWeightIn set part) least
+pub before-all : (set : IntSet) (part : VariablePart) (listed : Listed) (least : Option ℤ) → part.listed ≡ Some listed → IsLeastOf (IsWeightBefore set part listed.low (length listed.weights)) least → IsLeastOf (IsVariableWeightIn set part) least
 before-all set part listed least of h =
-    least-same (IsWeightBefore set part listed.low (length listed.weights)) (IsWeightIn set part) least
+    least-same (IsWeightBefore set part listed.low (length listed.weights)) (IsVariableWeightIn set part) least
     (λ w at. (listed.low +ℤ pos at.0, at.2, at.3))
     (λ w at.
     let there = listed_only part listed of at.0 w at.2 in
@@ -196,7 +197,7 @@ before-all set part listed least of h =
 
 -- ---- each part has a least weight, or none
 
-by_list : (set : IntSet) (part : Part) (listed : Option Listed) → 0 < size set → part.listed ≡ listed → (least : Option ℤ) × IsLeastOf (IsWeightIn set part) least
+by_list : (set : IntSet) (part : VariablePart) (listed : Option Listed) → 0 < size set → part.listed ≡ listed → (least : Option ℤ) × IsLeastOf (IsVariableWeightIn set part) least
 by_list set part (Some listed) some is = let all = before-some set part listed.low (length listed.weights) in (all.0, before-all set part listed all.0 is all.1)
 by_list set part None some is =
     let v = member_of_size set some in
@@ -208,26 +209,20 @@ by_list set part None some is =
     sign : (c : ℤ) → (pos 0 ≤ℤ c) ⊎ (c <ℤ pos 0)
     sign c = grind (arith, ints)
 
-pub some_least : (set : IntSet) (part : Part) → 0 < size set → (least : Option ℤ) × IsLeastOf (IsWeightIn set part) least
-some_least set part some = by_list set part part.listed some refl
+pub some_value_least : (set : IntSet) (part : VariablePart) → 0 < size set → (least : Option ℤ) × IsLeastOf (IsVariableWeightIn set part) least
+some_value_least set part some = by_list set part part.listed some refl
 
 -- ---- least weights and levels
 
-module _ (set : IntSet) (part : Part) where
-  pub barred_of : HasNoLighter set part None → IsLeastOf (IsWeightIn set part) None
-  barred_of none w at = none at.0 w at.1 at.2
-
-  pub of_barred : IsLeastOf (IsWeightIn set part) None → HasNoLighter set part None
-  of_barred none value w member is = none w (value, member, is)
-
+module _ (sets : List IntSet) (part : Part) where
   trans : (a b c : ℤ) → a ≤ℤ b → b ≤ℤ c → a ≤ℤ c
   trans a b c h k = omega (arith, ints)
 
-  pub of_least : (least level : ℤ) → IsLeastOf (IsWeightIn set part) (Some least) → level ≤ℤ least → HasNoLighter set part (Some level)
-  of_least least level is below value w member weighs = trans level least w below (is.1 w (value, member, weighs))
+  pub of_least : (least level : ℤ) → IsLeastOf (IsWeightIn sets part) (Some least) → level ≤ℤ least → IsNoLighter sets part (Some level)
+  of_least least level is below w at = trans level least w below (is.1 w at)
 
-  pub least_above : (least level : ℤ) → IsLeastOf (IsWeightIn set part) (Some least) → HasNoLighter set part (Some level) → level ≤ℤ least
-  least_above least level is none = none is.0.0 least is.0.1 is.0.2
+  pub least_above : (least level : ℤ) → IsLeastOf (IsWeightIn sets part) (Some least) → IsNoLighter sets part (Some level) → level ≤ℤ least
+  least_above least level is none = none least is.0
 
 -- ---- how far from 0
 

@@ -2,7 +2,9 @@
 use Rattle.std.specs.Prelude.{◌≡◌, ℕ, ℤ, List, Option, slice_index_or}
 use Rattle.fzn_domain.specs.declared.literal.Lit.{Lit}
 use Rattle.fzn_domain.specs.IntSet.{IntSet}
+use Rattle.fzn_meaning.specs.declared.row.VariablePart.{VariablePart}
 use Rattle.fzn_meaning.specs.declared.row.Part.{Part}
+use Rattle.fzn_meaning.specs.declared.row.Part.TheVariants as parts
 use Rattle.fzn_meaning.specs.declared.constraint.Constraint.{Constraint}
 use Rattle.fzn_meaning.specs.declared.constraint.Constraint.TheVariants as constraint
 use Rattle.fzn_rules.specs.declared.rule.Rule.TheVariants as rule
@@ -29,8 +31,8 @@ abbrev pub AreLeastsOf : Pass → List ℤ → Type 0
 AreLeastsOf pass leasts = AreLeasts pass.trail.now.sets pass.row.now.parts leasts
 
 -- where the claim is true of each value of the part's variable, the part weighs no less than the level
-abbrev pub WeighsWhere : Part → Claim → Option ℤ → Type 0
-WeighsWhere part claim level = (sets : List IntSet) → IsEntailed sets claim → IsNoLighter sets part level
+abbrev pub WeighsWhere : VariablePart → Claim → Option ℤ → Type 0
+WeighsWhere variable claim level = (sets : List IntSet) → IsEntailed sets claim → IsNoLighter sets (parts.Variable variable) level
 
 -- this is the part at an index
 abbrev pub IsPartAt : Pass → ℕ → Part → Type 0

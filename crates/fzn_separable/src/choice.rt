@@ -2,13 +2,13 @@
 ghost use Rattle.std.specs.Prelude.{◌≡◌, ◌≢◌, ℕ, ◌<◌, ◌≤◌, ℤ, ◌≤ℤ◌, length, IsTrue, Some, slice_index_or};
 ghost use Rattle.std.specs.List.{All};
 ghost use Rattle.fzn_list.specs.Limits.{longest};
-ghost use Rattle.fzn_meaning.specs.Separable.{IsPart};
+ghost use Rattle.fzn_meaning.specs.Separable.{IsVariablePart};
 ghost use Rattle.fzn_separable.specs.Levels.{IsWeight, AreEnough};
 
 use crate::pass::Pass;
 use crate::weights::{entry_weight, sum_of, value_at};
 use fzn_domain::Memory;
-use fzn_meaning::{Listed, Part};
+use fzn_meaning::{Listed, Part, TablePart, VariablePart};
 
 /// As far from 0 as a part can weigh at the most.
 const GREATEST_WEIGHT: i128 = 9_223_372_036_855_775_808_000_000_000_000;
@@ -72,10 +72,12 @@ fn fallen_level(pass: &Pass, k: usize, level: i128, left: i128) -> i128 {
     if parts.len() <= k {
         return level;
     }
-    let part = &parts[k];
-    match &part.listed {
-        None => fallen_plain(part.coefficient, level, left),
-        Some(listed) => fallen_listed(pass, part, listed, level, left),
+    match &parts[k] {
+        Part::Variable(part) => match &part.listed {
+            None => fallen_plain(part.coefficient, level, left),
+            Some(listed) => fallen_listed(pass, part, listed, level, left),
+        },
+        Part::Table(table) => fallen_table(table, level, left),
     }
 }
 
@@ -89,8 +91,8 @@ fn fallen_plain(coefficient: i64, level: i128, left: i128) -> i128 {
 }
 
 /// That of a part with a list: to the least weight that may be left out with the heavier ones.
-fn fallen_listed(pass: &Pass, part: &Part, listed: &Listed, level: i128, left: i128) -> i128
-    requires part { IsPart (length pass.now.trail.now.declared) part.now }
+fn fallen_listed(pass: &Pass, part: &VariablePart, listed: &Listed, level: i128, left: i128) -> i128
+    requires part { IsVariablePart (length pass.now.trail.now.declared) part.now }
     requires of { part.now.listed ≡ Some listed.now }
 {
     let declared = pass.trail.declared(part.var);
@@ -103,6 +105,21 @@ fn fallen_listed(pass: &Pass, part: &Part, listed: &Listed, level: i128, left: i
             && declared.contains(value_at(listed, i))
         {
             fallen = weight;
+        }
+    }
+    fallen
+}
+
+/// That of a table: to the least weight of a row that may be left out with the heavier ones.
+fn fallen_table(table: &TablePart, level: i128, left: i128) -> i128 {
+    let lowest = level.saturating_sub(left);
+    let mut fallen = level;
+    for entry in table.weights.as_slice() {
+        if let Some(weight) = entry
+            && lowest <= *weight as i128
+            && (*weight as i128) < fallen
+        {
+            fallen = *weight as i128;
         }
     }
     fallen

@@ -2,18 +2,20 @@
 ghost use Rattle.std.specs.Prelude.{◌≡◌, ◌<◌, ℤ, pos, ◌≤ℤ◌, ◌<ℤ◌, length, OnOk, Some, None};
 ghost use Rattle.fzn_domain.specs.Limits.{IsInLimits};
 ghost use Rattle.fzn_meaning.specs.declared.term.Term.TheVariants.{Variable};
-ghost use Rattle.fzn_meaning.specs.Separable.{weight_at, IsCoefficient, IsPart};
+ghost use Rattle.fzn_meaning.specs.declared.row.Part.TheVariants as parts;
+ghost use Rattle.fzn_meaning.specs.Separable.{weight_at, IsCoefficient, IsVariablePart, IsPart};
 ghost use Rattle.fzn_sets.specs.Terms.{least_value, greatest_value};
 ghost use Rattle.fzn_propagator.specs.Clause.{IsFalseClause, Says};
 ghost use Rattle.fzn_terms.specs.Denied.{IsGrown};
 ghost use Rattle.fzn_terms.specs.Intervals.{LiesIn, IsLimitedInterval};
 ghost use Rattle.fzn_separable.specs.Levels.{IsNoLighter, AreNoLighterBut, IsEntryNoLighter, SaysNoLighter, SaysAllNoLighter};
 
+use crate::explain_table::explain_table;
 use crate::pass::Pass;
 use crate::weights::{entry_weight, is_light, value_at};
 use fzn_domain::{GREATEST_VALUE, LEAST_VALUE, Lit, Memory};
 use fzn_list::Items;
-use fzn_meaning::{Listed, Part, Term, weight_at};
+use fzn_meaning::{Listed, Part, Term, VariablePart, weight_at};
 use fzn_terms::{Claim, Interval, explain, greatest_of, least_of};
 
 /// Adds to a false clause what it takes to say that each part weighs no less than its level, but for the part at an index. None does on the
@@ -38,8 +40,8 @@ pub(crate) fn explain_levels(
     Ok(())
 }
 
-/// Adds to a false clause what it takes to say that no value of the part weighs less than the level, and where there is none that each is
-/// barred. So it is on the trail.
+/// Adds to a false clause what it takes to say that the part weighs no less than the level, and where there is none that it is barred. So it
+/// is on the trail.
 pub(crate) fn explain_part(
     pass: &Pass,
     part: &Part,
@@ -50,6 +52,24 @@ pub(crate) fn explain_part(
     requires present { IsNoLighter pass.now.trail.now.sets part.now level }
     requires still { IsFalseClause pass.now.trail.now clause.old }
     ensures { OnOk result (SaysNoLighter pass.now.trail.now part.now level clause.old clause.new) }
+{
+    match part {
+        Part::Variable(part) => explain_variable(pass, part, level, clause),
+        Part::Table(table) => explain_table(pass, table, level, clause),
+    }
+}
+
+/// The same of a variable: no value of it weighs less than the level, or each is barred.
+fn explain_variable(
+    pass: &Pass,
+    part: &VariablePart,
+    level: Option<i128>,
+    clause: &mut Items<Lit>,
+) -> Result<(), Memory>
+    requires part { IsVariablePart (length pass.now.trail.now.declared) part.now }
+    requires present { IsNoLighter pass.now.trail.now.sets (parts.Variable part.now) level }
+    requires still { IsFalseClause pass.now.trail.now clause.old }
+    ensures { OnOk result (SaysNoLighter pass.now.trail.now (parts.Variable part.now) level clause.old clause.new) }
 {
     match (&part.listed, level) {
         (Some(listed), _) => explain_listed(pass, part, listed, level, clause),
@@ -65,15 +85,15 @@ pub(crate) fn explain_part(
 /// The same of a part without a list: by an end of its set.
 fn explain_plain(
     pass: &Pass,
-    part: &Part,
+    part: &VariablePart,
     level: i128,
     clause: &mut Items<Lit>,
 ) -> Result<(), Memory>
-    requires part { IsPart (length pass.now.trail.now.declared) part.now }
+    requires part { IsVariablePart (length pass.now.trail.now.declared) part.now }
     requires plain { part.now.listed ≡ None }
-    requires present { IsNoLighter pass.now.trail.now.sets part.now (Some level) }
+    requires present { IsNoLighter pass.now.trail.now.sets (parts.Variable part.now) (Some level) }
     requires still { IsFalseClause pass.now.trail.now clause.old }
-    ensures { OnOk result (SaysNoLighter pass.now.trail.now part.now (Some level) clause.old clause.new) }
+    ensures { OnOk result (SaysNoLighter pass.now.trail.now (parts.Variable part.now) (Some level) clause.old clause.new) }
 {
     let term = Term::Variable(part.var);
     if part.coefficient < 0 {
@@ -86,7 +106,7 @@ fn explain_plain(
 }
 
 /// A number from which on no value weighs less than the level, as none does from the given one on: as low as it may be.
-fn lowest(part: &Part, level: i128, least: i64) -> i64
+fn lowest(part: &VariablePart, level: i128, least: i64) -> i64
     requires coefficient { pos 0 ≤ℤ part.now.coefficient }
     requires number { IsCoefficient part.now.coefficient }
     requires plain { part.now.listed ≡ None }
@@ -104,7 +124,7 @@ fn lowest(part: &Part, level: i128, least: i64) -> i64
 }
 
 /// A number up to which no value weighs less than the level, as none does up to the given one: as high as it may be.
-fn highest(part: &Part, level: i128, greatest: i64) -> i64
+fn highest(part: &VariablePart, level: i128, greatest: i64) -> i64
     requires coefficient { part.now.coefficient <ℤ pos 0 }
     requires number { IsCoefficient part.now.coefficient }
     requires plain { part.now.listed ≡ None }
@@ -125,16 +145,16 @@ fn highest(part: &Part, level: i128, greatest: i64) -> i64
 /// value by value.
 fn explain_listed(
     pass: &Pass,
-    part: &Part,
+    part: &VariablePart,
     listed: &Listed,
     level: Option<i128>,
     clause: &mut Items<Lit>,
 ) -> Result<(), Memory>
-    requires part { IsPart (length pass.now.trail.now.declared) part.now }
+    requires part { IsVariablePart (length pass.now.trail.now.declared) part.now }
     requires of { part.now.listed ≡ Some listed.now }
-    requires present { IsNoLighter pass.now.trail.now.sets part.now level }
+    requires present { IsNoLighter pass.now.trail.now.sets (parts.Variable part.now) level }
     requires still { IsFalseClause pass.now.trail.now clause.old }
-    ensures { OnOk result (SaysNoLighter pass.now.trail.now part.now level clause.old clause.new) }
+    ensures { OnOk result (SaysNoLighter pass.now.trail.now (parts.Variable part.now) level clause.old clause.new) }
 {
     let term = Term::Variable(part.var);
     let ends = told_ends(pass, part, listed, level);
@@ -147,18 +167,18 @@ fn explain_listed(
 /// the values lie within these ends.
 fn explain_entries(
     pass: &Pass,
-    part: &Part,
+    part: &VariablePart,
     listed: &Listed,
     level: Option<i128>,
     ends: Interval,
     clause: &mut Items<Lit>,
 ) -> Result<(), Memory>
-    requires part { IsPart (length pass.now.trail.now.declared) part.now }
+    requires part { IsVariablePart (length pass.now.trail.now.declared) part.now }
     requires of { part.now.listed ≡ Some listed.now }
-    requires present { IsNoLighter pass.now.trail.now.sets part.now level }
+    requires present { IsNoLighter pass.now.trail.now.sets (parts.Variable part.now) level }
     requires ends { Says pass.now.trail.now.declared clause.old (λ sets. LiesIn sets (Variable part.now.var) ends) }
     requires still { IsFalseClause pass.now.trail.now clause.old }
-    ensures { OnOk result (SaysNoLighter pass.now.trail.now part.now level clause.old clause.new) }
+    ensures { OnOk result (SaysNoLighter pass.now.trail.now (parts.Variable part.now) level clause.old clause.new) }
 {
     for i in 0..listed.weights.len() {
         explain_entry(pass, part, listed, i, level, ends, clause)?;
@@ -170,17 +190,17 @@ fn explain_entries(
 /// level.
 fn explain_entry(
     pass: &Pass,
-    part: &Part,
+    part: &VariablePart,
     listed: &Listed,
     i: usize,
     level: Option<i128>,
     ends: Interval,
     clause: &mut Items<Lit>,
 ) -> Result<(), Memory>
-    requires part { IsPart (length pass.now.trail.now.declared) part.now }
+    requires part { IsVariablePart (length pass.now.trail.now.declared) part.now }
     requires of { part.now.listed ≡ Some listed.now }
     requires inside { i < length listed.now.weights }
-    requires present { IsNoLighter pass.now.trail.now.sets part.now level }
+    requires present { IsNoLighter pass.now.trail.now.sets (parts.Variable part.now) level }
     requires ends { Says pass.now.trail.now.declared clause.old (λ sets. LiesIn sets (Variable part.now.var) ends) }
     requires still { IsFalseClause pass.now.trail.now clause.old }
     ensures { OnOk result (IsGrown pass.now.trail.now (λ sets. IsEntryNoLighter sets part.now listed.now i level) clause.old clause.new) }
@@ -204,8 +224,8 @@ fn explain_entry(
 
 /// Ends within which the values of the part lie. They are told where two values or more that weigh less than the level lie beyond; else
 /// they are those of any value.
-fn told_ends(pass: &Pass, part: &Part, listed: &Listed, level: Option<i128>) -> Interval
-    requires part { IsPart (length pass.now.trail.now.declared) part.now }
+fn told_ends(pass: &Pass, part: &VariablePart, listed: &Listed, level: Option<i128>) -> Interval
+    requires part { IsVariablePart (length pass.now.trail.now.declared) part.now }
     requires of { part.now.listed ≡ Some listed.now }
     ensures low { result.low ≤ℤ least_value pass.now.trail.now.sets (Variable part.now.var) }
     ensures high { greatest_value pass.now.trail.now.sets (Variable part.now.var) ≤ℤ result.high }

@@ -1,10 +1,11 @@
-//! The propagator of a row, which says that what its variables weigh at their values is at most a bound together.
+//! The propagator of a row, which says that what its variables weigh at their values and its tables at their rows is at most a bound together.
 //!
-//! In: a row of a model, then a trail. Out: that the least weights of its parts exceed the bound, or that each value of a part is barred; or
-//! else the values that are barred and those that weigh more than the other parts leave, and of a part without a list the bound past which
-//! its values do; or none, by the law of the trait `Propagator`. So a pass goes over the weights that are listed, and never over the values
-//! of a wide set. A clause says of each other part that no value of it weighs less than a level; how far these levels may lie below the
-//! least weights is only chosen, and tested before it is used. All is proved against `specs/Levels.antt` and `specs/Passes.antt`.
+//! In: a row of a model, then a trail. Out: that the least weights of its parts exceed the bound, or that a part is barred; or else the values
+//! that are barred and those that weigh more than the other parts leave, and of a part without a list the bound past which its values do; or
+//! none, by the law of the trait `Propagator`. So a pass goes over the weights that are listed, and never over the values of a wide set. Of
+//! the places of a table no value is found: its own propagator does that. A clause says of each other part that it weighs no less than a
+//! level; how far these levels may lie below the least weights is only chosen, and tested before it is used. All is proved against
+//! `specs/Levels.antt` and `specs/Passes.antt`.
 #![tactic(auto)]
 
 pub use constraint::propagator_of;
@@ -14,8 +15,11 @@ mod choice;
 mod constraint;
 mod copy;
 mod explain;
+mod explain_table;
 mod pass;
 mod propagator;
 mod search;
+mod tables;
+mod told;
 mod values;
 mod weights;

@@ -3,7 +3,7 @@ ghost use Rattle.std.specs.Prelude.{◌≡◌, ℕ, List, [], IfOk, OnOk};
 ghost use Rattle.fzn_domain.specs.IntSet.{IntSet};
 ghost use Rattle.fzn_domain.specs.Narrow.{NoneEmpty};
 ghost use Rattle.fzn_meaning.specs.declared.constraint.Constraint.{Constraint};
-ghost use Rattle.fzn_meaning.specs.Separable.{IsPart, IsSeparableRow};
+ghost use Rattle.fzn_meaning.specs.Separable.{IsVariablePart, IsPart, IsSeparableRow};
 ghost use Rattle.fzn_propagator.specs.declared.cost.Cost.TheVariants as cost;
 ghost use Rattle.fzn_propagator.specs.Inference.{AreInferencesOf, AreExhausted};
 ghost use Rattle.fzn_propagator.specs.Subscriptions.{terms_of, AreHeard};
@@ -12,9 +12,9 @@ ghost use Rattle.fzn_separable.specs.Propagator.{row_number, RowIsFor, RowFits, 
 use crate::copy::copied_row;
 use crate::pass::Pass;
 use crate::search::find_all;
-use crate::weights::least_weight;
+use crate::weights::least_value_weight;
 use fzn_domain::Memory;
-use fzn_meaning::{Part, Row, Term, Var};
+use fzn_meaning::{Part, Row, TablePart, Term, Var, VariablePart};
 use fzn_propagator::{Cost, Event, Findings, Propagator, Subscriptions};
 use fzn_trail::Trail;
 use std::alloc::{AllocError, Global};
@@ -24,7 +24,7 @@ use std::alloc::{AllocError, Global};
 pub struct RowPropagator {
     /// The number of the constraint, counted from 1.
     pub number: u64,
-    /// What its variables weigh, and its bound.
+    /// What its variables and tables weigh, and its bound.
     pub row: Row,
     /// What each part weighs at least at its declared values.
     pub(crate) floors: Vec<i128>,
@@ -59,7 +59,8 @@ impl Propagator for RowPropagator {
 
     ghost costs = { λ _. cost.Great };
 
-    /// Each change of a variable whose values are listed, and of another each move of the end at which it weighs least.
+    /// Each change of a variable whose values are listed, of another each move of the end at which it weighs least, and each change of a
+    /// place of a table.
     fn subscriptions(&self, alloc: Global) -> Result<Subscriptions, Memory>
         requires fits { (declared : List IntSet) × RowFits self.now declared }
         ensures value { IfOk result (λ subscriptions. subscriptions ≡ waits_for self.now.row.parts) }
@@ -67,7 +68,14 @@ impl Propagator for RowPropagator {
     {
         let mut subscriptions = Subscriptions::new(alloc);
         for part in self.row.parts.as_slice() {
-            subscriptions.add(Term::Variable(part.var), event_of(part))?;
+            match part {
+                Part::Variable(part) => {
+                    subscriptions.add(Term::Variable(part.var), event_of(part))?;
+                }
+                Part::Table(table) => {
+                    subscriptions.add_each(table.places.as_slice(), Event::Any)?;
+                }
+            }
         }
         Ok(subscriptions)
     }
@@ -91,7 +99,7 @@ impl Propagator for RowPropagator {
 }
 
 /// Which change of the part's variable can raise what it weighs at least.
-fn event_of(part: &Part) -> Event
+fn event_of(part: &VariablePart) -> Event
     ensures { result ≡ event_of part.now }
 {
     match &part.listed {
@@ -112,12 +120,34 @@ fn floors_of(alloc: Global, vars: &[Var], row: &Row) -> Result<Vec<i128>, AllocE
     Ok(floors)
 }
 
-/// What the part weighs at least at the declared values of its variable; 0 where there is none that is not barred.
+/// That of a part; 0 where it has no weight that is not barred.
 fn floor_of(vars: &[Var], part: &Part) -> i128
     requires { (count : ℕ) × IsPart count part.now }
 {
+    match part {
+        Part::Variable(part) => value_floor(vars, part),
+        Part::Table(table) => row_floor(table),
+    }
+}
+
+fn value_floor(vars: &[Var], part: &VariablePart) -> i128
+    requires { (count : ℕ) × IsVariablePart count part.now }
+{
     match vars.get(part.var.0.wrapping_sub(1)) {
-        Some(var) if !var.domain.is_empty() => least_weight(part, &var.domain).unwrap_or(0),
+        Some(var) if !var.domain.is_empty() => {
+            least_value_weight(part, &var.domain).unwrap_or(0)
+        }
         _ => 0,
     }
+}
+
+/// The least weight of a row. One with an entry that is not declared is barred from the start.
+fn row_floor(table: &TablePart) -> i128 {
+    let mut floor = None;
+    for entry in table.weights.as_slice() {
+        if let Some(weight) = entry {
+            floor = Some(floor.unwrap_or(*weight).min(*weight));
+        }
+    }
+    floor.unwrap_or(0) as i128
 }

@@ -1,19 +1,23 @@
 // What a pass looks for: that the parts weigh too much, and else values that weigh too much beside the others.
-ghost use Rattle.std.specs.Prelude.{◌≡◌, ◌≢◌, ℤ, ◌<◌, ◌<ℤ◌, ◌≤◌, [], None, length, OnOk};
+ghost use Rattle.std.specs.Prelude.{◌≡◌, ◌≢◌, ℕ, ℤ, ◌<◌, ◌<ℤ◌, ◌≤◌, [], None, Some, length, IsTrue, OnOk};
 ghost use Rattle.fzn_list.specs.Limits.{longest};
 ghost use Rattle.fzn_meaning.specs.declared.row.Part.{Part};
+ghost use Rattle.fzn_meaning.specs.Separable.{IsPart};
 ghost use Rattle.std.specs.Prelude.{slice_index_or};
 ghost use Rattle.fzn_rules.specs.Separable.{IsLeastWeight};
-ghost use Rattle.fzn_separable.specs.Levels.{AreNoLighterBut, HasRoom, sum_of};
-ghost use Rattle.fzn_separable.specs.Passes.{AreFoundOfRow, AreLeastsOf};
+ghost use Rattle.fzn_propagator.specs.Inference.{HoldsWhereFixed};
+ghost use Rattle.fzn_separable.specs.Levels.{AreNoLighterBut, WeighsWhereFixed, sum_of};
+ghost use Rattle.fzn_separable.specs.Passes.{constraint_of, AreFoundOfRow, AreLeastsOf};
 
 use crate::choice::{are_enough, levels_of};
 use crate::explain::{explain_levels, explain_part};
 use crate::pass::Pass;
+use crate::tables::weighs_where_fixed;
 use crate::values::find_values;
 use crate::weights::{least_weight, sum_of};
 use fzn_domain::Memory;
 use fzn_list::Items;
+use fzn_meaning::Part;
 use fzn_propagator::Findings;
 use fzn_rules::Rule;
 
@@ -21,13 +25,12 @@ use fzn_rules::Rule;
 pub(crate) fn find_all(pass: &Pass, found: &mut Findings) -> Result<(), Memory>
     requires before { AreFoundOfRow pass.now found.old }
     ensures found { AreFoundOfRow pass.now found.new }
-    ensures none { OnOk result (found.new ≡ [] → HasRoom pass.now.trail.now.sets pass.now.row.now) }
+    ensures none { OnOk result (found.new ≡ [] → HoldsWhereFixed pass.now.trail.now (constraint_of pass.now)) }
 {
     let parts = pass.row.parts.as_slice();
     let mut leasts = Vec::with_capacity(pass.alloc, parts.len())?;
     for k in 0..parts.len() {
-        let part = &parts[k];
-        match least_weight(part, pass.trail.domain(part.var)) {
+        match least_weight(&parts[k], pass.trail.sets()) {
             None => return find_barred(pass, k, found),
             Some(least) => leasts.push(least)?,
         }
@@ -35,7 +38,7 @@ pub(crate) fn find_all(pass: &Pass, found: &mut Findings) -> Result<(), Memory>
     find_by_leasts(pass, leasts.as_slice(), found)
 }
 
-/// Finds that each value of the part at an index is barred.
+/// Finds that each weight of the part at an index is barred.
 fn find_barred(pass: &Pass, k: usize, found: &mut Findings) -> Result<(), Memory>
     requires inside { k < length pass.now.row.now.parts }
     requires barred { (default : Part) → IsLeastWeight pass.now.trail.now.sets (slice_index_or pass.now.row.now.parts k default) None }
@@ -53,7 +56,7 @@ fn find_by_leasts(pass: &Pass, leasts: &[i128], found: &mut Findings) -> Result<
     requires leasts { AreLeastsOf pass.now leasts.now }
     requires before { AreFoundOfRow pass.now found.old }
     ensures found { AreFoundOfRow pass.now found.new }
-    ensures none { OnOk result (found.new ≡ [] → HasRoom pass.now.trail.now.sets pass.now.row.now) }
+    ensures none { OnOk result (found.new ≡ [] → HoldsWhereFixed pass.now.trail.now (constraint_of pass.now)) }
 {
     let total = sum_of(leasts);
     if (pass.row.bound as i128) < total {
@@ -62,7 +65,35 @@ fn find_by_leasts(pass: &Pass, leasts: &[i128], found: &mut Findings) -> Result<
     for k in 0..leasts.len() {
         find_values(pass, leasts, total, k, found)?;
     }
+    if !weigh_where_fixed(pass, leasts) {
+        return Err(Memory); // Not reached: rows of a table that are equal weigh the same.
+    }
     Ok(())
+}
+
+/// Whether each part weighs what it weighs at least, where all variables are fixed.
+fn weigh_where_fixed(pass: &Pass, leasts: &[i128]) -> bool
+    requires { AreLeastsOf pass.now leasts.now }
+    ensures { IsTrue result → (k : ℕ) (default : Part) (none : ℤ) → k < length leasts.now → WeighsWhereFixed pass.now.trail.now (slice_index_or pass.now.row.now.parts k default) (slice_index_or leasts.now k none) }
+{
+    for k in 0..leasts.len() {
+        if !weighs_least(pass, &pass.row.parts.as_slice()[k], leasts[k]) {
+            return false;
+        }
+    }
+    true
+}
+
+/// Whether the part, which weighs so much at least, weighs so much where all variables are fixed. A variable does.
+fn weighs_least(pass: &Pass, part: &Part, least: i128) -> bool
+    requires part { IsPart (length pass.now.trail.now.declared) part.now }
+    requires least { IsLeastWeight pass.now.trail.now.sets part.now (Some least) }
+    ensures { IsTrue result → WeighsWhereFixed pass.now.trail.now part.now least }
+{
+    match part {
+        Part::Variable(_) => true,
+        Part::Table(table) => weighs_where_fixed(table, pass.trail, least),
+    }
 }
 
 /// Finds that the parts weigh more than the bound at least.

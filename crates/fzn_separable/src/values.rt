@@ -2,7 +2,8 @@
 ghost use Rattle.std.specs.Prelude.{◌≡◌, ◌<◌, ℤ, pos, ◌≤ℤ◌, ◌<ℤ◌, length, slice_index_or, Some, None};
 ghost use Rattle.fzn_domain.specs.Limits.{IsInLimits};
 ghost use Rattle.fzn_meaning.specs.declared.term.Term.TheVariants.{Variable};
-ghost use Rattle.fzn_meaning.specs.Separable.{weight_at, IsPart};
+ghost use Rattle.fzn_meaning.specs.declared.row.Part.TheVariants as parts;
+ghost use Rattle.fzn_meaning.specs.Separable.{weight_at, IsVariablePart};
 ghost use Rattle.fzn_terms.specs.Denied.{IsNear};
 ghost use Rattle.fzn_separable.specs.Levels.{AreNoLighterBut, sum_of};
 ghost use Rattle.fzn_separable.specs.Passes.{AreFoundOfRow, AreLeastsOf, IsPartAt, WeighsWhere};
@@ -13,13 +14,13 @@ use crate::pass::Pass;
 use crate::weights::{entry_weight, value_at};
 use fzn_domain::{GREATEST_VALUE, LEAST_VALUE, Memory};
 use fzn_list::Items;
-use fzn_meaning::{Listed, Part, Term, weight_at};
+use fzn_meaning::{Listed, Part, Term, VariablePart, weight_at};
 use fzn_propagator::Findings;
 use fzn_rules::Rule;
 use fzn_terms::{Claim, force, greatest_of, least_of};
 
 /// Finds the values of the part at an index that are barred, or weigh more than the least weights of the others leave, which are the least
-/// ones without its own.
+/// ones without its own. Of a table it finds none.
 pub(crate) fn find_values(
     pass: &Pass,
     leasts: &[i128],
@@ -32,7 +33,9 @@ pub(crate) fn find_values(
     requires before { AreFoundOfRow pass.now found.old }
     ensures found { AreFoundOfRow pass.now found.new }
 {
-    let part = &pass.row.parts.as_slice()[k];
+    let Part::Variable(part) = &pass.row.parts.as_slice()[k] else {
+        return Ok(()); // To take values of a table's places out brings nothing, as measured.
+    };
     let room = (pass.row.bound as i128)
         .saturating_sub(total)
         .saturating_add(leasts[k]);
@@ -51,14 +54,14 @@ fn find_end(
     pass: &Pass,
     leasts: &[i128],
     k: usize,
-    part: &Part,
+    part: &VariablePart,
     room: i128,
     found: &mut Findings,
 ) -> Result<(), Memory>
     requires leasts { AreLeastsOf pass.now leasts.now }
     requires inside { k < length leasts.now }
-    requires part { IsPart (length pass.now.trail.now.declared) part.now }
-    requires at { IsPartAt pass.now k part.now }
+    requires part { IsVariablePart (length pass.now.trail.now.declared) part.now }
+    requires at { IsPartAt pass.now k (parts.Variable part.now) }
     requires plain { part.now.listed ≡ None }
     requires before { AreFoundOfRow pass.now found.old }
     ensures found { AreFoundOfRow pass.now found.new }
@@ -75,14 +78,14 @@ fn find_high_end(
     pass: &Pass,
     leasts: &[i128],
     k: usize,
-    part: &Part,
+    part: &VariablePart,
     room: i128,
     found: &mut Findings,
 ) -> Result<(), Memory>
     requires leasts { AreLeastsOf pass.now leasts.now }
     requires inside { k < length leasts.now }
-    requires part { IsPart (length pass.now.trail.now.declared) part.now }
-    requires at { IsPartAt pass.now k part.now }
+    requires part { IsVariablePart (length pass.now.trail.now.declared) part.now }
+    requires at { IsPartAt pass.now k (parts.Variable part.now) }
     requires plain { part.now.listed ≡ None }
     requires sign { part.now.coefficient <ℤ pos 0 }
     requires before { AreFoundOfRow pass.now found.old }
@@ -102,14 +105,14 @@ fn find_low_end(
     pass: &Pass,
     leasts: &[i128],
     k: usize,
-    part: &Part,
+    part: &VariablePart,
     room: i128,
     found: &mut Findings,
 ) -> Result<(), Memory>
     requires leasts { AreLeastsOf pass.now leasts.now }
     requires inside { k < length leasts.now }
-    requires part { IsPart (length pass.now.trail.now.declared) part.now }
-    requires at { IsPartAt pass.now k part.now }
+    requires part { IsVariablePart (length pass.now.trail.now.declared) part.now }
+    requires at { IsPartAt pass.now k (parts.Variable part.now) }
     requires plain { part.now.listed ≡ None }
     requires sign { pos 0 ≤ℤ part.now.coefficient }
     requires before { AreFoundOfRow pass.now found.old }
@@ -129,15 +132,15 @@ fn find_beyond(
     pass: &Pass,
     leasts: &[i128],
     k: usize,
-    part: &Part,
+    part: &VariablePart,
     room: i128,
     claim: Claim,
     found: &mut Findings,
 ) -> Result<(), Memory>
     requires leasts { AreLeastsOf pass.now leasts.now }
     requires inside { k < length leasts.now }
-    requires part { IsPart (length pass.now.trail.now.declared) part.now }
-    requires at { IsPartAt pass.now k part.now }
+    requires part { IsVariablePart (length pass.now.trail.now.declared) part.now }
+    requires at { IsPartAt pass.now k (parts.Variable part.now) }
     requires term { claim.term ≡ Variable part.now.var }
     requires near { IsNear claim.number }
     requires heavy { (weight : ℤ) → weight_at part.now claim.number ≡ Some weight → WeighsWhere part.now claim (Some weight) }
@@ -157,7 +160,7 @@ fn find_without(
     pass: &Pass,
     leasts: &[i128],
     k: usize,
-    part: &Part,
+    part: &VariablePart,
     room: i128,
     claim: Claim,
     weight: i128,
@@ -165,8 +168,8 @@ fn find_without(
 ) -> Result<(), Memory>
     requires leasts { AreLeastsOf pass.now leasts.now }
     requires inside { k < length leasts.now }
-    requires part { IsPart (length pass.now.trail.now.declared) part.now }
-    requires at { IsPartAt pass.now k part.now }
+    requires part { IsVariablePart (length pass.now.trail.now.declared) part.now }
+    requires at { IsPartAt pass.now k (parts.Variable part.now) }
     requires term { claim.term ≡ Variable part.now.var }
     requires near { IsNear claim.number }
     requires heavy { WeighsWhere part.now claim (Some weight) }
@@ -191,7 +194,7 @@ fn find_heavy(
     pass: &Pass,
     levels: &[i128],
     k: usize,
-    part: &Part,
+    part: &VariablePart,
     claim: Claim,
     weight: i128,
     found: &mut Findings,
@@ -199,8 +202,8 @@ fn find_heavy(
     requires one_each { length levels.now ≡ length pass.now.row.now.parts }
     requires present { AreNoLighterBut k pass.now.row.now.parts levels.now pass.now.trail.now.sets }
     requires over { pass.now.row.now.bound <ℤ sum_of levels.now }
-    requires part { IsPart (length pass.now.trail.now.declared) part.now }
-    requires at { IsPartAt pass.now k part.now }
+    requires part { IsVariablePart (length pass.now.trail.now.declared) part.now }
+    requires at { IsPartAt pass.now k (parts.Variable part.now) }
     requires inside { k < length levels.now }
     requires own { (none : ℤ) → slice_index_or levels.now k none ≡ weight }
     requires term { claim.term ≡ Variable part.now.var }
@@ -221,13 +224,13 @@ fn find_heavy(
 fn find_before(
     pass: &Pass,
     k: usize,
-    part: &Part,
+    part: &VariablePart,
     listed: &Listed,
     found: &mut Findings,
 ) -> Result<(), Memory>
     requires inside { k < length pass.now.row.now.parts }
-    requires part { IsPart (length pass.now.trail.now.declared) part.now }
-    requires at { IsPartAt pass.now k part.now }
+    requires part { IsVariablePart (length pass.now.trail.now.declared) part.now }
+    requires at { IsPartAt pass.now k (parts.Variable part.now) }
     requires of { part.now.listed ≡ Some listed.now }
     requires before { AreFoundOfRow pass.now found.old }
     ensures found { AreFoundOfRow pass.now found.new }
@@ -244,13 +247,13 @@ fn find_before(
 fn find_behind(
     pass: &Pass,
     k: usize,
-    part: &Part,
+    part: &VariablePart,
     listed: &Listed,
     found: &mut Findings,
 ) -> Result<(), Memory>
     requires inside { k < length pass.now.row.now.parts }
-    requires part { IsPart (length pass.now.trail.now.declared) part.now }
-    requires at { IsPartAt pass.now k part.now }
+    requires part { IsVariablePart (length pass.now.trail.now.declared) part.now }
+    requires at { IsPartAt pass.now k (parts.Variable part.now) }
     requires of { part.now.listed ≡ Some listed.now }
     requires before { AreFoundOfRow pass.now found.old }
     ensures found { AreFoundOfRow pass.now found.new }
@@ -269,15 +272,15 @@ fn find_listed(
     pass: &Pass,
     leasts: &[i128],
     k: usize,
-    part: &Part,
+    part: &VariablePart,
     listed: &Listed,
     room: i128,
     found: &mut Findings,
 ) -> Result<(), Memory>
     requires leasts { AreLeastsOf pass.now leasts.now }
     requires inside { k < length leasts.now }
-    requires part { IsPart (length pass.now.trail.now.declared) part.now }
-    requires at { IsPartAt pass.now k part.now }
+    requires part { IsVariablePart (length pass.now.trail.now.declared) part.now }
+    requires at { IsPartAt pass.now k (parts.Variable part.now) }
     requires of { part.now.listed ≡ Some listed.now }
     requires before { AreFoundOfRow pass.now found.old }
     ensures found { AreFoundOfRow pass.now found.new }
@@ -296,7 +299,7 @@ fn find_entry(
     pass: &Pass,
     leasts: &[i128],
     k: usize,
-    part: &Part,
+    part: &VariablePart,
     listed: &Listed,
     i: usize,
     room: i128,
@@ -304,8 +307,8 @@ fn find_entry(
 ) -> Result<(), Memory>
     requires leasts { AreLeastsOf pass.now leasts.now }
     requires inside { k < length leasts.now }
-    requires part { IsPart (length pass.now.trail.now.declared) part.now }
-    requires at { IsPartAt pass.now k part.now }
+    requires part { IsVariablePart (length pass.now.trail.now.declared) part.now }
+    requires at { IsPartAt pass.now k (parts.Variable part.now) }
     requires of { part.now.listed ≡ Some listed.now }
     requires entry { i < length listed.now.weights }
     requires before { AreFoundOfRow pass.now found.old }
@@ -325,13 +328,13 @@ fn find_entry(
 fn find_barred(
     pass: &Pass,
     k: usize,
-    part: &Part,
+    part: &VariablePart,
     claim: Claim,
     found: &mut Findings,
 ) -> Result<(), Memory>
     requires inside { k < length pass.now.row.now.parts }
-    requires part { IsPart (length pass.now.trail.now.declared) part.now }
-    requires at { IsPartAt pass.now k part.now }
+    requires part { IsVariablePart (length pass.now.trail.now.declared) part.now }
+    requires at { IsPartAt pass.now k (parts.Variable part.now) }
     requires term { claim.term ≡ Variable part.now.var }
     requires near { IsNear claim.number }
     requires barred { WeighsWhere part.now claim None }

@@ -1,15 +1,18 @@
-// What a part weighs, and at least at the values of a set.
+// What parts weigh at least on sets.
 ghost use Rattle.std.specs.Prelude.{◌≡◌, ◌<◌, ◌≤◌, ℤ, pos, ◌+ℤ◌, ◌≤ℤ◌, false, length, IsTrue, IfSome, Some, None};
 ghost use Rattle.std.specs.List.{All};
 ghost use Rattle.fzn_domain.specs.IntSet.{size};
+ghost use Rattle.fzn_domain.specs.Narrow.{is_some_empty};
 ghost use Rattle.fzn_list.specs.Limits.{longest};
-ghost use Rattle.fzn_meaning.specs.Separable.{weight_at, IsCoefficient, IsWeightList};
-ghost use Rattle.fzn_rules.specs.Separable.{IsLeastOf, IsWeightIn};
+ghost use Rattle.fzn_meaning.specs.Separable.{weight_at, IsCoefficient, IsWeightList, IsPart};
+ghost use Rattle.fzn_rules.specs.Separable.{IsLeastOf, IsVariableWeightIn, IsLeastWeight};
 ghost use Rattle.fzn_rules.specs.Least.{lesser};
 ghost use Rattle.fzn_separable.specs.Levels.{IsWeight, sum_of, Reaches};
 
+use crate::tables::least_row;
 use fzn_domain::Domain;
-use fzn_meaning::{Listed, Part, weighed, weight_at};
+use fzn_meaning::{Listed, Part, VariablePart, weighed, weight_at};
+use fzn_sets::Sets;
 
 /// The value that is listed at an index.
 pub(crate) fn value_at(listed: &Listed, i: usize) -> i64
@@ -23,7 +26,7 @@ pub(crate) fn value_at(listed: &Listed, i: usize) -> i64
 }
 
 /// What the part weighs at the value that is listed at an index. `None` where it is barred.
-pub(crate) fn entry_weight(part: &Part, listed: &Listed, i: usize) -> Option<i128>
+pub(crate) fn entry_weight(part: &VariablePart, listed: &Listed, i: usize) -> Option<i128>
     requires coefficient { IsCoefficient part.now.coefficient }
     requires of { part.now.listed ≡ Some listed.now }
     requires listed { IsWeightList listed.now }
@@ -38,12 +41,25 @@ pub(crate) fn entry_weight(part: &Part, listed: &Listed, i: usize) -> Option<i12
     )
 }
 
-/// What the part weighs at least at the values of the set. `None` where each is barred.
-pub(crate) fn least_weight(part: &Part, set: &Domain) -> Option<i128>
+/// What the part weighs at least on the sets, of which none is empty. `None` where it is barred there.
+pub(crate) fn least_weight(part: &Part, sets: &Sets) -> Option<i128>
+    requires part { IsPart (length sets.now.present) part.now }
+    requires filled { is_some_empty sets.now.present ≡ false }
+    ensures least { IsLeastWeight sets.now.present part.now result }
+    ensures bounded { IfSome result IsWeight }
+{
+    match part {
+        Part::Variable(part) => least_value_weight(part, sets.domain(part.var)),
+        Part::Table(table) => least_row(table, sets),
+    }
+}
+
+/// What the variable of the part weighs at least at the values of the set. `None` where each is barred.
+pub(crate) fn least_value_weight(part: &VariablePart, set: &Domain) -> Option<i128>
     requires coefficient { IsCoefficient part.now.coefficient }
     requires listed { IfSome part.now.listed IsWeightList }
     requires some { 0 < size set.now }
-    ensures least { IsLeastOf (IsWeightIn set.now part.now) result }
+    ensures least { IsLeastOf (IsVariableWeightIn set.now part.now) result }
     ensures bounded { IfSome result IsWeight }
 {
     match &part.listed {
@@ -53,11 +69,11 @@ pub(crate) fn least_weight(part: &Part, set: &Domain) -> Option<i128>
 }
 
 /// That of a part without a list, at an end of the set.
-fn least_plain(part: &Part, set: &Domain) -> Option<i128>
+fn least_plain(part: &VariablePart, set: &Domain) -> Option<i128>
     requires coefficient { IsCoefficient part.now.coefficient }
     requires plain { part.now.listed ≡ None }
     requires some { 0 < size set.now }
-    ensures least { IsLeastOf (IsWeightIn set.now part.now) result }
+    ensures least { IsLeastOf (IsVariableWeightIn set.now part.now) result }
     ensures bounded { IfSome result IsWeight }
 {
     if part.coefficient < 0 {
@@ -68,11 +84,11 @@ fn least_plain(part: &Part, set: &Domain) -> Option<i128>
 }
 
 /// That of a part with a list.
-fn least_listed(part: &Part, listed: &Listed, set: &Domain) -> Option<i128>
+fn least_listed(part: &VariablePart, listed: &Listed, set: &Domain) -> Option<i128>
     requires coefficient { IsCoefficient part.now.coefficient }
     requires of { part.now.listed ≡ Some listed.now }
     requires listed { IsWeightList listed.now }
-    ensures least { IsLeastOf (IsWeightIn set.now part.now) result }
+    ensures least { IsLeastOf (IsVariableWeightIn set.now part.now) result }
     ensures bounded { IfSome result IsWeight }
 {
     let mut least = None;

@@ -16,8 +16,8 @@ use Rattle.fzn_table.specs.declared.pass.Pass.{Pass}
 use Rattle.fzn_table.specs.Supports.{number_at, IsWhole, IsOpenUpTo, AreMarkedRowsOpen, IsSupported, HasSupportThat}
 
 -- its constraint
-abbrev pub table_of : Pass → Constraint
-table_of pass = Table pass.places.now (numbers_in pass.rows.now)
+abbrev pub table_of_pass : Pass → Constraint
+table_of_pass pass = Table pass.places.now (numbers_in pass.rows.now)
 
 -- the place, counted from 0, may have the value
 abbrev pub MayHave : Pass → ℕ → ℤ → Type 0
@@ -53,8 +53,8 @@ IsClaimSupported pass p op bound = HasSupportThat pass.trail.now.sets pass.place
 
 -- the rule `rows` justifies the clause from the table
 abbrev pub IsJustifiedByTable : Pass → List Lit → Type 0
-IsJustifiedByTable pass clause = IsJustified pass.trail.now (table_of pass) Rows clause
+IsJustifiedByTable pass clause = IsJustified pass.trail.now (table_of_pass pass) Rows clause
 
 -- so of each of these inferences, which have its number
 abbrev pub AreFoundOfTable : Pass → List Inference → Type 0
-AreFoundOfTable pass found = AreFoundOf pass.number (table_of pass) pass.trail.now found
+AreFoundOfTable pass found = AreFoundOf pass.number (table_of_pass pass) pass.trail.now found

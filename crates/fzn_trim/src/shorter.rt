@@ -258,6 +258,27 @@ fn item_with(alloc: Global, item: &RowItem, numbers: &[u64]) -> Result<RowItem, 
             constraint: new_constraint(numbers, *constraint),
             variable: *variable,
         }),
+        RowItem::Columns {
+            constraint,
+            column,
+            low,
+            prices,
+        } => {
+            let prices = Items::from_slice(alloc, prices.as_slice())?;
+            Ok(RowItem::Columns {
+                constraint: new_constraint(numbers, *constraint),
+                column: *column,
+                low: *low,
+                prices,
+            })
+        }
+        RowItem::Rows {
+            constraint,
+            variable,
+        } => Ok(RowItem::Rows {
+            constraint: new_constraint(numbers, *constraint),
+            variable: *variable,
+        }),
     }
 }
 

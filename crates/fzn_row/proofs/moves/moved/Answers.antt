@@ -1,25 +1,26 @@
-use Rattle.std.proofs.Common.{arith, ◌≡◌, ◌<◌, ◌++◌, ◌∷◌, [], get_or, true, false, sym, ap, ◌∙◌, subst, inr, List, Option, None, option_and_then, ℤ, pos, ◌+ℤ◌, w64, to_z, of_z}
+use Rattle.std.proofs.Common.{arith, ◌≡◌, ◌<◌, ◌++◌, ◌∷◌, [], get_or, true, false, sym, ap, ◌∙◌, subst, inr, List, Option, None, ℤ, pos, ◌+ℤ◌, w64, to_z, of_z}
 use Rattle.std.specs.List.{list_all}
 use Rattle.std.proofs.lemmas.Int.{ints}
 use Rattle.std.proofs.lemmas.Result.{err_from_is_err_and}
 use Rattle.fzn_meaning.specs.Separable.{listed_at}
 use Rattle.fzn_row.specs.Prices.{is_entry_within}
 use Rattle.fzn_row.specs.Weights.{both_weights}
-use Rattle.fzn_row.specs.Moves.{weight_within, moved_from, decided_weight}
+use Rattle.fzn_row.specs.Moves.{moved_from, weight_where}
+use Rattle.fzn_row.specs.Dependence.{dependent_at}
 use Rattle.fzn_row.proofs.MoveLemmas.{moved-more, moved-at, length-moved, within-push, within-fails, Moved}
 use Rattle.fzn_row.proofs.moves.moved.Goals as goal
 
 pub loop-i-preserved : goal.loop-i-preserved
 loop-i-preserved c =
     let old = c.args.old.now in
-    let more = decided_weight c.args.set.now c.args.part.now c.args.by c.args.constraint.now in
+    let more = weight_where c.args.set.now c.args.part.now (dependent_at c.args.dependence.now) in
     let low = c.args.low.now in
     let i = c.loop-i.i in
     let few = c.requires.few in
     let small = c.requires.low in
     let value : ℤ = to_z w64 (of_z w64 (to_z w64 (of_z w64 low) +ℤ to_z w64 i)) in
     let value_is : value ≡ low +ℤ pos i = omega (arith, ints) in
-    let more_is : c.dependent_weight-more.result ≡ more value = c.dependent_weight-more.ensures.value ∙ ap (option_and_then (weight_within c.args.set.now c.args.part.now)) (c.of-dependence.ensures value) in
+    let more_is : c.dependent_weight-more.result ≡ more value = c.dependent_weight-more.ensures.value in
     let entry = c.in_ok-entry.entry in
     let e : entry ≡ both_weights (listed_at old value) (more value) =
     c.in_ok-entry.ensures.ok ∙ ap (λ (o : Option ℤ). both_weights o c.dependent_weight-more.result) c.listed_at.ensures.value ∙ ap (both_weights (listed_at old value)) more_is in
@@ -32,7 +33,7 @@ pub returns-in_err-entry-clause-err : goal.returns-in_err-entry-clause-err
 returns-in_err-entry-clause-err c =
     let p = err_from_is_err_and c.from_residual.result c.from_residual.ensures.1 in
     let old = c.args.old.now in
-    let more = decided_weight c.args.set.now c.args.part.now c.args.by c.args.constraint.now in
+    let more = weight_where c.args.set.now c.args.part.now (dependent_at c.args.dependence.now) in
     let low = c.args.low.now in
     let count = c.args.count in
     let i = c.loop-i.i in
@@ -41,7 +42,7 @@ returns-in_err-entry-clause-err c =
     let small = c.requires.low in
     let value : ℤ = to_z w64 (of_z w64 (to_z w64 (of_z w64 low) +ℤ to_z w64 i)) in
     let value_is : value ≡ low +ℤ pos i = omega (arith, ints) in
-    let more_is : c.dependent_weight-more.result ≡ more value = c.dependent_weight-more.ensures.value ∙ ap (option_and_then (weight_within c.args.set.now c.args.part.now)) (c.of-dependence.ensures value) in
+    let more_is : c.dependent_weight-more.result ≡ more value = c.dependent_weight-more.ensures.value in
     let here : both_weights c.listed_at.result c.dependent_weight-more.result ≡ get_or (moved_from more low count old) i None =
     ap (λ (o : Option ℤ). both_weights o c.dependent_weight-more.result) c.listed_at.ensures.value ∙ ap (both_weights (listed_at old value)) more_is
     ∙ ap (Moved more old) value_is ∙ sym (moved-at more old low count i inside) in

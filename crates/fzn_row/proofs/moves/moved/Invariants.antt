@@ -1,11 +1,12 @@
 use Rattle.std.proofs.Common.{◌≡◌, true}
 use Rattle.std.specs.List.{list_all}
 use Rattle.fzn_row.specs.Prices.{is_entry_within}
-use Rattle.fzn_row.specs.Moves.{decided_weight, moved_from}
+use Rattle.fzn_row.specs.Moves.{weight_where, moved_from}
+use Rattle.fzn_row.specs.Dependence.{dependent_at}
 use Rattle.fzn_row.proofs.moves.moved.Given as goal
 
 abbrev pub invariant-loop-i : goal.invariant-loop-i
 invariant-loop-i l = record {
-  so_far : l.entries ≡ moved_from (decided_weight l.set l.part l.fn.by l.fn.constraint) l.low l.i l.old;
+  so_far : l.entries ≡ moved_from (weight_where l.set l.part (dependent_at l.dependence)) l.low l.i l.old;
   within : list_all is_entry_within l.entries ≡ true;
 }

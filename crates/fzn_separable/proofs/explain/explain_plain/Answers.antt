@@ -15,14 +15,14 @@ highest-high-requires-clause-present c = λ weight is.
     let level : FitsSigned w128 c.args.level = c.ranges.level in
     let bits = real c.greatest_of.result c.greatest_of.ensures.in_limits in
     subst (λ (x : ℤ). x ≤ℤ weight) (sym (to_z-of_z w128 c.args.level level))
-    (c.requires.present c.greatest_of.result weight c.greatest_of.ensures.member (ap (weight_at c.args.part.now) (sym bits) ∙ is))
+    (c.requires.present weight (c.greatest_of.result, c.greatest_of.ensures.member, ap (weight_at c.args.part.now) (sym bits) ∙ is))
 
 pub lowest-low-requires-clause-present : goal.lowest-low-requires-clause-present
 lowest-low-requires-clause-present c = λ weight is.
     let level : FitsSigned w128 c.args.level = c.ranges.level in
     let bits = real c.least_of.result c.least_of.ensures.in_limits in
     subst (λ (x : ℤ). x ≤ℤ weight) (sym (to_z-of_z w128 c.args.level level))
-    (c.requires.present c.least_of.result weight c.least_of.ensures.member (ap (weight_at c.args.part.now) (sym bits) ∙ is))
+    (c.requires.present weight (c.least_of.result, c.least_of.ensures.member, ap (weight_at c.args.part.now) (sym bits) ∙ is))
 
 pub returns-then-part-lt0 : goal.returns-then-part-lt0
 returns-then-part-lt0 c =

@@ -1,10 +1,8 @@
 use Rattle.std.proofs.Common.{◌≡◌, ◌∙◌, sym, ap, subst, List, length, None, get_or}
 use Rattle.fzn_meaning.specs.declared.row.Part.{Part}
 use Rattle.fzn_meaning.specs.declared.constraint.Constraint.TheVariants as constraint
-use Rattle.fzn_domain.specs.Narrow.{set_of}
 use Rattle.fzn_meaning.specs.Separable.{IsPart}
 use Rattle.fzn_rules.specs.Separable.{IsLeastWeight}
-use Rattle.fzn_separable.proofs.WeightLemmas.{of_barred}
 use Rattle.fzn_separable.proofs.RowLemmas.{barred_justified}
 use Rattle.fzn_separable.proofs.search.find_barred.Goals as goal
 use Rattle.fzn_separable.proofs.search.find_barred.Goals.{After-index-as_slice-k}
@@ -18,8 +16,7 @@ explain_part-requires-clause-part c = subst (IsPart (length c.args.pass.now.trai
 pub explain_part-requires-clause-present : goal.explain_part-requires-clause-present
 explain_part-requires-clause-present c =
     let part = c.index-as_slice-k.result in
-    of_barred (set_of c.args.pass.now.trail.now.sets part.var) part
-    (subst (λ (p : Part). IsLeastWeight c.args.pass.now.trail.now.sets p None) (here (goal.at.explain_part-requires-clause-present c).After-index-as_slice-k) (c.requires.barred part))
+    subst (λ (p : Part). IsLeastWeight c.args.pass.now.trail.now.sets p None) (here (goal.at.explain_part-requires-clause-present c).After-index-as_slice-k) (c.requires.barred part)
 
 pub returns-clause-found : goal.returns-clause-found
 returns-clause-found c =

@@ -2,7 +2,7 @@ use mir.Syntax.{w128}
 use Rattle.std.proofs.lemmas.Int.{to_z-of_z}
 use Rattle.std.proofs.Common.{rules, arith, FitsSigned, w64, ◌≡◌, ◌≤ℤ◌, ◌∙◌, to_z, of_z, ℤ, int_lt, false}
 use Rattle.std.proofs.lemmas.Int.{ints}
-use Rattle.fzn_separable.proofs.TotalLemmas.{room_of}
+use Rattle.fzn_separable.proofs.RowLemmas.{row_met}
 use Rattle.fzn_separable.specs.Levels.{sum_of}
 use Rattle.fzn_separable.proofs.search.find_by_leasts.Goals as goal
 
@@ -18,5 +18,5 @@ returns-clause-none c = λ nothing.
     let is = c.sum_of-total.ensures in
     let fits : FitsSigned w128 c.sum_of-total.result = search rules in
     let cast : to_z w128 (of_z w128 (to_z w64 (of_z w64 c.args.pass.now.row.now.bound))) ≡ c.args.pass.now.row.now.bound = omega (arith, ints, bound) in
-    room_of c.args.pass.now.trail.now.sets c.args.pass.now.row.now c.args.leasts.now c.requires.leasts
+    row_met c.args.pass.now.trail.now c.args.pass.now.row.now c.args.leasts.now c.requires.leasts (c.weigh_where_fixed.ensures c.if-not-weigh_where_fixed.false)
     (no_over _ _ c.args.pass.now.row.now.bound (sum_of c.args.leasts.now) cast (to_z-of_z w128 c.sum_of-total.result fits ∙ is) c.if-pass-total.false)

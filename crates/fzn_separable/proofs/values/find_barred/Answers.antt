@@ -9,11 +9,11 @@ returns-in_err-hand_over c =
     let trail = c.args.pass.now.trail.now in
     let row = c.args.pass.now.row.now in
     let forced = MatchBool-at_true _ (IsDenied c.args.pass.now.trail.now.sets c.args.claim) c.if-branch.true c.in_ok-force.ensures in
-    record { found = c.hand_over.ensures.found trail (constraint.Row row) (barred_out trail row c.args.pass.now.ready c.args.part.now c.args.claim _ c.force.new.clause forced c.args.k c.requires.inside (c.requires.at c.args.part.now) c.requires.barred) c.requires.before }
+    record { found = c.hand_over.ensures.found trail (constraint.Row row) (barred_out trail row c.args.pass.now.ready c.args.part.now c.args.claim _ c.force.new.clause forced c.args.k c.requires.inside c.requires.at c.requires.barred) c.requires.before }
 
 pub returns-in_ok-hand_over : goal.returns-in_ok-hand_over
 returns-in_ok-hand_over c =
     let trail = c.args.pass.now.trail.now in
     let row = c.args.pass.now.row.now in
     let forced = MatchBool-at_true _ (IsDenied c.args.pass.now.trail.now.sets c.args.claim) c.if-branch.true c.in_ok-force.ensures in
-    record { found = c.hand_over.ensures.found trail (constraint.Row row) (barred_out trail row c.args.pass.now.ready c.args.part.now c.args.claim _ c.force.new.clause forced c.args.k c.requires.inside (c.requires.at c.args.part.now) c.requires.barred) c.requires.before }
+    record { found = c.hand_over.ensures.found trail (constraint.Row row) (barred_out trail row c.args.pass.now.ready c.args.part.now c.args.claim _ c.force.new.clause forced c.args.k c.requires.inside c.requires.at c.requires.barred) c.requires.before }

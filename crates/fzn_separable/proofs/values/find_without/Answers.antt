@@ -1,4 +1,6 @@
-use Rattle.std.proofs.Common.{◌∙◌}
+use mir.Syntax.{w128}
+use Rattle.std.proofs.Common.{◌∙◌, sym, subst, ℤ, ◌≤ℤ◌}
+use Rattle.std.proofs.lemmas.Int.{to_z-of_z}
 use Rattle.fzn_separable.proofs.TotalLemmas.{none_lighter-below}
 use Rattle.fzn_separable.proofs.values.find_without.Goals as goal
 
@@ -11,3 +13,6 @@ find_heavy-requires-clause-present c =
 
 pub find_heavy-requires-clause-over : goal.find_heavy-requires-clause-over
 find_heavy-requires-clause-over c = (c.are_enough.ensures c.if-are_enough.true).over
+
+pub find_heavy-requires-clause-heavy : goal.find_heavy-requires-clause-heavy
+find_heavy-requires-clause-heavy c = λ sets all weight at. subst (λ (x : ℤ). x ≤ℤ weight) (sym (to_z-of_z w128 c.args.weight c.ranges.weight)) (c.requires.heavy sets all weight at)

@@ -2,8 +2,8 @@ use Rattle.std.proofs.Common.{rules, ◌≡◌, true, sym, ap, ◌∙◌, subst,
 use Rattle.std.proofs.lemmas.Int.{to_z-of_z}
 use Rattle.std.proofs.lemmas.List.{get_or_read}
 use Rattle.std.proofs.lemmas.List.Elements.{All-set}
-use Rattle.fzn_meaning.specs.declared.row.Part.{Part}
-use Rattle.fzn_meaning.specs.Separable.{IsPart}
+use Rattle.fzn_meaning.specs.declared.row.VariablePart.{VariablePart}
+use Rattle.fzn_meaning.specs.Separable.{IsVariablePart}
 use Rattle.fzn_row.specs.Draft.{is_coefficient, part_for}
 use Rattle.fzn_row.specs.Room.{room_size, draft_of}
 use Rattle.fzn_row.proofs.PartLemmas.{found-set, part-set, part-with, with_coefficient-is}
@@ -22,10 +22,11 @@ returns-clause-room c =
     let is = to_z-of_z w64 sum fits in
     let within : is_coefficient (to_z w64 (of_z w64 sum)) ≡ true = ap is_coefficient (is ∙ c.in_ok-coefficient.ensures.ok) ∙ c.in_ok-coefficient.ensures.within in
     let there = c.index_mut.ensures.value in
-    let formed = subst (IsPart (room_size room)) (sym there) (c.place_of.ensures.room.parts place old inside) in
+    let formed = subst (IsVariablePart (room_size room)) (sym there) (c.place_of.ensures.room.parts place old inside) in
     record {
-      parts = All-set (IsPart (room_size room)) parts place _ (part-set (room_size room) old _ formed refl refl within) c.place_of.ensures.room.parts;
-      found = found-set room.slots.items parts place _ inside (ap (λ (p : Part). p.var) (get_or_read parts place old inside there _)) c.place_of.ensures.room.found;
+      parts = All-set (IsVariablePart (room_size room)) parts place _ (part-set (room_size room) old _ formed refl refl within) c.place_of.ensures.room.parts;
+      found = found-set room.slots.items parts place _ inside (ap (λ (p : VariablePart). p.var) (get_or_read parts place old inside there _)) c.place_of.ensures.room.found;
+      tables = c.place_of.ensures.room.tables;
       bound = c.place_of.ensures.room.bound;
     }
 
@@ -46,6 +47,6 @@ returns-clause-ok c =
     let read_fits : FitsSigned w64 read.coefficient = search rules in
     let amount_fits : FitsSigned w128 c.args.amount = c.ranges.amount in
     let held = to_z-of_z w64 sum fits in
-    let same : (part_for var draft.parts).coefficient +ℤ c.args.amount ≡ sum = ap (λ (p : Part). p.coefficient +ℤ c.args.amount) before ∙ sym (simp to_z-of_z at c.in_ok-coefficient.ensures.ok) in
+    let same : (part_for var draft.parts).coefficient +ℤ c.args.amount ≡ sum = ap (λ (p : VariablePart). p.coefficient +ℤ c.args.amount) before ∙ sym (simp to_z-of_z at c.in_ok-coefficient.ensures.ok) in
     let within : is_coefficient ((part_for var draft.parts).coefficient +ℤ c.args.amount) ≡ true = ap is_coefficient (same ∙ c.in_ok-coefficient.ensures.ok) ∙ c.in_ok-coefficient.ensures.within in
-    with_coefficient-is var draft parts place _ ((part_for var draft.parts).coefficient +ℤ c.args.amount) room.bound room.left at within (part-with old (part_for var draft.parts) _ _ before_too (held ∙ sym same)) c.place_of.ensures.bound c.place_of.ensures.left
+    with_coefficient-is var draft parts place _ room.tables.items ((part_for var draft.parts).coefficient +ℤ c.args.amount) room.bound room.left at within (part-with old (part_for var draft.parts) _ _ before_too (held ∙ sym same)) c.place_of.ensures.tables c.place_of.ensures.bound c.place_of.ensures.left

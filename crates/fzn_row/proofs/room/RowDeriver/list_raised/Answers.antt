@@ -3,8 +3,8 @@ use Rattle.std.specs.List.{list_all}
 use Rattle.std.proofs.lemmas.Int.{to_z-of_z}
 use Rattle.std.proofs.lemmas.List.{get_or_read}
 use Rattle.std.proofs.lemmas.List.Elements.{All-set}
-use Rattle.fzn_meaning.specs.declared.row.Part.{Part}
-use Rattle.fzn_meaning.specs.Separable.{IsPart}
+use Rattle.fzn_meaning.specs.declared.row.VariablePart.{VariablePart}
+use Rattle.fzn_meaning.specs.Separable.{IsVariablePart}
 use Rattle.fzn_row.specs.Draft.{part_for}
 use Rattle.fzn_row.specs.Prices.{is_entry_within}
 use Rattle.fzn_row.specs.Inverses.{raised_from}
@@ -28,12 +28,13 @@ returns-clause-room c =
     let at = c.in_ok-place.ensures.place in
     let old = c.index_mut.result.now in
     let there = c.index_mut.ensures.value in
-    let formed = subst (IsPart (room_size room)) (sym there) (c.place_of.ensures.room.parts place old at.inside) in
+    let formed = subst (IsVariablePart (room_size room)) (sym there) (c.place_of.ensures.room.parts place old at.inside) in
     let weights = c.in_ok-weights.weights in
     let few : length weights ≤ 65536 = rw (c.in_ok-weights.ensures.ok, length-raised (to_z w64 (of_z w64 c.args.value)) c.args.more c.index.result.now.listed (pos 1) c.args.count) c.requires.few in
     record {
-      parts = All-set (IsPart (room_size room)) parts place _ (part-listed (room_size room) old (pos 1) (pos 1) weights formed (omega arith) refl few c.in_ok-weights.ensures.within) c.place_of.ensures.room.parts;
-      found = found-set room.slots.items parts place _ at.inside (ap (λ (p : Part). p.var) (get_or_read parts place old at.inside there _)) c.place_of.ensures.room.found;
+      parts = All-set (IsVariablePart (room_size room)) parts place _ (part-listed (room_size room) old (pos 1) (pos 1) weights formed (omega arith) refl few c.in_ok-weights.ensures.within) c.place_of.ensures.room.parts;
+      found = found-set room.slots.items parts place _ at.inside (ap (λ (p : VariablePart). p.var) (get_or_read parts place old at.inside there _)) c.place_of.ensures.room.found;
+      tables = c.place_of.ensures.room.tables;
       bound = c.place_of.ensures.room.bound;
     }
 
@@ -54,7 +55,7 @@ returns-clause-ok c =
     let before_too : part_for var draft.parts ≡ old = sym (get_or_read parts place old at.inside c.index_mut.ensures.value old ∙ at.here old) in
     let entries = raised_from (pos 1) count value more (part_for var draft.parts).listed in
     let value_fits : FitsSigned w64 value = search rules in
-    let weights : c.in_ok-weights.weights ≡ entries = c.in_ok-weights.ensures.ok ∙ ap (λ (v : ℤ). raised_from (pos 1) count v more read.listed) (to_z-of_z w64 value value_fits) ∙ ap (λ (p : Part). raised_from (pos 1) count value more p.listed) (sym before) in
+    let weights : c.in_ok-weights.weights ≡ entries = c.in_ok-weights.ensures.ok ∙ ap (λ (v : ℤ). raised_from (pos 1) count v more read.listed) (to_z-of_z w64 value value_fits) ∙ ap (λ (p : VariablePart). raised_from (pos 1) count value more p.listed) (sym before) in
     let within : list_all is_entry_within entries ≡ true = subst (λ (es : List (Option ℤ)). list_all is_entry_within es ≡ true) weights c.in_ok-weights.ensures.within in
     let many : length entries ≡ count = length-raised value more (part_for var draft.parts).listed (pos 1) count in
-    with_list-is var draft (pos 1) entries parts place _ room.bound _ at (rw many c.if-self-count.false) within (listed-is old (part_for var draft.parts) (pos 1) (pos 1) entries c.in_ok-weights.weights before_too refl weights) c.place_of.ensures.bound (rw (many, c.place_of.ensures.left) refl)
+    with_list-is var draft (pos 1) entries parts place _ room.tables.items room.bound _ at (rw many c.if-self-count.false) within (listed-is old (part_for var draft.parts) (pos 1) (pos 1) entries c.in_ok-weights.weights before_too refl weights) c.place_of.ensures.tables c.place_of.ensures.bound (rw (many, c.place_of.ensures.left) refl)

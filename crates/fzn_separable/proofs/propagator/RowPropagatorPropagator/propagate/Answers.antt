@@ -11,5 +11,5 @@ returns-clause-found c = c.find_all.ensures.found.all
 pub returns-clause-none : goal.returns-clause-none
 returns-clause-none c =
     on_ok_weaker c.find_all.result
-    (λ room nothing constraint same booleans. row_exhausted c.args.trail.now c.args.self.now.row c.requires.fits (room nothing) constraint same)
+    (λ holds nothing constraint same booleans. row_exhausted c.args.trail.now c.args.self.now.row (holds nothing) constraint same)
     c.find_all.ensures.none
