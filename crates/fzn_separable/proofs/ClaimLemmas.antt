@@ -9,8 +9,8 @@ use Rattle.fzn_meaning.specs.Separable.{weight_at}
 use Rattle.fzn_terms.specs.declared.claim.Claim.{Claim}
 use Rattle.fzn_terms.specs.Denied.{that, IsEntailed}
 use Rattle.fzn_terms.proofs.OrderLemmas.{at_most, equal_of}
+use Rattle.fzn_levels.proofs.CallerLemmas.{from_on, up_to, at_weight, none_some, listed_only}
 use Rattle.fzn_separable.specs.Passes.{WeighsWhere}
-use Rattle.fzn_separable.proofs.WeightLemmas.{from_on, up_to, at_weight, none_some, listed_only}
 
 at_least : (v n : ℤ) → int_le n v ≡ true → n ≤ℤ v
 at_least v n h = grind (arith, ints)

@@ -1,7 +1,4 @@
 mod ClaimLemmas
 mod HeardLemmas
-mod LevelLemmas
 mod RowLemmas
-mod TableLemmas
 mod TotalLemmas
-mod WeightLemmas

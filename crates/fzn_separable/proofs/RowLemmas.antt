@@ -27,7 +27,7 @@ use Rattle.fzn_terms.specs.Denied.{IsClaimForced}
 use Rattle.fzn_terms.proofs.FixedLemmas.{fixed_only}
 use Rattle.std.proofs.lemmas.Bool.{cases_eq}
 use Rattle.std.proofs.Common.{inl, inr}
-use Rattle.fzn_separable.specs.Levels.{sum_of, IsNoLighter, SaysNoLighter, SaysAllNoLighter, AreLeasts, WeighsWhereFixed}
+use Rattle.fzn_levels.specs.Levels.{sum_of, IsNoLighter, SaysNoLighter, SaysAllNoLighter, AreLeasts, WeighsWhereFixed}
 use Rattle.fzn_separable.specs.Passes.{WeighsWhere}
 use Rattle.fzn_separable.proofs.TotalLemmas.{met_above, met_barred}
 

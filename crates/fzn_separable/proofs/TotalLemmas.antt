@@ -12,9 +12,8 @@ use Rattle.fzn_meaning.specs.declared.row.Row.{Row}
 use Rattle.fzn_meaning.specs.Separable.{IsPart, IsSeparableRow}
 use Rattle.fzn_rules.specs.Separable.{IsLeastWeight, IsLeastTotal, IsSeparableMet}
 use Rattle.fzn_trail.specs.Levels.{Levels}
-use Rattle.fzn_separable.specs.Levels.{IsWeight, sum_of, IsNoLighter, AreNoLighterBut, AreLeasts, AreEnough, WeighsWhereFixed}
-use Rattle.fzn_separable.proofs.WeightLemmas.{of_least, least_above}
-use Rattle.fzn_separable.proofs.TableLemmas.{some_least}
+use Rattle.fzn_levels.specs.Levels.{IsWeight, sum_of, IsNoLighter, AreNoLighterBut, AreLeasts, AreEnough, WeighsWhereFixed}
+use Rattle.fzn_levels.proofs.CallerLemmas.{some_least, of_least, least_above}
 
 -- ---- least weights one after the other
 

@@ -12,8 +12,8 @@ use Rattle.fzn_propagator.specs.Clause.{IsJustified}
 use Rattle.fzn_propagator.specs.Inference.{Inference, AreFoundOf}
 use Rattle.fzn_terms.specs.declared.claim.Claim.{Claim}
 use Rattle.fzn_terms.specs.Denied.{IsEntailed}
-use Rattle.fzn_separable.specs.declared.pass.Pass.{Pass}
-use Rattle.fzn_separable.specs.Levels.{IsNoLighter, AreLeasts}
+use Rattle.fzn_levels.specs.declared.pass.Pass.{Pass}
+use Rattle.fzn_levels.specs.Levels.{IsNoLighter, AreLeasts}
 
 abbrev pub constraint_of : Pass → Constraint
 constraint_of pass = constraint.Row pass.row.now

@@ -4,22 +4,14 @@
 //! that are barred and those that weigh more than the other parts leave, and of a part without a list the bound past which its values do; or
 //! none, by the law of the trait `Propagator`. So a pass goes over the weights that are listed, and never over the values of a wide set. Of
 //! the places of a table no value is found: its own propagator does that. A clause says of each other part that it weighs no less than a
-//! level; how far these levels may lie below the least weights is only chosen, and tested before it is used. All is proved against
-//! `specs/Levels.antt` and `specs/Passes.antt`.
+//! level (`fzn_levels`). All is proved against `specs/Passes.antt`, and against `specs/Levels.antt` of `fzn_levels`.
 #![tactic(auto)]
 
 pub use constraint::propagator_of;
 pub use propagator::RowPropagator;
 
-mod choice;
 mod constraint;
 mod copy;
-mod explain;
-mod explain_table;
-mod pass;
 mod propagator;
 mod search;
-mod tables;
-mod told;
 mod values;
-mod weights;

@@ -10,10 +10,9 @@ ghost use Rattle.fzn_propagator.specs.Subscriptions.{terms_of, AreHeard};
 ghost use Rattle.fzn_separable.specs.Propagator.{row_number, RowIsFor, RowFits, event_of, waits_for};
 
 use crate::copy::copied_row;
-use crate::pass::Pass;
 use crate::search::find_all;
-use crate::weights::least_value_weight;
 use fzn_domain::Memory;
+use fzn_levels::{Pass, least_value_weight};
 use fzn_meaning::{Part, Row, TablePart, Term, Var, VariablePart};
 use fzn_propagator::{Cost, Event, Findings, Propagator, Subscriptions};
 use fzn_trail::Trail;

@@ -6,16 +6,15 @@ ghost use Rattle.fzn_meaning.specs.Separable.{IsPart};
 ghost use Rattle.std.specs.Prelude.{slice_index_or};
 ghost use Rattle.fzn_rules.specs.Separable.{IsLeastWeight};
 ghost use Rattle.fzn_propagator.specs.Inference.{HoldsWhereFixed};
-ghost use Rattle.fzn_separable.specs.Levels.{AreNoLighterBut, WeighsWhereFixed, sum_of};
+ghost use Rattle.fzn_levels.specs.Levels.{AreNoLighterBut, WeighsWhereFixed, sum_of};
 ghost use Rattle.fzn_separable.specs.Passes.{constraint_of, AreFoundOfRow, AreLeastsOf};
 
-use crate::choice::{are_enough, levels_of};
-use crate::explain::{explain_levels, explain_part};
-use crate::pass::Pass;
-use crate::tables::weighs_where_fixed;
 use crate::values::find_values;
-use crate::weights::{least_weight, sum_of};
 use fzn_domain::Memory;
+use fzn_levels::{
+    Pass, are_enough, explain_levels, explain_part, least_weight, levels_of, sum_of,
+    weighs_where_fixed,
+};
 use fzn_list::Items;
 use fzn_meaning::Part;
 use fzn_propagator::Findings;

@@ -5,14 +5,11 @@ ghost use Rattle.fzn_meaning.specs.declared.term.Term.TheVariants.{Variable};
 ghost use Rattle.fzn_meaning.specs.declared.row.Part.TheVariants as parts;
 ghost use Rattle.fzn_meaning.specs.Separable.{weight_at, IsVariablePart};
 ghost use Rattle.fzn_terms.specs.Denied.{IsNear};
-ghost use Rattle.fzn_separable.specs.Levels.{AreNoLighterBut, sum_of};
+ghost use Rattle.fzn_levels.specs.Levels.{AreNoLighterBut, sum_of};
 ghost use Rattle.fzn_separable.specs.Passes.{AreFoundOfRow, AreLeastsOf, IsPartAt, WeighsWhere};
 
-use crate::choice::{are_enough, levels_of};
-use crate::explain::{explain_levels, narrowed};
-use crate::pass::Pass;
-use crate::weights::{entry_weight, value_at};
 use fzn_domain::{GREATEST_VALUE, LEAST_VALUE, Memory};
+use fzn_levels::{Pass, are_enough, entry_weight, explain_levels, levels_of, narrowed, value_at};
 use fzn_list::Items;
 use fzn_meaning::{Listed, Part, Term, VariablePart, weight_at};
 use fzn_propagator::Findings;

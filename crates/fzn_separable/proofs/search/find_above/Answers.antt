@@ -1,6 +1,6 @@
 use Rattle.std.proofs.Common.{sym, subst, ℕ}
 use Rattle.fzn_meaning.specs.declared.constraint.Constraint.TheVariants as constraint
-use Rattle.fzn_separable.specs.Levels.{AreNoLighterBut, SaysAllNoLighter}
+use Rattle.fzn_levels.specs.Levels.{AreNoLighterBut, SaysAllNoLighter}
 use Rattle.fzn_separable.proofs.RowLemmas.{above_justified}
 use Rattle.fzn_separable.proofs.search.find_above.Goals as goal
 

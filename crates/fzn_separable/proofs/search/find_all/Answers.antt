@@ -4,7 +4,7 @@ use Rattle.std.proofs.Common.{rules, arith, FitsSigned, ◌++◌, ◌∷◌, [],
 use Rattle.fzn_domain.specs.IntSet.{IntSet}
 use Rattle.fzn_meaning.specs.declared.row.Part.{Part}
 use Rattle.fzn_rules.specs.Separable.{IsLeastWeight}
-use Rattle.fzn_separable.specs.Levels.{AreLeasts}
+use Rattle.fzn_levels.specs.Levels.{AreLeasts}
 use Rattle.fzn_separable.proofs.TotalLemmas.{leasts-more, leasts-all, part_at}
 use Rattle.fzn_separable.proofs.search.find_all.Goals as goal
 

@@ -3,7 +3,7 @@ use Rattle.std.proofs.lemmas.Int.{to_z-of_z}
 use Rattle.std.proofs.Common.{rules, arith, FitsSigned, w64, ◌≡◌, ◌≤ℤ◌, ◌∙◌, to_z, of_z, ℤ, int_lt, false}
 use Rattle.std.proofs.lemmas.Int.{ints}
 use Rattle.fzn_separable.proofs.RowLemmas.{row_met}
-use Rattle.fzn_separable.specs.Levels.{sum_of}
+use Rattle.fzn_levels.specs.Levels.{sum_of}
 use Rattle.fzn_separable.proofs.search.find_by_leasts.Goals as goal
 
 pub sum_of-total-requires-clause-bounded : goal.sum_of-total-requires-clause-bounded

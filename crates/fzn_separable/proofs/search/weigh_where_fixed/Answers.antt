@@ -4,7 +4,7 @@ use Rattle.std.proofs.lemmas.Int.{to_z-of_z, fits_signed_from_abs}
 use Rattle.std.proofs.lemmas.List.{get_or_default}
 use Rattle.fzn_meaning.specs.declared.row.Part.{Part}
 use Rattle.fzn_rules.specs.Separable.{IsLeastWeight}
-use Rattle.fzn_separable.specs.Levels.{IsWeight}
+use Rattle.fzn_levels.specs.Levels.{IsWeight}
 use Rattle.fzn_separable.proofs.TotalLemmas.{part_at, weigh-more}
 use Rattle.fzn_separable.proofs.search.weigh_where_fixed.Goals as goal
 use Rattle.fzn_separable.proofs.search.weigh_where_fixed.Goals.{After-index-as_slice-k}

@@ -2,7 +2,7 @@ use Rattle.std.proofs.Common.{length, sym, subst, Some}
 use Rattle.fzn_meaning.specs.declared.row.Part.{Part}
 use Rattle.fzn_meaning.specs.Separable.{IsPart}
 use Rattle.fzn_rules.specs.Separable.{IsLeastWeight}
-use Rattle.fzn_separable.specs.Levels.{WeighsWhereFixed}
+use Rattle.fzn_levels.specs.Levels.{WeighsWhereFixed}
 use Rattle.fzn_separable.proofs.RowLemmas.{variable_fixed}
 use Rattle.fzn_separable.proofs.search.weighs_least.Goals as goal
 

@@ -1,0 +1,4 @@
+pub mod CallerLemmas
+mod LevelLemmas
+mod TableLemmas
+mod WeightLemmas

@@ -1,6 +1,0 @@
-use Rattle.std.proofs.Common.{ℕ, ◌<◌, ℤ, get_or}
-use Rattle.fzn_separable.specs.Levels.{IsWeight}
-use Rattle.fzn_separable.proofs.choice.are_weights.Given as goal
-
-abbrev pub invariant-loop-level : goal.invariant-loop-level
-invariant-loop-level l = (k : ℕ) (none : ℤ) → k < l.level-index → IsWeight (get_or l.levels k none)
