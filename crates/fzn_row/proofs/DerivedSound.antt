@@ -9,8 +9,7 @@ use Rattle.fzn_meaning.specs.declared.constraint.Constraint.{Constraint}
 use Rattle.fzn_meaning.specs.Meaning.{Meets, IsWellFormedConstraint, HasBooleanSets}
 use Rattle.fzn_cited.specs.declared.fault.DeriveFault.{DeriveFault}
 use Rattle.fzn_cited.specs.declared.fault.DeriveFault.TheVariants.{NotDerived}
-use Rattle.fzn_cited.specs.Cited.{constraint_at}
-use Rattle.fzn_cited.specs.Cited.{AreMet}
+use Rattle.fzn_cited.specs.Cited.{constraint_at, AreMet}
 use Rattle.fzn_meaning.specs.declared.row.Row.{Row}
 use Rattle.fzn_row.specs.declared.item.RowItem.{RowItem}
 use Rattle.fzn_row.specs.declared.item.RowItem.TheVariants as item

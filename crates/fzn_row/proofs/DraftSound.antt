@@ -11,9 +11,11 @@ use Rattle.fzn_meaning.specs.declared.row.VariablePart.{VariablePart}
 use Rattle.fzn_meaning.specs.declared.row.Part.{Part}
 use Rattle.fzn_meaning.specs.declared.row.Part.TheVariants.{Variable, Table}
 use Rattle.fzn_meaning.specs.Separable.{weighed, listed_at, weight_of, total_weight, RowHolds}
+use Rattle.fzn_dependence.proofs.IntLemmas.{plus_times}
+use Rattle.fzn_weights.specs.Limits.{is_row_number, is_coefficient}
 use Rattle.fzn_row.specs.declared.room.BegunTable.{BegunTable}
-use Rattle.fzn_row.specs.Draft.{Draft, row_of, blank_part, part_for, with_part, is_row_number, is_coefficient, with_bound, with_coefficient, and_then, in_turn}
-use Rattle.fzn_row.proofs.IntLemmas.{plus_times, zero_times}
+use Rattle.fzn_row.specs.Draft.{Draft, row_of, blank_part, part_for, with_part, with_bound, with_coefficient, and_then, in_turn}
+use Rattle.fzn_row.proofs.IntLemmas.{zero_times}
 use Rattle.fzn_row.proofs.PartLemmas.{var-part_for}
 
 pub total-nil : (values : List ℤ) → total_weight values [] ≡ pos 0

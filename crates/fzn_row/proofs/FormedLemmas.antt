@@ -2,7 +2,7 @@
 use Rattle.std.proofs.Common.{◌≡◌, ◌≢◌, ℕ, zero, suc, ◌-◌, ◌≤◌, Bool, true, false, cond, eqb, ◌&&◌, nat_le, List, [], ◌∷◌, ◌++◌, map, get_or, length, refl, sym, ap, subst, arith, ℤ, unsigned_abs, Option, Some, Ok, Err, All}
 use Rattle.std.specs.List.{AllPairs, list_all}
 use Rattle.std.proofs.lemmas.Int.{ints}
-use Rattle.std.proofs.lemmas.Bool.{eqb-true, eqb-false}
+use Rattle.std.proofs.lemmas.Bool.{eqb-true, eqb-false, and_parts}
 use Rattle.std.proofs.lemmas.Bool.Decides.{nat_tests}
 use Rattle.std.proofs.lemmas.List.Elements.{All-nil, All-cons, All-head, All-tail, All-append, All-map}
 use Rattle.fzn_domain.specs.declared.literal.VarId.{VarId}
@@ -19,13 +19,14 @@ use Rattle.fzn_meaning.specs.declared.constraint.Constraint.TheVariants.{Table}
 use Rattle.fzn_meaning.specs.Separable.{IsVariablePart, IsTablePart, IsWithinLimit, IsCoefficient, AreApart}
 use Rattle.fzn_cited.specs.Cited.{constraint_at}
 use Rattle.fzn_cited.specs.declared.fault.DeriveFault.TheVariants.{NotDerived}
+use Rattle.fzn_weights.specs.Limits.{is_row_number, is_coefficient, is_entry_within}
+use Rattle.fzn_weights.specs.Moves.{span, is_narrow}
+use Rattle.fzn_weights.proofs.ListLemmas.{entries-within}
 use Rattle.fzn_row.specs.declared.room.BegunTable.{BegunTable}
-use Rattle.fzn_row.specs.Draft.{Draft, blank_part, part_for, with_part, with_bound, with_coefficient, is_row_number, is_coefficient}
-use Rattle.fzn_row.specs.Prices.{is_entry_within, with_list}
-use Rattle.fzn_row.specs.Moves.{span, is_narrow}
+use Rattle.fzn_row.specs.Draft.{Draft, blank_part, part_for, with_part, with_bound, with_coefficient}
+use Rattle.fzn_row.specs.Prices.{with_list}
 use Rattle.fzn_row.specs.Room.{IsAbsent}
-use Rattle.fzn_row.proofs.ListLemmas.{listed_with, entries-within}
-use Rattle.fzn_row.proofs.PriceLemmas.{both_true}
+use Rattle.fzn_row.proofs.ListLemmas.{listed_with}
 use Rattle.fzn_row.proofs.DraftSound.{kept, no_error, table_parts}
 use Rattle.fzn_row.proofs.TableRowLemmas.{OfEach}
 
@@ -125,8 +126,8 @@ few_of m n h = grind (arith, nat_tests)
 -- a list for a narrow set begins within the limits, and is short enough
 pub narrow-limits : (set : IntSet) → is_narrow set ≡ true → IsInLimits (least set) × (span set ≤ 65536)
 narrow-limits set narrow =
-    let tests = both_true (nat_le 1 (size set) && nat_le (unsigned_abs (least set)) 1000000000) (nat_le (span set) 65536) narrow in
-    let low = (both_true (nat_le 1 (size set)) (nat_le (unsigned_abs (least set)) 1000000000) tests.0).1 in
+    let tests = and_parts (nat_le 1 (size set) && nat_le (unsigned_abs (least set)) 1000000000) (nat_le (span set) 65536) narrow in
+    let low = (and_parts (nat_le 1 (size set)) (nat_le (unsigned_abs (least set)) 1000000000) tests.0).1 in
     (low_of (least set) (few_of (unsigned_abs (least set)) 1000000000 low), few_of (span set) 65536 tests.1)
 
 limit_of : (number : ℤ) → is_row_number number ≡ true → IsWithinLimit number
@@ -157,7 +158,7 @@ module _ (given : List Constraint) (count : ℕ) (draft after : Draft) (formed :
       let new = listed_with (part_for var draft.parts) low entries in
       let made : Draft = record draft { parts = with_part new draft.parts; left = draft.left - length entries } in
       let test = nat_le (length entries) draft.left && list_all is_entry_within entries in
-      let within = (both_true (nat_le (length entries) draft.left) (list_all is_entry_within entries) (passed test made after is)).1 in
+      let within = (and_parts (nat_le (length entries) draft.left) (list_all is_entry_within entries) (passed test made after is)).1 in
       let had = part_for-formed count var draft.parts variable formed.parts in
       let has : IsVariablePart count new = record { variable = had.variable; coefficient = had.coefficient; listed = record { low = limits; few = few; weights = entries-within entries within } } in
       subst (IsFormed given count) (kept test made after is)

@@ -5,6 +5,7 @@ use Rattle.std.specs.Option.{option_map_or}
 use Rattle.std.specs.Ordering.{int_eq}
 use Rattle.std.proofs.lemmas.List.{length-append, length-map}
 use Rattle.std.proofs.lemmas.List.Elements.{All-head, All-tail, All-append, All-map}
+use Rattle.std.proofs.lemmas.Bool.{and_parts}
 use Rattle.fzn_list.specs.Limits.{longest}
 use Rattle.fzn_domain.specs.IntSet.{IntSet, least}
 use Rattle.fzn_domain.specs.Narrow.{IsVariable, set_of}
@@ -19,6 +20,15 @@ use Rattle.fzn_meaning.specs.Term.{IsTerm, IsPlace}
 use Rattle.fzn_meaning.specs.Meaning.{IsWellFormedConstraint, AreTerms}
 use Rattle.fzn_meaning.specs.declared.row.VariablePart.{VariablePart}
 use Rattle.fzn_meaning.specs.declared.row.Part.TheVariants as row_part
+use Rattle.fzn_dependence.specs.Decided.{decider_in}
+use Rattle.fzn_dependence.proofs.DecidedSound.{decided-variables}
+use Rattle.fzn_weights.specs.Multiples.{is_usable}
+use Rattle.fzn_weights.specs.Prices.{entries_from, price_at, most_cost, priced_places, has_each_price, is_price, are_prices}
+use Rattle.fzn_weights.specs.Moves.{decided_weight, moved_from, span, is_narrow}
+use Rattle.fzn_weights.specs.Inverses.{raised_from, place_in}
+use Rattle.fzn_weights.proofs.PriceLemmas.{length-entries}
+use Rattle.fzn_weights.proofs.MoveLemmas.{length-moved}
+use Rattle.fzn_weights.proofs.InverseLemmas.{length-raised}
 use Rattle.fzn_row.specs.declared.room.BegunTable.{BegunTable}
 use Rattle.fzn_meaning.specs.Separable.{weight_at, IsPart, IsSeparableRow}
 use Rattle.fzn_builtin_rules.specs.Form.{Form, Fits, form_of}
@@ -31,17 +41,12 @@ use Rattle.fzn_cited.proofs.CitedLemmas.{each_at}
 use Rattle.fzn_row.specs.declared.item.RowItem.{RowItem}
 use Rattle.fzn_row.specs.declared.item.RowItem.TheVariants as item
 use Rattle.fzn_row.specs.Draft.{Draft, empty, row_of, row_stated, part_for, with_bound, and_then, in_turn}
-use Rattle.fzn_row.specs.Multiples.{term_added, place_added, is_usable, form_added, multiple_added}
-use Rattle.fzn_row.specs.Prices.{entries_from, price_at, price_added, most_cost, priced_places, has_each_price, is_price, are_prices}
+use Rattle.fzn_row.specs.Multiples.{term_added, place_added, form_added, multiple_added}
+use Rattle.fzn_row.specs.Prices.{price_added}
 use Rattle.fzn_row.specs.Weights.{without_part}
-use Rattle.fzn_row.specs.Decided.{decider_in}
-use Rattle.fzn_row.specs.Moves.{decided_weight, moved_from, span, is_narrow, part_moved, decided_moved, part_moved_by}
-use Rattle.fzn_row.specs.Inverses.{raised_from, place_raised, places_raised, moved_back, place_in, inverse_moved}
+use Rattle.fzn_row.specs.Moves.{part_moved, decided_moved, part_moved_by}
+use Rattle.fzn_row.specs.Inverses.{place_raised, places_raised, moved_back, inverse_moved}
 use Rattle.fzn_row.specs.Derived.{item_added, drafted, IsDerivedRow}
-use Rattle.fzn_row.proofs.PriceLemmas.{both_true, length-entries}
-use Rattle.fzn_row.proofs.MoveLemmas.{length-moved}
-use Rattle.fzn_row.proofs.DecidedSound.{decided-variables}
-use Rattle.fzn_row.proofs.InverseLemmas.{length-raised}
 use Rattle.fzn_row.proofs.InversesSound.{place-variable}
 use Rattle.fzn_row.proofs.PricesSound.{places-formed}
 use Rattle.fzn_row.proofs.DraftSound.{no_error, then-both, turn-keeps, table_parts}
@@ -85,8 +90,8 @@ module _ (given : List Constraint) (count : ℕ) where
 module _ (given : List Constraint) (count : ℕ) (low : ℤ) (prices : List ℤ) (priced : are_prices low prices ≡ true) where
   limits : (unsigned_abs low ≤ 1000000000) × (length prices ≤ 65536)
   limits =
-      let first = both_true (nat_le (unsigned_abs low) 1000000000 && nat_le (length prices) 65536) (list_all is_price prices) priced in
-      let second = both_true (nat_le (unsigned_abs low) 1000000000) (nat_le (length prices) 65536) first.0 in
+      let first = and_parts (nat_le (unsigned_abs low) 1000000000 && nat_le (length prices) 65536) (list_all is_price prices) priced in
+      let second = and_parts (nat_le (unsigned_abs low) 1000000000) (nat_le (length prices) 65536) first.0 in
       (few_of (unsigned_abs low) 1000000000 second.0, few_of (length prices) 65536 second.1)
 
   price-formed : (place : Term) → IsTerm count place → (before next : Draft) → IsFormed given count before → price_added low prices before place ≡ Ok next → IsFormed given count next
@@ -107,7 +112,7 @@ module _ (given : List Constraint) (declared : List IntSet) (low : ℤ) (prices 
   places-formed_with : (count : ℕ) (c : Constraint) (o : Option (List Term)) (draft after : Draft) (test : Bool) → (are_prices low prices && has_each_price declared low prices c) ≡ test → IfSome o (AreTerms count) → IsFormed given count draft
       → option_map_or (λ (places : List Term). cond test (and_then (in_turn (price_added low prices) draft places) (λ next. with_bound (next.bound +ℤ most_cost (length places) prices) next)) (Err NotDerived)) o (Err NotDerived) ≡ Ok after → IsFormed given count after
   places-formed_with count c None draft after test test_is fit formed is = absurd (no_error NotDerived after is)
-  places-formed_with count c (Some places) draft after true test_is fit formed is = priced-formed given count low prices (both_true (are_prices low prices) (has_each_price declared low prices c) test_is).0 places draft after fit.0 formed is
+  places-formed_with count c (Some places) draft after true test_is fit formed is = priced-formed given count low prices (and_parts (are_prices low prices) (has_each_price declared low prices c) test_is).0 places draft after fit.0 formed is
   places-formed_with count c (Some places) draft after false test_is fit formed is = absurd (no_error NotDerived after is)
 
   maybe_prices-formed : (count : ℕ) (o : Option Constraint) (draft after : Draft) → IfSome o (IsWellFormedConstraint count) → IsFormed given count draft

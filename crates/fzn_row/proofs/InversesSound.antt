@@ -19,14 +19,17 @@ use Rattle.fzn_cited.specs.declared.fault.DeriveFault.{DeriveFault}
 use Rattle.fzn_cited.specs.declared.fault.DeriveFault.TheVariants.{NotDerived}
 use Rattle.fzn_meaning.specs.declared.row.VariablePart.{VariablePart}
 use Rattle.fzn_meaning.specs.Separable.{entry_in, listed_at, weighed, weight_at, RowHolds}
+use Rattle.fzn_dependence.specs.Decided.{is_place_of}
+use Rattle.fzn_weights.specs.Weights.{both_weights}
+use Rattle.fzn_weights.specs.Inverses.{raised_entry, raised_from, place_in}
+use Rattle.fzn_weights.proofs.InverseLemmas.{raised-at}
 use Rattle.fzn_row.specs.Draft.{Draft, row_of, part_for, with_bound}
-use Rattle.fzn_row.specs.Weights.{both_weights, without_part}
-use Rattle.fzn_row.specs.Inverses.{raised_entry, raised_from, place_raised, places_raised, moved_back, is_place_of, place_in, inverse_moved}
+use Rattle.fzn_row.specs.Weights.{without_part}
+use Rattle.fzn_row.specs.Inverses.{place_raised, places_raised, moved_back, inverse_moved}
 use Rattle.fzn_row.proofs.PartLemmas.{var-part_for}
 use Rattle.fzn_row.proofs.DraftSound.{Exceeds, exceeds-same, exceeds-holds, holds-exceeds, bound-exceeds, then-both, no_error}
 use Rattle.fzn_row.proofs.PricesSound.{dearer, list-exceeds, entry_at-get}
 use Rattle.fzn_row.proofs.WeightsSound.{both-some, taken-exceeds, whole}
-use Rattle.fzn_row.proofs.InverseLemmas.{raised-at}
 
 -- a place with this value weighs so much more: what is added to the one value, and nothing at any other
 record IsGain (value : ℤ) (more : Option ℤ) (at gain : ℤ) : Type 0 where

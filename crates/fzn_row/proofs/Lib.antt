@@ -1,19 +1,16 @@
-mod CostLemmas
-mod DecidedLemmas
-pub mod DecidedSound
 pub mod DerivedSound
 mod DraftSound
 mod FormedLemmas
 pub mod FormedSound
 mod IntLemmas
 mod InverseLemmas
+mod InverseTerms
 mod InversesSound
 mod ListLemmas
 mod MoveLemmas
 mod MovesSound
 mod MultiplesSound
 mod PartLemmas
-mod PriceLemmas
 mod PricesSound
 mod TableLemmas
 mod TableRowLemmas

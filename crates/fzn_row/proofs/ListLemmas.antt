@@ -1,21 +1,21 @@
 -- A list for a variable, written at the place of its part.
-use Rattle.std.proofs.Common.{◌≡◌, ℕ, ◌-◌, ◌<◌, ◌≤◌, ◌⊎◌, Bool, true, false, cond, ◌&&◌, nat_le, List, [], ◌∷◌, length, set, refl, sym, ap, ◌∙◌, subst, inl, inr, arith, ℤ, unsigned_abs, Option, Some, None, IfSome, Result, Ok, Err, All}
+use Rattle.std.proofs.Common.{◌≡◌, ℕ, ◌-◌, ◌<◌, ◌≤◌, ◌⊎◌, Bool, true, false, cond, ◌&&◌, nat_le, List, length, set, refl, sym, ap, ◌∙◌, subst, inl, inr, arith, ℤ, unsigned_abs, Option, Some, Result, Ok, Err}
 use Rattle.std.specs.List.{list_all}
 use Rattle.std.proofs.lemmas.Int.{ints}
 use Rattle.std.proofs.lemmas.Bool.Decides.{nat_tests}
-use Rattle.std.proofs.lemmas.List.Elements.{All-nil, All-cons}
 use Rattle.fzn_domain.specs.declared.literal.VarId.{VarId}
 use Rattle.fzn_domain.specs.Limits.{IsInLimits}
 use Rattle.fzn_cited.specs.declared.fault.DeriveFault.{DeriveFault}
 use Rattle.fzn_cited.specs.declared.fault.DeriveFault.TheVariants.{Memory, NotDerived}
 use Rattle.fzn_meaning.specs.declared.row.VariablePart.{VariablePart}
-use Rattle.fzn_meaning.specs.Separable.{IsWithinLimit, IsVariablePart}
+use Rattle.fzn_meaning.specs.Separable.{IsVariablePart}
+use Rattle.fzn_weights.specs.Limits.{is_entry_within}
+use Rattle.fzn_weights.proofs.ListLemmas.{entries-within}
 use Rattle.fzn_row.specs.declared.room.BegunTable.{BegunTable}
-use Rattle.fzn_row.specs.Draft.{Draft, part_for, with_part, is_row_number}
-use Rattle.fzn_row.specs.Prices.{is_entry_within, with_list}
+use Rattle.fzn_row.specs.Draft.{Draft, part_for, with_part}
+use Rattle.fzn_row.specs.Prices.{with_list}
 use Rattle.fzn_row.specs.Room.{IsPlaceOfPart}
 use Rattle.fzn_row.proofs.PartLemmas.{var-part_for}
-use Rattle.fzn_row.proofs.PriceLemmas.{both_true}
 
 abbrev pub listed_with : VariablePart → ℤ → List (Option ℤ) → VariablePart
 listed_with part low entries = record part { listed = Some (record { low = low; weights = entries }) }
@@ -48,19 +48,6 @@ with_list-outside var draft low entries fault (inr (is, outside)) = inr (rw is (
     refused : (a b : Bool) (made : Result Draft DeriveFault) → b ≡ false → cond (a && b) made (Err NotDerived) ≡ Err NotDerived
     refused true b made outside = rw outside refl
     refused false b made outside = refl
-
-entry_within : (entry : Option ℤ) → is_entry_within entry ≡ true → IfSome entry IsWithinLimit
-entry_within None h = tt
-entry_within (Some w) h = within_limit w h
-  where
-    within_limit : (n : ℤ) → is_row_number n ≡ true → IsWithinLimit n
-    within_limit n h = grind (arith, nat_tests)
-
-pub entries-within : (entries : List (Option ℤ)) → list_all is_entry_within entries ≡ true → All (λ (entry : Option ℤ). IfSome entry IsWithinLimit) entries
-entries-within [] h = All-nil (λ (entry : Option ℤ). IfSome entry IsWithinLimit)
-entries-within (entry ∷ entries) h =
-    let parts = both_true (is_entry_within entry) (list_all is_entry_within entries) h in
-    All-cons (λ (entry : Option ℤ). IfSome entry IsWithinLimit) entry entries (entry_within entry parts.0) (entries-within entries parts.1)
 
 in_limits : (low : ℤ) → unsigned_abs low ≤ 1000000000 → IsInLimits low
 in_limits low h = (grind (arith, ints), grind (arith, ints))

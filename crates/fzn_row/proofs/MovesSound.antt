@@ -15,17 +15,19 @@ use Rattle.fzn_cited.specs.Cited.{constraint_at}
 use Rattle.fzn_cited.proofs.CitedLemmas.{each_at}
 use Rattle.fzn_meaning.specs.declared.row.VariablePart.{VariablePart}
 use Rattle.fzn_meaning.specs.Separable.{entry_in, listed_at, weighed, weight_at, RowHolds}
+use Rattle.fzn_dependence.specs.Decided.{decider_in, decided_in}
+use Rattle.fzn_dependence.proofs.DecidedSound.{decided-value, decided-variables}
+use Rattle.fzn_weights.specs.Weights.{both_weights}
+use Rattle.fzn_weights.specs.Moves.{weight_within, decided_weight, moved_from, span, is_narrow}
+use Rattle.fzn_weights.proofs.MoveLemmas.{moved-at}
 use Rattle.fzn_row.specs.Draft.{Draft, row_of, part_for}
-use Rattle.fzn_row.specs.Weights.{both_weights, without_part}
-use Rattle.fzn_row.specs.Decided.{decider_in, decided_in}
-use Rattle.fzn_row.specs.Moves.{weight_within, decided_weight, moved_from, span, is_narrow, part_moved, decided_moved, part_moved_by, move_added}
+use Rattle.fzn_row.specs.Weights.{without_part}
+use Rattle.fzn_row.specs.Moves.{part_moved, decided_moved, part_moved_by, move_added}
 use Rattle.fzn_row.proofs.PartLemmas.{var-part_for}
 use Rattle.fzn_row.proofs.DraftSound.{Exceeds, exceeds-same, exceeds-holds, holds-exceeds, no_error}
 use Rattle.fzn_row.proofs.PricesSound.{dearer, list-exceeds, member}
-use Rattle.fzn_row.proofs.MoveLemmas.{moved-at}
 use Rattle.fzn_row.proofs.WeightsSound.{both-some, taken-exceeds, whole}
 use Rattle.fzn_row.proofs.InversesSound.{inverse-sound}
-use Rattle.fzn_row.proofs.DecidedSound.{decided-value, decided-variables}
 
 -- a number lies so far behind the first of so many
 pub record IsPlaced (low : ℤ) (count : ℕ) (value : ℤ) : Type 0 where

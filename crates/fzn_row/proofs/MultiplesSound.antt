@@ -25,9 +25,11 @@ use Rattle.fzn_cited.specs.declared.fault.DeriveFault.TheVariants.{NoSuchConstra
 use Rattle.fzn_cited.specs.Cited.{constraint_at}
 use Rattle.fzn_cited.proofs.CitedLemmas.{each_at}
 use Rattle.fzn_meaning.specs.Separable.{RowHolds}
+use Rattle.fzn_dependence.proofs.IntLemmas.{times_plus}
+use Rattle.fzn_weights.specs.Multiples.{may_multiply, is_usable}
 use Rattle.fzn_row.specs.Draft.{Draft, row_of, with_bound, in_turn}
-use Rattle.fzn_row.specs.Multiples.{term_added, place_added, may_multiply, is_usable, form_added, multiple_added}
-use Rattle.fzn_row.proofs.IntLemmas.{times_le, times_plus, times_times}
+use Rattle.fzn_row.specs.Multiples.{term_added, place_added, form_added, multiple_added}
+use Rattle.fzn_row.proofs.IntLemmas.{times_le, times_times}
 use Rattle.fzn_row.proofs.DraftSound.{Exceeds, exceeds-same, exceeds-holds, holds-exceeds, bound-exceeds, coefficient-exceeds, no_error, then-both, turn-keeps}
 
 -- ---- places

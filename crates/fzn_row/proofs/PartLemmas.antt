@@ -10,8 +10,9 @@ use Rattle.fzn_meaning.specs.declared.row.Listed.{Listed}
 use Rattle.fzn_meaning.specs.declared.row.VariablePart.{VariablePart}
 use Rattle.fzn_meaning.specs.Separable.{IsCoefficient, IsWeightList, IsVariablePart}
 use Rattle.fzn_cited.specs.declared.fault.DeriveFault.{DeriveFault}
+use Rattle.fzn_weights.specs.Limits.{is_coefficient}
 use Rattle.fzn_row.specs.declared.room.BegunTable.{BegunTable}
-use Rattle.fzn_row.specs.Draft.{Draft, blank_part, part_for, with_part, is_coefficient, with_coefficient}
+use Rattle.fzn_row.specs.Draft.{Draft, blank_part, part_for, with_part, with_coefficient}
 use Rattle.fzn_row.specs.Room.{AreFound, IsAbsent, IsPlaceOfPart}
 
 -- the first part of the variable stands at this place

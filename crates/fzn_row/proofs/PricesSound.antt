@@ -4,7 +4,7 @@ use Rattle.std.specs.List.{list_all}
 use Rattle.std.specs.Option.{option_map, option_map_or}
 use Rattle.std.specs.Ordering.{int_eq}
 use Rattle.std.proofs.lemmas.Int.{ints}
-use Rattle.std.proofs.lemmas.Bool.{eqb-true}
+use Rattle.std.proofs.lemmas.Bool.{eqb-true, and_parts}
 use Rattle.std.proofs.lemmas.Bool.Decides.{Decides-int_eq}
 use Rattle.std.proofs.lemmas.List.{get_or_default}
 use Rattle.std.proofs.lemmas.List.Elements.{All-head, All-tail, All-nil, All-cons}
@@ -30,13 +30,14 @@ use Rattle.fzn_meaning.specs.declared.row.Listed.{Listed}
 use Rattle.fzn_meaning.specs.declared.row.Part.TheVariants as kind
 use Rattle.fzn_meaning.specs.declared.row.VariablePart.{VariablePart}
 use Rattle.fzn_meaning.specs.Separable.{entry_in, listed_at, weighed, weight_of, RowHolds}
+use Rattle.fzn_weights.specs.Prices.{price_in, price_at, entries_from, most_cost, priced_places, is_term_within, has_each_price, are_prices}
+use Rattle.fzn_weights.specs.Limits.{is_entry_within}
+use Rattle.fzn_weights.proofs.CostLemmas.{HasPrice, cost_of, cost-most}
 use Rattle.fzn_row.specs.Draft.{Draft, row_of, part_for, with_part, with_bound, and_then, in_turn}
-use Rattle.fzn_row.specs.Prices.{price_in, price_at, entries_from, is_entry_within, with_list, price_added, most_cost, priced_places, is_term_within, has_each_price, are_prices, prices_added}
+use Rattle.fzn_row.specs.Prices.{with_list, price_added, prices_added}
 use Rattle.fzn_row.proofs.PartLemmas.{var-part_for}
-use Rattle.fzn_row.proofs.PriceLemmas.{both_true}
 use Rattle.fzn_row.proofs.ListLemmas.{listed_with}
 use Rattle.fzn_row.proofs.DraftSound.{some_of, part-weight, put-weight, Exceeds, exceeds-same, exceeds-holds, holds-exceeds, bound-exceeds, kept, no_error, then-both}
-use Rattle.fzn_row.proofs.CostLemmas.{HasPrice, cost_of, cost-most}
 
 pub places-formed : (count : ℕ) (c : Constraint) → IsWellFormedConstraint count c → IfSome (priced_places c) (AreTerms count)
 unfolding IsWellFormedConstraint
@@ -177,20 +178,20 @@ module _ (declared : List IntSet) (values : List ℤ) (within : IsWithin declare
       let v = value_of values var in
       let high : ℤ = low +ℤ pos count -ℤ pos 1 in
       let here = member declared values within var variable in
-      let ends = both_true (int_le low (least set)) (int_le (greatest set) high) test in
+      let ends = and_parts (int_le low (least set)) (int_le (greatest set) high) test in
       price-between low v count (le_both low (least set) v (le_is low (least set) ends.0) (least_le set v here)) (le_both v (greatest set) high (le_greatest set v here) (le_is (greatest set) high ends.1))
   set-priced low count var false false variable is test all = absurd (cc)
 
   term-priced : (low : ℤ) (count : ℕ) (term : Term) → IsTerm (length declared) term → is_term_within declared low (low +ℤ pos count -ℤ pos 1) term ≡ true → HasPrice low count (term_value values term)
   term-priced low count (Constant k) formed test =
-      let ends = both_true (int_le low k) (int_le k (low +ℤ pos count -ℤ pos 1)) test in
+      let ends = and_parts (int_le low k) (int_le k (low +ℤ pos count -ℤ pos 1)) test in
       price-between low k count (le_is low k ends.0) (le_is k (low +ℤ pos count -ℤ pos 1) ends.1)
   term-priced low count (Variable var) formed test = set-priced low count var _ _ formed refl refl test
 
   terms-priced : (low : ℤ) (count : ℕ) (places : List Term) → All (IsTerm (length declared)) places → list_all (is_term_within declared low (low +ℤ pos count -ℤ pos 1)) places ≡ true → All (HasPrice low count) (values_of values places)
   terms-priced low count [] formed test = All-nil (HasPrice low count)
   terms-priced low count (place ∷ places) formed test =
-      let parts = both_true (is_term_within declared low (low +ℤ pos count -ℤ pos 1) place) (list_all (is_term_within declared low (low +ℤ pos count -ℤ pos 1)) places) test in
+      let parts = and_parts (is_term_within declared low (low +ℤ pos count -ℤ pos 1) place) (list_all (is_term_within declared low (low +ℤ pos count -ℤ pos 1)) places) test in
       All-cons (HasPrice low count) (term_value values place) (values_of values places)
       (term-priced low count place (All-head (IsTerm (length declared)) place places formed) parts.0)
       (terms-priced low count places (All-tail (IsTerm (length declared)) place places formed) parts.1)
@@ -220,7 +221,7 @@ AreSpread low count xs = IsAllDifferent xs × All (HasPrice low count) xs
 
 indices-priced : (low : ℤ) (count n : ℕ) (xs : List ℤ) → (int_eq low (pos 1) && nat_eq count n) ≡ true → All (IsIndex n) xs → All (HasPrice low count) xs
 indices-priced low count n xs test indices =
-    let parts = both_true (int_eq low (pos 1)) (nat_eq count n) test in
+    let parts = and_parts (int_eq low (pos 1)) (nat_eq count n) test in
     λ k d inside. index-priced low count n ((Decides-int_eq low (pos 1)).0 parts.0) (eqb-true count n parts.1) (get_or xs k d) (indices k d inside)
 
 places-spread : (declared : List IntSet) (values : List ℤ) (low : ℤ) (prices : List ℤ) (c : Constraint) → IsWithin declared values → IsWellFormedConstraint (length declared) c → Meets c values → has_each_price declared low prices c ≡ true
@@ -242,7 +243,7 @@ module _ (declared : List IntSet) (values : List ℤ) (within : IsWithin declare
       → option_map_or (λ (places : List Term). cond test (and_then (in_turn (price_added low prices) draft places) (λ next. with_bound (next.bound +ℤ most_cost (length places) prices) next)) (Err NotDerived)) o (Err NotDerived) ≡ Ok after → RowHolds (row_of after) values
   places-sound c None draft after test test_is spread before is = absurd (no_error NotDerived after is)
   places-sound c (Some places) draft after true test_is spread before is =
-      let there = spread (both_true (are_prices low prices) (has_each_price declared low prices c) test_is).1 in
+      let there = spread (and_parts (are_prices low prices) (has_each_price declared low prices c) test_is).1 in
       priced-sound values low prices places draft after there.0 there.1 before is
   places-sound c (Some places) draft after false test_is spread before is = absurd (no_error NotDerived after is)
 

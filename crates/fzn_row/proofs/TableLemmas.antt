@@ -1,11 +1,9 @@
--- The parts of tables among others, and what their rows weigh, one more at a time.
-use Rattle.std.proofs.Common.{◌≡◌, ◌≢◌, ℕ, zero, suc, ◌+◌, ◌*◌, ◌/◌, ◌%◌, ◌<◌, ◌≤◌, Bool, true, false, cond, eqb, ◌&&◌, List, [], ◌∷◌, ◌++◌, length, get_or, set, take, drop, refl, sym, ap, ◌∙◌, subst, inl, inr, arith, ℤ, pos, ◌-ℤ◌, Option, None, Some, IfSome, Result, Ok, Err, All}
+-- The parts of tables among others.
+use Rattle.std.proofs.Common.{◌≡◌, ◌≢◌, ℕ, zero, suc, ◌%◌, ◌<◌, ◌≤◌, Bool, true, false, cond, eqb, List, [], ◌∷◌, ◌++◌, length, get_or, set, refl, sym, ap, ◌∙◌, subst, inl, inr, arith, ℤ, pos, ◌-ℤ◌, Option, None, Some, Result, Ok, Err, All}
 use Rattle.std.specs.List.{list_all}
 use Rattle.std.specs.Option.{option_map_or}
 use Rattle.std.proofs.lemmas.Bool.{eq-eqb, ne_eqb, eqb-false, cases_eq}
-use Rattle.std.proofs.Math.Numerals.{add-one}
-use Rattle.std.proofs.lemmas.Nat.{div-add-mod'}
-use Rattle.std.proofs.lemmas.List.{get_or-drop, drop-drop, drop_more, take_more, get_or_push, get_or_default, get_or_append_left, get_or-set_same, get_or-set_other, length_push, length-set, length-take}
+use Rattle.std.proofs.lemmas.List.{get_or_push, get_or_default, get_or_append_left, get_or-set_same, get_or-set_other, length_push, length-set}
 use Rattle.std.proofs.lemmas.List.Elements.{All-nil, All-cons, All-head, All-tail, All-set, All-push}
 use Rattle.fzn_domain.specs.declared.literal.VarId.{VarId}
 use Rattle.fzn_domain.specs.IntSet.{IntSet, least}
@@ -16,22 +14,22 @@ use Rattle.fzn_cited.specs.declared.fault.DeriveFault.{DeriveFault}
 use Rattle.fzn_cited.specs.declared.fault.DeriveFault.TheVariants.{NotDerived}
 use Rattle.fzn_meaning.specs.declared.term.Term.{Term}
 use Rattle.fzn_meaning.specs.declared.term.Term.TheVariants as term
-use Rattle.fzn_meaning.specs.declared.row.Listed.{Listed}
 use Rattle.fzn_meaning.specs.declared.row.VariablePart.{VariablePart}
 use Rattle.fzn_meaning.specs.declared.row.TablePart.{TablePart}
 use Rattle.fzn_meaning.specs.declared.constraint.Constraint.{Constraint}
 use Rattle.fzn_meaning.specs.declared.constraint.Constraint.TheVariants as constraint
 use Rattle.fzn_meaning.specs.Meaning.{IsWellFormedConstraint, AreTerms}
-use Rattle.fzn_meaning.specs.Term.{IsTerm}
-use Rattle.fzn_meaning.specs.Separable.{weight_at, IsWithinLimit, IsTablePart}
+use Rattle.fzn_meaning.specs.Separable.{weight_at, IsTablePart}
+use Rattle.fzn_weights.specs.Prices.{price_at}
+use Rattle.fzn_weights.specs.Limits.{is_entry_within}
+use Rattle.fzn_weights.specs.Moves.{moved_from, span, is_narrow}
+use Rattle.fzn_weights.specs.Tables.{blank_table, row_count, part_raised}
 use Rattle.fzn_row.specs.declared.room.BegunTable.{BegunTable}
 use Rattle.fzn_row.specs.Draft.{Draft, blank_part, part_for, with_part, and_then}
-use Rattle.fzn_row.specs.Prices.{price_at, is_entry_within, with_list}
-use Rattle.fzn_row.specs.Weights.{both_weights, without_part}
-use Rattle.fzn_row.specs.Moves.{moved_from, span, is_narrow}
-use Rattle.fzn_row.specs.Tables.{may_be, is_declared_row, blank_weights, blank_table, row_count, table_of, with_table, table_begun, weights_spent, weights_raised, part_raised, table_raised, term_lowered, part_to_rows}
+use Rattle.fzn_row.specs.Prices.{with_list}
+use Rattle.fzn_row.specs.Weights.{without_part}
+use Rattle.fzn_row.specs.Tables.{table_of, with_table, table_begun, weights_spent, table_raised, term_lowered, part_to_rows}
 use Rattle.fzn_row.specs.Room.{AreBegun, IsPlaceOfTable}
-use Rattle.fzn_row.proofs.ListLemmas.{entries-within}
 
 -- ---- where the part of a table stands
 
@@ -149,138 +147,10 @@ begun-set count slots tables place new inside same formed begun = record {
       ];
 }
 
--- ---- blank parts
-
-none_of : (n : ℕ) → 0 ≡ 0 * n
-none_of n = omega arith
-
-drop-none : (rows : List ℤ) → drop 0 rows ≡ rows
-drop-none [] = refl
-drop-none (row ∷ rows) = refl
-
-start_of : (k n : ℕ) → n + k * n ≡ suc k * n
-start_of k n = omega arith
-
-module _ (declared : List IntSet) (places : List Term) where
-  abbrev pub Blank : List ℤ → Option ℤ
-  Blank rows = cond (is_declared_row declared places rows) (Some (pos 0)) None
-
-  pub length-blank : (rows : List ℤ) (count : ℕ) → length (blank_weights declared places rows count) ≡ count
-  length-blank rows zero = refl
-  length-blank rows (suc count) = ap (λ (n : ℕ). suc n) (length-blank (drop (length places) rows) count)
-
-  pub blank-within : (rows : List ℤ) (count : ℕ) → All (λ (entry : Option ℤ). IfSome entry IsWithinLimit) (blank_weights declared places rows count)
-  blank-within rows zero = All-nil (λ (entry : Option ℤ). IfSome entry IsWithinLimit)
-  blank-within rows (suc count) = All-cons (λ (entry : Option ℤ). IfSome entry IsWithinLimit) (Blank rows) _ (one (is_declared_row declared places rows)) (blank-within (drop (length places) rows) count)
-    where
-      one : (test : Bool) → IfSome (cond test (Some (pos 0)) None) IsWithinLimit
-      one true = omega arith
-      one false = tt
-
-  blank-push : (rows : List ℤ) (count : ℕ) → blank_weights declared places rows (suc count) ≡ blank_weights declared places rows count ++ Blank (drop (count * length places) rows) ∷ []
-  blank-push rows zero = ap (λ (ys : List ℤ). Blank ys ∷ []) (sym (drop-none rows)) ∙ ap (λ (n : ℕ). Blank (drop n rows) ∷ []) (none_of (length places))
-  blank-push rows (suc count) =
-      ap (λ (es : List (Option ℤ)). Blank rows ∷ es) (blank-push (drop (length places) rows) count
-      ∙ ap (λ (ys : List ℤ). blank_weights declared places (drop (length places) rows) count ++ Blank ys ∷ []) (drop-drop (count * length places) (length places) rows ∙ ap (λ (n : ℕ). drop n rows) (start_of count (length places))))
-
-  pub blank-more : (rows : List ℤ) (count : ℕ) (entry : Option ℤ) → entry ≡ Blank (drop (count * length places) rows) → blank_weights declared places rows (count + 1) ≡ blank_weights declared places rows count ++ entry ∷ []
-  blank-more rows count entry is =
-      ap (blank_weights declared places rows) (add-one count) ∙ blank-push rows count
-      ∙ ap (λ (e : Option ℤ). blank_weights declared places rows count ++ e ∷ []) (sym is)
-
-  -- from one entry of a row to the next
-  declared-at : (i start : ℕ) (numbers : List ℤ) (d : Term) → i < length places → start + i < length numbers
-      → is_declared_row declared (drop i places) (drop (start + i) numbers) ≡ (may_be declared (get_or places i d) (get_or numbers (start + i) (pos 0)) && is_declared_row declared (drop (i + 1) places) (drop (start + i + 1) numbers))
-  declared-at i start numbers d inside there =
-      ap (λ (ps : List Term). is_declared_row declared ps (drop (start + i) numbers)) (drop_more places i d inside)
-      ∙ ap (is_declared_row declared (get_or places i d ∷ drop (i + 1) places)) (drop_more numbers (start + i) (pos 0) there)
-
-  pub declared-on : (i start : ℕ) (numbers : List ℤ) (d : Term) → i < length places → start + i < length numbers → may_be declared (get_or places i d) (get_or numbers (start + i) (pos 0)) ≡ true
-      → is_declared_row declared (drop i places) (drop (start + i) numbers) ≡ is_declared_row declared (drop (i + 1) places) (drop (start + (i + 1)) numbers)
-  declared-on i start numbers d inside there may =
-      declared-at i start numbers d inside there ∙ ap (λ (b : Bool). b && is_declared_row declared (drop (i + 1) places) (drop (start + i + 1) numbers)) may
-      ∙ ap (λ (n : ℕ). is_declared_row declared (drop (i + 1) places) (drop n numbers)) (on start i)
-    where
-      on : (a b : ℕ) → a + b + 1 ≡ a + (b + 1)
-      on a b = omega arith
-
-  pub declared-off : (i start : ℕ) (numbers : List ℤ) (d : Term) → i < length places → start + i < length numbers → may_be declared (get_or places i d) (get_or numbers (start + i) (pos 0)) ≡ false
-      → is_declared_row declared (drop i places) (drop (start + i) numbers) ≡ false
-  declared-off i start numbers d inside there may =
-      declared-at i start numbers d inside there ∙ ap (λ (b : Bool). b && is_declared_row declared (drop (i + 1) places) (drop (start + i + 1) numbers)) may
-
--- whole rows
-whole_rows : (n d : ℕ) → n % d ≡ 0 → n / d * d ≡ n
-whole_rows n d whole = let e = div-add-mod' n d in omega arith
-
-pub blank-formed : (declared : List IntSet) (places : List Term) (rows : List ℤ) (n : ℕ) → All (IsTerm n) places → 0 < length places → All IsInLimits rows → length rows ≤ longest → length rows % length places ≡ 0 → IsTablePart n (blank_table declared places rows)
-blank-formed declared places rows n terms some numbers few whole = record {
-  places = terms;
-  some = some;
-  numbers = numbers;
-  few = few;
-  one_each = ap (λ (m : ℕ). m * length places) (length-blank declared places rows (row_count places rows)) ∙ whole_rows (length rows) (length places) whole;
-  weights = blank-within declared places rows (row_count places rows);
-}
-
 -- what is well formed of a table
 pub table-formed : (n : ℕ) (c : Constraint) (places : List Term) (rows : List ℤ) → c ≡ constraint.Table places rows → IsWellFormedConstraint n c → AreTerms n places × (0 < length places) × All IsInLimits rows × (length rows ≤ longest) × (length rows % length places ≡ 0)
 unfolding IsWellFormedConstraint
 table-formed n c places rows is well = subst (IsWellFormedConstraint n) is well
-
--- ---- weights that are raised
-
-module _ (more : ℤ → Option ℤ) (column width : ℕ) where
-  abbrev pub RaisedBy : Option ℤ → List ℤ → ℕ → Option ℤ
-  RaisedBy weight rows place = both_weights weight (more (get_or rows place (pos 0)))
-
-  pub length-weights : (rows : List ℤ) (weights : List (Option ℤ)) → length (weights_raised more column width rows weights) ≡ length weights
-  length-weights rows [] = refl
-  length-weights rows (weight ∷ weights) = ap (λ (n : ℕ). suc n) (length-weights (drop width rows) weights)
-
-  pub weights-at : (rows : List ℤ) (weights : List (Option ℤ)) (k : ℕ) → k < length weights → get_or (weights_raised more column width rows weights) k None ≡ RaisedBy (get_or weights k None) rows (k * width + column)
-  weights-at rows [] k inside = absurd (omega arith)
-  weights-at rows (weight ∷ weights) zero inside = ap (RaisedBy weight rows) (first column width)
-    where
-      first : (c w : ℕ) → c ≡ 0 * w + c
-      first c w = omega arith
-  weights-at rows (weight ∷ weights) (suc k) inside =
-      weights-at (drop width rows) weights k (omega arith)
-      ∙ ap (λ (entry : ℤ). both_weights (get_or weights k None) (more entry)) (get_or-drop width rows (k * width + column) (pos 0) ∙ ap (λ (n : ℕ). get_or rows n (pos 0)) (next k width column))
-    where
-      next : (k w c : ℕ) → w + (k * w + c) ≡ suc k * w + c
-      next k w c = omega arith
-
-  weights-push : (rows : List ℤ) (weights : List (Option ℤ)) (weight : Option ℤ) → weights_raised more column width rows (weights ++ weight ∷ []) ≡ weights_raised more column width rows weights ++ RaisedBy weight rows (length weights * width + column) ∷ []
-  weights-push rows [] weight = ap (λ (n : ℕ). RaisedBy weight rows n ∷ []) (first column width)
-    where
-      first : (c w : ℕ) → c ≡ 0 * w + c
-      first c w = omega arith
-  weights-push rows (w ∷ weights) weight =
-      ap (λ (es : List (Option ℤ)). RaisedBy w rows column ∷ es) (weights-push (drop width rows) weights weight
-      ∙ ap (λ (entry : ℤ). weights_raised more column width (drop width rows) weights ++ both_weights weight (more entry) ∷ []) (get_or-drop width rows (length weights * width + column) (pos 0) ∙ ap (λ (n : ℕ). get_or rows n (pos 0)) (next (length weights) width column)))
-    where
-      next : (k w c : ℕ) → w + (k * w + c) ≡ suc k * w + c
-      next k w c = omega arith
-
-  pub weights-more : (rows : List ℤ) (weights : List (Option ℤ)) (k : ℕ) (entry : Option ℤ) → k < length weights → entry ≡ RaisedBy (get_or weights k None) rows (k * width + column)
-      → weights_raised more column width rows (take (k + 1) weights) ≡ weights_raised more column width rows (take k weights) ++ entry ∷ []
-  weights-more rows weights k entry inside is =
-      let count : length (take k weights) ≡ k = omega (arith, length-take k weights) in
-      ap (weights_raised more column width rows) (take_more weights k None inside) ∙ weights-push rows (take k weights) (get_or weights k None)
-      ∙ ap (λ (n : ℕ). weights_raised more column width rows (take k weights) ++ RaisedBy (get_or weights k None) rows (n * width + column) ∷ []) count
-      ∙ ap (λ (e : Option ℤ). weights_raised more column width rows (take k weights) ++ e ∷ []) (sym is)
-
--- the part with other weights
-pub part-raised : (n : ℕ) (part : TablePart) (weights : List (Option ℤ)) → IsTablePart n part → length weights ≡ length part.weights → list_all is_entry_within weights ≡ true → IsTablePart n (record part { weights = weights })
-part-raised n part weights formed same within = record {
-  places = formed.places;
-  some = formed.some;
-  numbers = formed.numbers;
-  few = formed.few;
-  one_each = ap (λ (m : ℕ). m * length part.places) same ∙ formed.one_each;
-  weights = entries-within weights within;
-}
 
 -- ---- a part that goes to the rows
 
@@ -327,10 +197,6 @@ pub lowered-is : (declared : List IntSet) (low : ℤ) (prices : List ℤ) (draft
 lowered-is declared low prices draft var set is narrow =
     let list = λ (s : IntSet). with_list var draft (least s) (moved_from (λ value. Some (pos 0 -ℤ price_at low prices value)) (least s) (span s) (part_for var draft.parts).listed) in
     ap (λ (b : Bool). cond b (list set) (Err NotDerived)) (sym narrow) ∙ ap (λ (s : IntSet). cond (is_narrow s) (list s) (Err NotDerived)) is
-
--- the same, by other names
-pub moved_alike : (more : ℤ → Option ℤ) (low low' : ℤ) (count count' : ℕ) (old old' : Option Listed) → low ≡ low' → count ≡ count' → old ≡ old' → moved_from more low count old ≡ moved_from more low' count' old'
-moved_alike more low low' count count' old old' p q r = rw (p, q, r) refl
 
 -- ---- slots
 

@@ -17,9 +17,10 @@ use Rattle.fzn_meaning.proofs.CallerLemmas.{length-values_of}
 use Rattle.fzn_meaning.specs.declared.row.TablePart.{TablePart}
 use Rattle.fzn_meaning.specs.declared.row.Part.TheVariants.{Table}
 use Rattle.fzn_meaning.specs.Separable.{begins_with, row_weight, weight_of, total_weight}
+use Rattle.fzn_weights.specs.Weights.{both_weights}
+use Rattle.fzn_weights.specs.Tables.{may_be, is_declared_row, blank_weights, row_count, weights_raised}
 use Rattle.fzn_row.specs.declared.room.BegunTable.{BegunTable}
-use Rattle.fzn_row.specs.Weights.{both_weights}
-use Rattle.fzn_row.specs.Tables.{may_be, is_declared_row, blank_weights, table_of, with_table, row_count, weights_raised}
+use Rattle.fzn_row.specs.Tables.{table_of, with_table}
 use Rattle.fzn_row.proofs.DraftSound.{total-nil, total-table, some_is, amount_is, table_parts, NoneBarred}
 use Rattle.fzn_row.proofs.PricesSound.{member}
 

@@ -5,6 +5,7 @@ use Rattle.std.specs.Option.{option_map_or}
 use Rattle.std.proofs.lemmas.Int.{ints}
 use Rattle.std.proofs.lemmas.Nat.{div-add-mod'}
 use Rattle.std.proofs.lemmas.List.Elements.{All-nil, All-cons, All-push}
+use Rattle.std.proofs.lemmas.Bool.{and_parts}
 use Rattle.fzn_domain.specs.declared.literal.VarId.{VarId}
 use Rattle.fzn_domain.specs.IntSet.{IntSet, least, greatest}
 use Rattle.fzn_domain.specs.Narrow.{IsWithin, set_of, value_of}
@@ -25,19 +26,22 @@ use Rattle.fzn_cited.specs.declared.fault.DeriveFault.{DeriveFault}
 use Rattle.fzn_cited.specs.declared.fault.DeriveFault.TheVariants.{NoSuchConstraint, NotDerived}
 use Rattle.fzn_cited.specs.Cited.{constraint_at}
 use Rattle.fzn_cited.proofs.CitedLemmas.{each_at}
+use Rattle.fzn_weights.specs.Prices.{price_at, are_prices}
+use Rattle.fzn_weights.specs.Limits.{is_entry_within}
+use Rattle.fzn_weights.specs.Weights.{both_weights}
+use Rattle.fzn_weights.specs.Moves.{moved_from, span, is_narrow}
+use Rattle.fzn_weights.specs.Inverses.{place_in}
+use Rattle.fzn_weights.specs.Tables.{is_declared_row, blank_weights, row_count, blank_table, weights_raised, part_raised}
+use Rattle.fzn_weights.proofs.ListLemmas.{entries-within}
+use Rattle.fzn_weights.proofs.MoveLemmas.{length-moved}
 use Rattle.fzn_row.specs.declared.room.BegunTable.{BegunTable}
 use Rattle.fzn_row.specs.Draft.{Draft, row_of, part_for, and_then}
-use Rattle.fzn_row.specs.Prices.{price_at, is_entry_within, with_list, are_prices}
-use Rattle.fzn_row.specs.Weights.{both_weights, without_part}
-use Rattle.fzn_row.specs.Moves.{moved_from, span, is_narrow}
-use Rattle.fzn_row.specs.Inverses.{place_in}
-use Rattle.fzn_row.specs.Tables.{is_declared_row, blank_weights, table_of, with_table, row_count, blank_table, table_begun, weights_spent, weights_raised, part_raised, table_raised, term_lowered, column_priced, columns_priced, columns_added, part_to_rows, moved_to_rows, rows_added}
+use Rattle.fzn_row.specs.Prices.{with_list}
+use Rattle.fzn_row.specs.Weights.{without_part}
+use Rattle.fzn_row.specs.Tables.{table_of, with_table, table_begun, weights_spent, table_raised, term_lowered, column_priced, columns_priced, columns_added, part_to_rows, moved_to_rows, rows_added}
 use Rattle.fzn_row.proofs.PartLemmas.{var-part_for}
-use Rattle.fzn_row.proofs.PriceLemmas.{both_true}
-use Rattle.fzn_row.proofs.ListLemmas.{entries-within}
 use Rattle.fzn_row.proofs.DraftSound.{some_of, some_is, Exceeds, exceeds-same, exceeds-holds, holds-exceeds, bound-exceeds, kept, no_error, then-both}
 use Rattle.fzn_row.proofs.PricesSound.{list-exceeds, member}
-use Rattle.fzn_row.proofs.MoveLemmas.{length-moved}
 use Rattle.fzn_row.proofs.MovesSound.{IsPlaced, placed, moved-weight}
 use Rattle.fzn_row.proofs.WeightsSound.{taken-exceeds}
 use Rattle.fzn_row.proofs.InversesSound.{place-found, place-variable}
@@ -340,8 +344,8 @@ module _ (given : List Constraint) (declared : List IntSet) (id : ℕ) (places :
 
     column_within : column_test ≡ true → column - 1 < length places
     column_within test =
-        let second = both_true (are_prices low prices && nat_le 1 column) (nat_le column (length places)) test in
-        let first = both_true (are_prices low prices) (nat_le 1 column) second.0 in
+        let second = and_parts (are_prices low prices && nat_le 1 column) (nat_le column (length places)) test in
+        let first = and_parts (are_prices low prices) (nat_le 1 column) second.0 in
         let a = few_of 1 column first.1 in
         let b = few_of column (length places) second.1 in
         omega arith

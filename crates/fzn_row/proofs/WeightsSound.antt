@@ -6,8 +6,9 @@ use Rattle.fzn_domain.specs.declared.literal.VarId.{VarId}
 use Rattle.fzn_domain.specs.Narrow.{value_of}
 use Rattle.fzn_meaning.specs.declared.row.Part.TheVariants.{Variable}
 use Rattle.fzn_meaning.specs.Separable.{weight_at, weight_of}
+use Rattle.fzn_weights.specs.Weights.{both_weights}
 use Rattle.fzn_row.specs.Draft.{Draft, blank_part, part_for}
-use Rattle.fzn_row.specs.Weights.{both_weights, without_part}
+use Rattle.fzn_row.specs.Weights.{without_part}
 use Rattle.fzn_row.proofs.PartLemmas.{var-part_for}
 use Rattle.fzn_row.proofs.DraftSound.{some_of, part-weight, put-weight, blank_part-weight, Exceeds}
 

@@ -1,5 +1,5 @@
 -- A row in the making, and what is changed in it.
-use Rattle.std.specs.Prelude.{ℕ, ◌+◌, ℤ, pos, Bool, if◌then◌else◌, nat_eq, nat_le, unsigned_abs, List, [], ◌∷◌, ◌++◌, map, length, None, Result, Ok, Err}
+use Rattle.std.specs.Prelude.{ℕ, ◌+◌, ℤ, pos, if◌then◌else◌, nat_eq, nat_le, List, [], ◌∷◌, ◌++◌, map, length, None, Result, Ok, Err}
 use Rattle.fzn_list.specs.Limits.{longest}
 use Rattle.fzn_domain.specs.declared.literal.VarId.{VarId}
 use Rattle.fzn_cited.specs.declared.fault.DeriveFault.{DeriveFault}
@@ -7,6 +7,7 @@ use Rattle.fzn_cited.specs.declared.fault.DeriveFault.TheVariants.{NotDerived}
 use Rattle.fzn_meaning.specs.declared.row.VariablePart.{VariablePart}
 use Rattle.fzn_meaning.specs.declared.row.Part.TheVariants.{Variable, Table}
 use Rattle.fzn_meaning.specs.declared.row.Row.{Row}
+use Rattle.fzn_weights.specs.Limits.{is_row_number, is_coefficient}
 use Rattle.fzn_row.specs.declared.room.BegunTable.{BegunTable}
 
 -- its parts of variables and of tables and its bound, and how many weights may still be listed
@@ -36,18 +37,6 @@ part_for var (part ∷ parts) = if nat_eq part.var.0 var.0 then part else part_f
 abbrev pub with_part : VariablePart → List VariablePart → List VariablePart
 with_part new [] = new ∷ []
 with_part new (part ∷ parts) = if nat_eq part.var.0 new.var.0 then new ∷ parts else part ∷ with_part new parts
-
--- the number is within this limit
-abbrev pub is_number_within : ℕ → ℤ → Bool
-is_number_within limit number = nat_le (unsigned_abs number) limit
-
--- from -10^18 to 10^18
-abbrev pub is_row_number : ℤ → Bool
-is_row_number number = is_number_within 1000000000000000000 number
-
--- from -10^12 to 10^12
-abbrev pub is_coefficient : ℤ → Bool
-is_coefficient number = is_number_within 1000000000000 number
 
 -- the draft with another bound, or with another coefficient of the variable, unless that leaves the limits
 abbrev pub with_bound : ℤ → Draft → Result Draft DeriveFault

@@ -1,6 +1,5 @@
 -- The part of a place of an inverse, moved to the places of the other list.
-use Rattle.std.specs.Prelude.{ℕ, ◌+◌, ℤ, pos, ◌+ℤ◌, ◌-ℤ◌, zero, suc, Bool, false, if◌then◌else◌, nat_eq, nat_le, List, [], ◌∷◌, length, Option, Result, Ok, Err}
-use Rattle.std.specs.List.{position}
+use Rattle.std.specs.Prelude.{ℕ, ◌+◌, ℤ, pos, ◌+ℤ◌, ◌-ℤ◌, if◌then◌else◌, nat_le, List, [], ◌∷◌, length, Option, Result, Ok, Err}
 use Rattle.std.specs.Option.{option_map_or}
 use Rattle.std.specs.Ordering.{int_eq}
 use Rattle.fzn_domain.specs.declared.literal.VarId.{VarId}
@@ -8,21 +7,12 @@ use Rattle.fzn_meaning.specs.declared.term.Term.{Term}
 use Rattle.fzn_meaning.specs.declared.term.Term.TheVariants.{Constant, Variable}
 use Rattle.fzn_cited.specs.declared.fault.DeriveFault.{DeriveFault}
 use Rattle.fzn_cited.specs.declared.fault.DeriveFault.TheVariants.{NotDerived}
-use Rattle.fzn_meaning.specs.declared.row.Listed.{Listed}
 use Rattle.fzn_meaning.specs.declared.row.VariablePart.{VariablePart}
-use Rattle.fzn_meaning.specs.Separable.{listed_at, weight_at}
+use Rattle.fzn_meaning.specs.Separable.{weight_at}
+use Rattle.fzn_weights.specs.Inverses.{raised_from, place_in}
 use Rattle.fzn_row.specs.Draft.{Draft, part_for, with_bound, and_then}
 use Rattle.fzn_row.specs.Prices.{with_list}
-use Rattle.fzn_row.specs.Weights.{both_weights, without_part}
-
--- what is listed for a value, and so much more where it is the one that is raised
-abbrev pub raised_entry : Bool → Option ℤ → Option ℤ → Option ℤ
-raised_entry is_raised entry more = if is_raised then both_weights entry more else entry
-
--- for each of so many values from low on: what was listed for it, and for this one value so much more
-abbrev pub raised_from : ℤ → ℕ → ℤ → Option ℤ → Option Listed → List (Option ℤ)
-raised_from low zero value more old = []
-raised_from low (suc count) value more old = raised_entry (int_eq low value) (listed_at old low) more ∷ raised_from (low +ℤ pos 1) count value more old
+use Rattle.fzn_row.specs.Weights.{without_part}
 
 -- at a variable the value weighs so much more; a constant that is the value takes it from the bound, and no other constant does anything
 abbrev pub place_raised : ℕ → ℤ → Option ℤ → Draft → Term → Result Draft DeriveFault
@@ -39,14 +29,6 @@ places_raised part count value number draft (place ∷ places) =
 abbrev pub moved_back : VarId → Draft → List Term → ℕ → Result Draft DeriveFault
 moved_back var draft places place =
     if nat_le (length places) 65536 then places_raised (part_for var draft.parts) (length places) (pos (place + 1)) (pos 1) (without_part var draft) places else Err NotDerived
-
-abbrev pub is_place_of : VarId → Term → Bool
-is_place_of var (Constant k) = false
-is_place_of var (Variable other) = nat_eq other.0 var.0
-
--- the first place of the variable, counted from 0
-abbrev pub place_in : VarId → List Term → Option ℕ
-place_in var places = position (is_place_of var) places
 
 -- by its first place in the second list, or in the first where it has none there
 abbrev pub inverse_moved : VarId → Draft → List Term → List Term → Result Draft DeriveFault

@@ -1,6 +1,3 @@
-pub mod Amount
-pub mod Decided
-pub mod Dependence
 pub mod Derived
 pub mod Draft
 pub mod Inverses

@@ -1,10 +1,9 @@
 -- Tables: prices of the entries at a column, and the part of a variable, moved to the rows at which it stands.
-use Rattle.std.specs.Prelude.{ℕ, zero, suc, ◌-◌, ◌/◌, ℤ, pos, ◌+ℤ◌, ◌-ℤ◌, Bool, true, false, ◌&&◌, if◌then◌else◌, nat_eq, nat_le, List, [], ◌∷◌, ◌++◌, length, drop, slice_index_or, Option, None, Some, Result, Ok, Err}
+use Rattle.std.specs.Prelude.{ℕ, ◌-◌, ℤ, pos, ◌+ℤ◌, ◌-ℤ◌, ◌&&◌, if◌then◌else◌, nat_eq, nat_le, List, [], ◌∷◌, ◌++◌, length, slice_index_or, Option, None, Some, Result, Ok, Err}
 use Rattle.std.specs.List.{list_all}
 use Rattle.std.specs.Option.{option_map_or}
-use Rattle.std.specs.Ordering.{int_eq}
 use Rattle.fzn_domain.specs.declared.literal.VarId.{VarId}
-use Rattle.fzn_domain.specs.IntSet.{IntSet, contains, least}
+use Rattle.fzn_domain.specs.IntSet.{IntSet, least}
 use Rattle.fzn_domain.specs.Narrow.{set_of}
 use Rattle.fzn_meaning.specs.declared.term.Term.{Term}
 use Rattle.fzn_meaning.specs.declared.term.Term.TheVariants.{Constant, Variable}
@@ -15,36 +14,17 @@ use Rattle.fzn_cited.specs.declared.fault.DeriveFault.TheVariants.{NoSuchConstra
 use Rattle.fzn_cited.specs.Cited.{constraint_at}
 use Rattle.fzn_meaning.specs.declared.row.TablePart.{TablePart}
 use Rattle.fzn_meaning.specs.Separable.{weight_at}
+use Rattle.fzn_weights.specs.Prices.{price_at, are_prices}
+use Rattle.fzn_weights.specs.Limits.{is_entry_within}
+use Rattle.fzn_weights.specs.Inverses.{place_in}
+use Rattle.fzn_weights.specs.Moves.{moved_from, span, is_narrow}
+use Rattle.fzn_weights.specs.Tables.{row_count, blank_table, part_raised}
 use Rattle.fzn_row.specs.declared.room.BegunTable.{BegunTable}
 use Rattle.fzn_row.specs.Draft.{Draft, part_for, with_bound, and_then}
-use Rattle.fzn_row.specs.Prices.{price_at, is_entry_within, with_list, are_prices}
-use Rattle.fzn_row.specs.Weights.{both_weights, without_part}
-use Rattle.fzn_row.specs.Inverses.{place_in}
-use Rattle.fzn_row.specs.Moves.{moved_from, span, is_narrow}
+use Rattle.fzn_row.specs.Prices.{with_list}
+use Rattle.fzn_row.specs.Weights.{without_part}
 
 -- ---- the part of a table
-
--- the entry may be the value of the place
-abbrev pub may_be : List IntSet → Term → ℤ → Bool
-may_be declared (Constant k) entry = int_eq k entry
-may_be declared (Variable var) entry = contains (set_of declared var) entry
-
--- so of each entry of the row at the front
-abbrev pub is_declared_row : List IntSet → List Term → List ℤ → Bool
-is_declared_row declared [] row = true
-is_declared_row declared (place ∷ places) [] = false
-is_declared_row declared (place ∷ places) (entry ∷ row) = may_be declared place entry && is_declared_row declared places row
-
--- 0 for each of so many rows, and none for one that has an entry that its place may not have
-abbrev pub blank_weights : List IntSet → List Term → List ℤ → ℕ → List (Option ℤ)
-blank_weights declared places rows zero = []
-blank_weights declared places rows (suc count) = (if is_declared_row declared places rows then Some (pos 0) else None) ∷ blank_weights declared places (drop (length places) rows) count
-
-abbrev pub row_count : List Term → List ℤ → ℕ
-row_count places rows = length rows / length places
-
-abbrev pub blank_table : List IntSet → List Term → List ℤ → TablePart
-blank_table declared places rows = record { places = places; rows = rows; weights = blank_weights declared places rows (row_count places rows) }
 
 -- the part of the table of this number, where it has been begun
 abbrev pub table_of : ℕ → List BegunTable → Option TablePart
@@ -66,14 +46,6 @@ abbrev pub weights_spent : ℕ → Draft → Result Draft DeriveFault
 weights_spent count draft = if nat_le count draft.left then Ok (record draft { left = draft.left - count }) else Err NotDerived
 
 -- ---- what its rows weigh
-
--- for each row what was listed for it, and what more it weighs by its entry at the column, counted from 0
-abbrev pub weights_raised : (ℤ → Option ℤ) → ℕ → ℕ → List ℤ → List (Option ℤ) → List (Option ℤ)
-weights_raised more column width rows [] = []
-weights_raised more column width rows (weight ∷ weights) = both_weights weight (more (slice_index_or rows column (pos 0))) ∷ weights_raised more column width (drop width rows) weights
-
-abbrev pub part_raised : (ℤ → Option ℤ) → ℕ → TablePart → TablePart
-part_raised more column part = record part { weights = weights_raised more column (length part.places) part.rows part.weights }
 
 -- the draft in which the rows of the table weigh so much more, unless that leaves the limits
 abbrev pub table_raised : ℕ → (ℤ → Option ℤ) → ℕ → Draft → Result Draft DeriveFault

@@ -1,24 +1,24 @@
 // Parts that go from a place of an inverse to the places of the other list.
-ghost use Rattle.std.specs.Prelude.{◌≡◌, ◌⊎◌, ◌+◌, ◌*◌, ◌≤◌, ◌-ℤ◌, true, false, pos, length, unsigned_abs, IfOk, IfErr, IfSome, OnOk, Ok, Err};
-ghost use Rattle.std.specs.List.{All, list_all};
+ghost use Rattle.std.specs.Prelude.{◌≡◌, ◌⊎◌, ◌+◌, ◌*◌, ◌≤◌, ◌-ℤ◌, pos, length, unsigned_abs, IfErr, IfSome, OnOk, Ok, Err};
+ghost use Rattle.std.specs.List.{All};
 ghost use Rattle.std.specs.Option.{option_map_or};
 ghost use Rattle.fzn_list.specs.Limits.{longest};
 ghost use Rattle.fzn_domain.specs.Narrow.{IsVariable};
 ghost use Rattle.fzn_meaning.specs.Term.{IsTerm};
 ghost use Rattle.fzn_meaning.specs.Meaning.{AreTerms};
 ghost use Rattle.fzn_cited.specs.declared.fault.DeriveFault.TheVariants.{Memory, NotDerived};
-ghost use Rattle.fzn_meaning.specs.Separable.{IsWeightList, IsCoefficient, IsWithinLimit};
+ghost use Rattle.fzn_meaning.specs.Separable.{IsWeightList, IsCoefficient};
+ghost use Rattle.fzn_weights.specs.Inverses.{raised_from};
 ghost use Rattle.fzn_row.specs.Draft.{part_for, with_bound};
-ghost use Rattle.fzn_row.specs.Prices.{is_entry_within, with_list};
-ghost use Rattle.fzn_row.specs.Inverses.{raised_entry, raised_from, place_raised, places_raised, moved_back, is_place_of, place_in, inverse_moved};
+ghost use Rattle.fzn_row.specs.Prices.{with_list};
+ghost use Rattle.fzn_row.specs.Inverses.{place_raised, places_raised, moved_back, inverse_moved};
 ghost use Rattle.fzn_row.specs.Room.{draft_of, room_size, IsRoom};
 
-use crate::moves::{MOST_TARGETS, plus};
 use crate::room::RowDeriver;
 use fzn_cited::DeriveFault;
 use fzn_domain::VarId;
-use fzn_list::Items;
-use fzn_meaning::{Listed, Term, VariablePart, listed_at, weight_at};
+use fzn_meaning::{Listed, Term, VariablePart, weight_at};
+use fzn_weights::{MOST_TARGETS, place_in, raised};
 use std::alloc::Global;
 
 impl RowDeriver {
@@ -166,64 +166,5 @@ impl RowDeriver {
         self.left -= count;
         self.parts[place].listed = Some(Listed { low: 1, weights });
         Ok(())
-    }
-}
-
-/// What was listed for each of so many values from 1 on, and for one of them so much more, unless that leaves the limits.
-fn raised(
-    alloc: Global,
-    old: &Option<Listed>,
-    count: usize,
-    raised_value: i64,
-    more: Option<i128>,
-) -> Result<Items<Option<i64>>, DeriveFault>
-    requires old { IfSome old.now IsWeightList }
-    requires few { count ≤ 65536 }
-    requires more { IfSome more (λ weight. unsigned_abs weight ≤ 10000000000000000000000000000000) }
-    ensures ok { IfOk result (λ entries. entries ≡ raised_from (pos 1) count raised_value more old.now) }
-    ensures within { IfOk result (λ entries. list_all is_entry_within entries ≡ true) }
-    ensures err { IfErr result (λ fault. (fault ≡ Memory) ⊎ ((fault ≡ NotDerived) × (list_all is_entry_within (raised_from (pos 1) count raised_value more old.now) ≡ false))) }
-{
-    let mut entries = Items::new(alloc);
-    for i in 0..count {
-        let value = 1 + i as i64;
-        let entry = raised_entry(value == raised_value, listed_at(old, &value), more)?;
-        entries.push(entry)?;
-    }
-    Ok(entries)
-}
-
-/// What was listed, and so much more where the value is raised, unless that leaves the limits.
-fn raised_entry(
-    is_raised: bool,
-    entry: Option<i64>,
-    more: Option<i128>,
-) -> Result<Option<i64>, DeriveFault>
-    requires entry { IfSome entry IsWithinLimit }
-    requires more { IfSome more (λ weight. unsigned_abs weight ≤ 10000000000000000000000000000000) }
-    ensures ok { IfOk result (λ both. both ≡ raised_entry is_raised entry more) }
-    ensures within { IfOk result (λ both. is_entry_within both ≡ true) }
-    ensures err { IfErr result (λ fault. (fault ≡ NotDerived) × (is_entry_within (raised_entry is_raised entry more) ≡ false)) }
-{
-    if is_raised {
-        plus(entry, more)
-    } else {
-        Ok(entry)
-    }
-}
-
-/// The first place of the variable, counted from 0.
-pub(crate) fn place_in(places: &[Term], var: VarId) -> Option<usize>
-    ensures { result ≡ place_in var places.now }
-{
-    places.iter().position(|place| is_place_of(*place, var))
-}
-
-pub(crate) fn is_place_of(place: Term, var: VarId) -> bool
-    ensures { result ≡ is_place_of var place }
-{
-    match place {
-        Term::Constant(_) => false,
-        Term::Variable(other) => other.0 == var.0,
     }
 }

@@ -9,8 +9,6 @@ pub use item::RowItem;
 pub use law::{derived_row_holds, derived_row_is_formed, one_derived_row};
 pub use room::RowDeriver;
 
-mod decided;
-mod dependence;
 mod derive;
 mod inverses;
 mod item;

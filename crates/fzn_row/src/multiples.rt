@@ -1,24 +1,21 @@
 // Multiples of constraints, added to a row.
-ghost use Rattle.std.specs.Prelude.{◌≡◌, ◌⊎◌, ◌*◌, ◌≤◌, nat_le, pos, ◌-ℤ◌, ◌*ℤ◌, length, unsigned_abs, IfErr, OnOk, Ok, Err};
+ghost use Rattle.std.specs.Prelude.{◌≡◌, ◌⊎◌, ◌*◌, ◌≤◌, length, unsigned_abs, IfErr, OnOk, Ok, Err};
 ghost use Rattle.std.specs.List.{All};
 ghost use Rattle.fzn_list.specs.Limits.{longest};
-ghost use Rattle.fzn_domain.specs.Limits.{IsSmall};
 ghost use Rattle.fzn_meaning.specs.Term.{IsPlace};
 ghost use Rattle.fzn_meaning.specs.Meaning.{IsWellFormedConstraint};
 ghost use Rattle.fzn_builtin_rules.specs.Borrowed.{places_in, form_in};
 ghost use Rattle.fzn_builtin_rules.specs.Form.{Fits};
 ghost use Rattle.fzn_cited.specs.declared.fault.DeriveFault.TheVariants.{Memory};
 ghost use Rattle.fzn_row.specs.Draft.{in_turn};
-ghost use Rattle.fzn_row.specs.Multiples.{place_added, may_multiply, is_usable, form_added, multiple_added};
+ghost use Rattle.fzn_row.specs.Multiples.{place_added, form_added, multiple_added};
 ghost use Rattle.fzn_row.specs.Room.{draft_of, room_size, IsRoom};
 
 use crate::room::RowDeriver;
 use fzn_builtin_rules::{Form, Places, form_of};
 use fzn_cited::{DeriveFault, Multiple, constraint_at};
-use fzn_meaning::{Comparison, Constraint, Place, Term};
-
-/// How far from 0 a multiplier lies at the most: 10^12.
-const GREATEST_MULTIPLIER: i64 = 1_000_000_000_000;
+use fzn_meaning::{Constraint, Place, Term};
+use fzn_weights::{is_usable, less_product, product};
 
 impl RowDeriver {
     /// Adds the forms of constraints, each times its multiplier.
@@ -109,48 +106,4 @@ impl RowDeriver {
             Term::Variable(var) => self.add(var, amount),
         }
     }
-}
-
-/// A coefficient or a bound times a multiplier.
-fn product(number: &i64, multiplier: &i64) -> i128
-    requires number { IsSmall number.now }
-    requires multiplier { unsigned_abs multiplier.now ≤ 1000000000000 }
-    ensures value { result ≡ number.now *ℤ multiplier.now }
-    ensures bounded { unsigned_abs result ≤ 1000000000000000000000 }
-{
-    *number as i128 * *multiplier as i128
-}
-
-/// What a constant times this amount takes from the bound.
-fn less_product(amount: &i128, value: &i64) -> i128
-    requires amount { unsigned_abs amount.now ≤ 1000000000000000000000 }
-    requires value { IsSmall value.now }
-    ensures value { result ≡ pos 0 -ℤ amount.now *ℤ value.now }
-    ensures bounded { unsigned_abs result ≤ 1000000000000000000000000000000 }
-{
-    -(*amount * *value as i128)
-}
-
-/// Whether the form may be multiplied so.
-fn is_usable(multiplier: &i64, form: &Form<'_>) -> bool
-    ensures { result ≡ is_usable multiplier.now (form_in form.now) }
-{
-    form.switch.is_none() && may_multiply(form.comparison, multiplier) && is_multiplier(multiplier)
-}
-
-/// Whether a comparison is kept.
-fn may_multiply(comparison: Comparison, multiplier: &i64) -> bool
-    ensures { result ≡ may_multiply comparison multiplier.now }
-{
-    match comparison {
-        Comparison::AtMost => 1 <= *multiplier,
-        Comparison::Equal => *multiplier != 0,
-        Comparison::NotEqual => false,
-    }
-}
-
-fn is_multiplier(multiplier: &i64) -> bool
-    ensures { result ≡ nat_le (unsigned_abs multiplier.now) 1000000000000 }
-{
-    -GREATEST_MULTIPLIER <= *multiplier && *multiplier <= GREATEST_MULTIPLIER
 }

@@ -1,17 +1,15 @@
 // The room in which a row is made.
-ghost use Rattle.std.specs.Prelude.{◌≡◌, true, false, ◌⊎◌, ◌≤◌, [], ◌+ℤ◌, length, unsigned_abs, IsTrue, IfOk, IfErr, OnOk, Ok, Err};
+ghost use Rattle.std.specs.Prelude.{◌≡◌, ◌⊎◌, ◌≤◌, ◌+ℤ◌, unsigned_abs, IfOk, IfErr, OnOk, Ok, Err};
 ghost use Rattle.fzn_domain.specs.Narrow.{IsVariable};
-ghost use Rattle.fzn_cited.specs.declared.fault.DeriveFault.TheVariants.{Memory, NotDerived};
-ghost use Rattle.fzn_row.specs.Draft.{is_number_within, part_for, with_bound, with_coefficient};
+ghost use Rattle.fzn_cited.specs.declared.fault.DeriveFault.TheVariants.{Memory};
+ghost use Rattle.fzn_row.specs.Draft.{part_for, with_bound, with_coefficient};
 ghost use Rattle.fzn_row.specs.Room.{draft_of, room_size, IsRoom, IsPlaceOfPart, IsAbsent};
 
 use fzn_cited::DeriveFault;
 use fzn_domain::VarId;
 use fzn_meaning::{TablePart, VariablePart};
+use fzn_weights::{LIMIT, sum_within};
 use std::alloc::{AllocError, Global};
-
-/// How far from 0 the bound and what is listed lie at the most: 10^18.
-pub(crate) const LIMIT: u64 = 1_000_000_000_000_000_000;
 
 /// How far from 0 a coefficient lies at the most: 10^12.
 const GREATEST_COEFFICIENT: u64 = 1_000_000_000_000;
@@ -130,28 +128,4 @@ impl RowDeriver {
         self.bound = sum_within(self.bound, amount, LIMIT)?;
         Ok(())
     }
-}
-
-/// A number and what is added to it, unless that leaves the limit.
-pub(crate) fn sum_within(number: i64, amount: i128, limit: u64) -> Result<i64, DeriveFault>
-    requires amount { unsigned_abs amount ≤ 10000000000000000000000000000000 }
-    requires limit { limit ≤ 1000000000000000000 }
-    ensures ok { IfOk result (λ sum. sum ≡ number +ℤ amount) }
-    ensures within { OnOk result (is_number_within limit (number +ℤ amount) ≡ true) }
-    ensures err { IfErr result (λ fault. (fault ≡ NotDerived) × (is_number_within limit (number +ℤ amount) ≡ false)) }
-{
-    let sum = number as i128 + amount;
-    if is_number_within(sum, limit) {
-        Ok(sum as i64)
-    } else {
-        Err(DeriveFault::NotDerived)
-    }
-}
-
-/// Whether the number is that far from 0 at the most.
-pub(crate) fn is_number_within(number: i128, limit: u64) -> bool
-    ensures { result ≡ is_number_within limit number }
-{
-    let limit = limit as i128;
-    -limit <= number && number <= limit
 }

@@ -4,7 +4,8 @@ use Rattle.std.proofs.lemmas.List.{get_or_read}
 use Rattle.std.proofs.lemmas.List.Elements.{All-set}
 use Rattle.fzn_meaning.specs.declared.row.VariablePart.{VariablePart}
 use Rattle.fzn_meaning.specs.Separable.{IsVariablePart}
-use Rattle.fzn_row.specs.Draft.{is_coefficient, part_for}
+use Rattle.fzn_weights.specs.Limits.{is_coefficient}
+use Rattle.fzn_row.specs.Draft.{part_for}
 use Rattle.fzn_row.specs.Room.{room_size, draft_of}
 use Rattle.fzn_row.proofs.PartLemmas.{found-set, part-set, part-with, with_coefficient-is}
 use Rattle.fzn_row.proofs.room.RowDeriver.add.Goals as goal

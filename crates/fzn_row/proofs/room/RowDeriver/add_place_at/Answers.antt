@@ -2,8 +2,9 @@ use Rattle.std.proofs.Common.{rules, arith, ◌≡◌, sym, ap, ◌∙◌, subst
 use Rattle.std.proofs.lemmas.Int.{ints, to_z-of_z}
 use mir.Syntax.{w128}
 use Rattle.fzn_cited.specs.declared.fault.DeriveFault.{DeriveFault}
+use Rattle.fzn_weights.specs.Prices.{price_at}
 use Rattle.fzn_row.specs.Draft.{Draft, with_bound}
-use Rattle.fzn_row.specs.Prices.{price_at, price_added}
+use Rattle.fzn_row.specs.Prices.{price_added}
 use Rattle.fzn_row.specs.Room.{draft_of}
 use Rattle.fzn_row.proofs.room.RowDeriver.add_place_at.Goals as goal
 

@@ -4,7 +4,7 @@ use Rattle.fzn_meaning.specs.declared.constraint.Constraint.{Constraint}
 use Rattle.fzn_meaning.specs.Meaning.{IsWellFormedConstraint, AreTerms}
 use Rattle.fzn_cited.specs.Cited.{constraint_at}
 use Rattle.fzn_cited.proofs.CitedLemmas.{each_at}
-use Rattle.fzn_row.specs.Prices.{priced_places}
+use Rattle.fzn_weights.specs.Prices.{priced_places}
 use Rattle.fzn_row.specs.Room.{room_size}
 use Rattle.fzn_row.proofs.PricesSound.{places-formed}
 use Rattle.fzn_row.proofs.room.RowDeriver.add_prices.Goals as goal

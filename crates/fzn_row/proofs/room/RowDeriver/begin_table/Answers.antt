@@ -1,8 +1,8 @@
 use Rattle.std.proofs.Common.{sym, subst}
 use Rattle.fzn_meaning.specs.Separable.{IsTablePart}
 use Rattle.fzn_meaning.specs.Solutions.{declared_sets}
+use Rattle.fzn_weights.proofs.TableLemmas.{blank-formed}
 use Rattle.fzn_row.specs.Room.{room_size}
-use Rattle.fzn_row.proofs.TableLemmas.{blank-formed}
 use Rattle.fzn_row.proofs.room.RowDeriver.begin_table.Goals as goal
 
 pub put_table-requires-clause-part : goal.put_table-requires-clause-part

@@ -8,14 +8,15 @@ use Rattle.fzn_domain.specs.IntSet.{least}
 use Rattle.fzn_meaning.specs.declared.row.VariablePart.{VariablePart}
 use Rattle.fzn_meaning.specs.Separable.{IsVariablePart}
 use Rattle.fzn_cited.specs.declared.fault.DeriveFault.TheVariants.{Memory, NotDerived}
+use Rattle.fzn_weights.specs.Prices.{price_at}
+use Rattle.fzn_weights.specs.Limits.{is_entry_within}
+use Rattle.fzn_weights.specs.Moves.{moved_from, span}
+use Rattle.fzn_weights.proofs.MoveLemmas.{length-moved, narrow-few, limits-small}
+use Rattle.fzn_weights.proofs.TableLemmas.{moved_alike}
 use Rattle.fzn_row.specs.Draft.{part_for}
-use Rattle.fzn_row.specs.Prices.{price_at, is_entry_within}
-use Rattle.fzn_row.specs.Moves.{moved_from, span}
 use Rattle.fzn_row.specs.Room.{room_size, draft_of}
 use Rattle.fzn_row.proofs.PartLemmas.{found-set}
 use Rattle.fzn_row.proofs.ListLemmas.{with_list-is, with_list-short, with_list-outside, part-listed, listed-is}
-use Rattle.fzn_row.proofs.MoveLemmas.{length-moved, narrow-few, limits-small}
-use Rattle.fzn_row.proofs.TableLemmas.{moved_alike}
 use Rattle.fzn_row.proofs.room.RowDeriver.list_lowered.Goals as goal
 
 pub returns-then-self-count-clause-err : goal.returns-then-self-count-clause-err

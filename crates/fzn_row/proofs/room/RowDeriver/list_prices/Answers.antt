@@ -5,11 +5,12 @@ use Rattle.std.proofs.lemmas.List.{get_or_read}
 use Rattle.std.proofs.lemmas.List.Elements.{All-set}
 use Rattle.fzn_meaning.specs.declared.row.VariablePart.{VariablePart}
 use Rattle.fzn_meaning.specs.Separable.{IsVariablePart}
+use Rattle.fzn_weights.specs.Prices.{entries_from}
+use Rattle.fzn_weights.specs.Limits.{is_entry_within}
+use Rattle.fzn_weights.proofs.PriceLemmas.{prices-facts, length-entries}
 use Rattle.fzn_row.specs.Draft.{part_for}
-use Rattle.fzn_row.specs.Prices.{entries_from, is_entry_within}
 use Rattle.fzn_row.specs.Room.{room_size, draft_of}
 use Rattle.fzn_row.proofs.PartLemmas.{found-set}
-use Rattle.fzn_row.proofs.PriceLemmas.{prices-facts, length-entries}
 use Rattle.fzn_row.proofs.ListLemmas.{with_list-is, with_list-short, part-listed, listed-is}
 use Rattle.fzn_row.proofs.room.RowDeriver.list_prices.Goals as goal
 

@@ -5,13 +5,13 @@ use Rattle.std.proofs.lemmas.List.{get_or_read}
 use Rattle.std.proofs.lemmas.List.Elements.{All-set}
 use Rattle.fzn_meaning.specs.declared.row.VariablePart.{VariablePart}
 use Rattle.fzn_meaning.specs.Separable.{IsVariablePart}
+use Rattle.fzn_weights.specs.Limits.{is_entry_within}
+use Rattle.fzn_weights.specs.Inverses.{raised_from}
+use Rattle.fzn_weights.proofs.InverseLemmas.{length-raised}
 use Rattle.fzn_row.specs.Draft.{part_for}
-use Rattle.fzn_row.specs.Prices.{is_entry_within}
-use Rattle.fzn_row.specs.Inverses.{raised_from}
 use Rattle.fzn_row.specs.Room.{room_size, draft_of}
 use Rattle.fzn_row.proofs.PartLemmas.{found-set}
 use Rattle.fzn_row.proofs.ListLemmas.{with_list-is, with_list-short, part-listed, listed-is}
-use Rattle.fzn_row.proofs.InverseLemmas.{length-raised}
 use Rattle.fzn_row.proofs.room.RowDeriver.list_raised.Goals as goal
 
 pub returns-then-self-count-clause-err : goal.returns-then-self-count-clause-err

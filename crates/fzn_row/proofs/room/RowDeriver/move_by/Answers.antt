@@ -1,5 +1,5 @@
 use Rattle.fzn_row.specs.Room.{room_size}
-use Rattle.fzn_row.proofs.DecidedSound.{inverse-terms}
+use Rattle.fzn_row.proofs.InverseTerms.{inverse-terms}
 use Rattle.fzn_row.proofs.room.RowDeriver.move_by.Goals as goal
 
 pub move_place-requires-clause-forward : goal.move_place-requires-clause-forward

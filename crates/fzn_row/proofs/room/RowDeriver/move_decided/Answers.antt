@@ -4,13 +4,13 @@ use Rattle.fzn_domain.specs.Narrow.{IsVariable}
 use Rattle.fzn_meaning.specs.Solutions.{declared_sets}
 use Rattle.fzn_cited.specs.declared.fault.DeriveFault.{DeriveFault}
 use Rattle.fzn_cited.specs.declared.fault.DeriveFault.TheVariants.{Memory}
+use Rattle.fzn_dependence.specs.declared.decided.Decider.{Decider}
+use Rattle.fzn_dependence.specs.Decided.{decider_in, decided_in}
+use Rattle.fzn_dependence.specs.Dependence.{dependent_at}
+use Rattle.fzn_dependence.proofs.DecidedSound.{decided-variables, form-bounded}
+use Rattle.fzn_weights.specs.Moves.{is_narrow}
 use Rattle.fzn_row.specs.Draft.{Draft}
-use Rattle.fzn_row.specs.declared.decided.Decider.{Decider}
-use Rattle.fzn_row.specs.Decided.{decider_in, decided_in}
-use Rattle.fzn_row.specs.Dependence.{dependent_at}
-use Rattle.fzn_row.specs.Moves.{is_narrow}
 use Rattle.fzn_row.specs.Room.{room_size, draft_of}
-use Rattle.fzn_row.proofs.DecidedSound.{decided-variables, form-bounded}
 use Rattle.fzn_row.proofs.MoveLemmas.{moved_so-is, decided-narrow, decided-wide}
 use Rattle.fzn_row.proofs.room.RowDeriver.move_decided.Goals as goal
 

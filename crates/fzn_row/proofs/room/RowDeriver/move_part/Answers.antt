@@ -10,15 +10,15 @@ use Rattle.fzn_meaning.specs.declared.row.VariablePart.{VariablePart}
 use Rattle.fzn_meaning.specs.Separable.{IsVariablePart}
 use Rattle.fzn_meaning.specs.Solutions.{declared_sets}
 use Rattle.fzn_cited.specs.declared.fault.DeriveFault.TheVariants.{Memory, NotDerived}
+use Rattle.fzn_dependence.specs.Dependence.{dependent_at}
+use Rattle.fzn_weights.specs.Limits.{is_entry_within}
+use Rattle.fzn_weights.specs.Moves.{weight_where, moved_from, span}
+use Rattle.fzn_weights.proofs.MoveLemmas.{length-moved, moved-same, narrow-few, limits-small}
 use Rattle.fzn_row.specs.Draft.{part_for, blank_part, with_part}
-use Rattle.fzn_row.specs.Prices.{is_entry_within}
 use Rattle.fzn_row.specs.Weights.{without_part}
-use Rattle.fzn_row.specs.Moves.{weight_where, moved_from, span}
-use Rattle.fzn_row.specs.Dependence.{dependent_at}
 use Rattle.fzn_row.specs.Room.{room_size, draft_of, IsPlaceOfPart}
 use Rattle.fzn_row.proofs.PartLemmas.{found-set}
 use Rattle.fzn_row.proofs.ListLemmas.{with_list-is, with_list-short, with_list-outside, part-listed, listed-is}
-use Rattle.fzn_row.proofs.MoveLemmas.{length-moved, moved-same, narrow-few, limits-small}
 use Rattle.fzn_row.proofs.room.RowDeriver.move_part.Goals as goal
 
 pub returns-then-self-count-clause-err : goal.returns-then-self-count-clause-err

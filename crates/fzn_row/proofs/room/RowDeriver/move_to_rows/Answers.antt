@@ -4,8 +4,9 @@ use Rattle.fzn_meaning.specs.Term.{number_in}
 use Rattle.fzn_meaning.specs.Solutions.{declared_sets}
 use Rattle.fzn_cited.specs.declared.fault.DeriveFault.{DeriveFault}
 use Rattle.fzn_cited.specs.declared.fault.DeriveFault.TheVariants.{Memory}
+use Rattle.fzn_weights.specs.Tables.{row_count}
 use Rattle.fzn_row.specs.Draft.{Draft}
-use Rattle.fzn_row.specs.Tables.{row_count, weights_spent}
+use Rattle.fzn_row.specs.Tables.{weights_spent}
 use Rattle.fzn_row.specs.Room.{draft_of}
 use Rattle.fzn_row.proofs.TableLemmas.{to_rows-is}
 use Rattle.fzn_row.proofs.room.RowDeriver.move_to_rows.Goals as goal

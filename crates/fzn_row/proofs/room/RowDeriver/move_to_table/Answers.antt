@@ -1,5 +1,5 @@
 use Rattle.std.proofs.Common.{sym, ap, ◌∙◌}
-use Rattle.fzn_row.specs.Inverses.{place_in}
+use Rattle.fzn_weights.specs.Inverses.{place_in}
 use Rattle.fzn_row.specs.Room.{room_size}
 use Rattle.fzn_row.proofs.InversesSound.{place-variable}
 use Rattle.fzn_row.proofs.TableLemmas.{table-formed}

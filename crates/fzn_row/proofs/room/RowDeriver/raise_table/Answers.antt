@@ -1,10 +1,11 @@
 use Rattle.std.proofs.Common.{◌≡◌, length, sym, ap, ◌∙◌, subst, List, Option, ℤ}
 use Rattle.std.proofs.lemmas.List.{get_or_read}
 use Rattle.fzn_meaning.specs.Separable.{IsTablePart}
+use Rattle.fzn_weights.specs.Amount.{amount_at}
+use Rattle.fzn_weights.proofs.TableLemmas.{part-raised, length-weights}
 use Rattle.fzn_row.specs.declared.room.BegunTable.{BegunTable}
-use Rattle.fzn_row.specs.Amount.{amount_at}
 use Rattle.fzn_row.specs.Room.{room_size}
-use Rattle.fzn_row.proofs.TableLemmas.{begun-set, part-raised, length-weights}
+use Rattle.fzn_row.proofs.TableLemmas.{begun-set}
 use Rattle.fzn_row.proofs.room.RowDeriver.raise_table.Goals as goal
 
 pub returns-clause-room : goal.returns-clause-room

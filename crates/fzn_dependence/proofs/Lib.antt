@@ -1,0 +1,3 @@
+mod DecidedLemmas
+pub mod DecidedSound
+pub mod IntLemmas
